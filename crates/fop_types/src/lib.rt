@@ -1,0 +1,20 @@
+//! The types that every layer shares: gfids and cells, contents, rows, answers and the messages
+//! between the mount and its bricks.
+//!
+//! A public list is a [`Seq`], which contracts see as a plain list, so a value of these types is plain
+//! data in every contract above.
+#![tactic(auto)]
+
+mod answers;
+mod cells;
+mod contents;
+mod lists;
+mod messages;
+mod store_ops;
+
+pub use answers::{Answer, AppError, FopAnswer, IoError, SplitRow};
+pub use cells::{Aspect, Cell, Gfid, Kind};
+pub use contents::{Attr, Content, Item, Mask, Row, Span};
+pub use lists::Seq;
+pub use messages::{BrickRep, BrickReq, DoneArm, Input, OutKind, Output, Proc};
+pub use store_ops::StoreOp;
