@@ -8,6 +8,7 @@
 mod answers;
 mod cells;
 mod contents;
+mod flat;
 mod lists;
 mod messages;
 mod store_ops;
@@ -15,6 +16,7 @@ mod store_ops;
 pub use answers::{Answer, AppError, FopAnswer, IoError, SplitRow};
 pub use cells::{Aspect, Cell, Gfid, Kind};
 pub use contents::{Attr, Content, Item, Mask, Row, Span};
+pub use flat::{FlatAnswer, FlatObject, FlatOp};
 pub use lists::Seq;
 pub use messages::{BrickRep, BrickReq, DoneArm, Input, OutKind, Output, Proc};
 pub use store_ops::StoreOp;
