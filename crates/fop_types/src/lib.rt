@@ -6,17 +6,21 @@
 #![tactic(auto)]
 
 mod answers;
+mod calls;
 mod cells;
 mod contents;
 mod flat;
+mod history;
 mod lists;
 mod messages;
 mod store_ops;
 
 pub use answers::{Answer, AppError, FopAnswer, IoError, SplitRow};
+pub use calls::{Call, Path};
 pub use cells::{Aspect, Cell, Gfid, Kind};
 pub use contents::{Attr, Content, Item, Mask, Row, Span};
-pub use flat::{FlatAnswer, FlatObject, FlatOp};
+pub use flat::{probe, FlatAnswer, FlatObject, FlatOp};
+pub use history::Entry;
 pub use lists::Seq;
 pub use messages::{BrickRep, BrickReq, DoneArm, Input, OutKind, Output, Proc};
 pub use store_ops::StoreOp;
