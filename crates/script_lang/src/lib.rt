@@ -1,0 +1,6 @@
+//! stub
+#![tactic(auto)]
+
+mod scripts;
+
+pub use scripts::{CallLine, Script};
