@@ -1,7 +1,9 @@
 pub mod Counts
 pub mod Followings
+pub mod Grown
 pub mod Lists
 pub mod Places
 pub mod Reached
+pub mod Shown
 pub mod Times
 pub mod Winds

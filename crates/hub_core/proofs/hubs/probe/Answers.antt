@@ -6,6 +6,8 @@ use Rattle.hub_core.proofs.Counts.{counted_take, counted_start, counted_submit}
 use Rattle.hub_core.proofs.Times.{timed_take, timed_ignore, timed_start, timed_submit}
 use Rattle.hub_core.proofs.Followings.{places_follow}
 use Rattle.hub_core.proofs.Winds.{wound_take}
+use Rattle.hub_core.proofs.Shown.{shows_post, root_named}
+use Rattle.hub_core.proofs.Grown.{good_start}
 use Rattle.hub_core.proofs.hubs.probe.Goals as goal
 
 pub returns : goal.returns
