@@ -1,9 +1,11 @@
 pub mod Counts
 pub mod Followings
 pub mod Grown
+pub mod Lawful
 pub mod Lists
 pub mod Places
 pub mod Reached
+pub mod Served
 pub mod Shown
 pub mod Times
 pub mod Winds
