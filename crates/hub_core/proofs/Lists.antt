@@ -39,3 +39,20 @@ pub take_next : {X : Type 0} (xs : List X) (k : ℕ) (x : X) → slice_get xs k 
 take_next [] k x h = absurd cc
 take_next (y ∷ xs) zero x h = let one : y ≡ x = cc in rw one refl
 take_next (y ∷ xs) (suc k) x h = let more : suc k + 1 ≡ suc (k + 1) = omega arith in rw more (ap (λ t. y ∷ t) (take_next xs k x h))
+
+-- an element stands at each place below the length
+pub record HasElement {X : Type 0} (xs : List X) (k : ℕ) : Type 0 where
+  pub element : X
+  pub there : slice_get xs k ≡ Some element
+
+pub get_there : {X : Type 0} (xs : List X) (k : ℕ) → k < length xs → HasElement xs k
+get_there [] k h = absurd (omega arith)
+get_there (x ∷ xs) zero h = record { element = x; there = refl }
+get_there (x ∷ xs) (suc k) h = (let rest : HasElement xs k = get_there xs k (omega arith) in record { element = rest.element; there = rest.there })
+
+-- the front of a longer front
+pub take_take : {X : Type 0} (n m : ℕ) (xs : List X) → n ≤ m → take n (take m xs) ≡ take n xs
+take_take zero m xs h = refl
+take_take (suc n) zero xs h = absurd (omega arith)
+take_take (suc n) (suc m) [] h = refl
+take_take (suc n) (suc m) (x ∷ xs) h = ap (λ t. x ∷ t) (take_take n m xs (omega arith))

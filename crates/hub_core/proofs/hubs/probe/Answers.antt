@@ -10,6 +10,7 @@ use Rattle.hub_core.proofs.Shown.{shows_post, root_named}
 use Rattle.hub_core.proofs.Grown.{good_start}
 use Rattle.hub_core.proofs.Lawful.{legal_later}
 use Rattle.hub_core.proofs.Served.{cells_next}
+use Rattle.hub_core.proofs.Honesty.{honest_before}
 use Rattle.hub_core.proofs.hubs.probe.Goals as goal
 
 pub returns : goal.returns
