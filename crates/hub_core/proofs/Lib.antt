@@ -1,6 +1,7 @@
 pub mod Counts
 pub mod Followings
 pub mod Grown
+pub mod Honest
 pub mod Honesty
 pub mod Lawful
 pub mod Lists

@@ -11,6 +11,7 @@ use Rattle.hub_core.proofs.Grown.{good_start}
 use Rattle.hub_core.proofs.Lawful.{legal_later}
 use Rattle.hub_core.proofs.Served.{cells_next}
 use Rattle.hub_core.proofs.Honesty.{honest_before}
+use Rattle.hub_core.proofs.Honest.{honest_submit}
 use Rattle.hub_core.proofs.hubs.probe.Goals as goal
 
 pub returns : goal.returns
