@@ -185,23 +185,18 @@ honest_start calls = record {
 
 -- ---- a call is submitted
 
-backed_later : (calls : List CallLine) (history : List Entry) (inputs more : List Input) (outputs others : List Output) →
+pub request_later : (inputs more : List Input) (outputs others : List Output) (place : ℕ) (r : BrickReq) → IsDoneRequest inputs outputs place r → IsDoneRequest (inputs ++ more) (outputs ++ others) place r
+request_later inputs more outputs others place r d = record {
+    wind = d.wind; answer_at = d.answer_at; taken = d.taken;
+    stands = get_push_old inputs more place _ d.stands; answered = get_push_old outputs others d.answer_at _ d.answered }
+
+pub backed_later : (calls : List CallLine) (history : List Entry) (inputs more : List Input) (outputs others : List Output) →
     IsBackedByBrick calls history inputs outputs → IsBackedByBrick calls history (inputs ++ more) (outputs ++ others)
 backed_later calls history inputs more outputs others b k entry h =
     let old : IsBacked calls inputs outputs entry = b k entry h in
     record {
       op = old.op; op_is = old.op_is; change = old.change; op_place = old.op_place; post_place = old.post_place;
       op_done = request_later inputs more outputs others _ _ old.op_done; post_done = request_later inputs more outputs others _ _ old.post_done; later = old.later }
-  where
-    request_later : (inputs more : List Input) (outputs others : List Output) (place : ℕ) (r : BrickReq) → IsDoneRequest inputs outputs place r → IsDoneRequest (inputs ++ more) (outputs ++ others) place r
-    request_later inputs more outputs others place r d = record {
-        wind = d.wind; answer_at = d.answer_at; taken = d.taken;
-        stands = get_push_old inputs more place _ d.stands; answered = get_push_old outputs others d.answer_at _ d.answered }
-
-pub request_later : (inputs more : List Input) (outputs others : List Output) (place : ℕ) (r : BrickReq) → IsDoneRequest inputs outputs place r → IsDoneRequest (inputs ++ more) (outputs ++ others) place r
-request_later inputs more outputs others place r d = record {
-    wind = d.wind; answer_at = d.answer_at; taken = d.taken;
-    stands = get_push_old inputs more place _ d.stands; answered = get_push_old outputs others d.answer_at _ d.answered }
 
 nothing_more : (outputs : List Output) → outputs ++ [] ≡ outputs
 nothing_more [] = refl

@@ -141,7 +141,7 @@ arrival_event (Submit session line ∷ events) j output h = (let a : ArrivedAt e
 arrival_event (Arrive brick o ∷ events) zero output h = (let same : o ≡ output = cc in record { at = 0; brick = brick; stands = rw same refl })
 arrival_event (Arrive brick o ∷ events) (suc j) output h = (let a : ArrivedAt events output = arrival_event events j output h in record { at = suc a.at; brick = a.brick; stands = a.stands })
 
-outputs_more : (s t : HubState) → SendsMore s t → (more : List Output) × (outputs_of (inputs_of t.log.sent) ≡ outputs_of (inputs_of s.log.sent) ++ more)
+pub outputs_more : (s t : HubState) → SendsMore s t → (more : List Output) × (outputs_of (inputs_of t.log.sent) ≡ outputs_of (inputs_of s.log.sent) ++ more)
 outputs_more s t (Nothing_more is) = ([], ap (λ (x : List SentLine). outputs_of (inputs_of x)) is ∙ sym (append-nil (outputs_of (inputs_of s.log.sent))))
 outputs_more s t (One_more wind req is) =
     (output_for (inputs_of s.log.sent) wind req ∷ [],

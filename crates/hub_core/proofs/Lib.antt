@@ -5,6 +5,7 @@ pub mod Honest
 pub mod Honesty
 pub mod Lawful
 pub mod Lists
+pub mod Onward
 pub mod Places
 pub mod Reached
 pub mod Served
