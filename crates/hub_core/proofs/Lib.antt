@@ -10,5 +10,6 @@ pub mod Places
 pub mod Reached
 pub mod Served
 pub mod Shown
+pub mod EachStage
 pub mod Times
 pub mod Winds

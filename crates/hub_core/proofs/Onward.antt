@@ -66,13 +66,13 @@ use Rattle.hub_core.proofs.Honest.{IsHonestSoFar, IsIdle, IsStat, IsMkdir, IsFin
 -- ---- what the brick answers
 
 -- the root's names, as the files have them
-root_names : (files : Files) (cells : Cells) (good : IsGood files) → Shows files cells → (kept_at cells (names_cell root)).content ≡ Some (Names false good.root_is.names)
+pub root_names : (files : Files) (cells : Cells) (good : IsGood files) → Shows files cells → (kept_at cells (names_cell root)).content ≡ Some (Names false good.root_is.names)
 root_names files cells good shows =
     let d : IsShownDirectory good.root_is.names good.root_is.mode [] false (kept_at cells (meta_cell root)).content (kept_at cells (names_cell root)).content =
           subst (λ (o : Option FlatObject). IsShown o (kept_at cells (meta_cell root)).content (kept_at cells (names_cell root)).content) good.root_is.there (shows root) in
     d.names_are
 
-names_reply : (files : Files) (cells : Cells) (good : IsGood files) → Shows files cells →
+pub names_reply : (files : Files) (cells : Cells) (good : IsGood files) → Shows files cells →
     (serve_request cells ask_names).reply ≡ rep.Done (done.Content (Names false good.root_is.names) (kept_at cells (names_cell root)).last)
 names_reply files cells good shows = rw (root_names files cells good shows) refl
 
@@ -85,7 +85,7 @@ pub record HasMeta (cells : Cells) (gfid : Gfid) (mode : ℕ) : Type 0 where
 copied : (content : Option Content) (there : Content) (last : ℕ) → content ≡ Some there → fetch_reply (copy_with content last) ≡ rep.Done (done.Content there last)
 copied content there last is = rw is refl
 
-meta_reply : (files : Files) (cells : Cells) (gfid : Gfid) (d : IsDirectoryAt files gfid) → Shows files cells → HasMeta cells gfid d.mode
+pub meta_reply : (files : Files) (cells : Cells) (gfid : Gfid) (d : IsDirectoryAt files gfid) → Shows files cells → HasMeta cells gfid d.mode
 meta_reply files cells gfid d shows =
     let shown : IsShownDirectory d.names d.mode [] false (kept_at cells (meta_cell gfid)).content (kept_at cells (names_cell gfid)).content =
           subst (λ (o : Option FlatObject). IsShown o (kept_at cells (meta_cell gfid)).content (kept_at cells (names_cell gfid)).content) d.there (shows gfid) in
@@ -93,7 +93,7 @@ meta_reply files cells gfid d shows =
       replies = copied (kept_at cells (meta_cell gfid)).content (Meta d.mode [] shown.span) (kept_at cells (meta_cell gfid)).last shown.meta_is }
 
 -- a name that is free is added
-op_reply : (files : Files) (cells : Cells) (good : IsGood files) → Shows files cells → (change : ℕ) (name : List ℕ) (mode : ℕ) (drawn : Gfid) → item_named good.root_is.names name ≡ None →
+pub op_reply : (files : Files) (cells : Cells) (good : IsGood files) → Shows files cells → (change : ℕ) (name : List ℕ) (mode : ℕ) (drawn : Gfid) → item_named good.root_is.names name ≡ None →
     serve_request cells (req.Op change 0 (op_of name mode drawn)) ≡ record { cells = name_added cells change root (directory_item name drawn) mode (Some whole_span); reply = rep.Done done.Nothing }
 op_reply files cells good shows change name mode drawn free = rw (root_names files cells good shows, free) refl
 
@@ -121,7 +121,7 @@ module _ (s : HubState) (o : Output) (w : Working) (h : IsAtWork s w) (well : Is
       cc
 
 -- the reply to the open request takes the call on
-arrived_taken : (s : HubState) (o : Output) (w : Working) (line : CallLine) (arm : DoneArm) (follows : Next) → s.working ≡ Some w →
+pub arrived_taken : (s : HubState) (o : Output) (w : Working) (line : CallLine) (arm : DoneArm) (follows : Next) → s.working ≡ Some w →
     o.kind ≡ out.Reply (wire_number w.turn) (rep.Done arm) → slice_get s.calls (w.call - 1) ≡ Some line →
     next_of w.stage line.call w.drawn w.places (length s.log.history) arm ≡ Some follows → arrived s o ≡ taken_up s o w line (Some follows)
 arrived_taken s o w line arm follows at_work kind_is there next_is =
