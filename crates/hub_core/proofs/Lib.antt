@@ -1,8 +1,10 @@
 pub mod Counts
+pub mod EachStage
 pub mod Followings
 pub mod Grown
 pub mod Honest
 pub mod Honesty
+pub mod LawProofs
 pub mod Lawful
 pub mod Lists
 pub mod Onward
@@ -10,6 +12,5 @@ pub mod Places
 pub mod Reached
 pub mod Served
 pub mod Shown
-pub mod EachStage
 pub mod Times
 pub mod Winds

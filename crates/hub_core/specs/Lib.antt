@@ -1,3 +1,4 @@
 pub mod Journal
 pub mod Kept
+pub mod Laws
 pub mod Turns

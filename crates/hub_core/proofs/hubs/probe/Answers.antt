@@ -14,6 +14,7 @@ use Rattle.hub_core.proofs.Honesty.{honest_before}
 use Rattle.hub_core.proofs.Honest.{honest_submit}
 use Rattle.hub_core.proofs.Onward.{after_reply}
 use Rattle.hub_core.proofs.EachStage.{honest_arrive}
+use Rattle.hub_core.proofs.LawProofs.{law}
 use Rattle.hub_core.proofs.hubs.probe.Goals as goal
 
 pub returns : goal.returns
