@@ -6,6 +6,7 @@
 #![tactic(auto)]
 
 mod answers;
+mod causes;
 mod cells;
 mod contents;
 mod lists;
@@ -13,6 +14,7 @@ mod messages;
 mod store_ops;
 
 pub use answers::{Answer, AppError, FopAnswer, IoError, SplitRow};
+pub use causes::SkipCause;
 pub use cells::{Aspect, Cell, Gfid, Kind};
 pub use contents::{Attr, Content, Item, Mask, Row, Span};
 pub use lists::Seq;
