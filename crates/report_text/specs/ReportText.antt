@@ -44,7 +44,8 @@ abbrev pub graph_line : ReportGraph → List ℕ
 graph_line graph = codes "graph " ++ decimal graph.graph ++ codes " " ++ graph.name ++ codes " winds " ++ decimal graph.opened
     ++ codes " ended " ++ decimal graph.ended ++ codes " " ++ drained_word graph ++ codes "\n"
 
-abbrev pub report_text : Report → List ℕ
+-- the whole text
+unfoldable pub report_text : Report → List ℕ
 report_text report = codes "report 1\n"
     ++ flat_map call_line report.calls
     ++ history_line report.history

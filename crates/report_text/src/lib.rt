@@ -17,6 +17,7 @@
 //! the report of its log and prints it.
 #![tactic(auto)]
 
+mod answering;
 mod answers;
 mod calls;
 mod faults;
@@ -24,6 +25,8 @@ mod graphs;
 mod lines;
 mod printing;
 mod report;
+#[cfg(test)]
+mod tests;
 mod text;
 mod words;
 

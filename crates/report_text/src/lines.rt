@@ -6,19 +6,19 @@ use crate::graphs::ReportGraph;
 use crate::text::Text;
 use crate::words::cause_name;
 use fop_types::{Cell, Seq, SkipCause};
-use std::alloc::{AllocError, Global};
+use std::alloc::AllocError;
 
 impl Text {
-    pub fn calls(&mut self, alloc: Global, calls: &[ReportCall]) -> Result<(), AllocError>
+    pub fn calls(&mut self, calls: &[ReportCall]) -> Result<(), AllocError>
         ensures { OnOk result (self.new ≡ self.old ++ flat_map call_line calls.now) }
     {
         for call in calls {
-            self.call(alloc, call)?;
+            self.call(call)?;
         }
         Ok(())
     }
 
-    fn call(&mut self, alloc: Global, call: &ReportCall) -> Result<(), AllocError>
+    fn call(&mut self, call: &ReportCall) -> Result<(), AllocError>
         ensures { OnOk result (self.new ≡ self.old ++ call_line call.now) }
     {
         self.put(b"call ")?;
@@ -30,7 +30,7 @@ impl Text {
         self.put(b" places ")?;
         self.places(call.places.as_slice())?;
         self.put(b" ")?;
-        self.answer(alloc, &call.answer)?;
+        self.answer(&call.answer)?;
         self.put(b"\n")
     }
 

@@ -9,12 +9,13 @@ use std::alloc::{AllocError, Global};
 ///
 /// # Errors
 /// Want of memory.
+#[tactic(auto, unfolding(crate::specs::ReportText::report_text))]
 pub fn print(alloc: Global, report: &Report) -> Result<Vec<u8>, AllocError>
     ensures { IfOk result (λ text. text.items ≡ report_text report.now) }
 {
     let mut text = Text::new(alloc);
     text.put(b"report 1\n")?;
-    text.calls(alloc, report.calls.as_slice())?;
+    text.calls(report.calls.as_slice())?;
     text.history(report.history.as_slice())?;
     text.heals(report.heals.as_slice())?;
     text.skips(report.skips.as_slice())?;

@@ -50,11 +50,17 @@ impl Text {
     }
 
     /// A number in octal, without leading zeros.
-    pub fn octal(&mut self, alloc: Global, number: u16) -> Result<(), AllocError>
+    #[tactic(auto, using(crate::proofs::Octal::octal_digit))]
+    pub fn octal(&mut self, number: u16) -> Result<(), AllocError>
         ensures { OnOk result (self.new ≡ self.old ++ digits 8 false number) }
     {
-        let text = format!(in alloc; "{number:o}")?;
-        self.put(text.as_bytes())
+        if number < 8 {
+            self.put(&[b'0' + number as u8])?;
+            return Ok(());
+        }
+        self.octal(number / 8)?;
+        self.put(&[b'0' + (number % 8) as u8])?;
+        Ok(())
     }
 
     /// The last `count` hexadecimal digits of a number, with leading zeros.
