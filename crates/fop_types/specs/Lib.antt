@@ -1,4 +1,2 @@
-pub mod Flat
-pub mod History
-pub mod Orders
+pub mod Errors
 pub mod Rank

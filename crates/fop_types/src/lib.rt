@@ -6,7 +6,7 @@
 #![tactic(auto)]
 
 mod answers;
-mod calls;
+mod causes;
 mod cells;
 mod contents;
 mod flat;
@@ -16,7 +16,7 @@ mod messages;
 mod store_ops;
 
 pub use answers::{Answer, AppError, FopAnswer, IoError, SplitRow};
-pub use calls::{Call, Path};
+pub use causes::SkipCause;
 pub use cells::{Aspect, Cell, Gfid, Kind};
 pub use contents::{Attr, Content, Item, Mask, Row, Span};
 pub use flat::{probe, FlatAnswer, FlatObject, FlatOp};
