@@ -1,4 +1,4 @@
-ghost use Rattle.std.specs.Prelude.{◌≡◌, ◌≤◌, ◌<◌, ◌∷◌, ◌++◌, suc, take, drop, length, insert, OnOk, OnErr, IfOk, IfErr};
+ghost use Rattle.std.specs.Prelude.{None, ◌≡◌, ◌≤◌, ◌<◌, ◌∷◌, ◌++◌, suc, take, drop, length, insert, OnOk, OnErr, IfOk, IfErr};
 ghost use Rattle.std.specs.Option.{option_copied};
 ghost use Rattle.fop_types.specs.Flat.{item_named, with_item};
 
@@ -35,6 +35,26 @@ fn place_of(items: &[Item], item: &Item) -> Result<usize, usize>
         }
     }
     Err(place)
+}
+
+/// Puts an item of a new name at its place among items by rising name, and tells the place. The cost is
+/// the search of the place and one move of the items after it.
+///
+/// # Errors
+/// Want of memory, with the items unchanged.
+pub fn insert_new_item(items: &mut Seq<Item>, item: Item) -> Result<usize, AllocError>
+    requires { item_named items.old item.name ≡ None }
+    ensures ok { OnOk result (items.new ≡ with_item items.old item) }
+    ensures place { IfOk result (λ i. (i ≤ length items.old) × (items.new ≡ insert items.old i item)) }
+    ensures err { OnErr result (items.new ≡ items.old) }
+{
+    match place_of(items.as_slice(), &item) {
+        Ok(_) => unreachable!(),
+        Err(index) => {
+            items.insert(index, item)?;
+            Ok(index)
+        }
+    }
 }
 
 /// Puts an item at its place among items by rising name; one of an equal name is replaced. The cost is

@@ -20,7 +20,7 @@ pub use answers::{Answer, AppError, FopAnswer, IoError, SplitRow};
 pub use cells::{Aspect, Cell, Gfid, Kind};
 pub use contents::{Attr, Content, Item, Mask, Row, Span};
 pub use flat::{FlatAnswer, FlatObject, FlatOp};
-pub use items::{find_item, insert_item};
+pub use items::{find_item, insert_item, insert_new_item};
 pub use lists::Seq;
 pub use messages::{BrickRep, BrickReq, DoneArm, Input, OutKind, Output, Proc};
 pub use store_ops::StoreOp;

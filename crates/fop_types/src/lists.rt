@@ -1,5 +1,5 @@
 ghost use Rattle.std.specs.Prelude.{◌≡◌, ◌==◌, ◌≤◌, ◌<◌, List, [], ◌∷◌, ◌++◌, length, insert, OnOk, OnErr, IfOk, IfErr};
-ghost use Rattle.std.specs.List.{slice_set};
+ghost use Rattle.std.specs.List.{slice_set, remove};
 
 use std::alloc::{AllocError, AllocFailed, Global};
 use std::marker::Model;
@@ -89,7 +89,8 @@ impl<T> Seq<T> {
     /// Takes the item at `index` out. The items after it move by one place.
     pub fn remove(&mut self, index: usize) -> T
         requires { index < length self.old }
-        ensures { self.old ≡ insert self.new index result }
+        ensures value { self.old ≡ insert self.new index result }
+        ensures rest { self.new ≡ remove self.old index }
     {
         self.items.remove(index)
     }
