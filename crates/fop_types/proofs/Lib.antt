@@ -1,2 +1,3 @@
-pub mod Places
+pub mod MapLemmas
 pub mod Names
+pub mod Places
