@@ -6,11 +6,13 @@
 #![tactic(auto)]
 
 mod answers;
+mod call_parts;
 mod calls;
 mod cells;
 mod contents;
 mod flat;
 mod history;
+mod items;
 mod lists;
 mod messages;
 mod store_ops;
@@ -21,6 +23,7 @@ pub use cells::{Aspect, Cell, Gfid, Kind};
 pub use contents::{Attr, Content, Item, Mask, Row, Span};
 pub use flat::{probe, FlatAnswer, FlatObject, FlatOp};
 pub use history::Entry;
+pub use items::find_item;
 pub use lists::Seq;
 pub use messages::{BrickRep, BrickReq, DoneArm, Input, OutKind, Output, Proc};
 pub use store_ops::StoreOp;

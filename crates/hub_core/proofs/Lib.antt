@@ -1,1 +1,4 @@
 pub mod Reached
+pub mod Cases
+pub mod Bounded
+pub mod Carried

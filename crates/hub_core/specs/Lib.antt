@@ -1,2 +1,4 @@
+pub mod Bounds
+pub mod Follows
 pub mod Journal
 pub mod Turns

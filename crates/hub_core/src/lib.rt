@@ -2,8 +2,10 @@
 #![tactic(auto)]
 
 mod hubs;
+mod log_lists;
 mod logs;
 mod stages;
+mod turns;
 
-pub use hubs::probe;
+pub use hubs::Hub;
 pub use logs::{HubEvent, Log, ReplyLine, SentLine, WindLine, WindNo};
