@@ -55,8 +55,8 @@ copy_of kept = copy_with kept.content kept.last
 abbrev pub root_alone : Cells
 root_alone =
     with_kept
-        (with_kept [] (meta_cell root) (record { content = Some (Meta 493 [] None); dirty = 0; last = 0 }))
-        (names_cell root) (record { content = Some (Names false []); dirty = 0; last = 0 })
+    (with_kept [] (meta_cell root) (record { content = Some (Meta 493 [] None); dirty = 0; last = 0 }))
+    (names_cell root) (record { content = Some (Names false []); dirty = 0; last = 0 })
 
 -- a mark raises the count of marks by one, a post lowers it by one
 abbrev pub mark_of : Kept → Kept
@@ -105,12 +105,13 @@ items_of (Some (Names removed items)) = items
 abbrev pub name_added : Cells → ℕ → Gfid → Item → ℕ → Option Span → Cells
 name_added cells change parent item mode span =
     with_directory
-        (with_kept cells (names_cell parent)
-            (record {
-                content = Some (Names false (with_item (items_of (kept_at cells (names_cell parent)).content) item));
-                dirty = (kept_at cells (names_cell parent)).dirty;
-                last = change }))
-        item.gfid mode span change
+    (with_kept cells (names_cell parent)
+    (record {
+      content = Some (Names false (with_item (items_of (kept_at cells (names_cell parent)).content) item));
+      dirty = (kept_at cells (names_cell parent)).dirty;
+      last = change;
+    }))
+    item.gfid mode span change
 
 abbrev pub directory_added : Kind → Bool → Cells → Option Cells
 directory_added Dir true after = Some after
@@ -123,7 +124,7 @@ directory_added Link free after = None
 abbrev pub applied : Cells → ℕ → StoreOp → Option Cells
 applied cells change (AddName parent item mode span) =
     directory_added item.kind (takes_name (kept_at cells (names_cell parent)).content item.name)
-        (name_added cells change parent item mode span)
+    (name_added cells change parent item mode span)
 applied cells change (Write gfid offset bytes) = None
 applied cells change (Truncate gfid size) = None
 applied cells change (SetMode gfid mode) = None

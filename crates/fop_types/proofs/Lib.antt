@@ -1,2 +1,4 @@
 pub mod MapLemmas
 pub mod PathLemmas
+pub mod Places
+pub mod Names

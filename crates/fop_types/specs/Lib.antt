@@ -1,3 +1,4 @@
+pub mod Errors
 pub mod Flat
 pub mod History
 pub mod Orders

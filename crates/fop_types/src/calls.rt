@@ -1,12 +1,12 @@
 use crate::lists::Seq;
 
-/// An absolute path as its components; the path `/` has none.
+/// A path as its components; the root's has none.
 #[derive(Debug, Drop, PartialEq, Eq)]
 pub struct Path {
     pub parts: Seq<Seq<u8>>,
 }
 
-/// A call of a script. `mode` has permission bits alone, at most 511.
+/// A call of an application on the mount.
 #[derive(Debug, Drop, PartialEq, Eq)]
 pub enum Call {
     Mkdir { path: Path, mode: u16 },

@@ -1,5 +1,3 @@
-ghost use Rattle.std.specs.Prelude.{◌≡◌};
-
 use crate::answers::Answer;
 use crate::cells::{Gfid, Kind};
 use crate::contents::{Attr, Item};
@@ -46,10 +44,4 @@ pub enum FlatOp {
 pub enum FlatAnswer {
     Found { gfid: Gfid, kind: Kind },
     Call(Answer),
-}
-
-pub fn probe(x: u64) -> u64
-    ensures { result ≡ x }
-{
-    x
 }

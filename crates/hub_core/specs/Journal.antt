@@ -1,6 +1,6 @@
 -- What may be said of a log: that it follows a script and is finished, that its arrivals are honest, that
 -- its winds are balanced, that its replies are lawful, and that its changes are on the brick.
-use Rattle.std.specs.Prelude.{◌≡◌, ◌≢◌, ℕ, ◌+◌, ◌-◌, ◌*◌, ◌<◌, ◌≤◌, ◌==◌, nat_lt, Bool, true, false, ◌&&◌, not, cond, List, [], ◌∷◌, ◌++◌, Option, Some, None, length, take, map, slice_get, if◌then◌else◌}
+use Rattle.std.specs.Prelude.{◌≡◌, ◌≢◌, ℕ, zero, suc, ◌+◌, ◌-◌, ◌*◌, ◌<◌, ◌≤◌, ◌==◌, nat_lt, Bool, true, false, ◌&&◌, not, cond, List, [], ◌∷◌, ◌++◌, Option, Some, None, length, take, map, slice_get, if◌then◌else◌}
 use Rattle.fop_types.specs.declared.answers.Answer.{Answer}
 use Rattle.fop_types.specs.declared.cells.Gfid.{Gfid}
 use Rattle.fop_types.specs.declared.contents.Span.{Span}
@@ -72,14 +72,15 @@ count_below bound [] = 0
 count_below bound (n ∷ numbers) = (if nat_lt n bound then 1 else 0) + count_below bound numbers
 
 -- the events before the submission of the call that comes after this many others
-abbrev pub events_before : ℕ → List HubEvent → ℕ
-events_before others [] = 0
-events_before others (Arrive brick output ∷ events) = 1 + events_before others events
-events_before others (Submit session line ∷ events) = if others == 0 then 0 else 1 + events_before (others - 1) events
+abbrev pub events_before : List HubEvent → ℕ → ℕ
+events_before [] others = 0
+events_before (Arrive brick output ∷ events) others = 1 + events_before events others
+events_before (Submit session line ∷ events) zero = 0
+events_before (Submit session line ∷ events) (suc others) = 1 + events_before events others
 
 -- the length of the history as a call was submitted, and after the event that answered it
 abbrev pub length_at_submit : Log → ℕ → ℕ
-length_at_submit log number = count_below (1 + events_before (number - 1) log.events) log.entered
+length_at_submit log number = count_below (1 + events_before log.events (number - 1)) log.entered
 
 abbrev pub length_at_reply : Log → ℕ → ℕ
 length_at_reply log event = count_below (event + 1) log.entered

@@ -1,6 +1,7 @@
 use fop_types::{Call, Seq};
 
-/// One call of a script: its line in the text, from 1, its session's number, from 0, and the call.
+/// A line of a script that makes a call. `session` is the number of the line's session, by the order in
+/// which sessions are first named, from 0.
 #[derive(Debug, Drop, PartialEq, Eq)]
 pub struct CallLine {
     pub line: u32,
@@ -8,7 +9,7 @@ pub struct CallLine {
     pub call: Call,
 }
 
-/// A script: its calls in the order of their lines.
+/// An accepted script. `calls` stand in the order of their lines.
 #[derive(Debug, Drop, PartialEq, Eq)]
 pub struct Script {
     pub calls: Seq<CallLine>,
