@@ -6,6 +6,7 @@
 #![tactic(auto)]
 
 mod answers;
+mod call_parts;
 mod calls;
 mod causes;
 mod cells;

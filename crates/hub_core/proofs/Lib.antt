@@ -1,3 +1,6 @@
+pub mod Bounded
+pub mod Carried
+pub mod Cases
 pub mod Counts
 pub mod EachStage
 pub mod Followings

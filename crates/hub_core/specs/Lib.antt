@@ -1,3 +1,5 @@
+pub mod Bounds
+pub mod Follows
 pub mod Journal
 pub mod Kept
 pub mod Laws

@@ -17,6 +17,13 @@ pub enum Stage {
     Posting { change: u64 },
 }
 
+/// What a name is looked for: a lookup finds it, a new name must be absent.
+#[derive(Debug, Clone, Copy, PartialEq, Eq)]
+pub enum Search {
+    Present,
+    Absent,
+}
+
 /// The call at work: its number, the gfid that is drawn for it, the places of its operations that are
 /// answered, the turn of its open wind and what it waits for.
 #[derive(Debug, Drop, PartialEq, Eq)]

@@ -14,6 +14,7 @@
 //! The program's top call reads scripts by it.
 #![tactic(auto)]
 
+mod call_copies;
 mod call_lines;
 mod cuts;
 mod errors;
