@@ -1,5 +1,4 @@
 pub mod MapLemmas
-pub mod PathLemmas
-pub mod Places
 pub mod Names
+pub mod PathLemmas
 pub mod Places
