@@ -2,6 +2,7 @@
 use Rattle.std.proofs.Common.{◌≡◌, ◌≢◌, ℕ, ◌+◌, ◌-◌, ◌<◌, ◌≤◌, List, [], ◌∷◌, ◌++◌, Option, Some, None, Bool, true, false, cond, length, take, refl, sym, ◌∙◌, ap, subst, arith, ◌⊎◌, inl, inr, zero, suc}
 use Rattle.std.specs.Prelude.{slice_get, ◌==◌, nat_lt}
 use Rattle.std.proofs.lemmas.Bool.{eq-eqb, eqb-true}
+use Rattle.std.proofs.lemmas.List.{length_push}
 use Rattle.std.proofs.lemmas.Bool.Decides.{nat_tests}
 use Rattle.fop_types.specs.declared.answers.Answer.{Answer}
 use Rattle.fop_types.specs.declared.calls.Call.{Call}
@@ -205,13 +206,25 @@ law s reached one honest =
       backed = f.2 }
 
 pub whole : EndedLogsAreWhole
-whole s reached one honest idle all =
-    let k : IsKept s = kept s reached in
-    let f : IsIdle s = subst (HonestFor s) idle (k.honest one honest) in
-    let ended : AllEnded s.log.winds (length s.log.sent) = subst (WindsKept s.log.winds (length s.log.sent)) idle k.wound in
-    record {
-      finished = record {
-        submitted = submits_length s k.counted ∙ all;
-        replied = λ number from_one le. k.replied number from_one (rw idle (rw all le));
-        arrived = f.so_far.as_many ∙ length-inputs_of s.log.sent };
-      balanced = record { once = ended.once; all_ended = ended.ended } }
+whole s reached one honest answered all = by_work s.working refl (k.honest one honest)
+  where
+    k : IsKept s
+    k = kept s reached
+    idle : s.working ≡ None → IsWholeLog s.calls s.log
+    idle none =
+        let f : IsIdle s = subst (HonestFor s) none (k.honest one honest) in
+        let ended : AllEnded s.log.winds (length s.log.sent) = subst (WindsKept s.log.winds (length s.log.sent)) none k.wound in
+        let every : s.submitted ≡ length s.calls = omega (arith, all none, k.counted.within) in
+        record {
+          finished = record {
+            submitted = submits_length s k.counted ∙ every;
+            replied = λ number from_one le. k.replied number from_one (rw none (rw every le));
+            arrived = f.so_far.as_many ∙ length-inputs_of s.log.sent };
+          balanced = record { once = ended.once; all_ended = ended.ended } }
+    by_work : (v : Option Working) → s.working ≡ v → HonestFor s v → IsWholeLog s.calls s.log
+    by_work None is f = idle is
+    by_work (Some w) is f =
+        let more : length (inputs_of s.log.sent) ≡ length f.answered + 1 = ap length f.sent ∙ length_push f.answered _ in
+        let many : length (inputs_of s.log.sent) ≡ length s.log.sent = length-inputs_of s.log.sent in
+        let arrived : length (arrivals_of s.log.events) ≡ length f.answered = f.so_far.as_many in
+        absurd (omega arith)

@@ -3,6 +3,7 @@ pub mod Carried
 pub mod Cases
 pub mod Counts
 pub mod EachStage
+pub mod FewWinds
 pub mod Followings
 pub mod Grown
 pub mod Honest

@@ -1,5 +1,5 @@
 -- The laws of the hub, over every run of events: what honest arrivals give.
-use Rattle.std.specs.Prelude.{◌≡◌, ℕ, List, Option, Some, None, length}
+use Rattle.std.specs.Prelude.{◌≡◌, ◌≤◌, ℕ, List, Option, Some, None, length}
 use Rattle.fop_types.specs.History.{IsLegalHistory}
 use Rattle.script_lang.specs.declared.scripts.CallLine.{CallLine}
 use Rattle.hub_core.specs.declared.logs.Log.{Log}
@@ -16,7 +16,7 @@ pub record IsLawfulLog (calls : List CallLine) (log : Log) : Type 0 where
   pub winds : WindsAreOnce log.winds
   pub backed : IsBackedByBrick calls log.history (inputs_of log.sent) (arrivals_of log.events)
 
--- and where every call was submitted and none is at work, the log is finished and every wind is ended
+-- a log to which nothing can be added: it is finished, and every wind is ended
 pub record IsWholeLog (calls : List CallLine) (log : Log) : Type 0 where
   pub finished : IsFinished calls log
   pub balanced : WindsAreBalanced log.winds
@@ -25,7 +25,8 @@ pub record IsWholeLog (calls : List CallLine) (log : Log) : Type 0 where
 abbrev pub HonestLogsAreLawful : Type 0
 HonestLogsAreLawful = (s : HubState) → IsReached s → HaveOneName s.calls → HasHonestArrivals s.log → IsLawfulLog s.calls s.log
 
+-- and whole, where all that was sent has been answered, and no call is left while none is at work
 abbrev pub EndedLogsAreWhole : Type 0
 EndedLogsAreWhole =
-    (s : HubState) → IsReached s → HaveOneName s.calls → HasHonestArrivals s.log → s.working ≡ None → s.submitted ≡ length s.calls →
-    IsWholeLog s.calls s.log
+    (s : HubState) → IsReached s → HaveOneName s.calls → HasHonestArrivals s.log → length s.log.sent ≤ length (arrivals_of s.log.events) →
+    (s.working ≡ None → length s.calls ≤ s.submitted) → IsWholeLog s.calls s.log

@@ -7,8 +7,8 @@ pub fn honest_logs_are_lawful()
 {
 }
 
-/// The law of ended logs: where every call was submitted and none is at work, the log is finished, and
-/// every wind is ended.
+/// The law of ended logs: where all that was sent has been answered, and no call is left while none is at
+/// work, the log is finished, and every wind is ended.
 pub fn ended_logs_are_whole()
     ensures { EndedLogsAreWhole }
 {

@@ -1,0 +1,5 @@
+pub mod Commands
+pub mod Headline
+pub mod Outcomes
+pub mod Refusals
+pub mod Reports
