@@ -19,18 +19,20 @@ module _ {K X : Type 0} (R : K → K → Ordering) (exact : CmpEqualImpliesEq R)
   pub lookup-put_same : (es : List (K × X)) (k : K) (v : X) → lookup (is_at (R k)) (insert_entry R es k v) ≡ Some v
   lookup-put_same [] k v = rw (tied_itself o k) refl
   lookup-put_same (e ∷ es) k v =
-    elim (R k e.0) as (λ o. (R k e.0 ≡ o) → lookup (is_at (R k)) (match_ordering o ((k, v) ∷ e ∷ es) ((e.0, v) ∷ es) (e ∷ insert_entry R es k v)) ≡ Some v)
-      [ Less ↦ λ h. rw (tied_itself o k) refl
-      | Equal ↦ λ h. rw h refl
-      | Greater ↦ λ h. rw h (lookup-put_same es k v) ] refl
+      elim (R k e.0) as (λ o. (R k e.0 ≡ o) → lookup (is_at (R k)) (match_ordering o ((k, v) ∷ e ∷ es) ((e.0, v) ∷ es) (e ∷ insert_entry R es k v)) ≡ Some v) [
+        | Less ↦ λ h. rw (tied_itself o k) refl
+        | Equal ↦ λ h. rw h refl
+        | Greater ↦ λ h. rw h (lookup-put_same es k v)
+      ] refl
 
   pub lookup-put_other : (es : List (K × X)) (k q : K) (v : X) → is_eq (R q k) ≡ false → lookup (is_at (R q)) (insert_entry R es k v) ≡ lookup (is_at (R q)) es
   lookup-put_other [] k q v apart = rw apart refl
   lookup-put_other (e ∷ es) k q v apart =
-    elim (R k e.0) as (λ o. (R k e.0 ≡ o) → lookup (is_at (R q)) (match_ordering o ((k, v) ∷ e ∷ es) ((e.0, v) ∷ es) (e ∷ insert_entry R es k v)) ≡ lookup (is_at (R q)) (e ∷ es))
-      [ Less ↦ λ h. rw apart refl
-      | Equal ↦ λ h. (let there : k ≡ e.0 = exact k e.0 h in let off : is_eq (R q e.0) ≡ false = subst (λ (x : K). is_eq (R q x) ≡ false) there apart in rw off refl)
-      | Greater ↦ λ h. ap (λ (t : Option X). cond (is_eq (R q e.0)) (Some e.1) t) (lookup-put_other es k q v apart) ] refl
+      elim (R k e.0) as (λ o. (R k e.0 ≡ o) → lookup (is_at (R q)) (match_ordering o ((k, v) ∷ e ∷ es) ((e.0, v) ∷ es) (e ∷ insert_entry R es k v)) ≡ lookup (is_at (R q)) (e ∷ es)) [
+        | Less ↦ λ h. rw apart refl
+        | Equal ↦ λ h. (let there : k ≡ e.0 = exact k e.0 h in let off : is_eq (R q e.0) ≡ false = subst (λ (x : K). is_eq (R q x) ≡ false) there apart in rw off refl)
+        | Greater ↦ λ h. ap (λ (t : Option X). cond (is_eq (R q e.0)) (Some e.1) t) (lookup-put_other es k q v apart)
+      ] refl
 
 -- ---- the orders of gfids and cells are total and tell all of them apart
 pub gfid_cmp_total : IsTotalOrder gfid_cmp

@@ -120,6 +120,6 @@ abbrev pub flat_after : Files → FlatOp → Files
 flat_after files (Lookup parent name) = files
 flat_after files (Mkdir parent name mode drawn) =
     where_done (flat_answer files (Mkdir parent name mode drawn))
-        (with_object (named_in files (object_at files parent) parent (directory_item name drawn)) drawn (new_directory mode))
-        files
+    (with_object (named_in files (object_at files parent) parent (directory_item name drawn)) drawn (new_directory mode))
+    files
 flat_after files (Stat gfid) = files

@@ -168,4 +168,4 @@ pub record IsLawfulReply (calls : List Call) (history : List Entry) (since until
   pub between : AreBetween places since until
   pub answered :
       IsAnswered (walk (looked_up call) (fs_after calls history) root places) (fs_after calls history) history number
-          (λ found. last_op call found (drawn_by calls number)) answer
+      (λ found. last_op call found (drawn_by calls number)) answer

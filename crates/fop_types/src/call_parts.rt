@@ -1,10 +1,9 @@
 ghost use Rattle.std.specs.Prelude.{◌≡◌, IfOk};
 ghost use Rattle.fop_types.specs.History.{last_part, makes};
 
-use std::alloc::{AllocError, Global};
-
 use crate::calls::{Call, Path};
 use crate::lists::Seq;
+use std::alloc::{AllocError, Global};
 
 impl Path {
     /// A copy of the path.

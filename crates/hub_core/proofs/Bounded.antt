@@ -50,9 +50,9 @@ bounded_at_submit s line b idle there =
     let entered_few : length s.log.history ≤ s.submitted = work.1 in
     let made_few = b.made in
     record {
-        submitted = omega arith;
-        made = omega arith;
-        work = (refl, last_turn s.log.sent _, sent_room s.log.sent _ (requests_left (first_stage line.call)) (4 * (s.submitted + 1)) (omega arith), omega arith);
+      submitted = omega arith;
+      made = omega arith;
+      work = (refl, last_turn s.log.sent _, sent_room s.log.sent _ (requests_left (first_stage line.call)) (4 * (s.submitted + 1)) (omega arith), omega arith);
     }
 
 pub bounded_at_next : (s : HubState) (output : Output) → IsBounded s → (w : Working) (line : CallLine) (follows : Next) →
@@ -62,33 +62,33 @@ bounded_at_next s output b w line (next.Ask request stage places) at lower =
     let sent_few : length s.log.sent + requests_left w.stage ≤ 4 * s.submitted = work.2 in
     let less : requests_left stage + 1 ≤ requests_left w.stage = lower in
     record {
-        submitted = b.submitted;
-        made = b.made;
-        work = (work.0, last_turn s.log.sent _, sent_room s.log.sent _ (requests_left stage) (4 * s.submitted) (omega arith), work.3);
+      submitted = b.submitted;
+      made = b.made;
+      work = (work.0, last_turn s.log.sent _, sent_room s.log.sent _ (requests_left stage) (4 * s.submitted) (omega arith), work.3);
     }
 bounded_at_next s output b w line (next.Reply places answer false) at lower =
     let work = subst (λ (v : Option Working). WorkIsBounded s.submitted (length s.log.sent) (length s.log.history) v) at b.work in
     let sent_few : length s.log.sent + requests_left w.stage ≤ 4 * s.submitted = work.2 in
     let entered_few : length s.log.history + 1 ≤ s.submitted = work.3 in
-    record { submitted = b.submitted; made = b.made; work = (omega arith, omega arith); }
+    record { submitted = b.submitted; made = b.made; work = (omega arith, omega arith) }
 bounded_at_next s output b w line (next.Reply places answer true) at lower =
     let work = subst (λ (v : Option Working). WorkIsBounded s.submitted (length s.log.sent) (length s.log.history) v) at b.work in
     let sent_few : length s.log.sent + requests_left w.stage ≤ 4 * s.submitted = work.2 in
     let entered_few : length s.log.history + 1 ≤ s.submitted = work.3 in
-    record { submitted = b.submitted; made = b.made; work = (omega arith, entry_room s.log.history _ s.submitted entered_few); }
+    record { submitted = b.submitted; made = b.made; work = (omega arith, entry_room s.log.history _ s.submitted entered_few) }
 
 pub bounded_at_arrive : (s : HubState) (output : Output) → IsBounded s → IsBounded (arrived s output)
 bounded_at_arrive s output b =
-    arrived_by IsBounded s output (record { submitted = b.submitted; made = b.made; work = b.work; })
-        (λ (w : Working) (line : CallLine) (follows : Next) (arm : DoneArm) at there is.
-            bounded_at_next s output b w line follows at
-                (subst (λ (f : Option Next). Lowers (requests_left w.stage) f) is
-                    (next_lowers w.stage line.call w.drawn w.places (length s.log.history) arm)))
+    arrived_by IsBounded s output (record { submitted = b.submitted; made = b.made; work = b.work })
+    (λ (w : Working) (line : CallLine) (follows : Next) (arm : DoneArm) at there is.
+    bounded_at_next s output b w line follows at
+    (subst (λ (f : Option Next). Lowers (requests_left w.stage) f) is
+    (next_lowers w.stage line.call w.drawn w.places (length s.log.history) arm)))
 
 pub bounded_of : (s : HubState) → IsReached s → IsBounded s
 bounded_of s reached =
-    by_events IsBounded (λ calls. record { submitted = omega arith; made = omega arith; work = (omega arith, omega arith); })
-        bounded_at_submit bounded_at_arrive s reached
+    by_events IsBounded (λ calls. record { submitted = omega arith; made = omega arith; work = (omega arith, omega arith) })
+    bounded_at_submit bounded_at_arrive s reached
 
 -- ---- what the casts of the code rest on
 

@@ -28,9 +28,13 @@ pub submitted_is : (s : HubState) (line : CallLine) (log : Log) (turn made : ℕ
     log ≡ with_request (with_event s.log (Submit line.session line.line)) (length s.log.events + 1) (s.submitted + 1) (length s.log.sent) req →
     req ≡ ask_names → turn ≡ length s.log.sent → made ≡ makes line.call → places ≡ [] → stage ≡ first_stage line.call →
     ◌≡◌ {A = HubState} (record {
-        calls = s.calls; log = log; submitted = s.submitted + 1; made = s.made + made;
-        working = Some (record { call = s.submitted + 1; drawn = record { hi = 0; lo = 1 + (s.made + made) }; places = places; turn = turn; stage = stage }) })
-        (submit_call s line)
+      calls = s.calls;
+      log = log;
+      submitted = s.submitted + 1;
+      made = s.made + made;
+      working = Some (record { call = s.submitted + 1; drawn = record { hi = 0; lo = 1 + (s.made + made) }; places = places; turn = turn; stage = stage });
+    })
+    (submit_call s line)
 submitted_is s line log turn made stage places req log_is req_is turn_is made_is places_is stage_is =
     rw log_is (rw req_is (rw turn_is (rw made_is (rw places_is (rw stage_is refl)))))
 
@@ -53,9 +57,9 @@ pub carried_is : (s : HubState) (output : Output) (follows : Next) (w : Working)
     ◌≡◌ {A = HubState} (record { calls = s.calls; log = log; submitted = s.submitted; made = s.made; working = working }) (arrived s output)
 carried_is s output follows w line log working follow at there log_is working_is =
     rw log_is (rw working_is
-        (sym (arrived_is s output ∙ ap (λ (f : Option Next). by_next s output f) follow ∙
-            ap (λ (v : Option Working). by_working s output follows v) at ∙
-            ap (λ (l : Option CallLine). by_line s output follows w l) (sym there))))
+    (sym (arrived_is s output ∙ ap (λ (f : Option Next). by_next s output f) follow ∙
+    ap (λ (v : Option Working). by_working s output follows v) at ∙
+    ap (λ (l : Option CallLine). by_line s output follows w l) (sym there))))
 
 -- nothing follows where the call at work has no line
 pub if_none : {A : Type 0} (test : Bool) → ◌≡◌ {A = Option A} (if test then None else None) None
@@ -87,19 +91,23 @@ pub reached_submit : {s : HubState} (now : HubState) (line : CallLine) (log : Lo
     log ≡ with_request (with_event s.log (Submit line.session line.line)) (length s.log.events + 1) (s.submitted + 1) (length s.log.sent) req →
     req ≡ ask_names → turn ≡ length s.log.sent → made ≡ makes line.call → places ≡ [] → stage ≡ first_stage line.call →
     IsReached (record {
-        calls = s.calls; log = log; submitted = s.submitted + 1; made = s.made + made;
-        working = Some (record { call = s.submitted + 1; drawn = record { hi = 0; lo = 1 + (s.made + made) }; places = places; turn = turn; stage = stage }) })
+      calls = s.calls;
+      log = log;
+      submitted = s.submitted + 1;
+      made = s.made + made;
+      working = Some (record { call = s.submitted + 1; drawn = record { hi = 0; lo = 1 + (s.made + made) }; places = places; turn = turn; stage = stage });
+    })
 reached_submit {s = s} now line log turn made stage places req reached is idle there log_is req_is turn_is made_is places_is stage_is =
     let idle_there : s.working ≡ None = ap (λ (v : HubState). v.working) is ∙ idle in
     Submitted s _ line reached idle_there (sym there)
-        (submitted_is s line log turn made stage places req log_is req_is turn_is made_is places_is stage_is)
+    (submitted_is s line log turn made stage places req log_is req_is turn_is made_is places_is stage_is)
 
 pub reached_ignore : {s : HubState} (now : HubState) (output : Output) (log : Log) → IsReached s → s ≡ now →
     follow_of now output.kind ≡ None → log ≡ with_event s.log (Arrive 0 output) →
     IsReached (record { calls = s.calls; log = log; submitted = s.submitted; made = s.made; working = s.working })
 reached_ignore {s = s} now output log reached is none log_is =
     Arrived s _ output reached
-        (ignored_is s output log (ap (λ (v : HubState). follow_of v output.kind) is ∙ none) log_is)
+    (ignored_is s output log (ap (λ (v : HubState). follow_of v output.kind) is ∙ none) log_is)
 
 pub carried_at : {s : HubState} (now : HubState) (output : Output) (follows : Next) (w : Working) (line : CallLine) (log : Log) (working : Option Working) →
     IsReached s → s ≡ now → follow_of now output.kind ≡ Some follows → s.working ≡ Some w → Some line ≡ slice_get s.calls (w.call - 1) →
@@ -108,7 +116,7 @@ pub carried_at : {s : HubState} (now : HubState) (output : Output) (follows : Ne
     ◌≡◌ {A = HubState} (record { calls = s.calls; log = log; submitted = s.submitted; made = s.made; working = working }) (arrived now output)
 carried_at {s = s} now output follows w line log working reached is follow at there log_is working_is =
     carried_is s output follows w line log working (ap (λ (v : HubState). follow_of v output.kind) is ∙ follow) at there log_is working_is
-        ∙ ap (λ (v : HubState). arrived v output) is
+    ∙ ap (λ (v : HubState). arrived v output) is
 
 pub reached_carry : {s : HubState} (now : HubState) (output : Output) (follows : Next) (w : Working) (line : CallLine) (log : Log) (working : Option Working) →
     IsReached s → s ≡ now → follow_of now output.kind ≡ Some follows → s.working ≡ Some w → Some line ≡ slice_get s.calls (w.call - 1) →
@@ -117,7 +125,7 @@ pub reached_carry : {s : HubState} (now : HubState) (output : Output) (follows :
     IsReached (record { calls = s.calls; log = log; submitted = s.submitted; made = s.made; working = working })
 reached_carry {s = s} now output follows w line log working reached is follow at there log_is working_is =
     Arrived s _ output reached
-        (carried_is s output follows w line log working (ap (λ (v : HubState). follow_of v output.kind) is ∙ follow) at there log_is working_is)
+    (carried_is s output follows w line log working (ap (λ (v : HubState). follow_of v output.kind) is ∙ follow) at there log_is working_is)
 
 pub never_lost : {s : HubState} (now : HubState) (output : Output) (follows : Next) (w : Working) → IsReached s → s ≡ now →
     follow_of now output.kind ≡ Some follows → s.working ≡ Some w → None ≡ slice_get s.calls (w.call - 1) → now ≡ arrived now output

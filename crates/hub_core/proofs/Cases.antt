@@ -69,7 +69,7 @@ pub reply_is : (s : HubState) (output : Output) (w : Working) (wind : ℕ) (repl
     IsBy s output w (reply_for s output w wind reply) (follow_reply s w wind reply)
 reply_is s output w wind (rep.Done arm) =
     if_is s output w (wind == wire_number w.turn) (done_for s output w (slice_get s.calls (w.call - 1)) arm)
-        (follow_line s w arm (slice_get s.calls (w.call - 1))) (done_is s output w (slice_get s.calls (w.call - 1)) arm refl)
+    (follow_line s w arm (slice_get s.calls (w.call - 1))) (done_is s output w (slice_get s.calls (w.call - 1)) arm refl)
 reply_is s output w wind rep.Gone = refl
 reply_is s output w wind rep.Fault = refl
 reply_is s output w wind rep.Unfit = refl
@@ -101,10 +101,9 @@ arrived_is s output = working_is s output s.working refl
 
 module _ (P : HubState → Type 0) (s : HubState) (output : Output) (same : P (ignored s output))
     (changed : (w : Working) (line : CallLine) (follows : Next) (arm : DoneArm) → s.working ≡ Some w →
-        slice_get s.calls (w.call - 1) ≡ Some line →
-        next_of w.stage line.call w.drawn w.places (length s.log.history) arm ≡ Some follows →
-        P (carried_out s output w line follows)) where
-
+    slice_get s.calls (w.call - 1) ≡ Some line →
+    next_of w.stage line.call w.drawn w.places (length s.log.history) arm ≡ Some follows →
+    P (carried_out s output w line follows)) where
   taken_by : (w : Working) (line : CallLine) (arm : DoneArm) (follows : Option Next) → s.working ≡ Some w →
       slice_get s.calls (w.call - 1) ≡ Some line →
       next_of w.stage line.call w.drawn w.places (length s.log.history) arm ≡ follows →
@@ -125,7 +124,7 @@ module _ (P : HubState → Type 0) (s : HubState) (output : Output) (same : P (i
   reply_by : (w : Working) (wind : ℕ) (reply : BrickRep) → s.working ≡ Some w → P (reply_for s output w wind reply)
   reply_by w wind (rep.Done arm) at =
       if_by (wind == wire_number w.turn) (done_for s output w (slice_get s.calls (w.call - 1)) arm)
-          (done_by w (slice_get s.calls (w.call - 1)) arm at refl)
+      (done_by w (slice_get s.calls (w.call - 1)) arm at refl)
   reply_by w wind rep.Gone at = same
   reply_by w wind rep.Fault at = same
   reply_by w wind rep.Unfit at = same

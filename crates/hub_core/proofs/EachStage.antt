@@ -66,11 +66,9 @@ use Rattle.hub_core.proofs.Grown.{IsGood, IsDirectoryAt, IsFreshAbove, lo_apart,
 use Rattle.hub_core.proofs.Onward.{root_names, names_reply, HasMeta, meta_reply, op_reply, due, arrived_taken, after_ask, after_reply, after_entry}
 use Rattle.hub_core.proofs.Honest.{IsHonestSoFar, IsIdle, IsStat, IsMkdir, IsFinding, IsReading, IsChecking, IsFree, IsMarking, IsChanging, IsPosting, StageIs, IsAtWork, HonestFor, op_of, empty_post, backed_later, request_later}
 
-
 module _ (s : HubState) (o : Output) (w : Working) (h : IsAtWork s w) (at_work : s.working ≡ Some w) (well : IsSentWell s) (counted : WorkIsCounted s w)
     (old : (k : ℕ) (reply : ReplyLine) → slice_get s.log.replies k ≡ Some reply → (reply.call < w.call) × AreAtMost reply.places (length s.log.history))
     (honest : HasHonestArrivals (arrived s o).log) where
-
   abbrev Goal : Type 0
   Goal = HonestFor (arrived s o) (arrived s o).working
 
@@ -80,7 +78,7 @@ module _ (s : HubState) (o : Output) (w : Working) (h : IsAtWork s w) (at_work :
       HonestFor (taken_up s o w h.line (Some follows)) (taken_up s o w h.line (Some follows)).working → HonestFor (arrived s o) (arrived s o).working
   goes_on arm follows replies next_is kept =
       let kind_is : o.kind ≡ out.Reply (wire_number w.turn) (rep.Done arm) =
-            ap (λ (x : Output). x.kind) (due s o w h well honest) ∙ ap (out.Reply (wire_number w.turn)) replies in
+      ap (λ (x : Output). x.kind) (due s o w h well honest) ∙ ap (out.Reply (wire_number w.turn)) replies in
       subst (λ (x : HubState). HonestFor x x.working) (sym (arrived_taken s o w h.line arm follows at_work kind_is h.line_is next_is)) kept
 
   served : cells_of (inputs_of s.log.sent) ≡ (serve_request (cells_of h.answered) h.request).cells
@@ -106,27 +104,35 @@ module _ (s : HubState) (o : Output) (w : Working) (h : IsAtWork s w) (at_work :
   not_found : (path : Path) (one : IsOneName path) → h.line.call ≡ call.Stat path → item_named names one.name ≡ None →
       IsAnsweredCall (calls_of s.calls) s.log.history w.call (length s.log.history ∷ []) (answer.App Enoent)
   not_found path one call_is none = record {
-      call = call.Stat path; asked = asked (call.Stat path) call_is;
-      answered = rw (one.parts, lookup_now one.name one.short, none) (refl, no_entry) }
+    call = call.Stat path;
+    asked = asked (call.Stat path) call_is;
+    answered = rw (one.parts, lookup_now one.name one.short, none) (refl, no_entry);
+  }
 
   finding : (f : IsFinding h.files (cells_of h.answered) w h.line.call h.request) → w.stage ≡ Finding → (i : Option Item) → item_named names f.stat.one.name ≡ i → Goal
   finding f stage None none =
       let shows : Shows h.files (cells_of (inputs_of s.log.sent)) = rw (served, f.asks) f.shows in
       goes_on _ (next.Reply (length s.log.history ∷ []) (answer.App Enoent) false)
-        (ap (λ (r : BrickReq). (serve_request (cells_of h.answered) r).reply) f.asks ∙ names_reply h.files (cells_of h.answered) h.so_far.good f.shows)
-        (rw (stage, f.stat.call_is, f.stat.one.parts, none, f.places) refl)
-        (after_reply s o w h well h.line (length s.log.history ∷ []) (answer.App Enoent) shows (not_found f.stat.path f.stat.one f.stat.call_is none))
+      (ap (λ (r : BrickReq). (serve_request (cells_of h.answered) r).reply) f.asks ∙ names_reply h.files (cells_of h.answered) h.so_far.good f.shows)
+      (rw (stage, f.stat.call_is, f.stat.one.parts, none, f.places) refl)
+      (after_reply s o w h well h.line (length s.log.history ∷ []) (answer.App Enoent) shows (not_found f.stat.path f.stat.one f.stat.call_is none))
   finding f stage (Some item) found =
       let shows : Shows h.files (cells_of (inputs_of s.log.sent)) = rw (served, f.asks) f.shows in
       let there = found_in_root h.files h.so_far.good f.stat.one.name f.stat.one.short item found in
       goes_on _ (next.Ask (req.Fetch 0 (meta_cell item.gfid)) (Reading item.kind) (length s.log.history ∷ []))
-        (ap (λ (r : BrickReq). (serve_request (cells_of h.answered) r).reply) f.asks ∙ names_reply h.files (cells_of h.answered) h.so_far.good f.shows)
-        (rw (stage, f.stat.call_is, f.stat.one.parts, found, f.places) refl)
-        (after_ask s o w h well h.line (req.Fetch 0 (meta_cell item.gfid)) (Reading item.kind) (length s.log.history ∷ []) h.line_is
-          (record {
-            stat = f.stat; places = refl; gfid = item.gfid; directory = there.1; kind_is = there.0;
-            found = lookup_root h.files h.so_far.good f.stat.one.name f.stat.one.short ∙ ap found_answer found ∙ ap (flat.Found item.gfid) there.0;
-            asks = refl; shows = shows }))
+      (ap (λ (r : BrickReq). (serve_request (cells_of h.answered) r).reply) f.asks ∙ names_reply h.files (cells_of h.answered) h.so_far.good f.shows)
+      (rw (stage, f.stat.call_is, f.stat.one.parts, found, f.places) refl)
+      (after_ask s o w h well h.line (req.Fetch 0 (meta_cell item.gfid)) (Reading item.kind) (length s.log.history ∷ []) h.line_is
+      (record {
+        stat = f.stat;
+        places = refl;
+        gfid = item.gfid;
+        directory = there.1;
+        kind_is = there.0;
+        found = lookup_root h.files h.so_far.good f.stat.one.name f.stat.one.short ∙ ap found_answer found ∙ ap (flat.Found item.gfid) there.0;
+        asks = refl;
+        shows = shows;
+      }))
 
   -- ---- a stat
 
@@ -136,12 +142,14 @@ module _ (s : HubState) (o : Output) (w : Working) (h : IsAtWork s w) (at_work :
       let shows : Shows h.files (cells_of (inputs_of s.log.sent)) = rw (served, f.asks) f.shows in
       let n : ℕ = length s.log.history in
       goes_on (done.Content (Meta f.directory.mode [] m.span) m.last) (next.Reply (n ∷ n ∷ []) (answer.Stat kind.Dir f.directory.mode 0) false)
-        (ap (λ (r : BrickReq). (serve_request (cells_of h.answered) r).reply) f.asks ∙ m.replies)
-        (rw (stage, f.places, f.kind_is) refl)
-        (after_reply s o w h well h.line (n ∷ n ∷ []) (answer.Stat kind.Dir f.directory.mode 0) shows
-          (record {
-            call = call.Stat f.stat.path; asked = asked (call.Stat f.stat.path) f.stat.call_is;
-            answered = rw (f.stat.one.parts, now_files, f.found) (record { answered = rw (now_files, f.directory.there) refl; no_entry = no_entry }) }))
+      (ap (λ (r : BrickReq). (serve_request (cells_of h.answered) r).reply) f.asks ∙ m.replies)
+      (rw (stage, f.places, f.kind_is) refl)
+      (after_reply s o w h well h.line (n ∷ n ∷ []) (answer.Stat kind.Dir f.directory.mode 0) shows
+      (record {
+        call = call.Stat f.stat.path;
+        asked = asked (call.Stat f.stat.path) f.stat.call_is;
+        answered = rw (f.stat.one.parts, now_files, f.found) (record { answered = rw (now_files, f.directory.there) refl; no_entry = no_entry });
+      }))
 
   -- ---- a mkdir
 
@@ -149,35 +157,45 @@ module _ (s : HubState) (o : Output) (w : Working) (h : IsAtWork s w) (at_work :
   checking f stage (Some item) found =
       let shows : Shows h.files (cells_of (inputs_of s.log.sent)) = rw (served, f.asks) f.shows in
       goes_on _ (next.Reply (length s.log.history ∷ []) (answer.App Eexist) false)
-        (ap (λ (r : BrickReq). (serve_request (cells_of h.answered) r).reply) f.asks ∙ names_reply h.files (cells_of h.answered) h.so_far.good f.shows)
-        (rw (stage, f.mkdir.call_is, f.mkdir.one.parts, found, f.mkdir.places) refl)
-        (after_reply s o w h well h.line (length s.log.history ∷ []) (answer.App Eexist) shows
-          (record {
-            call = call.Mkdir f.mkdir.path f.mkdir.mode; asked = asked (call.Mkdir f.mkdir.path f.mkdir.mode) f.mkdir.call_is;
-            answered = rw f.mkdir.one.parts (record {
-              answered = rw now_files (mkdir_root h.files h.so_far.good f.mkdir.one.name f.mkdir.one.short f.mkdir.mode (drawn_by (calls_of s.calls) w.call) ∙ ap absent_answer found); no_entry = no_entry }) }))
+      (ap (λ (r : BrickReq). (serve_request (cells_of h.answered) r).reply) f.asks ∙ names_reply h.files (cells_of h.answered) h.so_far.good f.shows)
+      (rw (stage, f.mkdir.call_is, f.mkdir.one.parts, found, f.mkdir.places) refl)
+      (after_reply s o w h well h.line (length s.log.history ∷ []) (answer.App Eexist) shows
+      (record {
+        call = call.Mkdir f.mkdir.path f.mkdir.mode;
+        asked = asked (call.Mkdir f.mkdir.path f.mkdir.mode) f.mkdir.call_is;
+        answered = rw f.mkdir.one.parts (record {
+          answered = rw now_files (mkdir_root h.files h.so_far.good f.mkdir.one.name f.mkdir.one.short f.mkdir.mode (drawn_by (calls_of s.calls) w.call) ∙ ap absent_answer found);
+          no_entry = no_entry;
+        });
+      }))
   checking f stage None free =
       let shows : Shows h.files (cells_of (inputs_of s.log.sent)) = rw (served, f.asks) f.shows in
       let n : ℕ = length s.log.history in
       let m : IsMkdir s h.files w h.line.call = f.mkdir in
       goes_on _ (next.Ask (req.Mark (n + 1) (names_cell root ∷ [])) (Marking (n + 1)) [])
-        (ap (λ (r : BrickReq). (serve_request (cells_of h.answered) r).reply) f.asks ∙ names_reply h.files (cells_of h.answered) h.so_far.good f.shows)
-        (rw (stage, f.mkdir.call_is, f.mkdir.one.parts, free, f.mkdir.places) refl)
-        (after_ask s o w h well h.line (req.Mark (n + 1) (names_cell root ∷ [])) (Marking (n + 1)) [] h.line_is
-          (record {
-            change_is = record {
-              mkdir = record { path = m.path; mode = m.mode; call_is = m.call_is; one = m.one; places = refl; drawn = m.drawn; absent = m.absent; above_root = m.above_root };
-              number = refl; free = free };
-            asks = refl; shows = shows }))
+      (ap (λ (r : BrickReq). (serve_request (cells_of h.answered) r).reply) f.asks ∙ names_reply h.files (cells_of h.answered) h.so_far.good f.shows)
+      (rw (stage, f.mkdir.call_is, f.mkdir.one.parts, free, f.mkdir.places) refl)
+      (after_ask s o w h well h.line (req.Mark (n + 1) (names_cell root ∷ [])) (Marking (n + 1)) [] h.line_is
+      (record {
+        change_is = record {
+          mkdir = record { path = m.path; mode = m.mode; call_is = m.call_is; one = m.one; places = refl; drawn = m.drawn; absent = m.absent; above_root = m.above_root };
+          number = refl;
+          free = free;
+        };
+        asks = refl;
+        shows = shows;
+      }))
 
   free_later : (change : ℕ) (request : BrickReq) (stage : Stage) (places : List ℕ) → places ≡ [] → (f : IsFree s h.files h.so_far.good w h.line.call change) →
       IsFree (taken_up s o w h.line (Some (next.Ask request stage places))) h.files h.so_far.good
-        (record { call = w.call; drawn = w.drawn; places = places; turn = length s.log.sent; stage = stage }) h.line.call change
+      (record { call = w.call; drawn = w.drawn; places = places; turn = length s.log.sent; stage = stage }) h.line.call change
   free_later change request stage places none f =
       let m : IsMkdir s h.files w h.line.call = f.mkdir in
       record {
         mkdir = record { path = m.path; mode = m.mode; call_is = m.call_is; one = m.one; places = none; drawn = m.drawn; absent = m.absent; above_root = m.above_root };
-        number = f.number; free = f.free }
+        number = f.number;
+        free = f.free;
+      }
 
   marking : (change : ℕ) (f : IsMarking s h.files h.so_far.good (cells_of h.answered) w h.line.call h.request change) → w.stage ≡ Marking change → Goal
   unfolding free_later
@@ -185,10 +203,10 @@ module _ (s : HubState) (o : Output) (w : Working) (h : IsAtWork s w) (at_work :
       let shows : Shows h.files (cells_of (inputs_of s.log.sent)) = rw (served, f.asks) (shows_mark h.files (cells_of h.answered) (names_cell root) f.shows) in
       let m : IsMkdir s h.files w h.line.call = f.change_is.mkdir in
       goes_on done.Nothing (next.Ask (req.Op change 0 (op_of m.one.name m.mode w.drawn)) (Changing change) [])
-        (ap (λ (r : BrickReq). (serve_request (cells_of h.answered) r).reply) f.asks)
-        (rw (stage, m.call_is, m.one.parts, m.places) refl)
-        (after_ask s o w h well h.line (req.Op change 0 (op_of m.one.name m.mode w.drawn)) (Changing change) [] h.line_is
-          (record { change_is = free_later change _ _ [] refl f.change_is; asks = refl; shows = shows }))
+      (ap (λ (r : BrickReq). (serve_request (cells_of h.answered) r).reply) f.asks)
+      (rw (stage, m.call_is, m.one.parts, m.places) refl)
+      (after_ask s o w h well h.line (req.Op change 0 (op_of m.one.name m.mode w.drawn)) (Changing change) [] h.line_is
+      (record { change_is = free_later change _ _ [] refl f.change_is; asks = refl; shows = shows }))
 
   new_one : (m : IsMkdir s h.files w h.line.call) → is_eq (gfid_cmp w.drawn root) ≡ false
   new_one m = rw m.drawn (lo_apart (1 + s.made) 1 (λ e. omega (arith, m.above_root)))
@@ -197,9 +215,12 @@ module _ (s : HubState) (o : Output) (w : Working) (h : IsAtWork s w) (at_work :
   done_now : (request : BrickReq) → h.request ≡ request → o.kind ≡ out.Reply (wire_number w.turn) (rep.Done done.Nothing) →
       IsDoneRequest (inputs_of s.log.sent) (arrivals_of s.log.events ++ o ∷ []) (length h.answered) request
   done_now request is kind_is = record {
-      wind = wire_number w.turn; answer_at = length (arrivals_of s.log.events); taken = o.taken;
-      stands = rw (h.sent, is) (get_push_last h.answered (Request (wire_number w.turn) 1 request));
-      answered = get_push_last (arrivals_of s.log.events) o ∙ ap Some (whole o _ kind_is) }
+    wind = wire_number w.turn;
+    answer_at = length (arrivals_of s.log.events);
+    taken = o.taken;
+    stands = rw (h.sent, is) (get_push_last h.answered (Request (wire_number w.turn) 1 request));
+    answered = get_push_last (arrivals_of s.log.events) o ∙ ap Some (whole o _ kind_is);
+  }
     where
       whole : (x : Output) (k : OutKind) → x.kind ≡ k → x ≡ (let y : Output = record { taken = x.taken; kind = k } in y)
       whole x k e = ap (λ (z : OutKind). let y : Output = record { taken = x.taken; kind = z } in y) e
@@ -213,19 +234,22 @@ module _ (s : HubState) (o : Output) (w : Working) (h : IsAtWork s w) (at_work :
       let m : IsMkdir s h.files w h.line.call = f.change_is.mkdir in
       let op = op_reply h.files (cells_of h.answered) h.so_far.good f.shows change m.one.name m.mode w.drawn f.change_is.free in
       let served_op : serve_request (cells_of h.answered) h.request ≡ record { cells = name_added (cells_of h.answered) change root (directory_item m.one.name w.drawn) m.mode (Some whole_span); reply = rep.Done done.Nothing } =
-            ap (serve_request (cells_of h.answered)) f.asks ∙ op in
+      ap (serve_request (cells_of h.answered)) f.asks ∙ op in
       let replies : (serve_request (cells_of h.answered) h.request).reply ≡ rep.Done done.Nothing = ap (λ (x : Served). x.reply) served_op in
       let shows : Shows (flat_after h.files (Mkdir root m.one.name m.mode w.drawn)) (cells_of (inputs_of s.log.sent)) =
-            rw (after_mkdir h.files h.so_far.good m.one.name m.one.short m.mode w.drawn f.change_is.free m.absent (new_one m), served, served_op)
-              (shows_grown h.files h.so_far.good m.one.name m.one.short m.mode w.drawn f.change_is.free m.absent (new_one m) (cells_of h.answered) change (Some whole_span) f.shows) in
+      rw (after_mkdir h.files h.so_far.good m.one.name m.one.short m.mode w.drawn f.change_is.free m.absent (new_one m), served, served_op)
+      (shows_grown h.files h.so_far.good m.one.name m.one.short m.mode w.drawn f.change_is.free m.absent (new_one m) (cells_of h.answered) change (Some whole_span) f.shows) in
       goes_on done.Nothing (next.Ask (empty_post change) (Posting change) [])
-        replies
-        (rw (stage, m.places) refl)
-        (after_ask s o w h well h.line (empty_post change) (Posting change) [] h.line_is
-          (record {
-            change_is = free_later change _ _ [] refl f.change_is; asks = refl; shows = shows;
-            op_place = length h.answered;
-            op_done = rw (arrivals_push s.log.events (Arrive 0 o ∷ [])) (done_now _ f.asks (nothing_kind replies)) }))
+      replies
+      (rw (stage, m.places) refl)
+      (after_ask s o w h well h.line (empty_post change) (Posting change) [] h.line_is
+      (record {
+        change_is = free_later change _ _ [] refl f.change_is;
+        asks = refl;
+        shows = shows;
+        op_place = length h.answered;
+        op_done = rw (arrivals_push s.log.events (Arrive 0 o ∷ [])) (done_now _ f.asks (nothing_kind replies));
+      }))
 
   posting : (change : ℕ) (f : IsPosting s h.files h.so_far.good h.answered w h.line.call h.request change) → w.stage ≡ Posting change → Goal
   posting change f stage =
@@ -236,39 +260,45 @@ module _ (s : HubState) (o : Output) (w : Working) (h : IsAtWork s w) (at_work :
       let op : FlatOp = Mkdir root m.one.name m.mode w.drawn in
       let replies : (serve_request (cells_of h.answered) h.request).reply ≡ rep.Done done.Nothing = ap (λ (r : BrickReq). (serve_request (cells_of h.answered) r).reply) f.asks in
       let after : flat_after h.files op ≡ grown h.files h.so_far.good m.one.name m.one.short m.mode w.drawn f.change_is.free m.absent (new_one m) =
-            after_mkdir h.files h.so_far.good m.one.name m.one.short m.mode w.drawn f.change_is.free m.absent (new_one m) in
+      after_mkdir h.files h.so_far.good m.one.name m.one.short m.mode w.drawn f.change_is.free m.absent (new_one m) in
       let shown : Shows (flat_after h.files op) (cells_of (inputs_of s.log.sent)) = rw (served, f.asks) (shows_post (flat_after h.files op) (cells_of h.answered) (names_cell root) f.shows) in
       let op_is : entry_op calls entry ≡ Some op =
-            rw (asked (call.Mkdir m.path m.mode) m.call_is, m.one.parts, sym counted.drawn) refl in
+      rw (asked (call.Mkdir m.path m.mode) m.call_is, m.one.parts, sym counted.drawn) refl in
       let accepted : flat_answer h.files op ≡ flat.Call answer.Done =
-            mkdir_root h.files h.so_far.good m.one.name m.one.short m.mode w.drawn ∙ ap absent_answer f.change_is.free in
+      mkdir_root h.files h.so_far.good m.one.name m.one.short m.mode w.drawn ∙ ap absent_answer f.change_is.free in
       goes_on done.Nothing (next.Reply ((n + 1) ∷ []) answer.Done true)
-        replies
-        (rw (stage, m.places) refl)
-        (after_entry s o w h well h.line ((n + 1) ∷ [])
-          (grown h.files h.so_far.good m.one.name m.one.short m.mode w.drawn f.change_is.free m.absent (new_one m))
-          (good_grown h.files h.so_far.good m.one.name m.one.short m.mode w.drawn f.change_is.free m.absent (new_one m))
-          (λ lo above. (let g : Gfid = record { hi = 0; lo = lo } in
-            grown_other h.files h.so_far.good m.one.name m.one.short m.mode w.drawn f.change_is.free m.absent (new_one m) g
-              (rw m.drawn (lo_apart lo (1 + s.made) (λ e. omega arith))) (lo_apart lo 1 (λ e. omega arith)) ∙ h.so_far.fresh lo above))
-          (subst (λ (x : Files). Shows x (cells_of (inputs_of s.log.sent))) after shown)
-          (files_push calls empty_root s.log.history entry ∙ ap (λ (x : Files). after_op x (entry_op calls entry)) h.so_far.files_are ∙ ap (after_op h.files) op_is ∙ after)
-          (record { op = op; op_is = op_is; accepted = rw now_files accepted; first_part = refl })
-          counted.no_entry old
-          (record {
-            call = call.Mkdir m.path m.mode; asked = asked (call.Mkdir m.path m.mode) m.call_is;
-            answered = rw m.one.parts (record {
-              from_one = omega arith;
-              entered = (let back : n + 1 - 1 ≡ n = omega arith in rw back (get_push_last s.log.history entry));
-              answered = (let back : n + 1 - 1 ≡ n = omega arith in
-                rw (back, files_before calls s.log.history entry n (omega arith), now_files) accepted) }) })
-          (record {
-            op = op_of m.one.name m.mode w.drawn;
-            op_is = rw (asked (call.Mkdir m.path m.mode) m.call_is, m.one.parts, sym counted.drawn) refl;
-            change = change; op_place = f.op_place; post_place = length h.answered;
-            op_done = rw h.sent (request_later h.answered (Request (wire_number w.turn) 1 h.request ∷ []) (arrivals_of s.log.events) (o ∷ []) f.op_place _ f.op_done);
-            post_done = done_now _ f.asks (nothing_kind replies);
-            later = get_below h.answered f.op_place _ f.op_done.stands }))
+      replies
+      (rw (stage, m.places) refl)
+      (after_entry s o w h well h.line ((n + 1) ∷ [])
+      (grown h.files h.so_far.good m.one.name m.one.short m.mode w.drawn f.change_is.free m.absent (new_one m))
+      (good_grown h.files h.so_far.good m.one.name m.one.short m.mode w.drawn f.change_is.free m.absent (new_one m))
+      (λ lo above. (let g : Gfid = record { hi = 0; lo = lo } in
+      grown_other h.files h.so_far.good m.one.name m.one.short m.mode w.drawn f.change_is.free m.absent (new_one m) g
+      (rw m.drawn (lo_apart lo (1 + s.made) (λ e. omega arith))) (lo_apart lo 1 (λ e. omega arith)) ∙ h.so_far.fresh lo above))
+      (subst (λ (x : Files). Shows x (cells_of (inputs_of s.log.sent))) after shown)
+      (files_push calls empty_root s.log.history entry ∙ ap (λ (x : Files). after_op x (entry_op calls entry)) h.so_far.files_are ∙ ap (after_op h.files) op_is ∙ after)
+      (record { op = op; op_is = op_is; accepted = rw now_files accepted; first_part = refl })
+      counted.no_entry old
+      (record {
+        call = call.Mkdir m.path m.mode;
+        asked = asked (call.Mkdir m.path m.mode) m.call_is;
+        answered = rw m.one.parts (record {
+          from_one = omega arith;
+          entered = (let back : n + 1 - 1 ≡ n = omega arith in rw back (get_push_last s.log.history entry));
+          answered = (let back : n + 1 - 1 ≡ n = omega arith in
+              rw (back, files_before calls s.log.history entry n (omega arith), now_files) accepted);
+        });
+      })
+      (record {
+        op = op_of m.one.name m.mode w.drawn;
+        op_is = rw (asked (call.Mkdir m.path m.mode) m.call_is, m.one.parts, sym counted.drawn) refl;
+        change = change;
+        op_place = f.op_place;
+        post_place = length h.answered;
+        op_done = rw h.sent (request_later h.answered (Request (wire_number w.turn) 1 h.request ∷ []) (arrivals_of s.log.events) (o ∷ []) f.op_place _ f.op_done);
+        post_done = done_now _ f.asks (nothing_kind replies);
+        later = get_below h.answered f.op_place _ f.op_done.stands;
+      }))
 
   -- ---- every stage
 

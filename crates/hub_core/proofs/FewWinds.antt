@@ -28,19 +28,27 @@ AreFew s = FewFor (length s.log.winds) (length s.log.sent) s.working
 few_submit : (s : HubState) (line : CallLine) → AreFew s → s.working ≡ None → AreFew (submit_call s line)
 few_submit s line h idle =
     let now : length s.log.winds ≤ 2 * length s.log.sent = subst (FewFor (length s.log.winds) (length s.log.sent)) idle h in
-    omega (arith, length_push s.log.winds _, length_push s.log.sent _)
+    let winds : length (submit_call s line).log.winds ≡ length s.log.winds + 1 = length_push s.log.winds _ in
+    let sent : length (submit_call s line).log.sent ≡ length s.log.sent + 1 = length_push s.log.sent _ in
+    omega arith
 
 few_take : (s : HubState) (output : Output) (w : Working) (line : CallLine) (follows : Next) → AreFew s → s.working ≡ Some w → AreFew (taken_up s output w line (Some follows))
 few_take s output w line (next.Ask request stage places) h at_work =
     let now : length s.log.winds + 1 ≤ 2 * length s.log.sent = subst (FewFor (length s.log.winds) (length s.log.sent)) at_work h in
     let ended : WindLine = record { event = length s.log.events + 1; graph = 1; call = w.call; wind = record { slot = 0; turn = w.turn }; opened = false } in
-    omega (arith, length_push (s.log.winds ++ ended ∷ []) _, length_push s.log.winds ended, length_push s.log.sent _)
+    let t : HubState = taken_up s output w line (Some (next.Ask request stage places)) in
+    let one : length (s.log.winds ++ ended ∷ []) ≡ length s.log.winds + 1 = length_push s.log.winds ended in
+    let winds : length t.log.winds ≡ length (s.log.winds ++ ended ∷ []) + 1 = length_push (s.log.winds ++ ended ∷ []) _ in
+    let sent : length t.log.sent ≡ length s.log.sent + 1 = length_push s.log.sent _ in
+    omega arith
 few_take s output w line (next.Reply places answer false) h at_work =
     let now : length s.log.winds + 1 ≤ 2 * length s.log.sent = subst (FewFor (length s.log.winds) (length s.log.sent)) at_work h in
-    omega (arith, length_push s.log.winds _)
+    let winds : length (taken_up s output w line (Some (next.Reply places answer false))).log.winds ≡ length s.log.winds + 1 = length_push s.log.winds _ in
+    omega arith
 few_take s output w line (next.Reply places answer true) h at_work =
     let now : length s.log.winds + 1 ≤ 2 * length s.log.sent = subst (FewFor (length s.log.winds) (length s.log.sent)) at_work h in
-    omega (arith, length_push s.log.winds _)
+    let winds : length (taken_up s output w line (Some (next.Reply places answer true))).log.winds ≡ length s.log.winds + 1 = length_push s.log.winds _ in
+    omega arith
 
 few_of : (s : HubState) → IsReached s → AreFew s
 few_of = by_turns AreFew (λ calls. omega arith) (λ s line h idle there. few_submit s line h idle) (λ s output h. h)
@@ -51,6 +59,7 @@ few_winds s reached few = at s.working (few_of s reached)
   where
     b : IsBounded s
     b = bounded_of s reached
+
     at : (v : Option Working) → FewFor (length s.log.winds) (length s.log.sent) v → length s.log.winds < 4294967296
     at None h = omega (arith, b.submitted, sent_of s.submitted (length s.log.sent) (length s.log.history) s.working b.work)
     at (Some w) h = omega (arith, b.submitted, sent_of s.submitted (length s.log.sent) (length s.log.history) s.working b.work)

@@ -86,10 +86,11 @@ found_there files (i ∷ items) name item there h = tested (λ more. found_there
 there_with_item : (files : Files) (items : List Item) (item : Item) → AreThere files items → item.kind ≡ kind.Dir → IsDirectoryAt files item.gfid → AreThere files (with_item items item)
 there_with_item files [] item there dir at = (dir, at, tt)
 there_with_item files (i ∷ items) item there dir at =
-    elim (slice_cmp nat_cmp item.name i.name) as (λ o. AreThere files (match_ordering o (item ∷ i ∷ items) (item ∷ items) (i ∷ with_item items item)))
-      [ Less ↦ (dir, at, there)
+    elim (slice_cmp nat_cmp item.name i.name) as (λ o. AreThere files (match_ordering o (item ∷ i ∷ items) (item ∷ items) (i ∷ with_item items item))) [
+      | Less ↦ (dir, at, there)
       | Equal ↦ (dir, at, there.2)
-      | Greater ↦ (there.0, there.1, there_with_item files items item there.2 dir at) ]
+      | Greater ↦ (there.0, there.1, there_with_item files items item there.2 dir at)
+    ]
 
 short_name : (name : List ℕ) → length name ≤ 255 → nat_lt 255 (length name) ≡ false
 short_name name short = grind (arith, nat_tests)
@@ -109,7 +110,6 @@ module _ (files : Files) (good : IsGood files) (name : List ℕ) (short : length
   -- ---- a new directory
   module _ (mode : ℕ) (drawn : Gfid) (free : item_named good.root_is.names name ≡ None) (absent : object_at files drawn ≡ None)
       (new_one : is_eq (gfid_cmp drawn root) ≡ false) where
-
     abbrev item : Item
     item = directory_item name drawn
 
@@ -148,8 +148,9 @@ module _ (files : Files) (good : IsGood files) (name : List ℕ) (short : length
 
     pub good_grown : IsGood grown
     good_grown = record {
-        root_is = record { names = with_item good.root_is.names (directory_item name drawn); mode = good.root_is.mode; there = grown_root };
-        items = λ g names m attrs removed h. each g names m attrs removed h (gfid_cases g drawn) (gfid_cases g root) }
+      root_is = record { names = with_item good.root_is.names (directory_item name drawn); mode = good.root_is.mode; there = grown_root };
+      items = λ g names m attrs removed h. each g names m attrs removed h (gfid_cases g drawn) (gfid_cases g root);
+    }
       where
         each : (g : Gfid) (names : List Item) (m : ℕ) (attrs : List Attr) (removed : Bool) → object_at grown g ≡ Some (Directory names m attrs removed) →
             (g ≡ drawn) ⊎ (is_eq (gfid_cmp g drawn) ≡ false) → (g ≡ root) ⊎ (is_eq (gfid_cmp g root) ≡ false) → AreThere grown names
@@ -159,11 +160,11 @@ module _ (files : Files) (good : IsGood files) (name : List ℕ) (short : length
             subst (AreThere grown) none tt
         each g names m attrs removed h (inr off) (inl is) =
             let e : Some (Directory (with_item good.root_is.names (directory_item name drawn)) good.root_is.mode [] false) ≡ Some (Directory names m attrs removed) =
-                  sym grown_root ∙ subst (λ (q : Gfid). object_at grown q ≡ Some (Directory names m attrs removed)) is h in
+            sym grown_root ∙ subst (λ (q : Gfid). object_at grown q ≡ Some (Directory names m attrs removed)) is h in
             let same : with_item good.root_is.names (directory_item name drawn) ≡ names = cc in
             subst (AreThere grown) same
-              (there_with_item grown good.root_is.names (directory_item name drawn) (all_still good.root_is.names (good.items root _ _ _ _ good.root_is.there)) refl
-                (record { names = []; mode = mode; there = grown_drawn }))
+            (there_with_item grown good.root_is.names (directory_item name drawn) (all_still good.root_is.names (good.items root _ _ _ _ good.root_is.there)) refl
+            (record { names = []; mode = mode; there = grown_drawn }))
         each g names m attrs removed h (inr off) (inr other) = all_still names (good.items g names m attrs removed (sym (grown_other g off other) ∙ h))
 
     -- the brick's store after the op shows it
@@ -172,24 +173,36 @@ module _ (files : Files) (good : IsGood files) (name : List ℕ) (short : length
       where
         nothing : IsShown None (kept_at cells (meta_cell drawn)).content (kept_at cells (names_cell drawn)).content
         nothing = subst (λ (o : Option FlatObject). IsShown o (kept_at cells (meta_cell drawn)).content (kept_at cells (names_cell drawn)).content) absent (shows drawn)
+
         at_root : IsShownDirectory good.root_is.names good.root_is.mode [] false (kept_at cells (meta_cell root)).content (kept_at cells (names_cell root)).content
         at_root = subst (λ (o : Option FlatObject). IsShown o (kept_at cells (meta_cell root)).content (kept_at cells (names_cell root)).content) good.root_is.there (shows root)
+
         each : (g ≡ drawn) ⊎ (is_eq (gfid_cmp g drawn) ≡ false) → (g ≡ root) ⊎ (is_eq (gfid_cmp g root) ≡ false) →
             IsShown (object_at grown g) (kept_at (name_added cells change root (directory_item name drawn) mode span) (meta_cell g)).content
-              (kept_at (name_added cells change root (directory_item name drawn) mode span) (names_cell g)).content
+            (kept_at (name_added cells change root (directory_item name drawn) mode span) (names_cell g)).content
         each (inl is) r =
-            rw (is, grown_drawn, added_meta cells change (directory_item name drawn) mode span new_one nothing.0 nothing.1,
-                added_names cells change (directory_item name drawn) mode span new_one nothing.0 nothing.1)
-              (record { not_removed = refl; no_attrs = refl; span = span; meta_is = refl; names_are = refl })
+            rw (
+              is,
+              grown_drawn,
+              added_meta cells change (directory_item name drawn) mode span new_one nothing.0 nothing.1,
+              added_names cells change (directory_item name drawn) mode span new_one nothing.0 nothing.1,
+            )
+            (record { not_removed = refl; no_attrs = refl; span = span; meta_is = refl; names_are = refl })
         each (inr off) (inl is) =
             let root_off : is_eq (gfid_cmp root drawn) ≡ false = subst (λ (q : Gfid). is_eq (gfid_cmp q drawn) ≡ false) is off in
             let items : items_of (kept_at cells (names_cell root)).content ≡ good.root_is.names = ap items_of at_root.names_are in
             rw (is, grown_root)
-              (record {
-                not_removed = refl; no_attrs = refl; span = at_root.span;
-                meta_is = ap (λ (k : Kept). k.content) (meta_stays cells change (directory_item name drawn) mode span new_one nothing.0 nothing.1 root root_off) ∙ at_root.meta_is;
-                names_are = root_named cells change (directory_item name drawn) mode span new_one nothing.0 nothing.1 root_off
-                  ∙ ap (λ (is : List Item). Some (Names false (with_item is (directory_item name drawn)))) items })
+            (record {
+              not_removed = refl;
+              no_attrs = refl;
+              span = at_root.span;
+              meta_is = ap (λ (k : Kept). k.content) (meta_stays cells change (directory_item name drawn) mode span new_one nothing.0 nothing.1 root root_off) ∙ at_root.meta_is;
+              names_are = root_named cells change (directory_item name drawn) mode span new_one nothing.0 nothing.1 root_off
+                  ∙ ap (λ (is : List Item). Some (Names false (with_item is (directory_item name drawn)))) items;
+            })
         each (inr off) (inr other) =
-            rw (grown_other g off other, meta_stays cells change (directory_item name drawn) mode span new_one nothing.0 nothing.1 g off,
-                names_stay cells change (directory_item name drawn) mode span new_one nothing.0 nothing.1 g off other) (shows g)
+            rw (
+              grown_other g off other,
+              meta_stays cells change (directory_item name drawn) mode span new_one nothing.0 nothing.1 g off,
+              names_stay cells change (directory_item name drawn) mode span new_one nothing.0 nothing.1 g off other,
+            ) (shows g)

@@ -177,26 +177,45 @@ HonestFor s (Some w) = IsAtWork s w
 
 pub honest_start : (calls : List CallLine) → IsIdle (start_of calls)
 honest_start calls = record {
-    files = empty_root;
-    so_far = record {
-      requests = tt; as_many = refl; files_are = refl; good = good_start; fresh = fresh_start; legal = legal_start (calls_of calls);
-      replies = λ k reply h. absurd cc; backed = λ k entry h. absurd cc };
-    shows = shows_start }
+  files = empty_root;
+  so_far = record {
+    requests = tt;
+    as_many = refl;
+    files_are = refl;
+    good = good_start;
+    fresh = fresh_start;
+    legal = legal_start (calls_of calls);
+    replies = λ k reply h. absurd cc;
+    backed = λ k entry h. absurd cc;
+  };
+  shows = shows_start;
+}
 
 -- ---- a call is submitted
 
 pub request_later : (inputs more : List Input) (outputs others : List Output) (place : ℕ) (r : BrickReq) → IsDoneRequest inputs outputs place r → IsDoneRequest (inputs ++ more) (outputs ++ others) place r
 request_later inputs more outputs others place r d = record {
-    wind = d.wind; answer_at = d.answer_at; taken = d.taken;
-    stands = get_push_old inputs more place _ d.stands; answered = get_push_old outputs others d.answer_at _ d.answered }
+  wind = d.wind;
+  answer_at = d.answer_at;
+  taken = d.taken;
+  stands = get_push_old inputs more place _ d.stands;
+  answered = get_push_old outputs others d.answer_at _ d.answered;
+}
 
 pub backed_later : (calls : List CallLine) (history : List Entry) (inputs more : List Input) (outputs others : List Output) →
     IsBackedByBrick calls history inputs outputs → IsBackedByBrick calls history (inputs ++ more) (outputs ++ others)
 backed_later calls history inputs more outputs others b k entry h =
     let old : IsBacked calls inputs outputs entry = b k entry h in
     record {
-      op = old.op; op_is = old.op_is; change = old.change; op_place = old.op_place; post_place = old.post_place;
-      op_done = request_later inputs more outputs others _ _ old.op_done; post_done = request_later inputs more outputs others _ _ old.post_done; later = old.later }
+      op = old.op;
+      op_is = old.op_is;
+      change = old.change;
+      op_place = old.op_place;
+      post_place = old.post_place;
+      op_done = request_later inputs more outputs others _ _ old.op_done;
+      post_done = request_later inputs more outputs others _ _ old.post_done;
+      later = old.later;
+    }
 
 nothing_more : (outputs : List Output) → outputs ++ [] ≡ outputs
 nothing_more [] = refl
@@ -210,13 +229,25 @@ submitted_stage : (s : HubState) (line : CallLine) (files : Files) (good : IsGoo
     (c : Call) → line.call ≡ c → HasOneName c → (w : Working) → w.places ≡ [] → w.drawn ≡ (let g : Gfid = record { hi = 0; lo = 1 + (s.made + makes line.call) } in g) →
     StageIs (submit_call s line) (inputs_of s.log.sent) files good w c ask_names (first_stage c)
 submitted_stage s line files good fresh shows (call.Mkdir path mode) is one w places drawn = record {
-    mkdir = record {
-      path = path; mode = mode; call_is = refl; one = one; places = places; drawn = drawn;
-      absent = rw (drawn, is) (fresh (1 + (s.made + 1)) (omega arith));
-      above_root = rw is (omega arith) };
-    asks = refl; shows = shows }
+  mkdir = record {
+    path = path;
+    mode = mode;
+    call_is = refl;
+    one = one;
+    places = places;
+    drawn = drawn;
+    absent = rw (drawn, is) (fresh (1 + (s.made + 1)) (omega arith));
+    above_root = rw is (omega arith);
+  };
+  asks = refl;
+  shows = shows;
+}
 submitted_stage s line files good fresh shows (call.Stat path) is one w places drawn = record {
-    stat = record { path = path; call_is = refl; one = one }; places = places; asks = refl; shows = shows }
+  stat = record { path = path; call_is = refl; one = one };
+  places = places;
+  asks = refl;
+  shows = shows;
+}
 
 pub honest_submit : (s : HubState) (line : CallLine) → IsSentWell s → HaveOneName s.calls → slice_get s.calls s.submitted ≡ Some line → IsIdle s →
     HonestFor (submit_call s line) (submit_call s line).working
@@ -225,13 +256,22 @@ honest_submit s line well one there idle =
     let same : arrivals_of (s.log.events ++ Submit line.session line.line ∷ []) ≡ arrivals_of s.log.events = arrivals_push s.log.events _ ∙ nothing_more (arrivals_of s.log.events) in
     let back : s.submitted + 1 - 1 ≡ s.submitted = omega arith in
     record {
-      answered = inputs_of s.log.sent; files = idle.files; request = ask_names; line = line;
+      answered = inputs_of s.log.sent;
+      files = idle.files;
+      request = ask_names;
+      line = line;
       sent = inputs_push s.log.sent _;
       so_far = record {
-        requests = well.requests; as_many = ap length same ∙ f.as_many; files_are = f.files_are; good = f.good;
+        requests = well.requests;
+        as_many = ap length same ∙ f.as_many;
+        files_are = f.files_are;
+        good = f.good;
         fresh = λ lo above. f.fresh lo (omega arith);
-        legal = f.legal; replies = f.replies;
+        legal = f.legal;
+        replies = f.replies;
         backed = rw (inputs_push s.log.sent (record { event = length s.log.events + 1; brick = 0; input = Request (wire_number (length s.log.sent)) 1 ask_names }), same, sym (nothing_more (arrivals_of s.log.events)))
-          (backed_later s.calls s.log.history (inputs_of s.log.sent) _ (arrivals_of s.log.events) [] f.backed) };
+            (backed_later s.calls s.log.history (inputs_of s.log.sent) _ (arrivals_of s.log.events) [] f.backed);
+      };
       line_is = rw back there;
-      stage = submitted_stage s line idle.files f.good f.fresh idle.shows line.call refl (one s.submitted line there) _ refl refl }
+      stage = submitted_stage s line idle.files f.good f.fresh idle.shows line.call refl (one s.submitted line there) _ refl refl;
+    }

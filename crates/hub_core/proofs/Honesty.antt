@@ -65,7 +65,8 @@ sent_more s t event wind req h events sent =
     let many : length t.log.events ≡ length s.log.events + 1 = ap length events ∙ length_push s.log.events event in
     record {
       requests = rw (sent, inputs_push) (requests_push (inputs_of s.log.sent) wind 1 req h.requests);
-      by = rw sent (sent_by_push s.log.sent _ (length s.log.events) (length t.log.events) h.by (omega arith) (omega arith)) }
+      by = rw sent (sent_by_push s.log.sent _ (length s.log.events) (length t.log.events) h.by (omega arith) (omega arith));
+    }
 
 sent_same : (s t : HubState) (event : HubEvent) → IsSentWell s → t.log.events ≡ s.log.events ++ event ∷ [] → t.log.sent ≡ s.log.sent → IsSentWell t
 sent_same s t event h events sent =
@@ -143,9 +144,10 @@ arrival_event (Arrive brick o ∷ events) (suc j) output h = (let a : ArrivedAt 
 
 pub outputs_more : (s t : HubState) → SendsMore s t → (more : List Output) × (outputs_of (inputs_of t.log.sent) ≡ outputs_of (inputs_of s.log.sent) ++ more)
 outputs_more s t (Nothing_more is) = ([], ap (λ (x : List SentLine). outputs_of (inputs_of x)) is ∙ sym (append-nil (outputs_of (inputs_of s.log.sent))))
-outputs_more s t (One_more wind req is) =
-    (output_for (inputs_of s.log.sent) wind req ∷ [],
-     ap (λ (x : List SentLine). outputs_of (inputs_of x)) is ∙ ap outputs_of (inputs_push s.log.sent _) ∙ outputs_next (inputs_of s.log.sent) wind 1 req)
+outputs_more s t (One_more wind req is) = (
+  output_for (inputs_of s.log.sent) wind req ∷ [],
+  ap (λ (x : List SentLine). outputs_of (inputs_of x)) is ∙ ap outputs_of (inputs_push s.log.sent _) ∙ outputs_next (inputs_of s.log.sent) wind 1 req,
+)
 
 -- one more output at most, and it counts one input more than were sent
 more_taken : (s t : HubState) → SendsMore s t → IsSentWell s → (o : Output) → slice_get (outputs_of (inputs_of t.log.sent)) (length s.log.sent) ≡ Some o → length s.log.sent < o.taken
@@ -157,9 +159,9 @@ more_taken s t (One_more wind req is) well o h =
     let inputs : List Input = inputs_of s.log.sent in
     let many : length (outputs_of inputs) ≡ length s.log.sent = outputs_as_many inputs well.requests ∙ length-inputs_of s.log.sent in
     let more : outputs_of (inputs_of t.log.sent) ≡ outputs_of inputs ++ output_for inputs wind req ∷ [] =
-          ap (λ (x : List SentLine). outputs_of (inputs_of x)) is ∙ ap outputs_of (inputs_push s.log.sent _) ∙ outputs_next inputs wind 1 req in
+    ap (λ (x : List SentLine). outputs_of (inputs_of x)) is ∙ ap outputs_of (inputs_push s.log.sent _) ∙ outputs_next inputs wind 1 req in
     let last : slice_get (outputs_of (inputs_of t.log.sent)) (length s.log.sent) ≡ Some (output_for inputs wind req) =
-          rw (more, sym many) (get_push_last (outputs_of inputs) (output_for inputs wind req)) in
+    rw (more, sym many) (get_push_last (outputs_of inputs) (output_for inputs wind req)) in
     let same : Some (output_for inputs wind req) ≡ Some o = sym last ∙ h in
     let one : output_for inputs wind req ≡ o = cc in
     let taken : length inputs + 1 ≡ o.taken = ap (λ (x : Output). x.taken) one in
@@ -169,7 +171,6 @@ more_taken s t (One_more wind req is) well o h =
 
 module _ (s t : HubState) (event : HubEvent) (events : t.log.events ≡ s.log.events ++ event ∷ []) (sends : SendsMore s t) (well : IsSentWell s)
     (honest : HasHonestArrivals t.log) where
-
   arrivals : arrivals_of t.log.events ≡ arrivals_of s.log.events ++ arrivals_of (event ∷ [])
   arrivals = ap arrivals_of events ∙ arrivals_push s.log.events (event ∷ [])
 
@@ -187,8 +188,8 @@ module _ (s t : HubState) (event : HubEvent) (events : t.log.events ≡ s.log.ev
       let later : slice_get (arrivals_of t.log.events) (length s.log.sent) ≡ Some o = rw arrivals (get_push_old (arrivals_of s.log.events) _ _ o e.there) in
       let in_front : length s.log.sent < length (arrivals_of t.log.events) = get_below _ _ o later in
       let due : slice_get (outputs_of (inputs_of t.log.sent)) (length s.log.sent) ≡ Some o =
-            sym (get_take (outputs_of (inputs_of t.log.sent)) (length (arrivals_of t.log.events)) (length s.log.sent) in_front)
-            ∙ ap (λ (x : List Output). slice_get x (length s.log.sent)) (sym honest.front) ∙ later in
+      sym (get_take (outputs_of (inputs_of t.log.sent)) (length (arrivals_of t.log.events)) (length s.log.sent) in_front)
+      ∙ ap (λ (x : List Output). slice_get x (length s.log.sent)) (sym honest.front) ∙ later in
       let taken : length s.log.sent < o.taken = more_taken s t sends well o due in
       let a : ArrivedAt s.log.events o = arrival_event s.log.events (length s.log.sent) o e.there in
       let timely : o.taken ≤ sent_before (a.at + 1) s.log.sent = timely_before a.at a.brick o a.stands in
@@ -209,12 +210,13 @@ module _ (s t : HubState) (event : HubEvent) (events : t.log.events ≡ s.log.ev
       let m = outputs_more s t sends in
       let many : length outs ≡ length s.log.sent = outputs_as_many (inputs_of s.log.sent) well.requests ∙ length-inputs_of s.log.sent in
       let whole : arr ++ arrivals_of (event ∷ []) ≡ take (length (arrivals_of t.log.events)) (outs ++ m.0) =
-            sym arrivals ∙ honest.front ∙ ap (take (length (arrivals_of t.log.events))) m.1 in
+      sym arrivals ∙ honest.front ∙ ap (take (length (arrivals_of t.log.events))) m.1 in
       let longer : length arr ≤ length (arrivals_of t.log.events) = omega (arith, ap length arrivals, length-append arr (arrivals_of (event ∷ []))) in
       record {
         front =
-          sym (take-append_seam arr (arrivals_of (event ∷ [])))
-          ∙ ap (take (length arr)) whole
-          ∙ take_take (length arr) (length (arrivals_of t.log.events)) (outs ++ m.0) longer
-          ∙ take-append-le (length arr) outs m.0 (omega (arith, few));
-        timely = timely_before }
+            sym (take-append_seam arr (arrivals_of (event ∷ [])))
+            ∙ ap (take (length arr)) whole
+            ∙ take_take (length arr) (length (arrivals_of t.log.events)) (outs ++ m.0) longer
+            ∙ take-append-le (length arr) outs m.0 (omega (arith, few));
+        timely = timely_before;
+      }

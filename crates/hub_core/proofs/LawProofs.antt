@@ -72,8 +72,10 @@ replied_take s output w line (next.Reply places answer enters) c at_work h numbe
         bound : (b : Bool) → number ≤ answered_of (taken_up s output w line (Some (next.Reply places answer b))) None → number ≤ w.call
         bound true x = omega (arith, c.number, x)
         bound false x = omega (arith, c.number, x)
+
     old_one : (number ≡ w.call → ⊥) → replies_to number s.log.replies ≡ 1
     old_one differ = h number from_one (rw at_work (omega (arith, up_to, differ)))
+
     all : (b : Bool) (t : Bool) → (number == w.call) ≡ t → replies_to number (s.log.replies ++ (record { event = length s.log.events + 1; call = w.call; session = line.session; line = line.line; places = places; answer = answer }) ∷ []) ≡ 1
     all b true is =
         let same : number ≡ w.call = eqb-true number w.call is in
@@ -87,6 +89,7 @@ replied_take s output w line (next.Reply places answer enters) c at_work h numbe
         tested : (t : Bool) → (w.call == number) ≡ t → replies_to number s.log.replies ≡ 1 → (number ≡ w.call → ⊥) → replies_to number s.log.replies + cond t 1 0 ≡ 1
         tested true e one differ = absurd (differ (sym (eqb-true w.call number e)))
         tested false e one differ = omega (arith, one)
+
     cases : (b : Bool) (t : Bool) → (number == w.call) ≡ t → replies_to number (taken_up s output w line (Some (next.Reply places answer b))).log.replies ≡ 1
     cases true t is = all true t is
     cases false t is = all false t is
@@ -103,28 +106,34 @@ record IsKept (s : HubState) : Type 0 where
 
 kept_start : (calls : List CallLine) → IsKept (start_of calls)
 kept_start calls = record {
-    counted = counted_start calls; timed = timed_start calls; wound = wound_start calls; sent = sent_start calls;
-    replied = λ number from_one le. absurd (omega arith);
-    honest = λ one honest. honest_start calls }
+  counted = counted_start calls;
+  timed = timed_start calls;
+  wound = wound_start calls;
+  sent = sent_start calls;
+  replied = λ number from_one le. absurd (omega arith);
+  honest = λ one honest. honest_start calls;
+}
 
 kept_submit : (s : HubState) (line : CallLine) → IsKept s → s.working ≡ None → slice_get s.calls s.submitted ≡ Some line → IsKept (submit_call s line)
 kept_submit s line k idle there = record {
-    counted = counted_submit s line k.counted idle there;
-    timed = timed_submit s line k.counted k.timed;
-    wound = wound_submit s line k.wound idle;
-    sent = sent_submit s line k.sent;
-    replied = λ number from_one le. k.replied number from_one (rw idle (omega arith));
-    honest = λ one honest.
+  counted = counted_submit s line k.counted idle there;
+  timed = timed_submit s line k.counted k.timed;
+  wound = wound_submit s line k.wound idle;
+  sent = sent_submit s line k.sent;
+  replied = λ number from_one le. k.replied number from_one (rw idle (omega arith));
+  honest = λ one honest.
       honest_submit s line k.sent one there
-        (subst (HonestFor s) idle
-          (k.honest one (honest_before s (submit_call s line) (Submit line.session line.line) refl (One_more _ _ refl) k.sent honest))) }
+      (subst (HonestFor s) idle
+      (k.honest one (honest_before s (submit_call s line) (Submit line.session line.line) refl (One_more _ _ refl) k.sent honest)));
+}
 
 reply_bounds : (s : HubState) → IsCounted s → IsTimed s → (w : Working) → WorkIsCounted s w → (k : ℕ) (reply : ReplyLine) → slice_get s.log.replies k ≡ Some reply →
     (reply.call < w.call) × AreAtMost reply.places (length s.log.history)
-reply_bounds s c t w work k reply h =
-    (work.no_reply k reply h,
-     between_at_most reply.places _ (length_at_reply s.log reply.event) (length s.log.history) (t.replies k reply h)
-       (omega (arith, count_within (reply.event + 1) s.log.entered, c.as_many)))
+reply_bounds s c t w work k reply h = (
+  work.no_reply k reply h,
+  between_at_most reply.places _ (length_at_reply s.log reply.event) (length s.log.history) (t.replies k reply h)
+      (omega (arith, count_within (reply.event + 1) s.log.entered, c.as_many)),
+)
   where
     count_within : (bound : ℕ) (numbers : List ℕ) → count_below bound numbers ≤ length numbers
     count_within bound [] = omega arith
@@ -134,15 +143,21 @@ reply_bounds s c t w work k reply h =
 
 kept_turned : (s : HubState) (output : Output) (t : HubState) → IsKept s → Turned s output t → (HaveOneName t.calls → HasHonestArrivals t.log → HonestFor t t.working) → IsKept t
 kept_turned s output t k (Ignores _ is) honest = subst IsKept (sym is) (record {
-    counted = counted_ignore s output k.counted; timed = timed_ignore s output k.counted k.timed; wound = k.wound; sent = sent_ignore s output k.sent;
-    replied = k.replied; honest = subst (λ (x : HubState). HaveOneName x.calls → HasHonestArrivals x.log → HonestFor x x.working) is honest })
+  counted = counted_ignore s output k.counted;
+  timed = timed_ignore s output k.counted k.timed;
+  wound = k.wound;
+  sent = sent_ignore s output k.sent;
+  replied = k.replied;
+  honest = subst (λ (x : HubState). HaveOneName x.calls → HasHonestArrivals x.log → HonestFor x x.working) is honest;
+})
 kept_turned s output t k (Takes _ w line follows arm at_work there next_is is) honest = subst IsKept (sym is) (record {
-    counted = counted_take s output w line follows k.counted at_work there;
-    timed = timed_take s output w line follows k.counted k.timed at_work (places_follow w.stage line.call w.drawn w.places (length s.log.history) arm follows next_is);
-    wound = wound_take s output w line follows k.wound at_work;
-    sent = sent_take s output w line follows k.sent;
-    replied = replied_take s output w line follows (subst (WhereWorking (WorkIsCounted s)) at_work k.counted.work) at_work k.replied;
-    honest = subst (λ (x : HubState). HaveOneName x.calls → HasHonestArrivals x.log → HonestFor x x.working) is honest })
+  counted = counted_take s output w line follows k.counted at_work there;
+  timed = timed_take s output w line follows k.counted k.timed at_work (places_follow w.stage line.call w.drawn w.places (length s.log.history) arm follows next_is);
+  wound = wound_take s output w line follows k.wound at_work;
+  sent = sent_take s output w line follows k.sent;
+  replied = replied_take s output w line follows (subst (WhereWorking (WorkIsCounted s)) at_work k.counted.work) at_work k.replied;
+  honest = subst (λ (x : HubState). HaveOneName x.calls → HasHonestArrivals x.log → HonestFor x x.working) is honest;
+})
 
 -- an idle hub has nothing to wait for, so nothing honest arrives
 idle_arrive : (s : HubState) (output : Output) → IsSentWell s → IsIdle s → HasHonestArrivals (arrived s output).log → s.working ≡ None → HonestFor (arrived s output) (arrived s output).working
@@ -154,8 +169,8 @@ idle_arrive s output well idle honest none =
     let here : slice_get (arrivals_of (s.log.events ++ Arrive 0 output ∷ [])) (length arr) ≡ Some output = rw arrivals (get_push_last arr output) in
     let below : length arr < length (arrivals_of (s.log.events ++ Arrive 0 output ∷ [])) = get_below _ _ output here in
     let due : slice_get (outputs_of (inputs_of s.log.sent)) (length arr) ≡ Some output =
-          sym (get_take (outputs_of (inputs_of s.log.sent)) (length (arrivals_of (s.log.events ++ Arrive 0 output ∷ []))) (length arr) below)
-          ∙ ap (λ (x : List Output). slice_get x (length arr)) (sym h.front) ∙ here in
+    sym (get_take (outputs_of (inputs_of s.log.sent)) (length (arrivals_of (s.log.events ++ Arrive 0 output ∷ []))) (length arr) below)
+    ∙ ap (λ (x : List Output). slice_get x (length arr)) (sym h.front) ∙ here in
     let within : length arr < length (outputs_of (inputs_of s.log.sent)) = get_below _ _ output due in
     let many : length (outputs_of (inputs_of s.log.sent)) ≡ length (inputs_of s.log.sent) = outputs_as_many (inputs_of s.log.sent) well.requests in
     let all : length arr ≡ length (inputs_of s.log.sent) = idle.so_far.as_many in
@@ -167,6 +182,7 @@ kept_arrive s output k = kept_turned s output (arrived s output) k (turned s out
     calls_same : (t : HubState) → Turned s output t → t.calls ≡ s.calls
     calls_same t (Ignores _ is) = ap (λ (x : HubState). x.calls) is
     calls_same t (Takes _ w line follows arm at_work there next_is is) = ap (λ (x : HubState). x.calls) is
+
     honest : HaveOneName (arrived s output).calls → HasHonestArrivals (arrived s output).log → HonestFor (arrived s output) (arrived s output).working
     honest one h =
         let names : HaveOneName s.calls = subst HaveOneName (calls_same (arrived s output) (turned s output)) one in
@@ -201,15 +217,18 @@ law s reached one honest =
       legal = f.0;
       lawful = λ i reply h. (let own : IsOwnReply s reply = k.counted.replies i reply h in let a = f.1 i reply h in record {
         lawful = record { call = a.call; numbered = own.from_one; asked = a.asked; between = k.timed.replies i reply h; answered = a.answered };
-        own_line = own.own_line });
+        own_line = own.own_line;
+      });
       winds = winds_of s s.working k.wound;
-      backed = f.2 }
+      backed = f.2;
+    }
 
 pub whole : EndedLogsAreWhole
 whole s reached one honest answered all = by_work s.working refl (k.honest one honest)
   where
     k : IsKept s
     k = kept s reached
+
     idle : s.working ≡ None → IsWholeLog s.calls s.log
     idle none =
         let f : IsIdle s = subst (HonestFor s) none (k.honest one honest) in
@@ -219,8 +238,11 @@ whole s reached one honest answered all = by_work s.working refl (k.honest one h
           finished = record {
             submitted = submits_length s k.counted ∙ every;
             replied = λ number from_one le. k.replied number from_one (rw none (rw every le));
-            arrived = f.so_far.as_many ∙ length-inputs_of s.log.sent };
-          balanced = record { once = ended.once; all_ended = ended.ended } }
+            arrived = f.so_far.as_many ∙ length-inputs_of s.log.sent;
+          };
+          balanced = record { once = ended.once; all_ended = ended.ended };
+        }
+
     by_work : (v : Option Working) → s.working ≡ v → HonestFor s v → IsWholeLog s.calls s.log
     by_work None is f = idle is
     by_work (Some w) is f =

@@ -44,6 +44,7 @@ between_at_most (p ∷ places) low high most h le = (omega (arith, h.1), between
 module _ (calls : List Call) (history : List Entry) (entry : Entry) (number : ℕ) (other : entry.call ≢ number) where
   abbrev before : ℕ → Files
   before = fs_after calls history
+
   abbrev later : ℕ → Files
   later = fs_after calls (history ++ entry ∷ [])
 
@@ -57,10 +58,14 @@ module _ (calls : List Call) (history : List Entry) (entry : Entry) (number : �
   answer_later : (op : FlatOp) (place : ℕ) (answer : Answer) → place ≤ length history → IsAnswerAt before history number op place answer → IsAnswerAt later (history ++ entry ∷ []) number op place answer
   answer_later op place answer le h = bool_later
       (λ (d : IsDoneAt before history number op place answer). let r : IsDoneAt later (history ++ entry ∷ []) number op place answer = record {
-        from_one = d.from_one; entered = get_push_old history (entry ∷ []) (place - 1) _ d.entered;
-        answered = rw (files_before calls history entry (place - 1) (omega arith)) d.answered } in r)
+        from_one = d.from_one;
+        entered = get_push_old history (entry ∷ []) (place - 1) _ d.entered;
+        answered = rw (files_before calls history entry (place - 1) (omega arith)) d.answered;
+      } in r)
       (λ (d : IsReadAt before history number op place answer). let r : IsReadAt later (history ++ entry ∷ []) number op place answer = record {
-        answered = rw (files_before calls history entry place le) d.answered; no_entry = none_later d.no_entry } in r)
+        answered = rw (files_before calls history entry place le) d.answered;
+        no_entry = none_later d.no_entry;
+      } in r)
       (is_change op && is_done answer) h
 
   reached_later : (op : Gfid → FlatOp) (answer : Answer) (gfid : Gfid) (places : List ℕ) → AreAtMost places (length history) →
@@ -92,7 +97,7 @@ module _ (calls : List Call) (history : List Entry) (entry : Entry) (number : �
   answered_later (name ∷ names) directory [] op answer most h = h
   answered_later (name ∷ names) directory (place ∷ places) op answer most h =
       rw (files_before calls history entry place most.0)
-        (looked_later op answer places _ _ (λ g. answered_later names g places op answer most.1) (flat_answer (before place) (Lookup directory name)) h)
+      (looked_later op answer places _ _ (λ g. answered_later names g places op answer most.1) (flat_answer (before place) (Lookup directory name)) h)
 
 -- a reply but for the bounds of its places
 pub record IsAnsweredCall (calls : List Call) (history : List Entry) (number : ℕ) (places : List ℕ) (answer : Answer) : Type 0 where
@@ -100,12 +105,15 @@ pub record IsAnsweredCall (calls : List Call) (history : List Entry) (number : �
   pub asked : call_numbered calls number ≡ Some call
   pub answered :
       IsAnswered (walk (looked_up call) (fs_after calls history) root places) (fs_after calls history) history number
-          (λ found. last_op call found (drawn_by calls number)) answer
+      (λ found. last_op call found (drawn_by calls number)) answer
 
 pub answered_call_later : (calls : List Call) (history : List Entry) (entry : Entry) (number : ℕ) (places : List ℕ) (answer : Answer) →
     entry.call ≢ number → AreAtMost places (length history) → IsAnsweredCall calls history number places answer → IsAnsweredCall calls (history ++ entry ∷ []) number places answer
 answered_call_later calls history entry number places answer other most a = record {
-    call = a.call; asked = a.asked; answered = answered_later calls history entry number other (looked_up a.call) root places _ answer most a.answered }
+  call = a.call;
+  asked = a.asked;
+  answered = answered_later calls history entry number other (looked_up a.call) root places _ answer most a.answered;
+}
 
 -- ---- histories
 
@@ -115,16 +123,19 @@ legal_start calls = record { distinct = λ i j e h k. absurd cc; legal = λ plac
 pub legal_later : (calls : List Call) (history : List Entry) (entry : Entry) → ((k : ℕ) (e : Entry) → slice_get history k ≡ Some e → e.call < entry.call) →
     IsLegalHistory calls history → IsLegalEntry calls history (length history) entry → IsLegalHistory calls (history ++ entry ∷ [])
 legal_later calls history entry below legal new = record {
-    distinct = λ i j e h k. distinct i j e (get_push_cases history entry i e h) (get_push_cases history entry j e k);
-    legal = λ place e h. each place e (get_push_cases history entry place e h) }
+  distinct = λ i j e h k. distinct i j e (get_push_cases history entry i e h) (get_push_cases history entry j e k);
+  legal = λ place e h. each place e (get_push_cases history entry place e h);
+}
   where
     distinct : (i j : ℕ) (e : Entry) → (slice_get history i ≡ Some e) ⊎ ((i ≡ length history) × (entry ≡ e)) → (slice_get history j ≡ Some e) ⊎ ((j ≡ length history) × (entry ≡ e)) → i ≡ j
     distinct i j e (inl a) (inl b) = legal.distinct i j e a b
     distinct i j e (inl a) (inr b) = (let less : e.call < entry.call = below i e a in let same : entry.call ≡ e.call = ap (λ (x : Entry). x.call) b.1 in absurd (omega arith))
     distinct i j e (inr a) (inl b) = (let less : e.call < entry.call = below j e b in let same : entry.call ≡ e.call = ap (λ (x : Entry). x.call) a.1 in absurd (omega arith))
     distinct i j e (inr a) (inr b) = omega (arith, a.0, b.0)
+
     lifted : (place : ℕ) (e : Entry) → place ≤ length history → IsLegalEntry calls history place e → IsLegalEntry calls (history ++ entry ∷ []) place e
     lifted place e le l = record { op = l.op; op_is = l.op_is; accepted = rw (files_before calls history entry place le) l.accepted; first_part = l.first_part }
+
     each : (place : ℕ) (e : Entry) → (slice_get history place ≡ Some e) ⊎ ((place ≡ length history) × (entry ≡ e)) → IsLegalEntry calls (history ++ entry ∷ []) place e
     each place e (inl old) = lifted place e (let below_end : place < length history = get_below history place e old in omega arith) (legal.legal place e old)
     each place e (inr is) = subst (IsLegalEntry calls (history ++ entry ∷ []) place) is.1

@@ -69,7 +69,7 @@ use Rattle.hub_core.proofs.Honest.{IsHonestSoFar, IsIdle, IsStat, IsMkdir, IsFin
 pub root_names : (files : Files) (cells : Cells) (good : IsGood files) → Shows files cells → (kept_at cells (names_cell root)).content ≡ Some (Names false good.root_is.names)
 root_names files cells good shows =
     let d : IsShownDirectory good.root_is.names good.root_is.mode [] false (kept_at cells (meta_cell root)).content (kept_at cells (names_cell root)).content =
-          subst (λ (o : Option FlatObject). IsShown o (kept_at cells (meta_cell root)).content (kept_at cells (names_cell root)).content) good.root_is.there (shows root) in
+    subst (λ (o : Option FlatObject). IsShown o (kept_at cells (meta_cell root)).content (kept_at cells (names_cell root)).content) good.root_is.there (shows root) in
     d.names_are
 
 pub names_reply : (files : Files) (cells : Cells) (good : IsGood files) → Shows files cells →
@@ -88,9 +88,12 @@ copied content there last is = rw is refl
 pub meta_reply : (files : Files) (cells : Cells) (gfid : Gfid) (d : IsDirectoryAt files gfid) → Shows files cells → HasMeta cells gfid d.mode
 meta_reply files cells gfid d shows =
     let shown : IsShownDirectory d.names d.mode [] false (kept_at cells (meta_cell gfid)).content (kept_at cells (names_cell gfid)).content =
-          subst (λ (o : Option FlatObject). IsShown o (kept_at cells (meta_cell gfid)).content (kept_at cells (names_cell gfid)).content) d.there (shows gfid) in
-    record { span = shown.span; last = (kept_at cells (meta_cell gfid)).last;
-      replies = copied (kept_at cells (meta_cell gfid)).content (Meta d.mode [] shown.span) (kept_at cells (meta_cell gfid)).last shown.meta_is }
+    subst (λ (o : Option FlatObject). IsShown o (kept_at cells (meta_cell gfid)).content (kept_at cells (names_cell gfid)).content) d.there (shows gfid) in
+    record {
+      span = shown.span;
+      last = (kept_at cells (meta_cell gfid)).last;
+      replies = copied (kept_at cells (meta_cell gfid)).content (Meta d.mode [] shown.span) (kept_at cells (meta_cell gfid)).last shown.meta_is;
+    }
 
 -- a name that is free is added
 pub op_reply : (files : Files) (cells : Cells) (good : IsGood files) → Shows files cells → (change : ℕ) (name : List ℕ) (mode : ℕ) (drawn : Gfid) → item_named good.root_is.names name ≡ None →
@@ -107,16 +110,16 @@ module _ (s : HubState) (o : Output) (w : Working) (h : IsAtWork s w) (well : Is
       let here : slice_get (arrivals_of (arrived s o).log.events) (length arr) ≡ Some o = rw arrivals (get_push_last arr o) in
       let below : length arr < length (arrivals_of (arrived s o).log.events) = get_below _ _ o here in
       let mine : slice_get (outputs_of (inputs_of (arrived s o).log.sent)) (length arr) ≡ Some o =
-            sym (get_take (outputs_of (inputs_of (arrived s o).log.sent)) (length (arrivals_of (arrived s o).log.events)) (length arr) below)
-            ∙ ap (λ (x : List Output). slice_get x (length arr)) (sym honest.front) ∙ here in
+      sym (get_take (outputs_of (inputs_of (arrived s o).log.sent)) (length (arrivals_of (arrived s o).log.events)) (length arr) below)
+      ∙ ap (λ (x : List Output). slice_get x (length arr)) (sym honest.front) ∙ here in
       let m = outputs_more s (arrived s o) (arrived_sends s o) in
       let expected : Output = output_for h.answered (wire_number w.turn) h.request in
       let all : outputs_of (inputs_of s.log.sent) ≡ outputs_of h.answered ++ expected ∷ [] = ap outputs_of h.sent ∙ outputs_next h.answered (wire_number w.turn) 1 h.request in
       let place : length (outputs_of h.answered) ≡ length arr = outputs_as_many h.answered h.so_far.requests ∙ sym h.so_far.as_many in
       let last : slice_get (outputs_of h.answered ++ expected ∷ []) (length arr) ≡ Some expected =
-            subst (λ (n : ℕ). slice_get (outputs_of h.answered ++ expected ∷ []) n ≡ Some expected) place (get_push_last (outputs_of h.answered) expected) in
+      subst (λ (n : ℕ). slice_get (outputs_of h.answered ++ expected ∷ []) n ≡ Some expected) place (get_push_last (outputs_of h.answered) expected) in
       let there : slice_get (outputs_of (inputs_of (arrived s o).log.sent)) (length arr) ≡ Some expected =
-            rw m.1 (get_push_old (outputs_of (inputs_of s.log.sent)) m.0 (length arr) expected (rw all last)) in
+      rw m.1 (get_push_old (outputs_of (inputs_of s.log.sent)) m.0 (length arr) expected (rw all last)) in
       let same : Some o ≡ Some expected = sym mine ∙ there in
       cc
 
@@ -140,17 +143,28 @@ module _ (s : HubState) (o : Output) (w : Working) (h : IsAtWork s w) (well : Is
 
   pub after_ask : (line : CallLine) (request : BrickReq) (stage : Stage) (places : List ℕ) → slice_get s.calls (w.call - 1) ≡ Some line →
       StageIs (taken_up s o w line (Some (next.Ask request stage places))) (inputs_of s.log.sent) h.files h.so_far.good
-        (record { call = w.call; drawn = w.drawn; places = places; turn = length s.log.sent; stage = stage }) line.call request stage →
+      (record { call = w.call; drawn = w.drawn; places = places; turn = length s.log.sent; stage = stage }) line.call request stage →
       HonestFor (taken_up s o w line (Some (next.Ask request stage places))) (taken_up s o w line (Some (next.Ask request stage places))).working
   after_ask line request stage places there is = record {
-      answered = inputs_of s.log.sent; files = h.files; request = request; line = line;
-      sent = inputs_push s.log.sent _;
-      so_far = record {
-        requests = well.requests; as_many = one_more; files_are = h.so_far.files_are; good = h.so_far.good; fresh = h.so_far.fresh;
-        legal = h.so_far.legal; replies = h.so_far.replies;
-        backed = rw (inputs_push s.log.sent (record { event = length s.log.events + 1; brick = 0; input = Request (wire_number (length s.log.sent)) 1 request }), arrivals_more)
-          (backed_later s.calls s.log.history (inputs_of s.log.sent) _ (arrivals_of s.log.events) (o ∷ []) h.so_far.backed) };
-      line_is = there; stage = is }
+    answered = inputs_of s.log.sent;
+    files = h.files;
+    request = request;
+    line = line;
+    sent = inputs_push s.log.sent _;
+    so_far = record {
+      requests = well.requests;
+      as_many = one_more;
+      files_are = h.so_far.files_are;
+      good = h.so_far.good;
+      fresh = h.so_far.fresh;
+      legal = h.so_far.legal;
+      replies = h.so_far.replies;
+      backed = rw (inputs_push s.log.sent (record { event = length s.log.events + 1; brick = 0; input = Request (wire_number (length s.log.sent)) 1 request }), arrivals_more)
+          (backed_later s.calls s.log.history (inputs_of s.log.sent) _ (arrivals_of s.log.events) (o ∷ []) h.so_far.backed);
+    };
+    line_is = there;
+    stage = is;
+  }
 
   no_more : (inputs : List Input) → inputs ++ [] ≡ inputs
   no_more [] = refl
@@ -160,14 +174,20 @@ module _ (s : HubState) (o : Output) (w : Working) (h : IsAtWork s w) (well : Is
       IsAnsweredCall (calls_of s.calls) s.log.history w.call places ans →
       HonestFor (taken_up s o w line (Some (next.Reply places ans false))) (taken_up s o w line (Some (next.Reply places ans false))).working
   after_reply line places ans shows is = record {
-      files = h.files;
-      so_far = record {
-        requests = well.requests; as_many = one_more; files_are = h.so_far.files_are; good = h.so_far.good; fresh = h.so_far.fresh;
-        legal = h.so_far.legal;
-        replies = each_pushed (λ (r : ReplyLine). IsAnsweredCall (calls_of s.calls) s.log.history r.call r.places r.answer) s.log.replies _ h.so_far.replies is;
-        backed = rw (sym (no_more (inputs_of s.log.sent)), arrivals_more)
-          (backed_later s.calls s.log.history (inputs_of s.log.sent) [] (arrivals_of s.log.events) (o ∷ []) h.so_far.backed) };
-      shows = shows }
+    files = h.files;
+    so_far = record {
+      requests = well.requests;
+      as_many = one_more;
+      files_are = h.so_far.files_are;
+      good = h.so_far.good;
+      fresh = h.so_far.fresh;
+      legal = h.so_far.legal;
+      replies = each_pushed (λ (r : ReplyLine). IsAnsweredCall (calls_of s.calls) s.log.history r.call r.places r.answer) s.log.replies _ h.so_far.replies is;
+      backed = rw (sym (no_more (inputs_of s.log.sent)), arrivals_more)
+          (backed_later s.calls s.log.history (inputs_of s.log.sent) [] (arrivals_of s.log.events) (o ∷ []) h.so_far.backed);
+    };
+    shows = shows;
+  }
 
   -- a change is entered: the files are those after its operation
   pub after_entry : (line : CallLine) (places : List ℕ) (files : Files) (good : IsGood files) → IsFreshAbove files (1 + s.made) → Shows files (cells_of (inputs_of s.log.sent)) →
@@ -183,15 +203,21 @@ module _ (s : HubState) (o : Output) (w : Working) (h : IsAtWork s w) (well : Is
       record {
         files = files;
         so_far = record {
-          requests = well.requests; as_many = one_more; files_are = files_are; good = good; fresh = fresh;
+          requests = well.requests;
+          as_many = one_more;
+          files_are = files_are;
+          good = good;
+          fresh = fresh;
           legal = legal_later (calls_of s.calls) s.log.history entry below h.so_far.legal legal;
           replies = each_pushed (λ (r : ReplyLine). IsAnsweredCall (calls_of s.calls) (s.log.history ++ entry ∷ []) r.call r.places r.answer) s.log.replies _
               (λ k reply there. (let b = old k reply there in
-                answered_call_later (calls_of s.calls) s.log.history entry reply.call reply.places reply.answer (λ e. omega (arith, b.0)) b.1 (h.so_far.replies k reply there)))
+              answered_call_later (calls_of s.calls) s.log.history entry reply.call reply.places reply.answer (λ e. omega (arith, b.0)) b.1 (h.so_far.replies k reply there)))
               is;
           backed = rw arrivals_more
-            (each_pushed (IsBacked s.calls (inputs_of s.log.sent) (arrivals_of s.log.events ++ o ∷ [])) s.log.history entry
+              (each_pushed (IsBacked s.calls (inputs_of s.log.sent) (arrivals_of s.log.events ++ o ∷ [])) s.log.history entry
               (subst (λ (x : List Input). IsBackedByBrick s.calls s.log.history x (arrivals_of s.log.events ++ o ∷ [])) (no_more (inputs_of s.log.sent))
-                (backed_later s.calls s.log.history (inputs_of s.log.sent) [] (arrivals_of s.log.events) (o ∷ []) h.so_far.backed))
-              backed) };
-        shows = shows }
+              (backed_later s.calls s.log.history (inputs_of s.log.sent) [] (arrivals_of s.log.events) (o ∷ []) h.so_far.backed))
+              backed);
+        };
+        shows = shows;
+      }

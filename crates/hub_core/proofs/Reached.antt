@@ -75,14 +75,15 @@ pub by_turns : (P : HubState → Type 0) →
     ((s : HubState) (line : CallLine) → P s → s.working ≡ None → slice_get s.calls s.submitted ≡ Some line → P (submit_call s line)) →
     ((s : HubState) (output : Output) → P s → P (ignored s output)) →
     ((s : HubState) (output : Output) (w : Working) (line : CallLine) (follows : Next) (arm : DoneArm) → P s → s.working ≡ Some w →
-        slice_get s.calls (w.call - 1) ≡ Some line →
-        next_of w.stage line.call w.drawn w.places (length s.log.history) arm ≡ Some follows →
-        P (taken_up s output w line (Some follows))) →
+    slice_get s.calls (w.call - 1) ≡ Some line →
+    next_of w.stage line.call w.drawn w.places (length s.log.history) arm ≡ Some follows →
+    P (taken_up s output w line (Some follows))) →
     (s : HubState) → IsReached s → P s
 by_turns P start submit ignore take s reached = by_events P start submit arrive s reached
   where
     split : (s : HubState) (output : Output) (t : HubState) → P s → Turned s output t → P t
     split s output t p (Ignores _ is) = subst P (sym is) (ignore s output p)
     split s output t p (Takes _ w line follows arm at_work there next is) = subst P (sym is) (take s output w line follows arm p at_work there next)
+
     arrive : (s : HubState) (output : Output) → P s → P (arrived s output)
     arrive s output p = split s output (arrived s output) p (turned s output)

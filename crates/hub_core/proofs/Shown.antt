@@ -117,11 +117,11 @@ shows_start g = cases (gfid_cases g root)
     cases (inr off) =
         let none : object_at empty_root g ≡ None = rw off refl in
         let meta : kept_at root_alone (meta_cell g) ≡ kept_at [] (meta_cell g) =
-              kept_other metas (names_cell root) (meta_cell g) (record { content = Some (Names false []); dirty = 0; last = 0 }) (meta_names_apart g root)
-              ∙ kept_other [] (meta_cell root) (meta_cell g) (record { content = Some (Meta 493 [] None); dirty = 0; last = 0 }) (metas_apart g root off) in
+        kept_other metas (names_cell root) (meta_cell g) (record { content = Some (Names false []); dirty = 0; last = 0 }) (meta_names_apart g root)
+        ∙ kept_other [] (meta_cell root) (meta_cell g) (record { content = Some (Meta 493 [] None); dirty = 0; last = 0 }) (metas_apart g root off) in
         let entries : kept_at root_alone (names_cell g) ≡ kept_at [] (names_cell g) =
-              kept_other metas (names_cell root) (names_cell g) (record { content = Some (Names false []); dirty = 0; last = 0 }) (names_apart g root off)
-              ∙ kept_other [] (meta_cell root) (names_cell g) (record { content = Some (Meta 493 [] None); dirty = 0; last = 0 }) (names_meta_apart g root) in
+        kept_other metas (names_cell root) (names_cell g) (record { content = Some (Names false []); dirty = 0; last = 0 }) (names_apart g root off)
+        ∙ kept_other [] (meta_cell root) (names_cell g) (record { content = Some (Meta 493 [] None); dirty = 0; last = 0 }) (names_meta_apart g root) in
         rw (none, meta, entries) (refl, refl)
 
 -- a change of a row alone shows the same
@@ -147,16 +147,19 @@ birth_content before kept content change none = rw none refl
 
 module _ (cells : Cells) (change : ℕ) (item : Item) (mode : ℕ) (span : Option Span) (new_one : is_eq (gfid_cmp item.gfid root) ≡ false)
     (no_meta : (kept_at cells (meta_cell item.gfid)).content ≡ None) (no_names : (kept_at cells (names_cell item.gfid)).content ≡ None) where
-
   entries : Kept
   entries = record {
-      content = Some (Names false (with_item (items_of (kept_at cells (names_cell root)).content) item));
-      dirty = (kept_at cells (names_cell root)).dirty; last = change }
+    content = Some (Names false (with_item (items_of (kept_at cells (names_cell root)).content) item));
+    dirty = (kept_at cells (names_cell root)).dirty;
+    last = change;
+  }
 
   abbrev named : Cells
   named = with_kept cells (names_cell root) (record {
-      content = Some (Names false (with_item (items_of (kept_at cells (names_cell root)).content) item));
-      dirty = (kept_at cells (names_cell root)).dirty; last = change })
+    content = Some (Names false (with_item (items_of (kept_at cells (names_cell root)).content) item));
+    dirty = (kept_at cells (names_cell root)).dirty;
+    last = change;
+  })
 
   abbrev with_meta : Cells
   with_meta = with_birth named (meta_cell item.gfid) (Meta mode [] span) change
@@ -170,8 +173,8 @@ module _ (cells : Cells) (change : ℕ) (item : Item) (mode : ℕ) (span : Optio
   names_none : (kept_at with_meta (names_cell item.gfid)).content ≡ None
   names_none =
       ap (λ (x : Kept). x.content)
-        (kept_other named (meta_cell item.gfid) (names_cell item.gfid) _ (names_meta_apart item.gfid item.gfid)
-         ∙ kept_other cells (names_cell root) (names_cell item.gfid) _ (names_apart item.gfid root new_one))
+      (kept_other named (meta_cell item.gfid) (names_cell item.gfid) _ (names_meta_apart item.gfid item.gfid)
+      ∙ kept_other cells (names_cell root) (names_cell item.gfid) _ (names_apart item.gfid root new_one))
       ∙ no_names
 
   pub added_meta : (kept_at after (meta_cell item.gfid)).content ≡ Some (Meta mode [] span)
@@ -198,6 +201,6 @@ module _ (cells : Cells) (change : ℕ) (item : Item) (mode : ℕ) (span : Optio
       (kept_at after (names_cell root)).content ≡ Some (Names false (with_item (items_of (kept_at cells (names_cell root)).content) item))
   root_named off =
       ap (λ (x : Kept). x.content)
-        (kept_other with_meta (names_cell item.gfid) (names_cell root) _ (names_apart root item.gfid off)
-         ∙ kept_other named (meta_cell item.gfid) (names_cell root) _ (names_meta_apart root item.gfid)
-         ∙ kept_same cells (names_cell root) _)
+      (kept_other with_meta (names_cell item.gfid) (names_cell root) _ (names_apart root item.gfid off)
+      ∙ kept_other named (meta_cell item.gfid) (names_cell root) _ (names_meta_apart root item.gfid)
+      ∙ kept_same cells (names_cell root) _)

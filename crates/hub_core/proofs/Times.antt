@@ -43,7 +43,7 @@ pub since_entry : (s : HubState) (event : HubEvent) (number : ℕ) → IsCounted
 since_entry s event number c from_one submitted =
     let many : length (submits_of s.log.events) ≡ s.submitted = submits_length s c in
     let same : events_before (s.log.events ++ event ∷ []) (number - 1) ≡ events_before s.log.events (number - 1) =
-          events_before_push s.log.events (event ∷ []) (number - 1) (omega arith) in
+    events_before_push s.log.events (event ∷ []) (number - 1) (omega arith) in
     let within : events_before s.log.events (number - 1) ≤ length s.log.events = events_before_within s.log.events (number - 1) in
     count_below_push _ s.log.entered (length s.log.events + 1) (omega arith) ∙ since_event s event number c from_one submitted
 
@@ -63,25 +63,29 @@ timed_submit s line c t =
     let many : length (submits_of s.log.events) ≡ s.submitted = submits_length s c in
     let event : HubEvent = Submit line.session line.line in
     let before : events_before (s.log.events ++ event ∷ []) (s.submitted + 1 - 1) ≡ length s.log.events =
-          (let same : s.submitted + 1 - 1 ≡ length (submits_of s.log.events) = omega arith in rw same (events_before_next s.log.events line.session line.line)) in
+    (let same : s.submitted + 1 - 1 ≡ length (submits_of s.log.events) = omega arith in rw same (events_before_next s.log.events line.session line.line)) in
     record {
       replies = λ k reply h. (let own : IsOwnReply s reply = c.replies k reply h in
-        rw (since_event s event reply.call c own.from_one own.submitted) (t.replies k reply h));
+          rw (since_event s event reply.call c own.from_one own.submitted) (t.replies k reply h));
       work = record {
         since = rw before (count_below_all _ s.log.entered (AreBelow-more s.log.entered (length s.log.events + 1) _ c.entered (omega arith)) ∙ c.as_many);
-        places = tt } }
+        places = tt;
+      };
+    }
 
 pub timed_ignore : (s : HubState) (output : Output) → IsCounted s → IsTimed s → IsTimed (ignored s output)
 timed_ignore s output c t = record {
-    replies = λ k reply h. (let own : IsOwnReply s reply = c.replies k reply h in
+  replies = λ k reply h. (let own : IsOwnReply s reply = c.replies k reply h in
       rw (since_event s (Arrive 0 output) reply.call c own.from_one own.submitted) (t.replies k reply h));
-    work = kept s.working c.work t.work }
+  work = kept s.working c.work t.work;
+}
   where
     kept : (v : Option Working) → WhereWorking (WorkIsCounted s) v → WhereWorking (WorkIsTimed s) v → WhereWorking (WorkIsTimed (ignored s output)) v
     kept None n h = tt
     kept (Some w) n h = record {
       since = since_event s (Arrive 0 output) w.call c (omega (arith, n.number, n.some)) (omega (arith, n.number)) ∙ h.since;
-      places = h.places }
+      places = h.places;
+    }
 
 between_at : (places more : List ℕ) (place : ℕ) → AreBetween places place place → (more ≡ places) ⊎ (more ≡ places ++ place ∷ []) → AreBetween more place place
 between_at places more place h (inl is) = rw is h
@@ -97,7 +101,9 @@ timed_take s output w line (next.Ask request stage places) c t at_work follow =
       replies = base.replies;
       work = record {
         since = since_event s (Arrive 0 output) w.call c (omega (arith, count.number, count.some)) (omega (arith, count.number)) ∙ work.since;
-        places = between_at w.places places (length s.log.history) work.places follow } }
+        places = between_at w.places places (length s.log.history) work.places follow;
+      };
+    }
 timed_take s output w line (next.Reply places answer false) c t at_work follow =
     let base : IsTimed (ignored s output) = timed_ignore s output c t in
     let count : WorkIsCounted s w = subst (WhereWorking (WorkIsCounted s)) at_work c.work in
@@ -106,22 +112,24 @@ timed_take s output w line (next.Reply places answer false) c t at_work follow =
     record {
       replies = each_pushed (λ (r : ReplyLine). AreBetween r.places (length_at_submit after r.call) (length_at_reply after r.event)) s.log.replies _ base.replies
           (rw (since_event s (Arrive 0 output) w.call c (omega (arith, count.number, count.some)) (omega (arith, count.number)) ∙ work.since, until_now s c)
-            (between_at w.places places (length s.log.history) work.places (inr follow)));
-      work = tt }
+          (between_at w.places places (length s.log.history) work.places (inr follow)));
+      work = tt;
+    }
 timed_take s output w line (next.Reply places answer true) c t at_work follow =
     let count : WorkIsCounted s w = subst (WhereWorking (WorkIsCounted s)) at_work c.work in
     let work : WorkIsTimed s w = subst (WhereWorking (WorkIsTimed s)) at_work t.work in
     let after : Log = (taken_up s output w line (Some (next.Reply places answer true))).log in
     let since : length_at_submit after w.call ≡ length s.log.history =
-          since_entry s (Arrive 0 output) w.call c (omega (arith, count.number, count.some)) (omega (arith, count.number)) ∙ work.since in
+    since_entry s (Arrive 0 output) w.call c (omega (arith, count.number, count.some)) (omega (arith, count.number)) ∙ work.since in
     let event : ℕ = length s.log.events + 1 in
     let all : AreBelow (s.log.entered ++ event ∷ []) (event + 1) =
-          AreBelow-push s.log.entered event (event + 1) (AreBelow-more s.log.entered event (event + 1) c.entered (omega arith)) (omega arith) in
+    AreBelow-push s.log.entered event (event + 1) (AreBelow-more s.log.entered event (event + 1) c.entered (omega arith)) (omega arith) in
     let until : length_at_reply after event ≡ length s.log.history + 1 =
-          count_below_all (event + 1) (s.log.entered ++ event ∷ []) all ∙ length_push s.log.entered event ∙ ap (λ (n : ℕ). n + 1) c.as_many in
+    count_below_all (event + 1) (s.log.entered ++ event ∷ []) all ∙ length_push s.log.entered event ∙ ap (λ (n : ℕ). n + 1) c.as_many in
     record {
       replies = each_pushed (λ (r : ReplyLine). AreBetween r.places (length_at_submit after r.call) (length_at_reply after r.event)) s.log.replies _
           (λ k reply h. (let own : IsOwnReply s reply = c.replies k reply h in
-            rw (since_entry s (Arrive 0 output) reply.call c own.from_one own.submitted, until_entry s reply own) (t.replies k reply h)))
+          rw (since_entry s (Arrive 0 output) reply.call c own.from_one own.submitted, until_entry s reply own) (t.replies k reply h)))
           (rw (since, until, follow) (AreBetween-push w.places (length s.log.history) (length s.log.history) (length s.log.history + 1) (omega arith) work.places (omega arith)));
-      work = tt }
+      work = tt;
+    }

@@ -130,5 +130,6 @@ follow_of s kind = follow_working s kind s.working
 -- the state after what follows has been carried out for this call at work, of this line
 abbrev pub carried_out : HubState → Output → Working → CallLine → Next → HubState
 carried_out s output w line follows = record s {
-    log = log_next (with_event s.log (Arrive 0 output)) (length s.log.events + 1) w line follows;
-    working = working_next s.log w follows }
+  log = log_next (with_event s.log (Arrive 0 output)) (length s.log.events + 1) w line follows;
+  working = working_next s.log w follows;
+}

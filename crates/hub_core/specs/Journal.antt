@@ -150,7 +150,7 @@ pub record WindsAreBalanced (lines : List WindLine) : Type 0 where
 pub record IsLawfulLine (calls : List CallLine) (log : Log) (reply : ReplyLine) : Type 0 where
   pub lawful :
       IsLawfulReply (calls_of calls) log.history (length_at_submit log reply.call) (length_at_reply log reply.event)
-          reply.call reply.places reply.answer
+      reply.call reply.places reply.answer
   pub own_line : slice_get (places_of calls) (reply.call - 1) ≡ Some (reply.session, reply.line)
 
 abbrev pub AreLawful : List CallLine → Log → Type 0

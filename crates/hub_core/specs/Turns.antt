@@ -73,16 +73,18 @@ wire_number turn = turn * 4294967296
 
 abbrev pub with_request : Log → ℕ → ℕ → ℕ → BrickReq → Log
 with_request log event number turn request = record log {
-    sent = log.sent ++ (record { event = event; brick = 0; input = Request (wire_number turn) 1 request }) ∷ [];
-    winds = log.winds ++ wind_line event number turn true ∷ [] }
+  sent = log.sent ++ (record { event = event; brick = 0; input = Request (wire_number turn) 1 request }) ∷ [];
+  winds = log.winds ++ wind_line event number turn true ∷ [];
+}
 
 abbrev pub with_end : Log → ℕ → ℕ → ℕ → Log
 with_end log event number turn = record log { winds = log.winds ++ wind_line event number turn false ∷ [] }
 
 abbrev pub with_entry : Log → ℕ → ℕ → Log
 with_entry log event number = record log {
-    history = log.history ++ (record { call = number; part = 1 }) ∷ [];
-    entered = log.entered ++ event ∷ [] }
+  history = log.history ++ (record { call = number; part = 1 }) ∷ [];
+  entered = log.entered ++ event ∷ [];
+}
 
 abbrev pub with_reply : Log → ReplyLine → Log
 with_reply log reply = record log { replies = log.replies ++ reply ∷ [] }
@@ -149,8 +151,8 @@ next_of (Reading kind) c drawn places place arm = meta_next arm kind places plac
 next_of Checking c drawn places place arm = names_next arm (name_of c) places place check_next
 next_of (Marking change) c drawn places place arm =
     nothing_next arm
-        (next.Ask (req.Op change 0 (AddName root (directory_item (name_of c) drawn) (mode_of c) (Some whole_span)))
-            (Changing change) places)
+    (next.Ask (req.Op change 0 (AddName root (directory_item (name_of c) drawn) (mode_of c) (Some whole_span)))
+    (Changing change) places)
 next_of (Changing change) c drawn places place arm =
     nothing_next arm (next.Ask (req.Post change (names_cell root ∷ []) (record { 0 = 0 })) (Posting change) places)
 next_of (Posting change) c drawn places place arm =
@@ -161,16 +163,18 @@ next_of (Posting change) c drawn places place arm =
 -- the next call is submitted where none is at work and one is left
 abbrev pub submit_call : HubState → CallLine → HubState
 submit_call s line = record s {
-    log = with_request (with_event s.log (Submit line.session line.line)) (length s.log.events + 1) (s.submitted + 1)
-        (length s.log.sent) ask_names;
-    submitted = s.submitted + 1;
-    made = s.made + makes line.call;
-    working = Some (record {
-        call = s.submitted + 1;
-        drawn = record { hi = 0; lo = 1 + (s.made + makes line.call) };
-        places = [];
-        turn = length s.log.sent;
-        stage = first_stage line.call }) }
+  log = with_request (with_event s.log (Submit line.session line.line)) (length s.log.events + 1) (s.submitted + 1)
+      (length s.log.sent) ask_names;
+  submitted = s.submitted + 1;
+  made = s.made + makes line.call;
+  working = Some (record {
+    call = s.submitted + 1;
+    drawn = record { hi = 0; lo = 1 + (s.made + makes line.call) };
+    places = [];
+    turn = length s.log.sent;
+    stage = first_stage line.call;
+  });
+}
 
 -- the log and the call at work, after the reply to its request
 abbrev pub log_next : Log → ℕ → Working → CallLine → Next → Log
@@ -178,10 +182,10 @@ log_next log event w line (next.Ask request stage places) =
     with_request (with_end log event w.call w.turn) event w.call (length log.sent) request
 log_next log event w line (next.Reply places answer false) =
     with_reply (with_end log event w.call w.turn)
-        (record { event = event; call = w.call; session = line.session; line = line.line; places = places; answer = answer })
+    (record { event = event; call = w.call; session = line.session; line = line.line; places = places; answer = answer })
 log_next log event w line (next.Reply places answer true) =
     with_reply (with_entry (with_end log event w.call w.turn) event w.call)
-        (record { event = event; call = w.call; session = line.session; line = line.line; places = places; answer = answer })
+    (record { event = event; call = w.call; session = line.session; line = line.line; places = places; answer = answer })
 
 abbrev pub working_next : Log → Working → Next → Option Working
 working_next log w (next.Ask request stage places) =
@@ -195,8 +199,9 @@ ignored s output = record s { log = with_event s.log (Arrive 0 output) }
 abbrev pub taken_up : HubState → Output → Working → CallLine → Option Next → HubState
 taken_up s output w line None = ignored s output
 taken_up s output w line (Some follows) = record s {
-    log = log_next (with_event s.log (Arrive 0 output)) (length s.log.events + 1) w line follows;
-    working = working_next s.log w follows }
+  log = log_next (with_event s.log (Arrive 0 output)) (length s.log.events + 1) w line follows;
+  working = working_next s.log w follows;
+}
 
 abbrev pub done_for : HubState → Output → Working → Option CallLine → DoneArm → HubState
 done_for s output w None arm = ignored s output

@@ -3,15 +3,14 @@ ghost use Rattle.std.specs.Option.{option_copied};
 ghost use Rattle.hub_core.specs.Turns.{start_of, arrived};
 ghost use Rattle.hub_core.specs.Follows.{call_if_idle, call_due, submit_due, follow_line, follow_reply, follow_output, follow_of};
 
-use std::alloc::{AllocError, Global};
-use std::marker::Model;
-
 use crate::log_lists::LogLists;
 use crate::logs::{Log, SentLine};
 use crate::stages::{Next, Working};
 use crate::turns::{after_done, ask_for_names, stage_at_first};
 use fop_types::{BrickRep, DoneArm, Gfid, OutKind, Output, Seq};
 use script_lang::{CallLine, Script};
+use std::alloc::{AllocError, Global};
+use std::marker::Model;
 
 /// The hub: it submits the calls of a script one after another, sends each call's requests to the brick,
 /// takes the brick's outputs, and writes the log. A method that wants memory and gets none has changed
@@ -111,10 +110,15 @@ impl Hub {
                 let call = self.submitted as u32 + 1;
                 let made = self.made + line.call.makes() as u64;
                 let stage = stage_at_first(&line.call);
-                let turn = self.lists.submit(line.session, line.line, call, ask_for_names())?;
+                let turn = self
+                    .lists
+                    .submit(line.session, line.line, call, ask_for_names())?;
                 self.working = Some(Working {
                     call,
-                    drawn: Gfid { hi: 0, lo: 1 + made },
+                    drawn: Gfid {
+                        hi: 0,
+                        lo: 1 + made,
+                    },
                     places: Seq::new(alloc),
                     turn,
                     stage,
@@ -144,7 +148,12 @@ impl Hub {
     }
 
     /// What follows a Done for the call at work.
-    fn after_arm(&self, alloc: Global, w: &Working, arm: &DoneArm) -> Result<Option<Next>, AllocError>
+    fn after_arm(
+        &self,
+        alloc: Global,
+        w: &Working,
+        arm: &DoneArm,
+    ) -> Result<Option<Next>, AllocError>
         requires { self.now.working ≡ Some w.now }
         ensures { IfOk result (λ next. next ≡ follow_line self.now w.now arm.now (slice_get self.now.calls (w.now.call - 1))) }
     {
@@ -156,7 +165,13 @@ impl Hub {
     }
 
     /// What follows a reply of the brick, where it is that to the open wind of the call at work.
-    fn after_reply(&self, alloc: Global, w: &Working, wind: u64, reply: &BrickRep) -> Result<Option<Next>, AllocError>
+    fn after_reply(
+        &self,
+        alloc: Global,
+        w: &Working,
+        wind: u64,
+        reply: &BrickRep,
+    ) -> Result<Option<Next>, AllocError>
         requires { self.now.working ≡ Some w.now }
         ensures { IfOk result (λ next. next ≡ follow_reply self.now w.now wind reply.now) }
     {
@@ -176,7 +191,12 @@ impl Hub {
     }
 
     /// What follows an output of the brick, for the call at work.
-    fn after_output(&self, alloc: Global, w: &Working, kind: &OutKind) -> Result<Option<Next>, AllocError>
+    fn after_output(
+        &self,
+        alloc: Global,
+        w: &Working,
+        kind: &OutKind,
+    ) -> Result<Option<Next>, AllocError>
         requires { self.now.working ≡ Some w.now }
         ensures { IfOk result (λ next. next ≡ follow_output self.now w.now kind.now) }
     {

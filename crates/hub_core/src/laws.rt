@@ -4,12 +4,10 @@ ghost use Rattle.hub_core.specs.Laws.{HonestLogsAreLawful, EndedLogsAreWhole};
 /// arrived in it is what a brick makes of what was sent.
 pub fn honest_logs_are_lawful()
     ensures { HonestLogsAreLawful }
-{
-}
+{}
 
 /// The law of ended logs: where all that was sent has been answered, and no call is left while none is at
 /// work, the log is finished, and every wind is ended.
 pub fn ended_logs_are_whole()
     ensures { EndedLogsAreWhole }
-{
-}
+{}

@@ -3,13 +3,12 @@ ghost use Rattle.fop_types.specs.declared.messages.Input.TheVariants.{Request};
 ghost use Rattle.hub_core.specs.declared.logs.HubEvent.TheVariants.{Submit, Arrive};
 ghost use Rattle.hub_core.specs.Turns.{empty_log, with_event, with_request, with_end, with_entry, with_reply, wind_line, wire_number, log_next, working_next};
 
-use std::alloc::{AllocError, Global};
-use std::marker::Model;
-
 use crate::logs::{HubEvent, Log, ReplyLine, SentLine, WindLine, WindNo};
 use crate::stages::{Next, Working};
 use fop_types::{Answer, BrickReq, Entry, Input, Output, Seq};
 use script_lang::CallLine;
+use std::alloc::{AllocError, Global};
+use std::marker::Model;
 
 /// The log as it grows. Each method adds the lines of one event: it reserves room in every list first, so
 /// after want of memory nothing was added.
@@ -106,7 +105,13 @@ impl LogLists {
     ///
     /// # Errors
     /// Want of memory, with nothing added.
-    pub fn submit(&mut self, session: u8, line: u32, call: u32, req: BrickReq) -> Result<u32, AllocError>
+    pub fn submit(
+        &mut self,
+        session: u8,
+        line: u32,
+        call: u32,
+        req: BrickReq,
+    ) -> Result<u32, AllocError>
         requires { length self.old.sent < 2 ^ 32 }
         ensures ok { OnOk result (self.new ≡ with_request (with_event self.old (Submit session line)) (length self.old.events + 1) call (length self.old.sent) req) }
         ensures turn { IfOk result (λ turn. turn ≡ length self.old.sent) }
@@ -117,7 +122,8 @@ impl LogLists {
         self.winds.reserve(1)?;
         let event = self.events.len() as u64 + 1;
         let turn = self.sent.len() as u32;
-        self.events.push_reserved(HubEvent::Submit { session, line });
+        self.events
+            .push_reserved(HubEvent::Submit { session, line });
         self.sent.push_reserved(line_of(event, turn, req));
         self.winds.push_reserved(wind_of(event, call, turn, true));
         Ok(turn)
@@ -140,7 +146,13 @@ impl LogLists {
     ///
     /// # Errors
     /// Want of memory, with nothing added.
-    pub fn ask(&mut self, output: Output, call: u32, ended: u32, req: BrickReq) -> Result<u32, AllocError>
+    pub fn ask(
+        &mut self,
+        output: Output,
+        call: u32,
+        ended: u32,
+        req: BrickReq,
+    ) -> Result<u32, AllocError>
         requires { length self.old.sent < 2 ^ 32 }
         ensures ok { OnOk result (self.new ≡ with_request (with_end (with_event self.old (Arrive 0 output)) (length self.old.events + 1) call ended) (length self.old.events + 1) call (length self.old.sent) req) }
         ensures turn { IfOk result (λ turn. turn ≡ length self.old.sent) }
@@ -151,7 +163,8 @@ impl LogLists {
         self.winds.reserve(2)?;
         let event = self.events.len() as u64 + 1;
         let turn = self.sent.len() as u32;
-        self.events.push_reserved(HubEvent::Arrive { brick: 0, output });
+        self.events
+            .push_reserved(HubEvent::Arrive { brick: 0, output });
         self.winds.push_reserved(wind_of(event, call, ended, false));
         self.sent.push_reserved(line_of(event, turn, req));
         self.winds.push_reserved(wind_of(event, call, turn, true));
@@ -162,7 +175,16 @@ impl LogLists {
     ///
     /// # Errors
     /// Want of memory, with nothing added.
-    pub fn reply(&mut self, output: Output, call: u32, ended: u32, session: u8, line: u32, places: Seq<u32>, answer: Answer) -> Result<(), AllocError>
+    pub fn reply(
+        &mut self,
+        output: Output,
+        call: u32,
+        ended: u32,
+        session: u8,
+        line: u32,
+        places: Seq<u32>,
+        answer: Answer,
+    ) -> Result<(), AllocError>
         ensures ok { OnOk result (self.new ≡ with_reply (with_end (with_event self.old (Arrive 0 output)) (length self.old.events + 1) call ended) (record { event = length self.old.events + 1; call = call; session = session; line = line; places = places; answer = answer })) }
         ensures err { OnErr result (self.new ≡ self.old) }
     {
@@ -170,7 +192,8 @@ impl LogLists {
         self.winds.reserve(1)?;
         self.replies.reserve(1)?;
         let event = self.events.len() as u64 + 1;
-        self.events.push_reserved(HubEvent::Arrive { brick: 0, output });
+        self.events
+            .push_reserved(HubEvent::Arrive { brick: 0, output });
         self.winds.push_reserved(wind_of(event, call, ended, false));
         self.replies.push_reserved(ReplyLine {
             event,
@@ -187,7 +210,16 @@ impl LogLists {
     ///
     /// # Errors
     /// Want of memory, with nothing added.
-    pub fn enter(&mut self, output: Output, call: u32, ended: u32, session: u8, line: u32, places: Seq<u32>, answer: Answer) -> Result<(), AllocError>
+    pub fn enter(
+        &mut self,
+        output: Output,
+        call: u32,
+        ended: u32,
+        session: u8,
+        line: u32,
+        places: Seq<u32>,
+        answer: Answer,
+    ) -> Result<(), AllocError>
         ensures ok { OnOk result (self.new ≡ with_reply (with_entry (with_end (with_event self.old (Arrive 0 output)) (length self.old.events + 1) call ended) (length self.old.events + 1) call) (record { event = length self.old.events + 1; call = call; session = session; line = line; places = places; answer = answer })) }
         ensures err { OnErr result (self.new ≡ self.old) }
     {
@@ -197,7 +229,8 @@ impl LogLists {
         self.history.reserve(1)?;
         self.entered.reserve(1)?;
         let event = self.events.len() as u64 + 1;
-        self.events.push_reserved(HubEvent::Arrive { brick: 0, output });
+        self.events
+            .push_reserved(HubEvent::Arrive { brick: 0, output });
         self.winds.push_reserved(wind_of(event, call, ended, false));
         self.history.push_reserved(Entry { call, part: 1 });
         self.entered.push_reserved(event);
@@ -217,7 +250,13 @@ impl LogLists {
     ///
     /// # Errors
     /// Want of memory, with nothing added.
-    pub fn carry_out(&mut self, output: Output, w: &Working, line: &CallLine, follows: Next) -> Result<Option<Working>, AllocError>
+    pub fn carry_out(
+        &mut self,
+        output: Output,
+        w: &Working,
+        line: &CallLine,
+        follows: Next,
+    ) -> Result<Option<Working>, AllocError>
         requires { length self.old.sent < 2 ^ 32 }
         ensures ok { OnOk result (self.new ≡ log_next (with_event self.old (Arrive 0 output)) (length self.old.events + 1) w.now line.now follows) }
         ensures working { IfOk result (λ working. working ≡ working_next self.old w.now follows) }
@@ -240,10 +279,26 @@ impl LogLists {
                 enters,
             } => {
                 if enters {
-                    self.enter(output, w.call, w.turn, line.session, line.line, places, answer)?;
+                    self.enter(
+                        output,
+                        w.call,
+                        w.turn,
+                        line.session,
+                        line.line,
+                        places,
+                        answer,
+                    )?;
                     Ok(None)
                 } else {
-                    self.reply(output, w.call, w.turn, line.session, line.line, places, answer)?;
+                    self.reply(
+                        output,
+                        w.call,
+                        w.turn,
+                        line.session,
+                        line.line,
+                        places,
+                        answer,
+                    )?;
                     Ok(None)
                 }
             }

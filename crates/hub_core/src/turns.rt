@@ -6,10 +6,12 @@ ghost use Rattle.brick_store.specs.Cells.{names_cell, meta_cell};
 ghost use Rattle.hub_core.specs.Turns.{ask_names, first_stage, mode_of, name_of, error_next, find_next, check_next, names_next, meta_next, nothing_next, next_of};
 ghost use Rattle.hub_core.specs.Follows.{search_next, items_next, is_nothing, op_next, post_next, entry_next, change_next};
 
-use std::alloc::{AllocError, Global};
-
 use crate::stages::{Next, Search, Stage};
-use fop_types::{find_item, Answer, AppError, Aspect, BrickReq, Call, Cell, Content, DoneArm, Gfid, Item, Kind, Mask, Seq, Span, StoreOp};
+use fop_types::{
+    Answer, AppError, Aspect, BrickReq, Call, Cell, Content, DoneArm, Gfid, Item, Kind, Mask, Seq,
+    Span, StoreOp, find_item,
+};
+use std::alloc::{AllocError, Global};
 
 const ROOT: Gfid = Gfid { hi: 0, lo: 1 };
 
@@ -89,7 +91,12 @@ fn places_with(alloc: Global, places: &Seq<u32>, place: u32) -> Result<Seq<u32>,
     Ok(more)
 }
 
-fn error_at(alloc: Global, places: &Seq<u32>, place: u32, error: AppError) -> Result<Next, AllocError>
+fn error_at(
+    alloc: Global,
+    places: &Seq<u32>,
+    place: u32,
+    error: AppError,
+) -> Result<Next, AllocError>
     ensures { IfOk result (λ next. next ≡ error_next places.now place error) }
 {
     let places = places_with(alloc, places, place)?;
@@ -101,7 +108,12 @@ fn error_at(alloc: Global, places: &Seq<u32>, place: u32, error: AppError) -> Re
 }
 
 /// What follows a lookup.
-fn after_find(alloc: Global, places: &Seq<u32>, place: u32, item: Option<&Item>) -> Result<Next, AllocError>
+fn after_find(
+    alloc: Global,
+    places: &Seq<u32>,
+    place: u32,
+    item: Option<&Item>,
+) -> Result<Next, AllocError>
     ensures { IfOk result (λ next. next ≡ find_next places.now place (option_copied item.entry)) }
 {
     match item {
@@ -124,7 +136,12 @@ fn after_find(alloc: Global, places: &Seq<u32>, place: u32, item: Option<&Item>)
 }
 
 /// What follows the look at a new name: the change takes the number that its entry will have.
-fn after_check(alloc: Global, places: &Seq<u32>, place: u32, item: Option<&Item>) -> Result<Next, AllocError>
+fn after_check(
+    alloc: Global,
+    places: &Seq<u32>,
+    place: u32,
+    item: Option<&Item>,
+) -> Result<Next, AllocError>
     ensures { IfOk result (λ next. next ≡ check_next places.now place (option_copied item.entry)) }
 {
     match item {
@@ -143,7 +160,13 @@ fn after_check(alloc: Global, places: &Seq<u32>, place: u32, item: Option<&Item>
 }
 
 /// What follows the name that was looked for in a directory.
-fn after_search(alloc: Global, search: Search, places: &Seq<u32>, place: u32, item: Option<&Item>) -> Result<Next, AllocError>
+fn after_search(
+    alloc: Global,
+    search: Search,
+    places: &Seq<u32>,
+    place: u32,
+    item: Option<&Item>,
+) -> Result<Next, AllocError>
     ensures { IfOk result (λ next. next ≡ search_next search places.now place (option_copied item.entry)) }
 {
     match search {
@@ -153,7 +176,15 @@ fn after_search(alloc: Global, search: Search, places: &Seq<u32>, place: u32, it
 }
 
 /// What follows the names of a directory; an error where it is removed.
-fn after_items(alloc: Global, search: Search, removed: bool, items: &[Item], name: &[u8], places: &Seq<u32>, place: u32) -> Result<Next, AllocError>
+fn after_items(
+    alloc: Global,
+    search: Search,
+    removed: bool,
+    items: &[Item],
+    name: &[u8],
+    places: &Seq<u32>,
+    place: u32,
+) -> Result<Next, AllocError>
     ensures { IfOk result (λ next. next ≡ items_next search removed items.now name.now places.now place) }
 {
     if removed {
@@ -164,7 +195,14 @@ fn after_items(alloc: Global, search: Search, removed: bool, items: &[Item], nam
 }
 
 /// What follows a Done that should bring names; nothing where it brings something else.
-fn after_names(alloc: Global, search: Search, arm: &DoneArm, name: &[u8], places: &Seq<u32>, place: u32) -> Result<Option<Next>, AllocError>
+fn after_names(
+    alloc: Global,
+    search: Search,
+    arm: &DoneArm,
+    name: &[u8],
+    places: &Seq<u32>,
+    place: u32,
+) -> Result<Option<Next>, AllocError>
     ensures { IfOk result (λ next. next ≡ names_next arm.now name.now places.now place (search_next search)) }
 {
     match arm {
@@ -179,7 +217,15 @@ fn after_names(alloc: Global, search: Search, arm: &DoneArm, name: &[u8], places
                 span: _,
             } => Ok(None),
             Content::Names { removed, items } => {
-                let next = after_items(alloc, search, *removed, items.as_slice(), name, places, place)?;
+                let next = after_items(
+                    alloc,
+                    search,
+                    *removed,
+                    items.as_slice(),
+                    name,
+                    places,
+                    place,
+                )?;
                 Ok(Some(next))
             }
         },
@@ -187,7 +233,13 @@ fn after_names(alloc: Global, search: Search, arm: &DoneArm, name: &[u8], places
 }
 
 /// What follows a Done that should bring metadata.
-fn after_meta(alloc: Global, arm: &DoneArm, kind: Kind, places: &Seq<u32>, place: u32) -> Result<Option<Next>, AllocError>
+fn after_meta(
+    alloc: Global,
+    arm: &DoneArm,
+    kind: Kind,
+    places: &Seq<u32>,
+    place: u32,
+) -> Result<Option<Next>, AllocError>
     ensures { IfOk result (λ next. next ≡ meta_next arm.now kind places.now place) }
 {
     match arm {
@@ -233,7 +285,13 @@ fn brings_nothing(arm: &DoneArm) -> bool
 }
 
 /// What follows the mark of a change: its op.
-fn after_mark(alloc: Global, change: u64, call: &Call, drawn: Gfid, places: &Seq<u32>) -> Result<Next, AllocError>
+fn after_mark(
+    alloc: Global,
+    change: u64,
+    call: &Call,
+    drawn: Gfid,
+    places: &Seq<u32>,
+) -> Result<Next, AllocError>
     ensures { IfOk result (λ next. next ≡ op_next change call.now drawn places.now) }
 {
     let name = Seq::from_bytes(alloc, name_in(call))?;
@@ -293,7 +351,14 @@ fn after_post(alloc: Global, places: &Seq<u32>, place: u32) -> Result<Next, Allo
 }
 
 /// What follows a step of a change, of which the Done brings nothing.
-fn after_change(alloc: Global, stage: Stage, call: &Call, drawn: Gfid, places: &Seq<u32>, place: u32) -> Result<Option<Next>, AllocError>
+fn after_change(
+    alloc: Global,
+    stage: Stage,
+    call: &Call,
+    drawn: Gfid,
+    places: &Seq<u32>,
+    place: u32,
+) -> Result<Option<Next>, AllocError>
     requires { place + 1 < 2 ^ 32 }
     ensures { IfOk result (λ next. next ≡ change_next stage call.now drawn places.now place) }
 {
@@ -317,7 +382,15 @@ fn after_change(alloc: Global, stage: Stage, call: &Call, drawn: Gfid, places: &
 }
 
 /// What follows the Done of a step that brings nothing.
-fn after_nothing(alloc: Global, arm: &DoneArm, stage: Stage, call: &Call, drawn: Gfid, places: &Seq<u32>, place: u32) -> Result<Option<Next>, AllocError>
+fn after_nothing(
+    alloc: Global,
+    arm: &DoneArm,
+    stage: Stage,
+    call: &Call,
+    drawn: Gfid,
+    places: &Seq<u32>,
+    place: u32,
+) -> Result<Option<Next>, AllocError>
     requires { place + 1 < 2 ^ 32 }
     ensures { IfOk result (λ next. next ≡ if is_nothing arm.now then change_next stage call.now drawn places.now place else None) }
 {
@@ -333,7 +406,15 @@ fn after_nothing(alloc: Global, arm: &DoneArm, stage: Stage, call: &Call, drawn:
 ///
 /// # Errors
 /// Want of memory.
-pub fn after_done(alloc: Global, stage: Stage, call: &Call, drawn: Gfid, places: &Seq<u32>, place: u32, arm: &DoneArm) -> Result<Option<Next>, AllocError>
+pub fn after_done(
+    alloc: Global,
+    stage: Stage,
+    call: &Call,
+    drawn: Gfid,
+    places: &Seq<u32>,
+    place: u32,
+    arm: &DoneArm,
+) -> Result<Option<Next>, AllocError>
     requires { place + 1 < 2 ^ 32 }
     ensures { IfOk result (λ next. next ≡ next_of stage call.now drawn places.now place arm.now) }
 {
@@ -341,8 +422,14 @@ pub fn after_done(alloc: Global, stage: Stage, call: &Call, drawn: Gfid, places:
         Stage::Finding => after_names(alloc, Search::Present, arm, name_in(call), places, place),
         Stage::Reading { kind } => after_meta(alloc, arm, kind, places, place),
         Stage::Checking => after_names(alloc, Search::Absent, arm, name_in(call), places, place),
-        Stage::Marking { change: _ } => after_nothing(alloc, arm, stage, call, drawn, places, place),
-        Stage::Changing { change: _ } => after_nothing(alloc, arm, stage, call, drawn, places, place),
-        Stage::Posting { change: _ } => after_nothing(alloc, arm, stage, call, drawn, places, place),
+        Stage::Marking { change: _ } => after_nothing(
+            alloc, arm, stage, call, drawn, places, place,
+        ),
+        Stage::Changing { change: _ } => after_nothing(
+            alloc, arm, stage, call, drawn, places, place,
+        ),
+        Stage::Posting { change: _ } => after_nothing(
+            alloc, arm, stage, call, drawn, places, place,
+        ),
     }
 }

@@ -18,15 +18,12 @@ pub record IsLawfulRun (calls : List CallLine) (report : List ℕ) (rack : Rack)
   pub follows : FollowsScript calls rack.log
   pub finished : IsFinished calls rack.log
   pub honest : HasHonestArrivals rack.log
-
   -- there is one brick; its journal is a front of what the log sent to it
   pub journal : List Input
   pub bricks : rack.bricks ≡ journal ∷ []
   pub front : journal ≡ take (length journal) (inputs_of rack.log.sent)
-
   -- the bytes are the report of the log
   pub written : report ≡ report_text (report_of rack.log)
-
   -- one legal history, lawful replies, balanced winds, and each change on the brick
   pub legal : IsLegalHistory (calls_of calls) rack.log.history
   pub lawful : AreLawful calls rack.log

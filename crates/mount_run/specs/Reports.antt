@@ -49,8 +49,13 @@ shown_brick pair = (brick_name, pair.1)
 -- a set of one replica has one counter
 abbrev pub shown_row : SplitRow → ReportRow
 shown_row row = record {
-    cell = row.cell; brick = brick_name; present = row.row.present; dirty = row.row.dirty;
-    pending = take 1 row.row.pending; last = row.row.last }
+  cell = row.cell;
+  brick = brick_name;
+  present = row.row.present;
+  dirty = row.row.dirty;
+  pending = take 1 row.row.pending;
+  last = row.row.last;
+}
 
 abbrev pub shown_io : IoError → ReportIo
 shown_io (io.Quorum set lost) = fault.Quorum set_name (map shown_brick lost)
@@ -68,7 +73,12 @@ shown_answer (answer.Io error) = shown.Io (shown_io error)
 
 abbrev pub shown_call : ReplyLine → ReportCall
 shown_call reply = record {
-    call = reply.call; session = session_name; line = reply.line; places = reply.places; answer = shown_answer reply.answer }
+  call = reply.call;
+  session = session_name;
+  line = reply.line;
+  places = reply.places;
+  answer = shown_answer reply.answer;
+}
 
 abbrev pub shown_entry : Entry → ℕ × ℕ
 shown_entry entry = (entry.call, entry.part)
@@ -76,11 +86,14 @@ shown_entry entry = (entry.call, entry.part)
 -- with one session the replies stand in the order of their calls
 abbrev pub report_of : Log → Report
 report_of log = record {
-    calls = map shown_call log.replies;
-    history = map shown_entry log.history;
-    heals = [];
-    skips = [];
-    graphs = record {
-        graph = 1; name = graph_name;
-        opened = count_by (λ line. line.opened) log.winds;
-        ended = count_by (λ line. not line.opened) log.winds } ∷ [] }
+  calls = map shown_call log.replies;
+  history = map shown_entry log.history;
+  heals = [];
+  skips = [];
+  graphs = record {
+    graph = 1;
+    name = graph_name;
+    opened = count_by (λ line. line.opened) log.winds;
+    ended = count_by (λ line. not line.opened) log.winds;
+  } ∷ [];
+}

@@ -17,5 +17,9 @@ pub fn command(words: &[String]) -> Option<u64>
 fn run_command(word: &[u8], seed: &[u8]) -> Option<u64>
     ensures { result ≡ run_with word.now seed.now }
 {
-    if word == b"run" { decimal(seed) } else { None }
+    if word == b"run".as_slice() {
+        decimal(seed)
+    } else {
+        None
+    }
 }

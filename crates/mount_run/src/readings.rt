@@ -6,9 +6,9 @@ ghost use Rattle.mount_run.specs.declared.readings.NotRead.TheVariants as not_re
 ghost use Rattle.mount_run.specs.declared.refusals.Refusal.{Refusal};
 
 use crate::refusals::Refusal;
-use script_lang::{parse, Script, ScriptError, ScriptKind};
+use script_lang::{Script, ScriptError, ScriptKind, parse};
 use std::alloc::Global;
-use xl_base::{read_all, ReadError, Source};
+use xl_base::{ReadError, Source, read_all};
 
 // The bytes of a script, at most.
 const LIMIT: usize = 2097152;
@@ -51,7 +51,12 @@ fn parse_script(alloc: Global, text: &[u8]) -> Result<Script, NotRead>
 {
     match parse(alloc, text) {
         Ok(script) => Ok(script),
-        Err(ScriptError::At { line, kind: ScriptKind::Later }) => Err(NotRead::Refused(Refusal::Later(line))),
+        Err(
+            ScriptError::At {
+                line,
+                kind: ScriptKind::Later,
+            },
+        ) => Err(NotRead::Refused(Refusal::Later(line))),
         Err(ScriptError::Mem) => Err(NotRead::Mem),
     }
 }

@@ -8,13 +8,13 @@ ghost use Rattle.mount_run.specs.Refusals.{fault_text};
 ghost use Rattle.mount_run.specs.Outcomes.{empty_rack, IsWritten, IsCutShort, Ran, Refused, Unwritten};
 
 use crate::commands::command;
-use crate::readings::{read_script, NotRead};
-use crate::refusals::{fault_line, Refusal};
+use crate::readings::{NotRead, read_script};
+use crate::refusals::{Refusal, fault_line};
 use crate::runs::run_script;
 use hub_core::Rack;
 use script_lang::Script;
 use std::alloc::Global;
-use xl_base::{write_all, Sink, Source};
+use xl_base::{Sink, Source, write_all};
 
 /// Reads a script, runs it and writes its report.
 ///
@@ -23,7 +23,13 @@ use xl_base::{write_all, Sink, Source};
 /// was written; 2 the words are no command, and nothing was read or written; 3 the source failed, and
 /// nothing was written; 4 the sink failed, and a front of the text was written; 5 want of memory, and
 /// nothing was written. The rack must be empty; afterwards it holds the bricks and the log of the run.
-pub fn top<S: Source, K: Sink>(alloc: Global, words: &[String], source: &mut S, sink: &mut K, rack: &mut Rack) -> u8
+pub fn top<S: Source, K: Sink>(
+    alloc: Global,
+    words: &[String],
+    source: &mut S,
+    sink: &mut K,
+    rack: &mut Rack,
+) -> u8
     requires source { S.faults source.old < 2 ^ 64 - 1 }
     requires sink { K.faults sink.old < 2 ^ 64 - 1 }
     requires rack { rack.old ≡ empty_rack }

@@ -1,9 +1,8 @@
 ghost use Rattle.std.specs.Prelude.{◌≡◌, IfOk};
 
-use std::alloc::{AllocError, Global};
-
 use crate::scripts::{CallLine, Script};
 use fop_types::Seq;
+use std::alloc::{AllocError, Global};
 
 impl CallLine {
     /// A copy of the line with its call.

@@ -1,10 +1,13 @@
 -- Fronts of lists, and how the lists of a log grow.
-use Rattle.std.proofs.Common.{◌≡◌, ℕ, zero, suc, ◌+◌, ◌-◌, ◌*◌, ◌<◌, ◌≤◌, ◌==◌, nat_lt, Bool, true, false, List, [], ◌∷◌, ◌++◌, Option, Some, None, length, take, slice_get, if◌then◌else◌, refl, sym, ◌∙◌, ap, subst, arith, append_assoc}
+use Rattle.std.proofs.Common.{◌≡◌, ℕ, ◌+◌, ◌-◌, ◌*◌, ◌<◌, ◌≤◌, ◌==◌, Bool, true, false, List, [], ◌∷◌, ◌++◌, Option, Some, None, length, take, slice_get, if◌then◌else◌, refl, sym, ◌∙◌, ap, subst, arith, append_assoc}
+use Rattle.std.specs.Prelude.{nat_lt, zero, suc}
+use Rattle.std.proofs.lemmas.Bool.Decides.{nat_tests}
 use Rattle.fop_types.specs.declared.messages.Input.{Input}
 use Rattle.fop_types.specs.declared.messages.Input.TheVariants.{Request, Down, Up, Connect, Disconnect, FaultAt}
 use Rattle.fop_types.specs.declared.messages.Output.{Output}
 use Rattle.brick_store.specs.Cells.{Cells, root_alone}
-use Rattle.brick_node.specs.Machine.{outputs_of, outputs_from, outputs_one, cells_one}
+use Rattle.fop_types.specs.declared.messages.OutKind.TheVariants.{Reply}
+use Rattle.brick_node.specs.Machine.{outputs_of, outputs_from, outputs_one, cells_one, serve_request}
 use Rattle.hub_core.specs.declared.logs.HubEvent.{HubEvent}
 use Rattle.hub_core.specs.declared.logs.HubEvent.TheVariants.{Submit, Arrive}
 use Rattle.hub_core.specs.declared.logs.SentLine.{SentLine}
@@ -31,7 +34,7 @@ front_few {xs = xs} front = subst (λ (l : List _). length xs ≤ length l) fron
 
 pub front_longer : {X : Type 0} {xs ys : List X} (more : List X) → IsFront xs ys → IsFront xs (ys ++ more)
 front_longer {xs = xs} more front =
-    record { rest = front.rest ++ more; joined = sym (append_assoc xs front.rest more) ∙ ap (λ (l : List _). l ++ more) front.joined; }
+    record { rest = front.rest ++ more; joined = sym (append_assoc xs front.rest more) ∙ ap (λ (l : List _). l ++ more) front.joined }
 
 -- the rest begins with the element that stands behind the front
 pub record BeginsWith {X : Type 0} (x : X) (xs : List X) : Type 0 where
@@ -40,15 +43,16 @@ pub record BeginsWith {X : Type 0} (x : X) (xs : List X) : Type 0 where
 
 pub rest_begins : {X : Type 0} (xs rest : List X) (x : X) → slice_get (xs ++ rest) (length xs) ≡ Some x → BeginsWith x rest
 rest_begins [] [] x there = absurd cc
-rest_begins [] (y ∷ rest) x there = record { others = rest; is = cc; }
+rest_begins [] (y ∷ rest) x there = record { others = rest; is = cc }
 rest_begins (z ∷ xs) rest x there = rest_begins xs rest x there
 
 pub front_next : {X : Type 0} {xs ys : List X} (x : X) → IsFront xs ys → slice_get ys (length xs) ≡ Some x → IsFront (xs ++ x ∷ []) ys
 front_next {xs = xs} x front there =
     let begins = rest_begins xs front.rest x (ap (λ (l : List _). slice_get l (length xs)) front.joined ∙ there) in
+    let first : (xs ++ x ∷ []) ++ begins.others ≡ xs ++ x ∷ begins.others = append_assoc xs (x ∷ []) begins.others in
     record {
-        rest = begins.others;
-        joined = append_assoc xs (x ∷ []) begins.others ∙ ap (λ (l : List _). xs ++ l) (sym begins.is) ∙ front.joined;
+      rest = begins.others;
+      joined = first ∙ ap (λ (l : List _). xs ++ l) (sym begins.is) ∙ front.joined;
     }
 
 -- ---- the lists of a log
@@ -83,8 +87,8 @@ up_to_later last (line ∷ lines) more all new =
     let one : line.event ≤ last = all.0 in
     (omega arith, up_to_later last lines more all.1 new)
 
-pub one_below : (n last : ℕ) → n ≤ last → (if nat_lt n (last + 1) then 1 else 0) ≡ 1
-one_below n last few = let below : nat_lt n (last + 1) ≡ true = omega arith in rw below refl
+pub one_below : (n last : ℕ) → n ≤ last → ◌≡◌ {A = ℕ} (if nat_lt n (last + 1) then 1 else 0) 1
+one_below n last few = let below : nat_lt n (last + 1) ≡ true = grind (arith, nat_tests) in rw below refl
 
 -- all lines of events up to a number were sent before the next event
 pub all_before : (last : ℕ) (lines : List SentLine) → AreUpTo last lines → sent_before (last + 1) lines ≡ length lines
@@ -100,11 +104,16 @@ before_push event (line ∷ lines) more = let others = before_push event lines m
 
 -- ---- an output counts no more inputs than were served
 
+some_same : (x y : Output) → Some x ≡ Some y → x ≡ y
+some_same x y same = cc
+
 pub taken_from : (cells : Cells) (before : ℕ) (xs : List Input) (k : ℕ) (output : Output) →
     slice_get (outputs_from cells before xs) k ≡ Some output → output.taken ≤ before + length xs
 taken_from cells before [] k output there = absurd cc
 taken_from cells before (Request wind graph req ∷ xs) zero output there =
-    let taken : before + 1 ≡ output.taken = cc in
+    let taken : before + 1 ≡ output.taken =
+    ap (λ (o : Output). o.taken)
+    (some_same (record { taken = before + 1; kind = Reply wind (serve_request cells req).reply }) output there) in
     omega arith
 taken_from cells before (Request wind graph req ∷ xs) (suc k) output there =
     let few = taken_from (cells_one cells (Request wind graph req)) (before + 1) xs k output there in omega arith

@@ -1,5 +1,5 @@
 -- Each event lowers the work that is left, and the first enabled event is enabled.
-use Rattle.std.proofs.Common.{◌≡◌, ℕ, zero, suc, ◌+◌, ◌-◌, ◌*◌, ◌<◌, ◌≤◌, ◌==◌, Bool, true, false, List, [], ◌∷◌, ◌++◌, Option, Some, None, length, slice_get, is_some, if◌then◌else◌, refl, sym, ◌∙◌, ap, subst, arith}
+use Rattle.std.proofs.Common.{◌≡◌, ℕ, ◌+◌, ◌-◌, ◌*◌, ◌<◌, ◌≤◌, ◌==◌, Bool, true, false, List, [], ◌∷◌, ◌++◌, Option, Some, None, length, slice_get, is_some, if◌then◌else◌, refl, sym, ◌∙◌, ap, subst, arith}
 use Rattle.std.proofs.lemmas.Option.{slice_get_within}
 use Rattle.fop_types.specs.declared.messages.Input.{Input}
 use Rattle.fop_types.specs.declared.messages.Input.TheVariants.{Request, Down, Up, Connect, Disconnect, FaultAt}
@@ -8,11 +8,11 @@ use Rattle.script_lang.specs.declared.scripts.CallLine.{CallLine}
 use Rattle.brick_node.specs.Machine.{outputs_of}
 use Rattle.brick_node.specs.Runs.{outputs_due_one, requests_among, length-outputs_of}
 use Rattle.hub_core.specs.declared.logs.HubEvent.{HubEvent}
-use Rattle.hub_core.specs.declared.logs.HubEvent.TheVariants as event
+use Rattle.hub_core.specs.declared.logs.HubEvent.TheVariants as happened
 use Rattle.hub_core.specs.declared.logs.SentLine.{SentLine}
 use Rattle.hub_core.specs.declared.stages.Working.{Working}
 use Rattle.hub_core.specs.Journal.{arrivals_of}
-use Rattle.hub_core.specs.Turns.{HubState, submit_call, arrived, first_stage}
+use Rattle.hub_core.specs.Turns.{HubState, submit_call, arrived, first_stage, ask_names}
 use Rattle.hub_core.specs.Follows.{call_due, call_if_idle}
 use Rattle.hub_core.specs.Bounds.{requests_left}
 use Rattle.hub_core.proofs.Bounded.{three_left}
@@ -20,22 +20,25 @@ use Rattle.world_core.specs.declared.events.Event.{Event}
 use Rattle.world_core.specs.declared.events.Event.TheVariants.{Submit, Arrive, Serve}
 use Rattle.world_core.specs.Worlds.{WorldState, IsEnabled, IsQuiet, moved, submit_moved, arrive_moved, serve_moved, next_output, next_input, first_enabled, moved_or_same, requests_at_work, work_left}
 use Rattle.world_core.proofs.Fronts.{arrivals_push}
-use Rattle.world_core.proofs.Grows.{Grows, Lightens, arrive_grows, arrive_lightens, one_longer, none_more}
+use Rattle.world_core.proofs.Grows.{request_line, Grows, Lightens, arrive_grows, arrive_lightens, one_longer, none_more}
 use Rattle.world_core.proofs.Links.{due_parts, if_some, some_is}
-
-pub submit_less : (calls submitted left sent journal outs arrivals : ℕ) → submitted < calls → left ≤ 3 →
-    16 * (calls - (submitted + 1)) + 3 * left + 2 * (sent + 1 - journal) + (outs - arrivals)
-        < 16 * (calls - submitted) + 3 * 0 + 2 * (sent - journal) + (outs - arrivals)
-submit_less calls submitted left sent journal outs arrivals within few = omega arith
 
 pub arrive_less : (calls left left_after sent sent_after journal outs arrivals : ℕ) → sent ≤ sent_after →
     3 * left_after + 2 * sent_after ≤ 3 * left + 2 * sent → arrivals < outs →
     calls + 3 * left_after + 2 * (sent_after - journal) + (outs - (arrivals + 1)) < calls + 3 * left + 2 * (sent - journal) + (outs - arrivals)
 arrive_less calls left left_after sent sent_after journal outs arrivals more less within = omega arith
 
-pub serve_less : (before sent journal outs outs_after arrivals : ℕ) → journal < sent → outs_after ≤ outs + 1 →
-    before + 2 * (sent - (journal + 1)) + (outs_after - arrivals) < before + 2 * (sent - journal) + (outs - arrivals)
-serve_less before sent journal outs outs_after arrivals within few = omega arith
+pub arrived_less : (s : WorldState) (t : HubState) → t.calls ≡ s.hub.calls → Lightens s.hub t →
+    length (arrivals_of t.log.events) ≡ length (arrivals_of s.hub.log.events) + 1 →
+    length (arrivals_of s.hub.log.events) < length (outputs_of s.journal) →
+    work_left (record { hub = t; journal = s.journal }) < work_left s
+arrived_less s t calls lightens more within =
+    let less = arrive_less (16 * (length s.hub.calls - s.hub.submitted)) (requests_at_work s.hub.working) (requests_at_work t.working)
+    (length s.hub.log.sent) (length t.log.sent) (length s.journal) (length (outputs_of s.journal))
+    (length (arrivals_of s.hub.log.events)) lightens.more lightens.less within in
+    let many : length t.calls ≡ length s.hub.calls = ap (λ (l : List CallLine). length l) calls in
+    let submitted : t.submitted ≡ s.hub.submitted = lightens.submitted in
+    rw many (rw submitted (rw more less))
 
 pub due_one : (x : Input) → outputs_due_one x ≤ 1
 due_one (Request wind graph req) = omega arith
@@ -56,49 +59,48 @@ outputs_push xs x =
     let more = requests_push xs x in
     omega arith
 
-pub arrivals_same : (events : List HubEvent) (session line : ℕ) → length (arrivals_of (events ++ event.Submit session line ∷ [])) ≡ length (arrivals_of events)
+pub arrivals_same : (events : List HubEvent) (session line : ℕ) → length (arrivals_of (events ++ happened.Submit session line ∷ [])) ≡ length (arrivals_of events)
 arrivals_same events session line =
-    ap (λ (l : List Output). length l) (arrivals_push events (event.Submit session line ∷ []) ∙ sym (none_more (arrivals_of events)))
+    let same : arrivals_of (events ++ happened.Submit session line ∷ []) ≡ arrivals_of events ++ [] = arrivals_push events (happened.Submit session line ∷ []) in
+    ap (λ (l : List Output). length l) (same ∙ sym (none_more (arrivals_of events)))
 
-pub arrivals_more : (events : List HubEvent) (output : Output) → length (arrivals_of (events ++ event.Arrive 0 output ∷ [])) ≡ length (arrivals_of events) + 1
+pub arrivals_more : (events : List HubEvent) (output : Output) → length (arrivals_of (events ++ happened.Arrive 0 output ∷ [])) ≡ length (arrivals_of events) + 1
 arrivals_more events output =
-    ap (λ (l : List Output). length l) (arrivals_push events (event.Arrive 0 output ∷ [])) ∙ one_longer (arrivals_of events) output
+    let more : arrivals_of (events ++ happened.Arrive 0 output ∷ []) ≡ arrivals_of events ++ output ∷ [] = arrivals_push events (happened.Arrive 0 output ∷ []) in
+    ap (λ (l : List Output). length l) more ∙ one_longer (arrivals_of events) output
 
 pub less_submit : (s t : WorldState) (session : ℕ) (o : Option CallLine) → call_due s.hub session ≡ o → submit_moved s o ≡ Some t →
     work_left t < work_left s
 less_submit s t session None due is = absurd cc
 less_submit s t session (Some line) due is =
     let parts = due_parts s.hub session line due in
-    let within = slice_get_within s.hub.calls s.hub.submitted line parts.1 in
-    subst (λ (v : WorldState). work_left v < work_left s) (some_is (record { hub = submit_call s.hub line; journal = s.journal }) t is)
-        (rw (arrivals_same s.hub.log.events line.session line.line) (rw (one_longer s.hub.log.sent _) (rw parts.0
-            (submit_less (length s.hub.calls) s.hub.submitted (requests_left (first_stage line.call)) (length s.hub.log.sent)
-                (length s.journal) (length (outputs_of s.journal)) (length (arrivals_of s.hub.log.events)) within (three_left line.call)))))
+    let within : s.hub.submitted < length s.hub.calls = slice_get_within s.hub.calls s.hub.submitted line parts.1 in
+    let arrivals = arrivals_same s.hub.log.events line.session line.line in
+    let sent = one_longer s.hub.log.sent (request_line (length s.hub.log.events + 1) (length s.hub.log.sent) ask_names) in
+    let idle : requests_at_work s.hub.working ≡ 0 = ap (λ (w : Option Working). requests_at_work w) parts.0 in
+    let few : requests_left (first_stage line.call) ≤ 3 = three_left line.call in
+    let less : work_left (record { hub = submit_call s.hub line; journal = s.journal }) < work_left s = omega arith in
+    subst (λ (v : WorldState). work_left v < work_left s) (some_is (record { hub = submit_call s.hub line; journal = s.journal }) t is) less
 
 pub less_arrive : (s t : WorldState) (o : Option Output) → next_output s ≡ o → arrive_moved s o ≡ Some t → work_left t < work_left s
 less_arrive s t None there is = absurd cc
 less_arrive s t (Some output) there is =
-    let within = slice_get_within (outputs_of s.journal) (length (arrivals_of s.hub.log.events)) output there in
+    let within : length (arrivals_of s.hub.log.events) < length (outputs_of s.journal) =
+    slice_get_within (outputs_of s.journal) (length (arrivals_of s.hub.log.events)) output there in
     let grows = arrive_grows s.hub output in
     let lightens = arrive_lightens s.hub output in
-    let arrivals : length (arrivals_of (arrived s.hub output).log.events) ≡ length (arrivals_of s.hub.log.events) + 1 =
-        ap (λ (l : List HubEvent). length (arrivals_of l)) grows.events ∙ arrivals_more s.hub.log.events output in
-    subst (λ (v : WorldState). work_left v < work_left s) (some_is (record { hub = arrived s.hub output; journal = s.journal }) t is)
-        (rw grows.calls (rw lightens.submitted (rw arrivals
-            (arrive_less (16 * (length s.hub.calls - s.hub.submitted)) (requests_at_work s.hub.working)
-                (requests_at_work (arrived s.hub output).working) (length s.hub.log.sent) (length (arrived s.hub output).log.sent)
-                (length s.journal) (length (outputs_of s.journal)) (length (arrivals_of s.hub.log.events))
-                lightens.more lightens.less within))))
+    let less = arrived_less s (arrived s.hub output) grows.calls lightens
+    (ap (λ (l : List HubEvent). length (arrivals_of l)) grows.events ∙ arrivals_more s.hub.log.events output) within in
+    subst (λ (v : WorldState). work_left v < work_left s) (some_is (record { hub = arrived s.hub output; journal = s.journal }) t is) less
 
 pub less_serve : (s t : WorldState) (o : Option SentLine) → next_input s ≡ o → serve_moved s o ≡ Some t → work_left t < work_left s
 less_serve s t None there is = absurd cc
 less_serve s t (Some line) there is =
-    let within = slice_get_within s.hub.log.sent (length s.journal) line there in
-    subst (λ (v : WorldState). work_left v < work_left s) (some_is (record { hub = s.hub; journal = s.journal ++ line.input ∷ [] }) t is)
-        (rw (one_longer s.journal line.input)
-            (serve_less (16 * (length s.hub.calls - s.hub.submitted) + 3 * requests_at_work s.hub.working) (length s.hub.log.sent)
-                (length s.journal) (length (outputs_of s.journal)) (length (outputs_of (s.journal ++ line.input ∷ [])))
-                (length (arrivals_of s.hub.log.events)) within (outputs_push s.journal line.input)))
+    let within : length s.journal < length s.hub.log.sent = slice_get_within s.hub.log.sent (length s.journal) line there in
+    let longer = one_longer s.journal line.input in
+    let outputs = outputs_push s.journal line.input in
+    let less : work_left (record { hub = s.hub; journal = s.journal ++ line.input ∷ [] }) < work_left s = omega arith in
+    subst (λ (v : WorldState). work_left v < work_left s) (some_is (record { hub = s.hub; journal = s.journal ++ line.input ∷ [] }) t is) less
 
 pub less_moved : (s t : WorldState) (e : Event) → moved s e ≡ Some t → work_left t < work_left s
 less_moved s t (Submit session) is = less_submit s t session (call_due s.hub session) refl is
@@ -137,11 +139,11 @@ first_of a b c = if a then Some (Submit 0) else (if b then Some (Arrive 0) else 
 pub first_enabled_of : (s : WorldState) (a b c : Bool) → is_some (call_due s.hub 0) ≡ a → is_some (next_output s) ≡ b → is_some (next_input s) ≡ c →
     (e : Event) → first_of a b c ≡ Some e → IsEnabled s e
 first_enabled_of s true b c at_a at_b at_c e is =
-    subst (IsEnabled s) (some_is (Submit 0) e is) (submit_enabled s (call_due s.hub 0) ∙ at_a)
+    subst (λ (v : Event). IsEnabled s v) (some_is (Submit 0) e is) (submit_enabled s (call_due s.hub 0) ∙ at_a)
 first_enabled_of s false true c at_a at_b at_c e is =
-    subst (IsEnabled s) (some_is (Arrive 0) e is) (arrive_enabled s (next_output s) ∙ at_b)
+    subst (λ (v : Event). IsEnabled s v) (some_is (Arrive 0) e is) (arrive_enabled s (next_output s) ∙ at_b)
 first_enabled_of s false false true at_a at_b at_c e is =
-    subst (IsEnabled s) (some_is (Serve 0) e is) (serve_enabled s (next_input s) ∙ at_c)
+    subst (λ (v : Event). IsEnabled s v) (some_is (Serve 0) e is) (serve_enabled s (next_input s) ∙ at_c)
 first_enabled_of s false false false at_a at_b at_c e is = absurd cc
 
 pub first_is_enabled : (s : WorldState) (e : Event) → first_enabled s ≡ Some e → IsEnabled s e

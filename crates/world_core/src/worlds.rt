@@ -4,25 +4,27 @@ ghost use Rattle.brick_node.specs.Machine.{outputs_of};
 ghost use Rattle.hub_core.specs.Follows.{call_due};
 ghost use Rattle.world_core.specs.Worlds.{world_start, moved, moved_or_same, submit_moved, arrive_moved, serve_moved, next_output, next_input, first_enabled, work_left, IsEnabled, IsQuiet, IsRun, IsRackOf};
 
-use std::alloc::{AllocError, Global};
-use std::marker::Model;
-
 use crate::events::Event;
 use brick_node::Brick;
 use fop_types::{Output, Seq};
 use hub_core::{Hub, Rack, SentLine};
 use script_lang::Script;
+use std::alloc::{AllocError, Global};
+use std::marker::Model;
 
-/// The hub with its brick. A call that wants memory and gets none has changed nothing.
+/// The hub with its brick, the number of outputs that have arrived, and room for the list of bricks that
+/// the world leaves. A call that wants memory and gets none has changed nothing.
 #[derive(Drop)]
 pub struct World {
     hub: Hub,
     brick: Brick,
     arrived: usize,
+    room: Vec<Brick>,
 }
 
 impl Model for World {
-    ghost use Rattle.std.specs.Prelude.{◌≡◌, length};
+    ghost use Rattle.std.specs.Prelude.{◌≡◌, ◌<◌, [], length};
+    ghost use Rattle.std.specs.Vec.{vec_len, vec_capacity};
     ghost use Rattle.hub_core.specs.Journal.{arrivals_of};
     ghost use Rattle.world_core.specs.Worlds.{WorldState, IsWorldReached};
 
@@ -30,7 +32,7 @@ impl Model for World {
 
     ghost view = { λ w. record { hub = w.hub; journal = w.brick } };
 
-    ghost invariant = { λ w. IsWorldReached (record { hub = w.hub; journal = w.brick }) × (w.arrived ≡ length (arrivals_of w.hub.log.events)) };
+    ghost invariant = { λ w. IsWorldReached (record { hub = w.hub; journal = w.brick }) × (w.arrived ≡ length (arrivals_of w.hub.log.events)) × (w.room.items ≡ []) × (vec_len w.room < vec_capacity w.room) };
 }
 
 /// The output at an index.
@@ -41,11 +43,11 @@ fn output_at(brick: &Brick, index: usize) -> Option<&Output>
     brick.outputs().get(index)
 }
 
-/// The line that was sent at an index.
-fn line_at(hub: &Hub, index: usize) -> Option<&SentLine>
-    ensures { option_copied result ≡ slice_get hub.now.log.sent index }
+/// The first input that a brick has not served.
+fn line_to_serve<'a>(hub: &'a Hub, brick: &Brick) -> Option<&'a SentLine>
+    ensures { option_copied result ≡ slice_get hub.now.log.sent (length brick.now) }
 {
-    hub.sent().get(index)
+    hub.sent().get(brick.journal().len())
 }
 
 impl World {
@@ -60,10 +62,12 @@ impl World {
     {
         let hub = Hub::new(alloc, script)?;
         let brick = Brick::new(alloc)?;
+        let room = Vec::with_capacity(alloc, 1)?;
         Ok(World {
             hub,
             brick,
             arrived: 0,
+            room,
         })
     }
 
@@ -100,8 +104,7 @@ impl World {
         ensures ok { OnOk result (self.new ≡ moved_or_same self.old (serve_moved self.old (next_input self.old))) }
         ensures err { OnErr result (self.new ≡ self.old) }
     {
-        let served = self.brick.journal().len();
-        match line_at(&self.hub, served) {
+        match line_to_serve(&self.hub, &self.brick) {
             None => Ok(false),
             Some(line) => {
                 self.brick.serve(alloc, &line.input)?;
@@ -160,9 +163,24 @@ impl World {
     fn may_serve(&self) -> bool
         ensures { result ≡ is_some (next_input self.now) }
     {
-        match line_at(&self.hub, self.brick.journal().len()) {
+        match line_to_serve(&self.hub, &self.brick) {
             None => false,
             Some(_) => true,
+        }
+    }
+
+    /// The first enabled event.
+    fn first(&self) -> Option<Event>
+        ensures { result ≡ first_enabled self.now }
+    {
+        if self.may_submit() {
+            Some(Event::Submit(0))
+        } else if self.may_arrive() {
+            Some(Event::Arrive(0))
+        } else if self.may_serve() {
+            Some(Event::Serve(0))
+        } else {
+            None
         }
     }
 
@@ -174,14 +192,9 @@ impl World {
         ensures quiet { IfNone result (IsQuiet self.now) }
     {
         let _whatever = state;
-        if self.may_submit() {
-            Some(Event::Submit(0))
-        } else if self.may_arrive() {
-            Some(Event::Arrive(0))
-        } else if self.may_serve() {
-            Some(Event::Serve(0))
-        } else {
-            None
+        match self.first() {
+            Some(e) => Some(e),
+            None => None,
         }
     }
 
@@ -218,17 +231,17 @@ impl World {
         let _hub = &self.hub;
     }
 
-    /// The bricks and the log, with nothing copied but the list of bricks.
-    ///
-    /// # Errors
-    /// Want of memory.
-    pub fn into_rack(self, alloc: Global) -> Result<Rack, AllocError>
-        ensures rack { IfOk result (λ rack. IsRackOf self rack) }
-        ensures run { OnOk result (IsRun self) }
+    /// The bricks and the log, with nothing copied.
+    pub fn into_rack(self) -> Rack
+        ensures rack { IsRackOf self result }
+        ensures run { IsRun self }
     {
-        let mut bricks = Seq::new(alloc);
-        bricks.push(self.brick)?;
+        let mut bricks = self.room;
+        bricks.push_reserved(self.brick);
         let (_script, log) = self.hub.into_log();
-        Ok(Rack { bricks, log })
+        Rack {
+            bricks: Seq::from_vec(bricks),
+            log,
+        }
     }
 }
