@@ -1,6 +1,6 @@
 -- Runs of a brick: what one more input adds, how many outputs there are, and that earlier outputs stand.
-use Rattle.std.specs.Prelude.{◌≡◌, ℕ, Bool, List, [], ◌∷◌, ◌++◌, ◌+◌, length, take}
-use Rattle.std.proofs.Common.{refl, ap, sym, ◌∙◌, suc, zero, arith, length-append, append_assoc}
+use Rattle.std.specs.Prelude.{◌≡◌, ℕ, List, [], ◌∷◌, ◌++◌, ◌+◌, length, take}
+use Rattle.std.proofs.Common.{refl, ap, sym, ◌∙◌, suc, arith, length-append, append_assoc}
 use Rattle.fop_types.specs.declared.messages.Input.{Input}
 use Rattle.fop_types.specs.declared.messages.Input.TheVariants.{Request, Down, Up, Connect, Disconnect, FaultAt}
 use Rattle.fop_types.specs.declared.messages.Output.{Output}
@@ -38,8 +38,8 @@ outputs_from_append cells before [] ys =
 outputs_from_append cells before (x ∷ xs) ys =
     let more : before + 1 + length xs ≡ before + suc (length xs) = omega arith in
     ap (λ (l : List Output). outputs_one cells (before + 1) x ++ l) (outputs_from_append (cells_one cells x) (before + 1) xs ys)
-        ∙ ap (λ (n : ℕ). outputs_one cells (before + 1) x ++ (outputs_from (cells_one cells x) (before + 1) xs ++ outputs_from (cells_from (cells_one cells x) xs) n ys)) more
-        ∙ sym (append_assoc (outputs_one cells (before + 1) x) (outputs_from (cells_one cells x) (before + 1) xs) (outputs_from (cells_from (cells_one cells x) xs) (before + suc (length xs)) ys))
+    ∙ ap (λ (n : ℕ). outputs_one cells (before + 1) x ++ (outputs_from (cells_one cells x) (before + 1) xs ++ outputs_from (cells_from (cells_one cells x) xs) n ys)) more
+    ∙ sym (append_assoc (outputs_one cells (before + 1) x) (outputs_from (cells_one cells x) (before + 1) xs) (outputs_from (cells_from (cells_one cells x) xs) (before + suc (length xs)) ys))
 
 append_none : {X : Type 0} (xs : List X) → xs ++ [] ≡ xs
 append_none [] = refl
@@ -57,8 +57,8 @@ pub outputs_of_push : (xs : List Input) (x : Input) → outputs_of (xs ++ x ∷ 
 outputs_of_push xs x =
     let start : 0 + length xs + 1 ≡ length xs + 1 = omega arith in
     outputs_from_append root_alone 0 xs (x ∷ [])
-        ∙ ap (λ (l : List Output). outputs_of xs ++ l) (append_none (outputs_one (cells_of xs) (0 + length xs + 1) x))
-        ∙ ap (λ (n : ℕ). outputs_of xs ++ outputs_one (cells_of xs) n x) start
+    ∙ ap (λ (l : List Output). outputs_of xs ++ l) (append_none (outputs_one (cells_of xs) (0 + length xs + 1) x))
+    ∙ ap (λ (n : ℕ). outputs_of xs ++ outputs_one (cells_of xs) n x) start
 
 -- each request has one output, a control none
 length-outputs_one : (cells : Cells) (taken : ℕ) (x : Input) → length (outputs_one cells taken x) ≡ outputs_due_one x
@@ -89,7 +89,7 @@ length_outputs_of_requests xs all = length-outputs_of xs ∙ requests_all xs all
 pub outputs_stand : (xs ys : List Input) → take (length (outputs_of xs)) (outputs_of (xs ++ ys)) ≡ outputs_of xs
 outputs_stand xs ys =
     ap (λ (l : List Output). take (length (outputs_of xs)) l) (outputs_from_append root_alone 0 xs ys)
-        ∙ take_all_of (outputs_of xs) (outputs_from (cells_of xs) (0 + length xs) ys)
+    ∙ take_all_of (outputs_of xs) (outputs_from (cells_of xs) (0 + length xs) ys)
 
 -- a control adds nothing
 pub control_adds_nothing : (xs : List Input) (x : Input) → outputs_due_one x ≡ 0 → (cells_of (xs ++ x ∷ []) ≡ cells_of xs) × (outputs_of (xs ++ x ∷ []) ≡ outputs_of xs)

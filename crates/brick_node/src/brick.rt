@@ -1,11 +1,10 @@
 ghost use Rattle.std.specs.Prelude.{◌≡◌, List, [], ◌∷◌, ◌++◌, IfOk, OnOk, OnErr};
 ghost use Rattle.brick_node.specs.Machine.{cells_of, outputs_of, serve_request};
 
-use std::alloc::{AllocError, Global};
-use std::marker::Model;
-
 use brick_store::Store;
 use fop_types::{BrickRep, BrickReq, DoneArm, Input, OutKind, Output};
+use std::alloc::{AllocError, Global};
+use std::marker::Model;
 
 /// A brick: its store, the inputs that came, and the outputs that they caused.
 ///

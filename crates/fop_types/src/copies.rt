@@ -1,11 +1,10 @@
 ghost use Rattle.std.specs.Prelude.{◌≡◌, IfOk};
 
-use std::alloc::{AllocError, Global};
-
 use crate::contents::{Attr, Content, Item};
 use crate::lists::Seq;
 use crate::messages::BrickReq;
 use crate::store_ops::StoreOp;
+use std::alloc::{AllocError, Global};
 
 impl Item {
     /// A copy of the item with its name and target.
@@ -115,7 +114,11 @@ impl StoreOp {
         ensures { IfOk result (λ c. c ≡ self.now) }
     {
         match self {
-            StoreOp::Write { gfid, offset, bytes } => {
+            StoreOp::Write {
+                gfid,
+                offset,
+                bytes,
+            } => {
                 let bytes = bytes.copy(alloc)?;
                 Ok(StoreOp::Write {
                     gfid: *gfid,
@@ -200,7 +203,11 @@ impl BrickReq {
         ensures { IfOk result (λ c. c ≡ self.now) }
     {
         match self {
-            BrickReq::Lock { call, shared, cells } => {
+            BrickReq::Lock {
+                call,
+                shared,
+                cells,
+            } => {
                 let cells = cells.copy(alloc)?;
                 Ok(BrickReq::Lock {
                     call: *call,
@@ -224,7 +231,11 @@ impl BrickReq {
                     op,
                 })
             }
-            BrickReq::Post { change, cells, mask } => {
+            BrickReq::Post {
+                change,
+                cells,
+                mask,
+            } => {
                 let cells = cells.copy(alloc)?;
                 Ok(BrickReq::Post {
                     change: *change,

@@ -2,11 +2,10 @@ ghost use Rattle.std.specs.Prelude.{None, ◌≡◌, ◌≤◌, ◌<◌, ◌∷�
 ghost use Rattle.std.specs.Option.{option_copied};
 ghost use Rattle.fop_types.specs.Flat.{item_named, with_item};
 
-use std::alloc::AllocError;
-use std::cmp::Ordering;
-
 use crate::contents::Item;
 use crate::lists::Seq;
+use std::alloc::AllocError;
+use std::cmp::Ordering;
 
 /// The first item of this name, in time of the number of items.
 pub fn find_item<'a>(items: &'a [Item], name: &[u8]) -> Option<&'a Item>

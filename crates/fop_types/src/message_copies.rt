@@ -1,8 +1,7 @@
 ghost use Rattle.std.specs.Prelude.{◌≡◌, IfOk};
 
-use std::alloc::{AllocError, Global};
-
 use crate::messages::{BrickRep, DoneArm, Input, OutKind, Output};
+use std::alloc::{AllocError, Global};
 
 impl DoneArm {
     /// A copy of what came with a Done.
