@@ -1,2 +1,4 @@
-pub mod Places
+pub mod MapLemmas
 pub mod Names
+pub mod PathLemmas
+pub mod Places
