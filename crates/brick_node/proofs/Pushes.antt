@@ -1,6 +1,6 @@
 -- What one more input adds to the store and to the outputs.
 pub use Rattle.brick_node.specs.Runs.{cells_of_push, outputs_of_push}
-use Rattle.std.proofs.Common.{◌≡◌, ◌∙◌, ◌++◌, ◌∷◌, [], List, ℕ, sym, ap}
+use Rattle.std.proofs.Common.{◌≡◌, ◌∙◌, ◌++◌, ◌∷◌, [], List, sym, ap}
 use Rattle.fop_types.specs.declared.messages.Input.{Input}
 use Rattle.fop_types.specs.declared.messages.Output.{Output}
 use Rattle.brick_store.specs.Cells.{Cells}

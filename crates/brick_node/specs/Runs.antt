@@ -1,6 +1,6 @@
 -- Runs of a brick: what one more input adds, how many outputs there are, and that earlier outputs stand.
-use Rattle.std.specs.Prelude.{◌≡◌, ℕ, Bool, List, [], ◌∷◌, ◌++◌, ◌+◌, length, take}
-use Rattle.std.proofs.Common.{refl, ap, sym, ◌∙◌, suc, zero, arith, length-append, append_assoc}
+use Rattle.std.specs.Prelude.{◌≡◌, ℕ, List, [], ◌∷◌, ◌++◌, ◌+◌, length, take}
+use Rattle.std.proofs.Common.{refl, ap, sym, ◌∙◌, suc, arith, length-append, append_assoc}
 use Rattle.fop_types.specs.declared.messages.Input.{Input}
 use Rattle.fop_types.specs.declared.messages.Input.TheVariants.{Request, Down, Up, Connect, Disconnect, FaultAt}
 use Rattle.fop_types.specs.declared.messages.Output.{Output}

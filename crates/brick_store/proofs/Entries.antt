@@ -1,6 +1,6 @@
 -- A map's entries in the order of keys: a value written in place against one put in, and the ways back.
-use Rattle.std.proofs.Common.{◌≡◌, ◌∷◌, ◌++◌, ◌∙◌, true, false, true≢false, sym, refl, ap, List, []}
-use Rattle.std.specs.Prelude.{Bool, Option, Some, None, is_some, cond}
+use Rattle.std.proofs.Common.{◌≡◌, ◌∷◌, ◌∙◌, true, false, true≢false, sym, refl, ap, List, []}
+use Rattle.std.specs.Prelude.{Bool, Some, None, is_some, cond}
 use Rattle.std.specs.declared.cmp.Ordering.{Ordering}
 use Rattle.std.specs.declared.cmp.Ordering.TheVariants.{Less, Equal, Greater}
 use Rattle.std.specs.Ordering.{is_eq}

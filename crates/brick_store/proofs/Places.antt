@@ -1,8 +1,7 @@
 -- What a write in place, an entry put in, and the way back make of a store.
-use Rattle.std.proofs.Common.{◌≡◌, ◌≤◌, ◌∷◌, ◌∙◌, true, false, true≢false, sym, refl, ap, subst, ℕ, List, []}
-use Rattle.std.specs.Prelude.{Bool, Option, Some, None, is_some, Result, Ok, Err, OnOk, OnErr, IfSome}
+use Rattle.std.proofs.Common.{◌≡◌, ◌≤◌, ◌∙◌, true, sym, refl, ap, subst, ℕ, List}
+use Rattle.std.specs.Prelude.{Option, Some, None, is_some, Result, Ok, Err, OnOk, OnErr, IfSome}
 use Rattle.afr_changelog.specs.Counters.{full_count}
-use Rattle.std.specs.Ordering.{nat_cmp}
 use Rattle.std.specs.Cmp.{IsTotalOrder, nat_cmp_total}
 use Rattle.std.specs.List.{All}
 use Rattle.std.specs.List.Sorted.{IsStrictlySortedBy}
@@ -22,7 +21,7 @@ use Rattle.brick_store.specs.declared.steps.Step.{Step}
 use Rattle.brick_store.specs.declared.steps.Step.TheVariants.{Counts, Birth}
 use Rattle.brick_store.specs.declared.steps.Count.TheVariants.{Mark, Post}
 use Rattle.brick_store.specs.Cells.{Cells, kept_at, kept_or_nothing, with_kept, takes_name}
-use Rattle.brick_store.specs.Steps.{IsCounted, stepped, with_step, with_row, row_of, with_earlier}
+use Rattle.brick_store.specs.Steps.{IsCounted, stepped, with_row, row_of}
 use Rattle.brick_store.proofs.Entries.{lookup_set, set_back, set_missing, set_is_insert, remove_new}
 
 pub cell_total : IsTotalOrder cell_cmp

@@ -6,7 +6,6 @@ use Rattle.std.specs.BTreeMap.{insert_entry, is_at}
 use Rattle.fop_types.specs.Orders.{cell_cmp}
 use Rattle.fop_types.specs.Flat.{item_named, with_item, root}
 use Rattle.fop_types.specs.declared.cells.Gfid.{Gfid}
-use Rattle.fop_types.specs.declared.cells.Aspect.{Aspect}
 use Rattle.fop_types.specs.declared.cells.Aspect.TheVariants as aspect
 use Rattle.fop_types.specs.declared.cells.Cell.{Cell}
 use Rattle.fop_types.specs.declared.cells.Kind.{Kind}

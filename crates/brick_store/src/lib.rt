@@ -25,3 +25,6 @@ mod store;
 
 pub use kept::Kept;
 pub use store::Store;
+
+#[cfg(test)]
+mod tests;

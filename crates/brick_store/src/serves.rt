@@ -74,7 +74,8 @@ impl Store {
     }
 
     /// A step of counting on each cell in turn. Where memory wants, the steps that were done are taken
-    /// back on the way out.
+    /// back on the way out. The calls nest as deep as there are cells, of which a request names at most
+    /// four.
     fn count_each(&mut self, cells: &[Cell], count: Count) -> Result<(), AllocError>
         ensures ok { OnOk result (self.new ≡ all_counted count cells.now self.old) }
         ensures err { OnErr result (self.new ≡ self.old) }

@@ -1,9 +1,9 @@
 -- A name that is free makes a list of names longer by one; so none is replaced.
-use Rattle.std.proofs.Common.{◌≡◌, ◌+◌, ◌<◌, ◌∷◌, ◌++◌, ◌∙◌, ℕ, suc, zero, ◌≤◌, subst, true, false, true≢false, sym, refl, ap, List, [], length, take, drop, arith, length-append, length-take, length-drop}
+use Rattle.std.proofs.Common.{◌≡◌, ◌<◌, ◌∷◌, ◌++◌, ◌∙◌, ℕ, suc, zero, ◌≤◌, true, false, true≢false, sym, refl, ap, List, [], length, take, drop, arith}
 use Rattle.std.specs.List.{insert, remove}
 use Rattle.std.proofs.lemmas.List.{length-set}
 use Rattle.fop_types.proofs.Places.{set_parts}
-use Rattle.std.specs.Prelude.{Bool, Option, Some, None, nat_eq, is_some, if◌then◌else◌}
+use Rattle.std.specs.Prelude.{Bool, Some, None, nat_eq, is_some, if◌then◌else◌}
 use Rattle.std.specs.declared.cmp.Ordering.{Ordering}
 use Rattle.std.specs.declared.cmp.Ordering.TheVariants.{Less, Equal, Greater}
 use Rattle.std.specs.Ordering.{nat_cmp, is_eq, ordering_reverse}

@@ -31,3 +31,6 @@ pub use items::{find_item, insert_item, insert_new_item};
 pub use lists::Seq;
 pub use messages::{BrickRep, BrickReq, DoneArm, Input, OutKind, Output, Proc};
 pub use store_ops::StoreOp;
+
+#[cfg(test)]
+mod tests;

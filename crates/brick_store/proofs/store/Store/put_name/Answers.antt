@@ -1,9 +1,4 @@
-use Rattle.std.proofs.Common.{◌≡◌, ◌∙◌, sym, ap, refl}
-use Rattle.std.proofs.lemmas.Map.Steps.{set_value_same}
-use Rattle.std.specs.BTreeMap.{is_at}
-use Rattle.fop_types.specs.Orders.{cell_cmp}
-use Rattle.brick_store.specs.declared.kept.Kept.{Kept}
-use Rattle.brick_store.specs.Cells.{Cells}
+use Rattle.std.proofs.Common.{refl}
 use Rattle.brick_store.specs.Steps.{named, unnamed}
 use Rattle.brick_store.proofs.Places.{free_at, put_in, taken_back, written_same, counted_in_place, counted_at, counted_as}
 use Rattle.brick_store.proofs.Results.{on_ok, on_err, if_ok, same_count}
