@@ -2,8 +2,7 @@
 -- replicas; a place holds a row exactly where that replica was reached. A quorum is q of n.
 --
 -- A replica is sound where its copy is there, it does not accuse itself, and fewer of the reached
--- replicas accuse it than all that were reached but n - q. With all n reached these are fewer than a
--- quorum.
+-- replicas accuse it than were reached, less n - q. With all n reached this is fewer than a quorum.
 use Rattle.std.specs.Prelude.{◌≡◌, ℕ, ◌-◌, ◌==◌, ◌<◌, Bool, false, not, IsTrue, List, Option, Some, None, is_some, slice_index, slice_index_or}
 use Rattle.std.specs.List.{count_by}
 use Rattle.fop_types.specs.declared.contents.Row.{Row}

@@ -9,7 +9,9 @@ use fop_types::{Mask, Row};
 ///
 /// `rows` has one place for each of the set's `n` replicas, with the cell's row where the replica was
 /// reached, and `q` is the set's quorum. A replica is unsound where its row is not present, or it
-/// accuses itself, or as many of the reached replicas accuse it as were reached, but `n - q`.
+/// accuses itself, or at least as many of the reached replicas accuse it as were reached, less
+/// `n - q`. So with all reached it takes a quorum of accusers, and with `n - q` reached or fewer none
+/// is sound.
 pub fn sound(rows: &[Option<Row>], n: u8, q: u8) -> Mask
     requires odd { n % 2 ≡ 1 }
     requires few { n ≤ 5 }
