@@ -16,6 +16,15 @@
 //! heal ask which replicas are sound. Nothing here takes memory.
 #![tactic(auto)]
 
+mod attribute;
 mod counters;
+mod masks;
+mod soundness;
 
+pub use attribute::{read12, write12};
 pub use counters::{lower, raise};
+pub use masks::common_source;
+pub use soundness::sound;
+
+#[cfg(test)]
+mod tests;

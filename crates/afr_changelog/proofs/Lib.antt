@@ -1,0 +1,3 @@
+pub mod CommonBits
+pub mod Convicted
+pub mod SoundRows

@@ -1,0 +1,3 @@
+pub mod LaneMasks
+pub mod MarkedBits
+pub mod Pieces
