@@ -4,7 +4,7 @@ use Rattle.std.specs.List.{list_any, filter}
 use Rattle.std.specs.Cmp.{nat_eq_equiv}
 use Rattle.fop_types.specs.declared.cells.Gfid.{Gfid}
 use Rattle.mount_locks.specs.declared.request.Request.{Request}
-use Rattle.mount_locks.specs.Rule.{held, waiting, is_gfid, names, shares, conflicts, any_conflicts, granted_now, asked, extended, without, Turned, turn, grant_in_order, released, AreApart}
+use Rattle.mount_locks.specs.Rule.{held, waiting, is_gfid, names, shares, conflicts, any_conflicts, granted_now, without, Turned, turn, grant_in_order, released, AreApart}
 
 -- ---- lists
 any-append : {X : Type 0} (p : X → Bool) (xs ys : List X) → list_any p (xs ++ ys) ≡ (list_any p xs || list_any p ys)

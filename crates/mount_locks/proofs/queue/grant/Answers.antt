@@ -1,4 +1,4 @@
-use Rattle.std.proofs.Common.{◌≡◌, sym, ap, ◌∙◌, List, take, drop, arith, length-set, subst, true, length}
+use Rattle.std.proofs.Common.{◌≡◌, sym, ap, ◌∙◌, List, take, drop, arith, length-set, true, length}
 use Rattle.std.proofs.Math.ListN.{set}
 use Rattle.mount_locks.specs.declared.request.Request.{Request}
 use Rattle.mount_locks.specs.Walks.{is_blocked}

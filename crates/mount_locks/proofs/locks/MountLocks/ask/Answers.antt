@@ -1,7 +1,7 @@
-use Rattle.std.proofs.Common.{◌≡◌, sym, ap, ◌∙◌, not, List, ◌++◌, ◌∷◌, [], Bool, subst}
+use Rattle.std.proofs.Common.{sym, ap, ◌∙◌, not, List, ◌++◌, ◌∷◌, [], Bool, subst}
 use Rattle.fop_types.specs.declared.cells.Gfid.{Gfid}
 use Rattle.mount_locks.specs.declared.request.Request.{Request}
-use Rattle.mount_locks.specs.Rule.{held, waiting, any_conflicts, request_of, granted_now, answer, asked, AreApart}
+use Rattle.mount_locks.specs.Rule.{held, any_conflicts, request_of, answer, AreApart}
 use Rattle.mount_locks.proofs.Apart.{any_split, apart_asked}
 use Rattle.mount_locks.proofs.locks.MountLocks.ask.Goals as goal
 

@@ -1,4 +1,4 @@
-use Rattle.std.proofs.Common.{◌≡◌, sym, ap, ◌∙◌, not, List, false, subst}
+use Rattle.std.proofs.Common.{sym, ap, ◌∙◌, not, List, false, subst}
 use Rattle.mount_locks.specs.declared.request.Request.{Request}
 use Rattle.mount_locks.specs.Rule.{held, any_conflicts, request_of, AreApart}
 use Rattle.mount_locks.proofs.Apart.{apart_extended}
