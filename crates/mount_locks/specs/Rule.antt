@@ -1,0 +1,84 @@
+-- The queue of requests for holds, and which of them are granted. A request stands in the queue from
+-- the time that it is asked until its call is released, and is granted or waits. So the queue is two
+-- lists, both in queue order: the requests that are held and those that wait.
+use Rattle.std.specs.Prelude.{◌≡◌, ℕ, Bool, true, false, not, ◌&&◌, ◌||◌, ◌==◌, List, [], ◌∷◌, ◌++◌, if◌then◌else◌}
+use Rattle.std.specs.List.{list_any, filter}
+use Rattle.fop_types.specs.declared.cells.Gfid.{Gfid}
+use Rattle.mount_locks.specs.declared.request.Request.{Request}
+use Rattle.mount_locks.specs.declared.request.Held.{Held}
+use Rattle.mount_locks.specs.declared.request.Held.TheVariants.{Granted, Waiting}
+
+-- the requests that are granted
+abbrev pub held : List Request → List Request
+held queue = filter (λ r. r.granted) queue
+
+-- the requests that wait
+abbrev pub waiting : List Request → List Request
+waiting queue = filter (λ r. not r.granted) queue
+
+abbrev pub is_gfid : Gfid → Gfid → Bool
+is_gfid a b = (a.hi == b.hi) && (a.lo == b.lo)
+
+abbrev pub names : List Gfid → Gfid → Bool
+names gfids g = list_any (λ x. is_gfid x g) gfids
+
+-- a gfid stands in both lists
+abbrev pub shares : List Gfid → List Gfid → Bool
+shares a b = list_any (names a) b
+
+-- two requests of different calls conflict where they name a common gfid and one of the two is alone
+abbrev pub conflicts : Request → Request → Bool
+conflicts a b = not (a.call == b.call) && (not (a.shared && b.shared) && shares a.gfids b.gfids)
+
+-- one of the requests conflicts with r
+abbrev pub any_conflicts : List Request → Request → Bool
+any_conflicts rs r = list_any (λ a. conflicts a r) rs
+
+-- a request is granted where no granted and no earlier waiting request conflicts with it
+abbrev pub granted_now : List Request → List Request → Request → Bool
+granted_now granted earlier r = not (any_conflicts granted r || any_conflicts earlier r)
+
+abbrev pub request_of : ℕ → List Gfid → Bool → Request
+request_of call gfids shared = record { call = call; gfids = gfids; shared = shared; granted = false }
+
+abbrev pub answer : Bool → Held
+answer true = Granted
+answer false = Waiting
+
+-- the queue with a request at its end: granted at once where the rule says so, or waiting
+abbrev pub asked : List Request → Request → List Request
+asked queue r = queue ++ record r { granted = granted_now (held queue) (waiting queue) r } ∷ []
+
+-- the queue with an extension before all waiting requests
+abbrev pub extended : List Request → Request → List Request
+extended queue r = record r { granted = granted_now (held queue) [] r } ∷ queue
+
+-- the queue without the requests of a call
+abbrev pub without : ℕ → List Request → List Request
+without call queue = filter (λ r. not (r.call == call)) queue
+
+-- a queue that is gone through: its requests so far, and the calls that were granted on the way
+pub record Turned : Type 0 where
+  pub queue : List Request
+  pub calls : List ℕ
+
+-- the turn of a request, with those before it and those after it
+abbrev pub turn : Turned → Request → List Request → Turned
+turn before r after =
+    if not r.granted && granted_now (held before.queue ++ held after) (waiting before.queue) r
+    then record { queue = before.queue ++ record r { granted = true } ∷ []; calls = before.calls ++ r.call ∷ [] }
+    else record { queue = before.queue ++ r ∷ []; calls = before.calls }
+
+-- each waiting request has its turn, in queue order
+abbrev pub grant_in_order : Turned → List Request → Turned
+grant_in_order before [] = before
+grant_in_order before (r ∷ after) = grant_in_order (turn before r after) after
+
+-- what a release makes of the queue, and the calls that it grants, in queue order
+abbrev pub released : ℕ → List Request → Turned
+released call queue = grant_in_order (record { queue = []; calls = [] }) (without call queue)
+
+-- no two of the requests conflict
+abbrev pub AreApart : List Request → Type 0
+AreApart [] = Unit {0}
+AreApart (a ∷ rest) = (any_conflicts rest a ≡ false) × AreApart rest
