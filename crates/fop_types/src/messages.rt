@@ -100,12 +100,26 @@ pub enum BrickRep {
 /// One input of a brick: a request with the number of its wind, or a control.
 #[derive(Debug, Drop, PartialEq, Eq)]
 pub enum Input {
-    Request { wind: u64, graph: u32, req: BrickReq },
-    Down { serve: u32 },
+    Request {
+        wind: u64,
+        graph: u32,
+        req: BrickReq,
+    },
+    Down {
+        serve: u32,
+    },
     Up,
-    Connect { graph: u32, version: u32 },
-    Disconnect { graph: u32 },
-    FaultAt { proc: Proc, number: u32 },
+    Connect {
+        graph: u32,
+        version: u32,
+    },
+    Disconnect {
+        graph: u32,
+    },
+    FaultAt {
+        proc: Proc,
+        number: u32,
+    },
 }
 
 /// What an output says. `place` is the offset in the input's bytes at which they are no message.
