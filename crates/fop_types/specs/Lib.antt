@@ -1,1 +1,5 @@
+pub mod Errors
+pub mod Flat
+pub mod History
+pub mod Orders
 pub mod Rank

@@ -1,3 +1,6 @@
+ghost use Rattle.std.specs.Prelude.{◌≡◌};
+ghost use Rattle.fop_types.specs.Errors.{number_of, name_of};
+
 use crate::cells::{Cell, Gfid, Kind};
 use crate::contents::{Item, Row};
 use crate::lists::Seq;
@@ -45,6 +48,48 @@ pub enum AppError {
     Enotempty,
     Enodata,
     Eopnotsupp,
+}
+
+impl AppError {
+    /// Linux's number of the error.
+    pub fn number(self) -> u8
+        ensures { result ≡ number_of self }
+    {
+        match self {
+            AppError::Enoent => 2,
+            AppError::Ebadf => 9,
+            AppError::Ebusy => 16,
+            AppError::Eexist => 17,
+            AppError::Enotdir => 20,
+            AppError::Eisdir => 21,
+            AppError::Einval => 22,
+            AppError::Efbig => 27,
+            AppError::Enametoolong => 36,
+            AppError::Enotempty => 39,
+            AppError::Enodata => 61,
+            AppError::Eopnotsupp => 95,
+        }
+    }
+
+    /// POSIX's name of the error, in upper case letters.
+    pub fn name(self) -> &'static str
+        ensures { result.now ≡ name_of self }
+    {
+        match self {
+            AppError::Enoent => "ENOENT",
+            AppError::Ebadf => "EBADF",
+            AppError::Ebusy => "EBUSY",
+            AppError::Eexist => "EEXIST",
+            AppError::Enotdir => "ENOTDIR",
+            AppError::Eisdir => "EISDIR",
+            AppError::Einval => "EINVAL",
+            AppError::Efbig => "EFBIG",
+            AppError::Enametoolong => "ENAMETOOLONG",
+            AppError::Enotempty => "ENOTEMPTY",
+            AppError::Enodata => "ENODATA",
+            AppError::Eopnotsupp => "EOPNOTSUPP",
+        }
+    }
 }
 
 /// The answer of a call.

@@ -1,4 +1,5 @@
-ghost use Rattle.std.specs.Prelude.{◌≡◌, ◌==◌, List, [], ◌∷◌, ◌++◌, length, OnOk, OnErr, IfOk, IfErr};
+ghost use Rattle.std.specs.Prelude.{◌≡◌, ◌==◌, ◌≤◌, ◌<◌, List, [], ◌∷◌, ◌++◌, length, insert, OnOk, OnErr, IfOk, IfErr};
+ghost use Rattle.std.specs.List.{slice_set, remove};
 
 use std::alloc::{AllocError, AllocFailed, Global};
 use std::marker::Model;
@@ -71,6 +72,51 @@ impl<T> Seq<T> {
     {
         self.items.push(item)
     }
+
+    /// Puts an item before the one at `index`, or at the end where `index` is the length. The items
+    /// from `index` on move by one place.
+    ///
+    /// # Errors
+    /// Want of memory hands the item back, and the list is unchanged.
+    pub fn insert(&mut self, index: usize, item: T) -> Result<(), AllocFailed<T>>
+        requires { index ≤ length self.old }
+        ensures ok { OnOk result (self.new ≡ insert self.old index item) }
+        ensures err { OnErr result (self.new ≡ self.old) }
+    {
+        self.items.insert(index, item)
+    }
+
+    /// Takes the item at `index` out. The items after it move by one place.
+    pub fn remove(&mut self, index: usize) -> T
+        requires { index < length self.old }
+        ensures value { self.old ≡ insert self.new index result }
+        ensures rest { self.new ≡ remove self.old index }
+    {
+        self.items.remove(index)
+    }
+}
+
+impl<T: Drop> Seq<T> {
+    /// Puts an item in the place of the one at `index`.
+    pub fn set(&mut self, index: usize, item: T)
+        requires { index < length self.old }
+        ensures { self.new ≡ slice_set self.old index item }
+    {
+        self.items[index] = item;
+    }
+}
+
+impl<T: Copy> Seq<T> {
+    /// A copy of the list.
+    ///
+    /// # Errors
+    /// Want of memory.
+    pub fn copy(&self, alloc: Global) -> Result<Seq<T>, AllocError>
+        ensures { IfOk result (λ s. s ≡ self.now) }
+    {
+        let items = Vec::from_slice(alloc, self.as_slice())?;
+        Ok(Seq { items })
+    }
 }
 
 impl Seq<u8> {
@@ -83,16 +129,6 @@ impl Seq<u8> {
     {
         let items = Vec::from_slice(alloc, bytes)?;
         Ok(Seq { items })
-    }
-
-    /// A copy of the list.
-    ///
-    /// # Errors
-    /// Want of memory.
-    pub fn copy(&self, alloc: Global) -> Result<Seq<u8>, AllocError>
-        ensures { IfOk result (λ s. s ≡ self.now) }
-    {
-        Seq::from_bytes(alloc, self.as_slice())
     }
 }
 

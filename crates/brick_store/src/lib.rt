@@ -1,0 +1,27 @@
+//! A brick's store: what one brick keeps of the cells of its set, as one map from cell to its copy, its
+//! count of marks and the number of its last change.
+//!
+//! ```text
+//!   cell                 copy                        dirty   last
+//!   gfid 1, metadata     mode 755 octal              0       0
+//!   gfid 1, entries      names: a is directory 2     1       7     change 7 is marked and not yet posted
+//!   gfid 2, metadata     mode 700 octal              0       7     born with the name, in the same op
+//!   gfid 2, entries      no names                    0       7
+//!   gfid 3, metadata     none                        1       0     only marked
+//! ```
+//!
+//! A cell is present where it has a copy. An op alters cells and gives birth to others, all under one
+//! change number; where it does not fit nothing changes. A mark says that a change is on its way, and
+//! the post that it came through. After want of memory the store is as it was before the call.
+//!
+//! The brick machine calls this for each request that it serves, and owns the one store of its brick.
+#![tactic(auto)]
+
+mod directory;
+mod kept;
+mod serves;
+mod steps;
+mod store;
+
+pub use kept::Kept;
+pub use store::Store;

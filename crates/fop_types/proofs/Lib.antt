@@ -1,0 +1,4 @@
+pub mod MapLemmas
+pub mod Names
+pub mod PathLemmas
+pub mod Places

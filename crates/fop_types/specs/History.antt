@@ -1,0 +1,171 @@
+-- The history of accepted changes, as the flat file system reads it, and what makes a reply lawful: it is
+-- the answer of the flat file system at its written places.
+use Rattle.std.specs.Prelude.{◌≡◌, ◌≢◌, ℕ, ◌+◌, ◌-◌, ◌<◌, ◌≤◌, Bool, true, false, ◌&&◌, List, [], ◌∷◌, Option, Some, None, length, take, slice_get, MatchBool}
+use Rattle.fop_types.specs.Flat.{Files, flat_answer, flat_after, empty_root, root}
+use Rattle.fop_types.specs.declared.cells.Gfid.{Gfid}
+use Rattle.fop_types.specs.declared.cells.Kind.{Kind}
+use Rattle.fop_types.specs.declared.answers.Answer.{Answer}
+use Rattle.fop_types.specs.declared.answers.Answer.TheVariants.{Done, Stat as StatOf, App, Count, Bytes, List as ListOf, Io}
+use Rattle.fop_types.specs.declared.answers.AppError.{AppError}
+use Rattle.fop_types.specs.declared.calls.Call.{Call}
+use Rattle.fop_types.specs.declared.calls.Call.TheVariants as call
+use Rattle.fop_types.specs.declared.flat.FlatOp.{FlatOp}
+use Rattle.fop_types.specs.declared.flat.FlatOp.TheVariants.{Lookup, Mkdir, Stat}
+use Rattle.fop_types.specs.declared.flat.FlatAnswer.{FlatAnswer}
+use Rattle.fop_types.specs.declared.flat.FlatAnswer.TheVariants as flat
+use Rattle.fop_types.specs.declared.history.Entry.{Entry}
+
+-- the call of a number; calls are numbered from 1 in the order in which they are submitted
+abbrev pub call_numbered : List Call → ℕ → Option Call
+call_numbered calls number = slice_get calls (number - 1)
+
+-- how many objects a call asks to be made
+abbrev pub makes : Call → ℕ
+makes (call.Mkdir path mode) = 1
+makes (call.Stat path) = 0
+
+abbrev pub objects_made : List Call → ℕ
+objects_made [] = 0
+objects_made (c ∷ calls) = makes c + objects_made calls
+
+-- the gfid that is drawn for a call: 1 plus the number of calls up to it that ask for an object
+abbrev pub drawn_by : List Call → ℕ → Gfid
+drawn_by calls number = record { hi = 0; lo = 1 + objects_made (take number calls) }
+
+-- the last component of a path, and those before it
+abbrev pub last_part : List (List ℕ) → List ℕ
+last_part [] = []
+last_part (part ∷ []) = part
+last_part (part ∷ other ∷ parts) = last_part (other ∷ parts)
+
+abbrev pub front_parts : List (List ℕ) → List (List ℕ)
+front_parts [] = []
+front_parts (part ∷ []) = []
+front_parts (part ∷ other ∷ parts) = part ∷ front_parts (other ∷ parts)
+
+-- the components that a call looks up one after another, and its last operation on what they lead to
+abbrev pub looked_up : Call → List (List ℕ)
+looked_up (call.Mkdir path mode) = front_parts path.parts
+looked_up (call.Stat path) = path.parts
+
+abbrev pub last_op : Call → Gfid → Gfid → FlatOp
+last_op (call.Mkdir path mode) found drawn = Mkdir found (last_part path.parts) mode drawn
+last_op (call.Stat path) found drawn = Stat found
+
+-- ---- history
+
+-- the operation of an entry. Each path has one component so far, so its directory is the root
+abbrev pub op_with : Option Call → Gfid → Option FlatOp
+op_with None drawn = None
+op_with (Some c) drawn = Some (last_op c root drawn)
+
+abbrev pub entry_op : List Call → Entry → Option FlatOp
+entry_op calls entry = op_with (call_numbered calls entry.call) (drawn_by calls entry.call)
+
+abbrev pub after_op : Files → Option FlatOp → Files
+after_op files None = files
+after_op files (Some op) = flat_after files op
+
+abbrev pub files_after : List Call → Files → List Entry → Files
+files_after calls files [] = files
+files_after calls files (entry ∷ entries) = files_after calls (after_op files (entry_op calls entry)) entries
+
+-- the files after the first `place` entries of a history, from the empty root
+abbrev pub fs_after : List Call → List Entry → ℕ → Files
+fs_after calls history place = files_after calls empty_root (take place history)
+
+abbrev pub IsAccepted : FlatAnswer → Type 0
+IsAccepted answer = answer ≡ flat.Call Done
+
+-- an entry's operation is accepted by the flat file system as the entries before it leave it
+pub record IsLegalEntry (calls : List Call) (history : List Entry) (place : ℕ) (entry : Entry) : Type 0 where
+  pub op : FlatOp
+  pub op_is : entry_op calls entry ≡ Some op
+  pub accepted : IsAccepted (flat_answer (fs_after calls history place) op)
+  pub first_part : entry.part ≡ 1
+
+-- no entry is repeated, and each is legal at its place
+pub record IsLegalHistory (calls : List Call) (history : List Entry) : Type 0 where
+  pub distinct : (i j : ℕ) (entry : Entry) → slice_get history i ≡ Some entry → slice_get history j ≡ Some entry → i ≡ j
+  pub legal : (place : ℕ) (entry : Entry) → slice_get history place ≡ Some entry → IsLegalEntry calls history place entry
+
+-- ---- lawful replies
+
+-- how far the lookups of a call came, with the places that are left: all names found, an error at one,
+-- or too few places
+pub data Walk : Type 0 where
+  Reached : (gfid : Gfid) → (places : List ℕ) → Walk
+  Stopped : (error : AppError) → (places : List ℕ) → Walk
+  TooShort : Walk
+
+abbrev pub after_lookup : FlatAnswer → List ℕ → (Gfid → Walk) → Walk
+after_lookup (flat.Found gfid kind) places more = more gfid
+after_lookup (flat.Call (App error)) places more = Stopped error places
+after_lookup (flat.Call Done) places more = TooShort
+after_lookup (flat.Call (Count count)) places more = TooShort
+after_lookup (flat.Call (Bytes bytes)) places more = TooShort
+after_lookup (flat.Call (StatOf kind mode size)) places more = TooShort
+after_lookup (flat.Call (ListOf items)) places more = TooShort
+after_lookup (flat.Call (Io error)) places more = TooShort
+
+-- each name is looked up in the directory that the one before it led to, at its own place
+abbrev pub walk : List (List ℕ) → (ℕ → Files) → Gfid → List ℕ → Walk
+walk [] files directory places = Reached directory places
+walk (name ∷ names) files directory [] = TooShort
+walk (name ∷ names) files directory (place ∷ places) =
+    after_lookup (flat_answer (files place) (Lookup directory name)) places (λ found. walk names files found places)
+
+abbrev pub HasNoEntry : List Entry → ℕ → Type 0
+HasNoEntry history number = (k : ℕ) (entry : Entry) → slice_get history k ≡ Some entry → entry.call ≢ number
+
+abbrev pub is_change : FlatOp → Bool
+is_change (Lookup parent name) = false
+is_change (Mkdir parent name mode drawn) = true
+is_change (Stat gfid) = false
+
+abbrev pub is_done : Answer → Bool
+is_done Done = true
+is_done (Count count) = false
+is_done (Bytes bytes) = false
+is_done (StatOf kind mode size) = false
+is_done (ListOf items) = false
+is_done (App error) = false
+is_done (Io error) = false
+
+-- a change that is done has its entry at its place, and the answer is that of the files before it
+pub record IsDoneAt (files : ℕ → Files) (history : List Entry) (number : ℕ) (op : FlatOp) (place : ℕ) (answer : Answer) : Type 0 where
+  pub from_one : 0 < place
+  pub entered : slice_get history (place - 1) ≡ Some (record { call = number; part = 1 })
+  pub answered : flat_answer (files (place - 1)) op ≡ flat.Call answer
+
+-- any other answer is that of the files at its place, and the call has no entry
+pub record IsReadAt (files : ℕ → Files) (history : List Entry) (number : ℕ) (op : FlatOp) (place : ℕ) (answer : Answer) : Type 0 where
+  pub answered : flat_answer (files place) op ≡ flat.Call answer
+  pub no_entry : HasNoEntry history number
+
+abbrev pub IsAnswerAt : (ℕ → Files) → List Entry → ℕ → FlatOp → ℕ → Answer → Type 0
+IsAnswerAt files history number op place answer =
+    MatchBool (is_change op && is_done answer) (IsDoneAt files history number op place answer) (IsReadAt files history number op place answer)
+
+-- a lookup that fails is the call's answer, and has its last place; else the last operation has it
+abbrev pub IsAnswered : Walk → (ℕ → Files) → List Entry → ℕ → (Gfid → FlatOp) → Answer → Type 0
+IsAnswered (Reached gfid []) files history number op answer = ⊥
+IsAnswered (Reached gfid (place ∷ [])) files history number op answer = IsAnswerAt files history number (op gfid) place answer
+IsAnswered (Reached gfid (place ∷ other ∷ places)) files history number op answer = ⊥
+IsAnswered (Stopped error []) files history number op answer = (answer ≡ App error) × HasNoEntry history number
+IsAnswered (Stopped error (place ∷ places)) files history number op answer = ⊥
+IsAnswered TooShort files history number op answer = ⊥
+
+-- places never fall, and stand between these bounds
+abbrev pub AreBetween : List ℕ → ℕ → ℕ → Type 0
+AreBetween [] low high = Unit {0}
+AreBetween (place ∷ places) low high = (low ≤ place) × (place ≤ high) × AreBetween places place high
+
+pub record IsLawfulReply (calls : List Call) (history : List Entry) (since until number : ℕ) (places : List ℕ) (answer : Answer) : Type 0 where
+  pub call : Call
+  pub numbered : 0 < number
+  pub asked : call_numbered calls number ≡ Some call
+  pub between : AreBetween places since until
+  pub answered :
+      IsAnswered (walk (looked_up call) (fs_after calls history) root places) (fs_after calls history) history number
+          (λ found. last_op call found (drawn_by calls number)) answer

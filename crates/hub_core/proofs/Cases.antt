@@ -1,0 +1,195 @@
+-- An arrival is what follows it, carried out; and what a step of a call may be followed by.
+use Rattle.std.proofs.Common.{◌≡◌, ℕ, ◌+◌, ◌-◌, ◌*◌, ◌≤◌, ◌==◌, Bool, true, false, List, [], ◌∷◌, ◌++◌, Option, Some, None, length, slice_get, if◌then◌else◌, refl, sym, ◌∙◌, ap, arith}
+use Rattle.fop_types.specs.declared.answers.Answer.{Answer}
+use Rattle.fop_types.specs.declared.cells.Gfid.{Gfid}
+use Rattle.fop_types.specs.declared.cells.Kind.{Kind}
+use Rattle.fop_types.specs.declared.contents.Content.{Content}
+use Rattle.fop_types.specs.declared.contents.Content.TheVariants.{Bytes, Meta, Names}
+use Rattle.fop_types.specs.declared.contents.Item.{Item}
+use Rattle.fop_types.specs.declared.calls.Call.{Call}
+use Rattle.fop_types.specs.declared.calls.Call.TheVariants as call
+use Rattle.fop_types.specs.declared.messages.DoneArm.{DoneArm}
+use Rattle.fop_types.specs.declared.messages.DoneArm.TheVariants as done
+use Rattle.fop_types.specs.declared.messages.BrickRep.{BrickRep}
+use Rattle.fop_types.specs.declared.messages.BrickRep.TheVariants as rep
+use Rattle.fop_types.specs.declared.messages.OutKind.{OutKind}
+use Rattle.fop_types.specs.declared.messages.OutKind.TheVariants as out
+use Rattle.fop_types.specs.declared.messages.Output.{Output}
+use Rattle.script_lang.specs.declared.scripts.CallLine.{CallLine}
+use Rattle.fop_types.specs.Flat.{item_named}
+use Rattle.hub_core.specs.declared.stages.Stage.{Stage}
+use Rattle.hub_core.specs.declared.stages.Stage.TheVariants.{Finding, Reading, Checking, Marking, Changing, Posting}
+use Rattle.hub_core.specs.declared.stages.Working.{Working}
+use Rattle.hub_core.specs.declared.stages.Next.{Next}
+use Rattle.hub_core.specs.declared.stages.Next.TheVariants as next
+use Rattle.hub_core.specs.Turns.{HubState, find_next, check_next, names_next, meta_next, nothing_next, next_of, name_of, wire_number, ignored, taken_up, done_for, reply_for, output_for, arrive_for, arrived}
+use Rattle.hub_core.specs.Follows.{follow_line, follow_reply, follow_output, follow_working, follow_of, carried_out}
+use Rattle.hub_core.specs.Bounds.{requests_left}
+
+-- ---- an arrival by what follows it
+
+-- the state after an output, by what follows it and by the call at work with its line
+abbrev pub by_line : HubState → Output → Next → Working → Option CallLine → HubState
+by_line s output follows w None = ignored s output
+by_line s output follows w (Some line) = carried_out s output w line follows
+
+abbrev pub by_working : HubState → Output → Next → Option Working → HubState
+by_working s output follows None = ignored s output
+by_working s output follows (Some w) = by_line s output follows w (slice_get s.calls (w.call - 1))
+
+abbrev pub by_next : HubState → Output → Option Next → HubState
+by_next s output None = ignored s output
+by_next s output (Some follows) = by_working s output follows s.working
+
+-- what an arrival leads to, where the call at work is given
+abbrev pub IsBy : HubState → Output → Working → HubState → Option Next → Type 0
+IsBy s output w after None = after ≡ ignored s output
+IsBy s output w after (Some follows) = after ≡ by_line s output follows w (slice_get s.calls (w.call - 1))
+
+pub taken_is : (s : HubState) (output : Output) (w : Working) (line : CallLine) (follows : Option Next) →
+    slice_get s.calls (w.call - 1) ≡ Some line →
+    IsBy s output w (taken_up s output w line follows) follows
+taken_is s output w line None there = refl
+taken_is s output w line (Some follows) there = rw there refl
+
+pub done_is : (s : HubState) (output : Output) (w : Working) (line : Option CallLine) (arm : DoneArm) →
+    slice_get s.calls (w.call - 1) ≡ line →
+    IsBy s output w (done_for s output w line arm) (follow_line s w arm line)
+done_is s output w None arm there = refl
+done_is s output w (Some line) arm there =
+    taken_is s output w line (next_of w.stage line.call w.drawn w.places (length s.log.history) arm) there
+
+pub if_is : (s : HubState) (output : Output) (w : Working) (test : Bool) (after : HubState) (follows : Option Next) →
+    IsBy s output w after follows →
+    IsBy s output w (if test then after else ignored s output) (if test then follows else None)
+if_is s output w true after follows is = is
+if_is s output w false after follows is = refl
+
+pub reply_is : (s : HubState) (output : Output) (w : Working) (wind : ℕ) (reply : BrickRep) →
+    IsBy s output w (reply_for s output w wind reply) (follow_reply s w wind reply)
+reply_is s output w wind (rep.Done arm) =
+    if_is s output w (wind == wire_number w.turn) (done_for s output w (slice_get s.calls (w.call - 1)) arm)
+        (follow_line s w arm (slice_get s.calls (w.call - 1))) (done_is s output w (slice_get s.calls (w.call - 1)) arm refl)
+reply_is s output w wind rep.Gone = refl
+reply_is s output w wind rep.Fault = refl
+reply_is s output w wind rep.Unfit = refl
+reply_is s output w wind rep.BadFd = refl
+
+pub output_is : (s : HubState) (output : Output) (w : Working) (kind : OutKind) →
+    IsBy s output w (output_for s output w kind) (follow_output s w kind)
+output_is s output w (out.Reply wind reply) = reply_is s output w wind reply
+output_is s output w out.Closed = refl
+output_is s output w out.Opened = refl
+output_is s output w (out.Connected graph version) = refl
+output_is s output w (out.Malformed place) = refl
+
+pub by_is : (s : HubState) (output : Output) (w : Working) (after : HubState) (follows : Option Next) →
+    s.working ≡ Some w → IsBy s output w after follows → after ≡ by_next s output follows
+by_is s output w after None at is = is
+by_is s output w after (Some follows) at is = is ∙ ap (λ (v : Option Working). by_working s output follows v) (sym at)
+
+pub working_is : (s : HubState) (output : Output) (working : Option Working) → s.working ≡ working →
+    arrive_for s output working ≡ by_next s output (follow_working s output.kind working)
+working_is s output None at = refl
+working_is s output (Some w) at =
+    by_is s output w (output_for s output w output.kind) (follow_output s w output.kind) at (output_is s output w output.kind)
+
+pub arrived_is : (s : HubState) (output : Output) → arrived s output ≡ by_next s output (follow_of s output.kind)
+arrived_is s output = working_is s output s.working refl
+
+-- ---- a property of what an arrival leads to
+
+module _ (P : HubState → Type 0) (s : HubState) (output : Output) (same : P (ignored s output))
+    (changed : (w : Working) (line : CallLine) (follows : Next) (arm : DoneArm) → s.working ≡ Some w →
+        slice_get s.calls (w.call - 1) ≡ Some line →
+        next_of w.stage line.call w.drawn w.places (length s.log.history) arm ≡ Some follows →
+        P (carried_out s output w line follows)) where
+
+  taken_by : (w : Working) (line : CallLine) (arm : DoneArm) (follows : Option Next) → s.working ≡ Some w →
+      slice_get s.calls (w.call - 1) ≡ Some line →
+      next_of w.stage line.call w.drawn w.places (length s.log.history) arm ≡ follows →
+      P (taken_up s output w line follows)
+  taken_by w line arm None at there next = same
+  taken_by w line arm (Some follows) at there next = changed w line follows arm at there next
+
+  done_by : (w : Working) (line : Option CallLine) (arm : DoneArm) → s.working ≡ Some w →
+      slice_get s.calls (w.call - 1) ≡ line → P (done_for s output w line arm)
+  done_by w None arm at there = same
+  done_by w (Some line) arm at there =
+      taken_by w line arm (next_of w.stage line.call w.drawn w.places (length s.log.history) arm) at there refl
+
+  if_by : (test : Bool) (after : HubState) → P after → P (if test then after else ignored s output)
+  if_by true after holds = holds
+  if_by false after holds = same
+
+  reply_by : (w : Working) (wind : ℕ) (reply : BrickRep) → s.working ≡ Some w → P (reply_for s output w wind reply)
+  reply_by w wind (rep.Done arm) at =
+      if_by (wind == wire_number w.turn) (done_for s output w (slice_get s.calls (w.call - 1)) arm)
+          (done_by w (slice_get s.calls (w.call - 1)) arm at refl)
+  reply_by w wind rep.Gone at = same
+  reply_by w wind rep.Fault at = same
+  reply_by w wind rep.Unfit at = same
+  reply_by w wind rep.BadFd at = same
+
+  output_by : (w : Working) (kind : OutKind) → s.working ≡ Some w → P (output_for s output w kind)
+  output_by w (out.Reply wind reply) at = reply_by w wind reply at
+  output_by w out.Closed at = same
+  output_by w out.Opened at = same
+  output_by w (out.Connected graph version) at = same
+  output_by w (out.Malformed place) at = same
+
+  working_by : (working : Option Working) → s.working ≡ working → P (arrive_for s output working)
+  working_by None at = same
+  working_by (Some w) at = output_by w output.kind at
+
+  pub arrived_by : P (arrived s output)
+  arrived_by = working_by s.working refl
+
+-- ---- what follows, by the stage
+
+-- a further request lowers the number of those that are left
+abbrev pub Lowers : ℕ → Option Next → Type 0
+Lowers left None = Unit {0}
+Lowers left (Some (next.Ask request stage places)) = requests_left stage + 1 ≤ left
+Lowers left (Some (next.Reply places answer enters)) = Unit {0}
+
+pub find_lowers : (places : List ℕ) (place : ℕ) (item : Option Item) → Lowers 1 (Some (find_next places place item))
+find_lowers places place None = tt
+find_lowers places place (Some item) = omega arith
+
+pub check_lowers : (places : List ℕ) (place : ℕ) (item : Option Item) → Lowers 3 (Some (check_next places place item))
+check_lowers places place None = omega arith
+check_lowers places place (Some item) = tt
+
+pub names_lower : (left : ℕ) (arm : DoneArm) (name places : List ℕ) (place : ℕ) (more : List ℕ → ℕ → Option Item → Next) →
+    ((item : Option Item) → Lowers left (Some (more places place item))) → Lowers left (names_next arm name places place more)
+names_lower left (done.Content (Names true items) last) name places place more lower = tt
+names_lower left (done.Content (Names false items) last) name places place more lower = lower (item_named items name)
+names_lower left (done.Content (Bytes bytes) last) name places place more lower = tt
+names_lower left (done.Content (Meta mode attrs span) last) name places place more lower = tt
+names_lower left done.Nothing name places place more lower = tt
+names_lower left (done.Rows rows) name places place more lower = tt
+names_lower left (done.Cells cells) name places place more lower = tt
+
+pub meta_lowers : (arm : DoneArm) (kind : Kind) (places : List ℕ) (place : ℕ) → Lowers 0 (meta_next arm kind places place)
+meta_lowers (done.Content (Names removed items) last) kind places place = tt
+meta_lowers (done.Content (Bytes bytes) last) kind places place = tt
+meta_lowers (done.Content (Meta mode attrs span) last) kind places place = tt
+meta_lowers done.Nothing kind places place = tt
+meta_lowers (done.Rows rows) kind places place = tt
+meta_lowers (done.Cells cells) kind places place = tt
+
+pub nothing_lowers : (left : ℕ) (arm : DoneArm) (more : Next) → Lowers left (Some more) → Lowers left (nothing_next arm more)
+nothing_lowers left done.Nothing more lower = lower
+nothing_lowers left (done.Content content last) more lower = tt
+nothing_lowers left (done.Rows rows) more lower = tt
+nothing_lowers left (done.Cells cells) more lower = tt
+
+pub next_lowers : (stage : Stage) (c : Call) (drawn : Gfid) (places : List ℕ) (place : ℕ) (arm : DoneArm) →
+    Lowers (requests_left stage) (next_of stage c drawn places place arm)
+next_lowers Finding c drawn places place arm = names_lower 1 arm (name_of c) places place find_next (find_lowers places place)
+next_lowers (Reading kind) c drawn places place arm = meta_lowers arm kind places place
+next_lowers Checking c drawn places place arm = names_lower 3 arm (name_of c) places place check_next (check_lowers places place)
+next_lowers (Marking change) c drawn places place arm = nothing_lowers 2 arm _ (omega arith)
+next_lowers (Changing change) c drawn places place arm = nothing_lowers 1 arm _ (omega arith)
+next_lowers (Posting change) c drawn places place arm = nothing_lowers 0 arm _ tt

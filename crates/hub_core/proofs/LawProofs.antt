@@ -1,0 +1,217 @@
+-- The laws of the hub: what every turn keeps, put together.
+use Rattle.std.proofs.Common.{◌≡◌, ◌≢◌, ℕ, ◌+◌, ◌-◌, ◌<◌, ◌≤◌, List, [], ◌∷◌, ◌++◌, Option, Some, None, Bool, true, false, cond, length, take, refl, sym, ◌∙◌, ap, subst, arith, ◌⊎◌, inl, inr, zero, suc}
+use Rattle.std.specs.Prelude.{slice_get, ◌==◌, nat_lt}
+use Rattle.std.proofs.lemmas.Bool.{eq-eqb, eqb-true}
+use Rattle.std.proofs.lemmas.Bool.Decides.{nat_tests}
+use Rattle.fop_types.specs.declared.answers.Answer.{Answer}
+use Rattle.fop_types.specs.declared.calls.Call.{Call}
+use Rattle.fop_types.specs.declared.messages.BrickReq.{BrickReq}
+use Rattle.fop_types.specs.declared.messages.DoneArm.{DoneArm}
+use Rattle.fop_types.specs.declared.messages.Output.{Output}
+use Rattle.fop_types.specs.declared.history.Entry.{Entry}
+use Rattle.fop_types.specs.History.{AreBetween, IsLegalHistory, IsLawfulReply}
+use Rattle.script_lang.specs.declared.scripts.CallLine.{CallLine}
+use Rattle.hub_core.specs.declared.logs.HubEvent.{HubEvent}
+use Rattle.hub_core.specs.declared.logs.HubEvent.TheVariants.{Submit, Arrive}
+use Rattle.hub_core.specs.declared.logs.ReplyLine.{ReplyLine}
+use Rattle.hub_core.specs.declared.logs.Log.{Log}
+use Rattle.hub_core.specs.declared.stages.Stage.{Stage}
+use Rattle.hub_core.specs.declared.stages.Working.{Working}
+use Rattle.hub_core.specs.declared.stages.Next.{Next}
+use Rattle.hub_core.specs.declared.stages.Next.TheVariants as next
+use Rattle.hub_core.specs.Journal.{FollowsScript, IsFinished, HasHonestArrivals, WindsAreOnce, WindsAreBalanced, AreLawful, IsLawfulLine, IsBackedByBrick, calls_of, places_of, submits_of, inputs_of, arrivals_of, replies_to, count_below, length_at_submit, length_at_reply}
+use Rattle.hub_core.specs.Kept.{IsCounted, WorkIsCounted, WhereWorking, IsTimed, IsWound, WindsKept, AllEnded, LastOpen, IsOwnReply, HaveOneName}
+use Rattle.hub_core.specs.Laws.{IsLawfulLog, IsWholeLog, HonestLogsAreLawful, EndedLogsAreWhole}
+use Rattle.hub_core.specs.Turns.{HubState, IsReached, start_of, submit_call, ignored, taken_up, arrived, next_of}
+use Rattle.hub_core.proofs.Counts.{counted_start, counted_submit, counted_ignore, counted_take}
+use Rattle.hub_core.proofs.Followings.{places_follow}
+use Rattle.hub_core.proofs.Times.{timed_start, timed_submit, timed_ignore, timed_take, submits_length}
+use Rattle.hub_core.proofs.Winds.{wound_start, wound_submit, wound_take}
+use Rattle.hub_core.proofs.Reached.{by_events, Turned, turned}
+use Rattle.hub_core.proofs.Reached.Turned.{Ignores, Takes}
+use Rattle.hub_core.proofs.Honesty.{IsSentWell, sent_start, sent_submit, sent_ignore, sent_take, SendsMore, arrived_sends, arrived_events, honest_before, few, length-inputs_of}
+use Rattle.hub_core.proofs.Honesty.SendsMore.{Nothing_more, One_more}
+use Rattle.hub_core.proofs.Honest.{HonestFor, IsIdle, IsAtWork, honest_start, honest_submit}
+use Rattle.hub_core.proofs.EachStage.{honest_arrive}
+use Rattle.hub_core.proofs.Lawful.{AreAtMost, between_at_most, IsAnsweredCall}
+use Rattle.hub_core.proofs.Lists.{get_below, get_push_last, get_take}
+use Rattle.hub_core.proofs.Places.{arrivals_push}
+use Rattle.hub_core.proofs.Served.{outputs_as_many}
+use Rattle.brick_node.specs.Machine.{outputs_of}
+
+-- ---- every call that was answered has one reply
+
+abbrev answered_of : HubState → Option Working → ℕ
+answered_of s None = s.submitted
+answered_of s (Some w) = w.call - 1
+
+abbrev IsReplied : HubState → Type 0
+IsReplied s = (number : ℕ) → 0 < number → number ≤ answered_of s s.working → replies_to number s.log.replies ≡ 1
+
+replies_push : (number : ℕ) (replies : List ReplyLine) (reply : ReplyLine) → replies_to number (replies ++ reply ∷ []) ≡ replies_to number replies + cond (reply.call == number) 1 0
+replies_push number [] reply = omega arith
+replies_push number (r ∷ replies) reply =
+    let rest : replies_to number (replies ++ reply ∷ []) ≡ replies_to number replies + cond (reply.call == number) 1 0 = replies_push number replies reply in omega arith
+
+none_to : (number : ℕ) (replies : List ReplyLine) → ((k : ℕ) (reply : ReplyLine) → slice_get replies k ≡ Some reply → reply.call < number) → replies_to number replies ≡ 0
+none_to number [] below = refl
+none_to number (r ∷ replies) below =
+    let first : r.call < number = below 0 r refl in
+    let rest : replies_to number replies ≡ 0 = none_to number replies (λ k reply h. below (suc k) reply h) in
+    grind (arith, nat_tests)
+
+replied_take : (s : HubState) (output : Output) (w : Working) (line : CallLine) (follows : Next) → WorkIsCounted s w → s.working ≡ Some w → IsReplied s → IsReplied (taken_up s output w line (Some follows))
+replied_take s output w line (next.Ask request stage places) c at_work h number from_one le = h number from_one (rw at_work le)
+replied_take s output w line (next.Reply places answer enters) c at_work h number from_one le =
+    cases enters (number == w.call) refl
+  where
+    up_to : number ≤ w.call
+    up_to = bound enters le
+      where
+        bound : (b : Bool) → number ≤ answered_of (taken_up s output w line (Some (next.Reply places answer b))) None → number ≤ w.call
+        bound true x = omega (arith, c.number, x)
+        bound false x = omega (arith, c.number, x)
+    old_one : (number ≡ w.call → ⊥) → replies_to number s.log.replies ≡ 1
+    old_one differ = h number from_one (rw at_work (omega (arith, up_to, differ)))
+    all : (b : Bool) (t : Bool) → (number == w.call) ≡ t → replies_to number (s.log.replies ++ (record { event = length s.log.events + 1; call = w.call; session = line.session; line = line.line; places = places; answer = answer }) ∷ []) ≡ 1
+    all b true is =
+        let same : number ≡ w.call = eqb-true number w.call is in
+        let none : replies_to number s.log.replies ≡ 0 = rw same (none_to w.call s.log.replies c.no_reply) in
+        replies_push number s.log.replies _ ∙ (let test : (w.call == number) ≡ true = eq-eqb w.call number (sym same) in rw (none, test) refl)
+    all b false is =
+        let differ : number ≡ w.call → ⊥ = λ e. (let yes : (number == w.call) ≡ true = eq-eqb number w.call e in absurd cc) in
+        let one : replies_to number s.log.replies ≡ 1 = old_one differ in
+        replies_push number s.log.replies _ ∙ tested (w.call == number) refl one differ
+      where
+        tested : (t : Bool) → (w.call == number) ≡ t → replies_to number s.log.replies ≡ 1 → (number ≡ w.call → ⊥) → replies_to number s.log.replies + cond t 1 0 ≡ 1
+        tested true e one differ = absurd (differ (sym (eqb-true w.call number e)))
+        tested false e one differ = omega (arith, one)
+    cases : (b : Bool) (t : Bool) → (number == w.call) ≡ t → replies_to number (taken_up s output w line (Some (next.Reply places answer b))).log.replies ≡ 1
+    cases true t is = all true t is
+    cases false t is = all false t is
+
+-- ---- all that is kept
+
+record IsKept (s : HubState) : Type 0 where
+  pub counted : IsCounted s
+  pub timed : IsTimed s
+  pub wound : IsWound s
+  pub sent : IsSentWell s
+  pub replied : IsReplied s
+  pub honest : HaveOneName s.calls → HasHonestArrivals s.log → HonestFor s s.working
+
+kept_start : (calls : List CallLine) → IsKept (start_of calls)
+kept_start calls = record {
+    counted = counted_start calls; timed = timed_start calls; wound = wound_start calls; sent = sent_start calls;
+    replied = λ number from_one le. absurd (omega arith);
+    honest = λ one honest. honest_start calls }
+
+kept_submit : (s : HubState) (line : CallLine) → IsKept s → s.working ≡ None → slice_get s.calls s.submitted ≡ Some line → IsKept (submit_call s line)
+kept_submit s line k idle there = record {
+    counted = counted_submit s line k.counted idle there;
+    timed = timed_submit s line k.counted k.timed;
+    wound = wound_submit s line k.wound idle;
+    sent = sent_submit s line k.sent;
+    replied = λ number from_one le. k.replied number from_one (rw idle (omega arith));
+    honest = λ one honest.
+      honest_submit s line k.sent one there
+        (subst (HonestFor s) idle
+          (k.honest one (honest_before s (submit_call s line) (Submit line.session line.line) refl (One_more _ _ refl) k.sent honest))) }
+
+reply_bounds : (s : HubState) → IsCounted s → IsTimed s → (w : Working) → WorkIsCounted s w → (k : ℕ) (reply : ReplyLine) → slice_get s.log.replies k ≡ Some reply →
+    (reply.call < w.call) × AreAtMost reply.places (length s.log.history)
+reply_bounds s c t w work k reply h =
+    (work.no_reply k reply h,
+     between_at_most reply.places _ (length_at_reply s.log reply.event) (length s.log.history) (t.replies k reply h)
+       (omega (arith, count_within (reply.event + 1) s.log.entered, c.as_many)))
+  where
+    count_within : (bound : ℕ) (numbers : List ℕ) → count_below bound numbers ≤ length numbers
+    count_within bound [] = omega arith
+    count_within bound (n ∷ numbers) =
+        let rest : count_below bound numbers ≤ length numbers = count_within bound numbers in
+        elim (nat_lt n bound) as (λ (b : Bool). cond b 1 0 + count_below bound numbers ≤ length (n ∷ numbers)) [ true ↦ omega arith | false ↦ omega arith ]
+
+kept_turned : (s : HubState) (output : Output) (t : HubState) → IsKept s → Turned s output t → (HaveOneName t.calls → HasHonestArrivals t.log → HonestFor t t.working) → IsKept t
+kept_turned s output t k (Ignores _ is) honest = subst IsKept (sym is) (record {
+    counted = counted_ignore s output k.counted; timed = timed_ignore s output k.counted k.timed; wound = k.wound; sent = sent_ignore s output k.sent;
+    replied = k.replied; honest = subst (λ (x : HubState). HaveOneName x.calls → HasHonestArrivals x.log → HonestFor x x.working) is honest })
+kept_turned s output t k (Takes _ w line follows arm at_work there next_is is) honest = subst IsKept (sym is) (record {
+    counted = counted_take s output w line follows k.counted at_work there;
+    timed = timed_take s output w line follows k.counted k.timed at_work (places_follow w.stage line.call w.drawn w.places (length s.log.history) arm follows next_is);
+    wound = wound_take s output w line follows k.wound at_work;
+    sent = sent_take s output w line follows k.sent;
+    replied = replied_take s output w line follows (subst (WhereWorking (WorkIsCounted s)) at_work k.counted.work) at_work k.replied;
+    honest = subst (λ (x : HubState). HaveOneName x.calls → HasHonestArrivals x.log → HonestFor x x.working) is honest })
+
+-- an idle hub has nothing to wait for, so nothing honest arrives
+idle_arrive : (s : HubState) (output : Output) → IsSentWell s → IsIdle s → HasHonestArrivals (arrived s output).log → s.working ≡ None → HonestFor (arrived s output) (arrived s output).working
+idle_arrive s output well idle honest none =
+    let same : arrived s output ≡ ignored s output = rw none refl in
+    let h : HasHonestArrivals (ignored s output).log = subst (λ (x : HubState). HasHonestArrivals x.log) same honest in
+    let arr : List Output = arrivals_of s.log.events in
+    let arrivals : arrivals_of (s.log.events ++ Arrive 0 output ∷ []) ≡ arr ++ output ∷ [] = arrivals_push s.log.events (Arrive 0 output ∷ []) in
+    let here : slice_get (arrivals_of (s.log.events ++ Arrive 0 output ∷ [])) (length arr) ≡ Some output = rw arrivals (get_push_last arr output) in
+    let below : length arr < length (arrivals_of (s.log.events ++ Arrive 0 output ∷ [])) = get_below _ _ output here in
+    let due : slice_get (outputs_of (inputs_of s.log.sent)) (length arr) ≡ Some output =
+          sym (get_take (outputs_of (inputs_of s.log.sent)) (length (arrivals_of (s.log.events ++ Arrive 0 output ∷ []))) (length arr) below)
+          ∙ ap (λ (x : List Output). slice_get x (length arr)) (sym h.front) ∙ here in
+    let within : length arr < length (outputs_of (inputs_of s.log.sent)) = get_below _ _ output due in
+    let many : length (outputs_of (inputs_of s.log.sent)) ≡ length (inputs_of s.log.sent) = outputs_as_many (inputs_of s.log.sent) well.requests in
+    let all : length arr ≡ length (inputs_of s.log.sent) = idle.so_far.as_many in
+    absurd (omega arith)
+
+kept_arrive : (s : HubState) (output : Output) → IsKept s → IsKept (arrived s output)
+kept_arrive s output k = kept_turned s output (arrived s output) k (turned s output) honest
+  where
+    calls_same : (t : HubState) → Turned s output t → t.calls ≡ s.calls
+    calls_same t (Ignores _ is) = ap (λ (x : HubState). x.calls) is
+    calls_same t (Takes _ w line follows arm at_work there next_is is) = ap (λ (x : HubState). x.calls) is
+    honest : HaveOneName (arrived s output).calls → HasHonestArrivals (arrived s output).log → HonestFor (arrived s output) (arrived s output).working
+    honest one h =
+        let names : HaveOneName s.calls = subst HaveOneName (calls_same (arrived s output) (turned s output)) one in
+        let before : HasHonestArrivals s.log = honest_before s (arrived s output) (Arrive 0 output) (arrived_events s output) (arrived_sends s output) k.sent h in
+        by_work s.working refl (k.honest names before)
+      where
+        by_work : (v : Option Working) → s.working ≡ v → HonestFor s v → HonestFor (arrived s output) (arrived s output).working
+        by_work None is f = idle_arrive s output k.sent f h is
+        by_work (Some w) is f =
+            let work : WorkIsCounted s w = subst (WhereWorking (WorkIsCounted s)) is k.counted.work in
+            honest_arrive s output w f is k.sent work (reply_bounds s k.counted k.timed w work) h
+
+kept : (s : HubState) → IsReached s → IsKept s
+kept = by_events IsKept kept_start kept_submit kept_arrive
+
+-- ---- the laws
+
+so_far_of : (s : HubState) → (v : Option Working) → HonestFor s v → IsLegalHistory (calls_of s.calls) s.log.history × ((k : ℕ) (reply : ReplyLine) → slice_get s.log.replies k ≡ Some reply → IsAnsweredCall (calls_of s.calls) s.log.history reply.call reply.places reply.answer) × IsBackedByBrick s.calls s.log.history (inputs_of s.log.sent) (arrivals_of s.log.events)
+so_far_of s None h = (h.so_far.legal, h.so_far.replies, h.so_far.backed)
+so_far_of s (Some w) h = (h.so_far.legal, h.so_far.replies, h.so_far.backed)
+
+winds_of : (s : HubState) (v : Option Working) → WindsKept s.log.winds (length s.log.sent) v → WindsAreOnce s.log.winds
+winds_of s None h = h.once
+winds_of s (Some w) h = h.once
+
+pub law : HonestLogsAreLawful
+law s reached one honest =
+    let k : IsKept s = kept s reached in
+    let f = so_far_of s s.working (k.honest one honest) in
+    record {
+      follows = record { submitted = k.counted.submits ∙ ap (λ (n : ℕ). take n (places_of s.calls)) (sym (submits_length s k.counted)) };
+      legal = f.0;
+      lawful = λ i reply h. (let own : IsOwnReply s reply = k.counted.replies i reply h in let a = f.1 i reply h in record {
+        lawful = record { call = a.call; numbered = own.from_one; asked = a.asked; between = k.timed.replies i reply h; answered = a.answered };
+        own_line = own.own_line });
+      winds = winds_of s s.working k.wound;
+      backed = f.2 }
+
+pub whole : EndedLogsAreWhole
+whole s reached one honest idle all =
+    let k : IsKept s = kept s reached in
+    let f : IsIdle s = subst (HonestFor s) idle (k.honest one honest) in
+    let ended : AllEnded s.log.winds (length s.log.sent) = subst (WindsKept s.log.winds (length s.log.sent)) idle k.wound in
+    record {
+      finished = record {
+        submitted = submits_length s k.counted ∙ all;
+        replied = λ number from_one le. k.replied number from_one (rw idle (rw all le));
+        arrived = f.so_far.as_many ∙ length-inputs_of s.log.sent };
+      balanced = record { once = ended.once; all_ended = ended.ended } }

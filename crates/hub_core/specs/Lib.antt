@@ -1,0 +1,6 @@
+pub mod Bounds
+pub mod Follows
+pub mod Journal
+pub mod Kept
+pub mod Laws
+pub mod Turns

@@ -1,0 +1,6 @@
+use Rattle.std.proofs.Common.{◌≡◌, ◌++◌, take, flat_map}
+use Rattle.report_text.specs.AnswerText.{brick_text}
+use Rattle.report_text.proofs.text.Text.lost.Given as goal
+
+abbrev pub invariant-loop-brick : goal.invariant-loop-brick
+invariant-loop-brick l = l.self ≡ l.initial.self ++ flat_map brick_text (take l.brick-index l.lost)
