@@ -1,0 +1,5 @@
+pub mod Keys
+pub mod Putting
+pub mod Numbers
+pub mod Reading
+pub mod Dropping

@@ -1,0 +1,12 @@
+/// How soon a task is to be taken: every waiting task of a higher priority goes first.
+#[derive(Debug, Clone, Copy, PartialEq, Eq)]
+pub enum Priority {
+    /// Lookups and calls that only read what an object is.
+    High,
+    /// Changes of names and attributes.
+    Normal,
+    /// Reads and writes of data.
+    Low,
+    /// Background work, as heal.
+    Least,
+}
