@@ -1,17 +1,16 @@
 -- What the grammar of the first form keeps: few calls, on lines that stand one after the other, each with
 -- one short name and a mode of nine bits.
-use Rattle.std.proofs.Common.{◌≡◌, ℕ, zero, suc, ◌+◌, ◌-◌, ◌<◌, ◌≤◌, ◌⊎◌, inl, inr, leb, Bool, true, false, ◌&&◌, ◌==◌, codes, slice_index_or, not, cond, List, [], ◌∷◌, ◌++◌, length, take, drop, Option, Some, None, Result, Ok, Err, refl, sym, ap, subst, ◌∙◌, arith}
+use Rattle.std.proofs.Common.{◌≡◌, ℕ, ◌+◌, ◌-◌, ◌≤◌, ◌⊎◌, inl, inr, leb, Bool, true, false, ◌&&◌, ◌==◌, codes, slice_index_or, not, cond, List, [], ◌∷◌, ◌++◌, length, take, drop, Option, Some, None, Result, Ok, Err, refl, sym, ap, subst, ◌∙◌, arith}
 use Rattle.std.proofs.lemmas.Bool.{le-leb, leb-true, leb-false, lt-leb}
 use Rattle.std.proofs.lemmas.Option.{same_Some, cond_some}
 use Rattle.std.specs.Cmp.{first_so, second_so}
 use Rattle.std.specs.List.{list_all, starts_with}
 use Rattle.std.specs.Option.{option_map}
-use Rattle.fop_types.specs.declared.calls.Path.{Path}
 use Rattle.fop_types.specs.declared.calls.Call.{Call}
-use Rattle.fop_types.specs.declared.calls.Call.TheVariants.{Mkdir, Stat}
+use Rattle.fop_types.specs.declared.calls.Call.TheVariants.{Stat}
 use Rattle.script_lang.specs.declared.scripts.CallLine.{CallLine}
 use Rattle.script_lang.specs.FirstForm.{HasOneName, IsFirstCall, IsFirstCallLine, AreCallLines, IsFirstForm}
-use Rattle.script_lang.specs.ScriptText.{component, is_component, is_name, is_name_byte, is_dots, is_octal, is_text, fixed_lines, mode_of, front_len, nine_bits, octal_after, mkdir_with, mkdir_of, stat_of, call_of, line_at, with_front, followed_by, lines, parsed_from, parsed}
+use Rattle.script_lang.specs.ScriptText.{component, is_component, is_name, is_name_byte, is_dots, is_octal, is_text, fixed_lines, mode_of, front_len, nine_bits, octal_after, mkdir_with, mkdir_of, stat_of, call_of, line_at, followed_by, lines, parsed_from, parsed}
 
 component_short : (bs name : List ℕ) → component bs ≡ Some name → HasOneName (record { parts = name ∷ [] })
 component_short bs name e =

@@ -26,3 +26,6 @@ mod scripts;
 pub use errors::{ScriptError, ScriptKind};
 pub use parses::parse;
 pub use scripts::{CallLine, Script};
+
+#[cfg(test)]
+mod tests;

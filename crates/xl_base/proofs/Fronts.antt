@@ -1,21 +1,12 @@
 -- What several reads or writes, one after the other, did to the bytes that a source or sink tells.
-use Rattle.std.proofs.Common.{◌≡◌, ℕ, zero, suc, ◌+◌, ◌<◌, ◌≤◌, List, [], ◌∷◌, ◌++◌, zero-le, take_all, drop-drop, None, Some, IfSome, sym, ap, ◌∙◌, subst, append-nil, length, length-append, take, drop, length-take, length-drop, ◌-◌, take-append-drop, arith}
+use Rattle.std.proofs.Common.{◌≡◌, ℕ, zero, suc, ◌+◌, ◌<◌, ◌≤◌, List, [], ◌∷◌, ◌++◌, zero-le, take_all, drop-drop, None, Some, IfSome, sym, ap, ◌∙◌, subst, length, length-append, take, drop, length-take, length-drop, ◌-◌, take-append-drop, arith}
 use Rattle.std.proofs.lemmas.List.{take_rest}
 use Rattle.std.specs.declared.option.Option.{Option}
-use Rattle.std.specs.Io.KnownBytes.{Appends, Consumes, IsAtEnd}
+use Rattle.std.specs.Io.KnownBytes.{Appends, Consumes}
 use Rattle.std.proofs.KnownBytes.{Appends-trans, Consumes-trans}
 
 pub consumed_more : (a b c : Option (List ℕ)) (bs cs : List ℕ) → Consumes a b bs → Consumes b c cs → Consumes a c (bs ++ cs)
 consumed_more = Consumes-trans
-
--- a source at its end gave all that it had
-pub all_read : (a b c : Option (List ℕ)) (bs piece : List ℕ) (n : ℕ) → n ≡ 0 → Consumes a b bs → Consumes b c (take n piece) → IsAtEnd c → IfSome a (λ xs. bs ≡ xs)
-all_read None b c bs piece n none p q end = tt
-all_read (Some x) None c bs piece n none p q end = absurd p
-all_read (Some x) (Some y) None bs piece n none p q end = absurd q
-all_read (Some x) (Some y) (Some z) bs piece n none p q end =
-    let empty : y ≡ [] = q ∙ ap (λ k. take k piece ++ z) none ∙ end in
-    sym (p ∙ ap (λ l. bs ++ l) empty ∙ append-nil bs)
 
 -- more came than the limit
 pub too_many : (a b c : Option (List ℕ)) (bs piece : List ℕ) (n limit : ℕ) → limit < length bs + n → n ≤ length piece → Consumes a b bs → Consumes b c (take n piece) → IfSome a (λ xs. limit < length xs)

@@ -1,4 +1,3 @@
-pub mod Counts
 pub mod Fronts
 pub mod Numbers
 pub mod Pairs

@@ -1,4 +1,4 @@
-use Rattle.std.proofs.Common.{◌≡◌, ◌≤◌, drop, ℕ}
+use Rattle.std.proofs.Common.{◌≡◌, ◌≤◌, drop}
 use Rattle.script_lang.specs.ScriptText.{octal_after}
 use Rattle.script_lang.proofs.numbers.octal.Given as goal
 

@@ -1,4 +1,4 @@
-use Rattle.std.proofs.Common.{◌≡◌, ◌≤◌, ◌+◌, ◌-◌, length, drop, ℕ}
+use Rattle.std.proofs.Common.{◌≡◌, ◌≤◌, ◌+◌, ◌-◌, length, drop}
 use Rattle.script_lang.specs.ScriptText.{lines, parsed, parsed_from, with_front}
 use Rattle.script_lang.proofs.parses.parse.Given as goal
 
