@@ -1,10 +1,15 @@
-use crate::{Report, ReportAnswer, ReportCall, ReportGraph, print};
+use crate::{Report, ReportAnswer, ReportCall, ReportGraph, ReportIo, ReportRow, print};
 use fop_types::{AppError, Aspect, Cell, Gfid, Kind, Seq, SkipCause};
 use std::alloc::{AllocError, Global};
+use std::process::Abort;
 use std::test::Fail;
 
 fn named(alloc: Global, name: &str) -> Result<Seq<u8>, AllocError> {
     Seq::from_bytes(alloc, name.as_bytes())
+}
+
+fn numbers(alloc: Global, numbers: &[u32]) -> Result<Seq<u32>, AllocError> {
+    Ok(Seq::from_vec(Vec::from_slice(alloc, numbers)?))
 }
 
 fn call(
@@ -14,51 +19,52 @@ fn call(
     places: &[u32],
     answer: ReportAnswer,
 ) -> Result<ReportCall, AllocError> {
+    let session = named(alloc, "s")?;
+    let places = numbers(alloc, places)?;
     Ok(ReportCall {
         call,
-        session: named(alloc, "s")?,
+        session,
         line,
-        places: Seq::from_vec(Vec::from_slice(alloc, places)?),
+        places,
         answer,
     })
 }
 
-fn graph(
-    alloc: Global,
-    graph: u32,
-    name: &str,
-    opened: u32,
-    ended: u32,
-) -> Result<ReportGraph, AllocError> {
-    Ok(ReportGraph {
-        graph,
-        name: named(alloc, name)?,
-        opened,
+fn first_calls(alloc: Global) -> Result<Seq<ReportCall>, AllocError> {
+    let stat = ReportAnswer::Stat {
+        kind: Kind::Dir,
+        mode: 0o755,
+        size: 0,
+    };
+    let mut calls = Vec::new(alloc);
+    calls.push(call(alloc, 1, 11, &[1], ReportAnswer::Done)?)?;
+    calls.push(call(alloc, 2, 12, &[1, 1], stat)?)?;
+    calls.push(call(alloc, 3, 13, &[1], ReportAnswer::App(AppError::Eexist))?)?;
+    calls.push(call(alloc, 4, 14, &[1], ReportAnswer::App(AppError::Enoent))?)?;
+    Ok(Seq::from_vec(calls))
+}
+
+fn one_graph(alloc: Global, ended: u32) -> Result<Seq<ReportGraph>, AllocError> {
+    let mut graphs = Vec::new(alloc);
+    graphs.push(ReportGraph {
+        graph: 1,
+        name: named(alloc, "g")?,
+        opened: 40,
         ended,
-    })
+    })?;
+    Ok(Seq::from_vec(graphs))
 }
 
 /// Two calls that make and look at a directory, one that finds it there and one that finds nothing.
 #[test]
 fn basic(rt: HostRuntime) -> Result<(), Fail> {
     let alloc = rt.alloc();
-    let stat = ReportAnswer::Stat {
-        kind: Kind::Dir,
-        mode: 0o755,
-        size: 0,
-    };
-    let calls = vec![in alloc;
-        call(alloc, 1, 11, &[1], ReportAnswer::Done)?,
-        call(alloc, 2, 12, &[1, 1], stat)?,
-        call(alloc, 3, 13, &[1], ReportAnswer::App(AppError::Eexist))?,
-        call(alloc, 4, 14, &[1], ReportAnswer::App(AppError::Enoent))?,
-    ]?;
     let report = Report {
-        calls: Seq::from_vec(calls),
-        history: Seq::from_vec(vec![in alloc; (1, 1)]?),
+        calls: first_calls(alloc)?,
+        history: Seq::from_vec(Vec::from_slice(alloc, &[(1, 1)])?),
         heals: Seq::new(alloc),
         skips: Seq::new(alloc),
-        graphs: Seq::from_vec(vec![in alloc; graph(alloc, 1, "g", 40, 40)?]?),
+        graphs: one_graph(alloc, 40)?,
     };
     let text = print(alloc, &report)?;
     let want = b"report 1\n\
@@ -74,14 +80,10 @@ fn basic(rt: HostRuntime) -> Result<(), Fail> {
     Ok(())
 }
 
-const FILE: Cell = Cell {
-    gfid: Gfid { hi: 0, lo: 2 },
-    aspect: Aspect::Data,
-};
-
-/// A report of one call, which has the answer, and of nothing else.
-fn answered(alloc: Global, places: &[u32], answer: ReportAnswer) -> Result<Vec<u8>, AllocError> {
-    let calls = vec![in alloc; call(alloc, 1, 20, places, answer)?]?;
+/// The text of a report with one call, which has the answer and the places 2 and 10.
+fn answered(alloc: Global, answer: ReportAnswer) -> Result<Vec<u8>, AllocError> {
+    let mut calls = Vec::new(alloc);
+    calls.push(call(alloc, 1, 11, &[2, 10], answer)?)?;
     let report = Report {
         calls: Seq::from_vec(calls),
         history: Seq::new(alloc),
@@ -92,78 +94,192 @@ fn answered(alloc: Global, places: &[u32], answer: ReportAnswer) -> Result<Vec<u
     print(alloc, &report)
 }
 
-/// Each form of an answer that is no error.
+/// Stops the test where the answer's words are others.
+fn shows(
+    rt: &impl Abort,
+    alloc: Global,
+    answer: ReportAnswer,
+    words: &str,
+) -> Result<(), AllocError> {
+    let text = answered(alloc, answer)?;
+    let mut want = Vec::from_slice(alloc, b"report 1\ncall 1 session s line 11 places 2,10 ")?;
+    want.extend_from_slice(words.as_bytes())?;
+    want.extend_from_slice(b"\nhistory 0\nend\n")?;
+    assert_eq!(rt; text.as_slice(), want.as_slice());
+    Ok(())
+}
+
+fn listed(alloc: Global) -> Result<ReportAnswer, AllocError> {
+    let mut items = Vec::new(alloc);
+    items.push((named(alloc, "a")?, Kind::File))?;
+    items.push((named(alloc, "d.1")?, Kind::Dir))?;
+    Ok(ReportAnswer::List(Seq::from_vec(items)))
+}
+
+/// Each form of an answer that is no error, and the longest names of errors.
 #[test]
 fn answers(rt: HostRuntime) -> Result<(), Fail> {
     let alloc = rt.alloc();
-    let bytes = Seq::from_vec(vec![in alloc; 0x00, 0x0A, 0xF9, 0xFF]?);
-    let items = vec![in alloc;
-        (named(alloc, "a")?, Kind::File),
-        (named(alloc, "d.1")?, Kind::Dir),
-    ]?;
+    let bytes = Seq::from_bytes(alloc, &[0x00, 0x0A, 0xF9, 0xFF])?;
+    shows(&rt, alloc, ReportAnswer::Bytes(bytes), "ok x:000af9ff")?;
+    shows(&rt, alloc, ReportAnswer::Bytes(Seq::new(alloc)), "ok x:")?;
+    shows(&rt, alloc, ReportAnswer::Count(65536), "ok 65536")?;
+    shows(&rt, alloc, ReportAnswer::Count(0), "ok 0")?;
     let bare = ReportAnswer::Stat {
         kind: Kind::File,
         mode: 0,
         size: 4294967295,
     };
-    let cases = vec![in alloc;
-        (ReportAnswer::Count(65536), b"ok 65536".as_slice()),
-        (ReportAnswer::Count(0), b"ok 0".as_slice()),
-        (ReportAnswer::Bytes(bytes), b"ok x:000af9ff".as_slice()),
-        (ReportAnswer::Bytes(Seq::new(alloc)), b"ok x:".as_slice()),
-        (bare, b"ok file 0 4294967295".as_slice()),
-        (
-            ReportAnswer::List(Seq::from_vec(items)),
-            b"ok 2 a/file d.1/dir".as_slice()
-        ),
-        (
-            ReportAnswer::App(AppError::Enametoolong),
-            b"error 36 ENAMETOOLONG".as_slice()
-        ),
-        (
-            ReportAnswer::App(AppError::Eopnotsupp),
-            b"error 95 EOPNOTSUPP".as_slice()
-        ),
-    ]?;
-    for (answer, words) in cases {
-        let text = answered(alloc, &[], answer)?;
-        let mut want = Vec::from_slice(alloc, b"report 1\ncall 1 session s line 20 places - ")?;
-        want.extend_from_slice(words)?;
-        want.extend_from_slice(b"\nhistory 0\nend\n")?;
-        assert_eq!(rt; text.as_slice(), want.as_slice());
-    }
+    shows(&rt, alloc, bare, "ok file 0 4294967295")?;
+    shows(&rt, alloc, listed(alloc)?, "ok 2 a/file d.1/dir")?;
+    shows(
+        &rt,
+        alloc,
+        ReportAnswer::App(AppError::Enametoolong),
+        "error 36 ENAMETOOLONG",
+    )?;
+    shows(
+        &rt,
+        alloc,
+        ReportAnswer::App(AppError::Eopnotsupp),
+        "error 95 EOPNOTSUPP",
+    )?;
     Ok(())
+}
+
+const FILE: Cell = Cell {
+    gfid: Gfid { hi: 0, lo: 2 },
+    aspect: Aspect::Data,
+};
+
+fn lost(alloc: Global) -> Result<Seq<(Seq<u8>, u32)>, AllocError> {
+    let mut bricks = Vec::new(alloc);
+    bricks.push((named(alloc, "b1")?, 1))?;
+    bricks.push((named(alloc, "b2")?, 0))?;
+    Ok(Seq::from_vec(bricks))
+}
+
+fn failed(alloc: Global) -> Result<Seq<(Seq<u8>, u64)>, AllocError> {
+    let mut bricks = Vec::new(alloc);
+    bricks.push((named(alloc, "b0")?, 5))?;
+    Ok(Seq::from_vec(bricks))
+}
+
+fn row(
+    alloc: Global,
+    brick: &str,
+    present: bool,
+    pending: &[u32],
+    last: u64,
+) -> Result<ReportRow, AllocError> {
+    let brick = named(alloc, brick)?;
+    let pending = numbers(alloc, pending)?;
+    Ok(ReportRow {
+        cell: FILE,
+        brick,
+        present,
+        dirty: 7,
+        pending,
+        last,
+    })
+}
+
+fn quorum(alloc: Global) -> Result<ReportAnswer, AllocError> {
+    let set = named(alloc, "v-replicate-0")?;
+    Ok(ReportAnswer::Io(ReportIo::Quorum {
+        set,
+        lost: lost(alloc)?,
+    }))
+}
+
+fn split(alloc: Global) -> Result<ReportAnswer, AllocError> {
+    let mut rows = Vec::new(alloc);
+    rows.push(row(alloc, "b1", true, &[0, 0, 1], 3)?)?;
+    rows.push(row(alloc, "b2", false, &[0, 1, 0], 18446744073709551615)?)?;
+    let set = named(alloc, "r")?;
+    Ok(ReportAnswer::Io(ReportIo::Split {
+        set,
+        rows: Seq::from_vec(rows),
+    }))
+}
+
+fn fault(alloc: Global, lost: Seq<(Seq<u8>, u32)>) -> Result<ReportAnswer, AllocError> {
+    let set = named(alloc, "c0")?;
+    Ok(ReportAnswer::Io(ReportIo::Fault {
+        set,
+        faults: failed(alloc)?,
+        lost,
+    }))
+}
+
+/// Each form of an I/O error.
+#[test]
+fn faults(rt: HostRuntime) -> Result<(), Fail> {
+    let alloc = rt.alloc();
+    shows(
+        &rt,
+        alloc,
+        quorum(alloc)?,
+        "error 107 ENOTCONN quorum v-replicate-0 lost b1:1 b2:0",
+    )?;
+    shows(
+        &rt,
+        alloc,
+        split(alloc)?,
+        "error 5 EIO split r row 00000000000000000000000000000002/data b1 1 7 0,0,1 3 row 00000000000000000000000000000002/data b2 0 7 0,1,0 18446744073709551615",
+    )?;
+    shows(
+        &rt,
+        alloc,
+        fault(alloc, Seq::new(alloc))?,
+        "error 5 EIO fault c0 fault b0:5",
+    )?;
+    shows(
+        &rt,
+        alloc,
+        fault(alloc, lost(alloc)?)?,
+        "error 5 EIO fault c0 fault b0:5 lost b1:1 b2:0",
+    )?;
+    Ok(())
+}
+
+fn copies(alloc: Global) -> Result<Seq<(Cell, Seq<u8>, Seq<u8>)>, AllocError> {
+    let gfid = Gfid {
+        hi: 0x0123456789ABCDEF,
+        lo: 0x00000000FEDCBA98,
+    };
+    let mut copies = Vec::new(alloc);
+    let from = named(alloc, "b1")?;
+    copies.push((
+        Cell {
+            gfid,
+            aspect: Aspect::Meta,
+        },
+        from,
+        named(alloc, "b2")?,
+    ))?;
+    Ok(Seq::from_vec(copies))
 }
 
 /// Copies, skips, a graph with an open wind, and gfids whose digits are all there.
 #[test]
 fn heals(rt: HostRuntime) -> Result<(), Fail> {
     let alloc = rt.alloc();
-    let gfid = Gfid {
-        hi: 0x0123456789ABCDEF,
-        lo: 0x00000000FEDCBA98,
-    };
-    let meta = Cell {
-        gfid,
-        aspect: Aspect::Meta,
-    };
-    let entry = Cell {
+    let root = Cell {
         gfid: Gfid { hi: 0, lo: 1 },
         aspect: Aspect::Entry,
     };
+    let skips = [
+        (FILE, SkipCause::Majority),
+        (root, SkipCause::Unsettled),
+        (root, SkipCause::Split),
+    ];
     let report = Report {
         calls: Seq::new(alloc),
-        history: Seq::from_vec(vec![in alloc; (3, 1), (12, 2)]?),
-        heals: Seq::from_vec(vec![in alloc; (meta, named(alloc, "b1")?, named(alloc, "b2")?)]?),
-        skips: Seq::from_vec(vec![in alloc;
-            (FILE, SkipCause::Majority),
-            (entry, SkipCause::Unsettled),
-            (entry, SkipCause::Split),
-        ]?),
-        graphs: Seq::from_vec(vec![in alloc;
-            graph(alloc, 1, "g", 40, 40)?,
-            graph(alloc, 2, "h", 9, 8)?,
-        ]?),
+        history: Seq::from_vec(Vec::from_slice(alloc, &[(3, 1), (12, 2)])?),
+        heals: copies(alloc)?,
+        skips: Seq::from_vec(Vec::from_slice(alloc, &skips)?),
+        graphs: one_graph(alloc, 39)?,
     };
     let text = print(alloc, &report)?;
     let want = b"report 1\n\
@@ -174,8 +290,7 @@ fn heals(rt: HostRuntime) -> Result<(), Fail> {
         skip 00000000000000000000000000000002/data majority\n\
         skip 00000000000000000000000000000001/entry unsettled\n\
         skip 00000000000000000000000000000001/entry split\n\
-        graph 1 g winds 40 ended 40 drained\n\
-        graph 2 h winds 9 ended 8 open\n\
+        graph 1 g winds 40 ended 39 open\n\
         end\n";
     assert_eq!(rt; text.as_slice(), want.as_slice());
     Ok(())
