@@ -1,4 +1,4 @@
-use Rattle.world_core.proofs.Steps.{reached_submit, arrived_same, submit_at, did_submit}
+use Rattle.world_core.proofs.Steps.{reached_submit, arrived_same}
 use Rattle.world_core.proofs.worlds.World.submit.Goals as goal
 
 pub invariant_of-self-2 : goal.invariant_of-self-2
@@ -8,9 +8,3 @@ invariant_of-self-2 c = (
   c.self.invariant.2,
   c.self.invariant.3,
 )
-
-pub returns-in_ok-did-clause-did : goal.returns-in_ok-did-clause-did
-returns-in_ok-did-clause-did c = did_submit c.args.self.now c.args.session c.in_ok-did.did c.self.view_is c.in_ok-did.ensures.did
-
-pub returns-in_ok-did-clause-ok : goal.returns-in_ok-did-clause-ok
-returns-in_ok-did-clause-ok c = submit_at c.args.self.now c.args.session c.submit.new.self c.self.view_is c.in_ok-did.ensures.ok
