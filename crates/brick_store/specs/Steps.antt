@@ -52,11 +52,6 @@ abbrev pub with_earlier : Cells → Cell → Option Row → Cells
 with_earlier cells cell None = remove_entry (is_at (cell_cmp cell)) cells
 with_earlier cells cell (Some row) = set_value (is_at (cell_cmp cell)) cells (with_row (kept_at cells cell) row)
 
--- several steps taken back, the latest first
-abbrev pub all_back : List (Cell × Option Row) → Cells → Cells
-all_back [] cells = cells
-all_back (e ∷ es) cells = with_earlier (all_back es cells) e.0 e.1
-
 -- a directory's names with one more, under a change number
 abbrev pub named : Kept → Item → ℕ → Kept
 named kept item change = record { content = Some (Names false (with_item (items_of kept.content) item)); dirty = kept.dirty; last = change }

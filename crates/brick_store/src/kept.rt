@@ -2,12 +2,10 @@ ghost use Rattle.std.specs.Prelude.{◌≡◌, ◌≤◌, true, OnOk, OnErr, IfO
 ghost use Rattle.brick_store.specs.Cells.{nothing_kept, takes_name as is_free, birth_of};
 ghost use Rattle.brick_store.specs.Steps.{row_of, IsCounted, stepped, with_row as kept_with_row, named, unnamed};
 
-use std::alloc::AllocError;
-
-use afr_changelog::{lower, raise};
-use fop_types::{find_item, insert_new_item, Content, Item, Row};
-
 use crate::steps::{Count, Named, Step};
+use afr_changelog::{lower, raise};
+use fop_types::{Content, Item, Row, find_item, insert_new_item};
+use std::alloc::AllocError;
 
 /// What a brick keeps of a cell: its copy, where the cell is present; the count of marks that no post
 /// has lowered, at most 2147483647; and the number of the last change in the copy, 0 where none is.
@@ -102,10 +100,12 @@ impl Kept {
         ensures err { OnErr result (self.new ≡ self.old) }
     {
         match &mut self.content {
-            Some(Content::Names {
-                removed: false,
-                items,
-            }) => {
+            Some(
+                Content::Names {
+                    removed: false,
+                    items,
+                },
+            ) => {
                 let place = insert_new_item(items, item)?;
                 let last = self.last;
                 self.last = change;

@@ -19,8 +19,9 @@
 
 mod directory;
 mod kept;
+mod serves;
 mod steps;
-
+mod store;
 
 pub use kept::Kept;
-
+pub use store::Store;

@@ -1,4 +1,4 @@
 pub mod MapLemmas
+pub mod Names
 pub mod PathLemmas
 pub mod Places
-pub mod Names

@@ -126,6 +126,23 @@ impl Hub {
         }
     }
 
+    /// True exactly where the session may submit a call.
+    pub fn is_due(&self, session: u8) -> bool
+        ensures { result ≡ is_some (call_due self.now session) }
+    {
+        if session == 0 {
+            match &self.working {
+                Some(_) => false,
+                None => match line_at(&self.script.calls, self.submitted) {
+                    None => false,
+                    Some(_) => true,
+                },
+            }
+        } else {
+            false
+        }
+    }
+
     /// What follows a Done for the call at work.
     fn after_arm(&self, alloc: Global, w: &Working, arm: &DoneArm) -> Result<Option<Next>, AllocError>
         requires { self.now.working ≡ Some w.now }

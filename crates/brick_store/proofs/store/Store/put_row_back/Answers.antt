@@ -1,0 +1,27 @@
+use Rattle.std.proofs.Common.{◌≡◌, ◌∙◌, sym, ap, subst}
+use Rattle.brick_store.specs.declared.kept.Kept.{Kept}
+use Rattle.brick_store.specs.declared.store.Store.TheInside.{Inside}
+use Rattle.brick_store.specs.Steps.{with_row, IsCounted}
+use Rattle.brick_store.proofs.Places.{in_place, not_in_place, counted_in_place, counted_same}
+use Rattle.brick_store.proofs.store.Store.put_row_back.Goals.{in-Some, in-None}
+use Rattle.brick_store.proofs.store.Store.put_row_back.Goals as goal
+
+pub invariant_of-self : goal.invariant_of-self
+invariant_of-self c =
+    elim c.match-get_mut.branch [
+      | in-Some w ↦
+          counted_in_place _ _ c.args.cell.now _ c.self.invariant (ap (λ (i : Inside). i.cells.entries) w.self-inside-is ∙ (c.get_mut.follows.holds w.put_back.new.self).0)
+          (subst (λ (k : Kept). IsCounted k) (sym w.put_back.ensures) c.requires)
+      | in-None w ↦ counted_same _ _ c.self.invariant (ap (λ (i : Inside). i.cells.entries) w.self-inside-is ∙ ap (λ m. m.entries) c.get_mut.follows.holds-at-none)
+    ]
+
+pub returns : goal.returns
+returns c =
+    elim c.match-get_mut.branch [
+      | in-Some w ↦
+          in_place _ _ c.args.cell.now c.self.view_is (λ k. with_row k c.args.row) _ _ _ w.in-Some.ensures.value
+          (ap (λ (i : Inside). i.cells.entries) w.self-inside-is ∙ (c.get_mut.follows.holds w.put_back.new.self).0) w.put_back.ensures
+      | in-None w ↦
+          ap (λ (i : Inside). i.cells.entries) w.self-inside-is ∙ ap (λ m. m.entries) c.get_mut.follows.holds-at-none
+          ∙ not_in_place _ _ c.args.cell.now c.self.view_is _ w.in-None.ensures.value
+    ]
