@@ -1,0 +1,25 @@
+//! The world of one thread: the hub with its brick, and the events of a run.
+//!
+//! ```text
+//!            Submit                 Serve
+//!   session -------> hub -- sent -------> brick
+//!                     ^                     |
+//!                     +------ outputs ------+
+//!                            Arrive
+//! ```
+//!
+//! An event is enabled where a call is due to the session, where the brick has an output that has not
+//! arrived, or where it has an input that it has not served. Each event lowers the work that is left, so a
+//! run comes to its end: it carries out the first enabled event until there is none.
+//!
+//! By its type every world is in a state that events lead to. So the arrivals in its log are honest: they
+//! are a front of what the brick makes of what was sent to it, and each came only after the inputs that it
+//! counts were sent. The program's top call makes a world of a script, runs it, and takes the rack.
+#![tactic(auto)]
+
+mod events;
+mod worlds;
+
+pub use events::Event;
+pub use hub_core::{Log, Rack};
+pub use worlds::World;
