@@ -34,7 +34,7 @@ front_few {xs = xs} front = subst (λ (l : List _). length xs ≤ length l) fron
 
 pub front_longer : {X : Type 0} {xs ys : List X} (more : List X) → IsFront xs ys → IsFront xs (ys ++ more)
 front_longer {xs = xs} more front =
-    record { rest = front.rest ++ more; joined = sym (append_assoc xs front.rest more) ∙ ap (λ (l : List _). l ++ more) front.joined; }
+    record { rest = front.rest ++ more; joined = sym (append_assoc xs front.rest more) ∙ ap (λ (l : List _). l ++ more) front.joined }
 
 -- the rest begins with the element that stands behind the front
 pub record BeginsWith {X : Type 0} (x : X) (xs : List X) : Type 0 where
@@ -43,7 +43,7 @@ pub record BeginsWith {X : Type 0} (x : X) (xs : List X) : Type 0 where
 
 pub rest_begins : {X : Type 0} (xs rest : List X) (x : X) → slice_get (xs ++ rest) (length xs) ≡ Some x → BeginsWith x rest
 rest_begins [] [] x there = absurd cc
-rest_begins [] (y ∷ rest) x there = record { others = rest; is = cc; }
+rest_begins [] (y ∷ rest) x there = record { others = rest; is = cc }
 rest_begins (z ∷ xs) rest x there = rest_begins xs rest x there
 
 pub front_next : {X : Type 0} {xs ys : List X} (x : X) → IsFront xs ys → slice_get ys (length xs) ≡ Some x → IsFront (xs ++ x ∷ []) ys
@@ -51,8 +51,8 @@ front_next {xs = xs} x front there =
     let begins = rest_begins xs front.rest x (ap (λ (l : List _). slice_get l (length xs)) front.joined ∙ there) in
     let first : (xs ++ x ∷ []) ++ begins.others ≡ xs ++ x ∷ begins.others = append_assoc xs (x ∷ []) begins.others in
     record {
-        rest = begins.others;
-        joined = first ∙ ap (λ (l : List _). xs ++ l) (sym begins.is) ∙ front.joined;
+      rest = begins.others;
+      joined = first ∙ ap (λ (l : List _). xs ++ l) (sym begins.is) ∙ front.joined;
     }
 
 -- ---- the lists of a log
@@ -112,8 +112,8 @@ pub taken_from : (cells : Cells) (before : ℕ) (xs : List Input) (k : ℕ) (out
 taken_from cells before [] k output there = absurd cc
 taken_from cells before (Request wind graph req ∷ xs) zero output there =
     let taken : before + 1 ≡ output.taken =
-        ap (λ (o : Output). o.taken)
-            (some_same (record { taken = before + 1; kind = Reply wind (serve_request cells req).reply }) output there) in
+    ap (λ (o : Output). o.taken)
+    (some_same (record { taken = before + 1; kind = Reply wind (serve_request cells req).reply }) output there) in
     omega arith
 taken_from cells before (Request wind graph req ∷ xs) (suc k) output there =
     let few = taken_from (cells_one cells (Request wind graph req)) (before + 1) xs k output there in omega arith

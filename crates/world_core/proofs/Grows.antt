@@ -45,22 +45,22 @@ one_longer [] x = refl
 one_longer (y ∷ xs) x = let more = one_longer xs x in omega arith
 
 pub submit_grows : (s : HubState) (line : CallLine) → Grows s (Submit line.session line.line) (submit_call s line)
-submit_grows s line = record { events = refl; extra = request_line (length s.log.events + 1) (length s.log.sent) ask_names ∷ []; sent = refl; latest = (omega arith, tt); calls = refl; }
+submit_grows s line = record { events = refl; extra = request_line (length s.log.events + 1) (length s.log.sent) ask_names ∷ []; sent = refl; latest = (omega arith, tt); calls = refl }
 
 pub next_grows : (s : HubState) (output : Output) (w : Working) (line : CallLine) (follows : Next) →
     Grows s (Arrive 0 output) (carried_out s output w line follows)
 next_grows s output w line (next.Ask request stage places) =
-    record { events = refl; extra = request_line (length s.log.events + 1) (length s.log.sent) request ∷ []; sent = refl; latest = (omega arith, tt); calls = refl; }
+    record { events = refl; extra = request_line (length s.log.events + 1) (length s.log.sent) request ∷ []; sent = refl; latest = (omega arith, tt); calls = refl }
 next_grows s output w line (next.Reply places answer true) =
-    record { events = refl; extra = []; sent = none_more s.log.sent; latest = tt; calls = refl; }
+    record { events = refl; extra = []; sent = none_more s.log.sent; latest = tt; calls = refl }
 next_grows s output w line (next.Reply places answer false) =
-    record { events = refl; extra = []; sent = none_more s.log.sent; latest = tt; calls = refl; }
+    record { events = refl; extra = []; sent = none_more s.log.sent; latest = tt; calls = refl }
 
 pub arrive_grows : (s : HubState) (output : Output) → Grows s (Arrive 0 output) (arrived s output)
 arrive_grows s output =
     arrived_by (Grows s (Arrive 0 output)) s output
-        (record { events = refl; extra = []; sent = none_more s.log.sent; latest = tt; calls = refl; })
-        (λ (w : Working) (line : CallLine) (follows : Next) (arm : DoneArm) at there is. next_grows s output w line follows)
+    (record { events = refl; extra = []; sent = none_more s.log.sent; latest = tt; calls = refl })
+    (λ (w : Working) (line : CallLine) (follows : Next) (arm : DoneArm) at there is. next_grows s output w line follows)
 
 pub room_for : {X : Type 0} (xs : List X) (x : X) (left before : ℕ) → left + 1 ≤ before →
     3 * left + 2 * length (xs ++ x ∷ []) ≤ 3 * before + 2 * length xs
@@ -70,17 +70,17 @@ pub next_lightens : (s : HubState) (output : Output) (w : Working) (line : CallL
     Lowers (requests_left w.stage) (Some follows) → Lightens s (carried_out s output w line follows)
 next_lightens s output w line (next.Ask request stage places) at lower =
     record {
-        submitted = refl;
-        more = front_within s.log.sent (request_line (length s.log.events + 1) (length s.log.sent) request ∷ []);
-        less = subst (λ (v : Option Working). 3 * requests_left stage + 2 * length (s.log.sent ++ request_line (length s.log.events + 1) (length s.log.sent) request ∷ []) ≤ 3 * requests_at_work v + 2 * length s.log.sent) (sym at) (room_for s.log.sent (request_line (length s.log.events + 1) (length s.log.sent) request) (requests_left stage) (requests_left w.stage) lower);
+      submitted = refl;
+      more = front_within s.log.sent (request_line (length s.log.events + 1) (length s.log.sent) request ∷ []);
+      less = subst (λ (v : Option Working). 3 * requests_left stage + 2 * length (s.log.sent ++ request_line (length s.log.events + 1) (length s.log.sent) request ∷ []) ≤ 3 * requests_at_work v + 2 * length s.log.sent) (sym at) (room_for s.log.sent (request_line (length s.log.events + 1) (length s.log.sent) request) (requests_left stage) (requests_left w.stage) lower);
     }
-next_lightens s output w line (next.Reply places answer true) at lower = record { submitted = refl; more = omega arith; less = omega arith; }
-next_lightens s output w line (next.Reply places answer false) at lower = record { submitted = refl; more = omega arith; less = omega arith; }
+next_lightens s output w line (next.Reply places answer true) at lower = record { submitted = refl; more = omega arith; less = omega arith }
+next_lightens s output w line (next.Reply places answer false) at lower = record { submitted = refl; more = omega arith; less = omega arith }
 
 pub arrive_lightens : (s : HubState) (output : Output) → Lightens s (arrived s output)
 arrive_lightens s output =
-    arrived_by (Lightens s) s output (record { submitted = refl; more = omega arith; less = omega arith; })
-        (λ (w : Working) (line : CallLine) (follows : Next) (arm : DoneArm) at there is.
-            next_lightens s output w line follows at
-                (subst (λ (f : Option Next). Lowers (requests_left w.stage) f) is
-                    (next_lowers w.stage line.call w.drawn w.places (length s.log.history) arm)))
+    arrived_by (Lightens s) s output (record { submitted = refl; more = omega arith; less = omega arith })
+    (λ (w : Working) (line : CallLine) (follows : Next) (arm : DoneArm) at there is.
+    next_lightens s output w line follows at
+    (subst (λ (f : Option Next). Lowers (requests_left w.stage) f) is
+    (next_lowers w.stage line.call w.drawn w.places (length s.log.history) arm)))

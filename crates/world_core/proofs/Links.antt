@@ -32,11 +32,11 @@ pub record IsLinked (s : WorldState) : Type 0 where
 
 pub linked_start : (calls : List CallLine) → IsLinked (world_start calls)
 linked_start calls = record {
-    reached = HubBegun (start_of calls) refl;
-    served = record { rest = []; joined = refl; };
-    arrivals = record { rest = []; joined = refl; };
-    sent = tt;
-    timely = λ k brick output there. absurd cc;
+  reached = HubBegun (start_of calls) refl;
+  served = record { rest = []; joined = refl };
+  arrivals = record { rest = []; joined = refl };
+  sent = tt;
+  timely = λ k brick output there. absurd cc;
 }
 
 -- ---- an event of the hub
@@ -50,34 +50,35 @@ pub timely_more : (events : List HubEvent) (event : HubEvent) (lines more : List
 timely_more events event lines more old all new k brick output there =
     let later = before_push (k + 1) lines more in
     elim (get_push_cases events event k (happened.Arrive brick output) there) [
-        inl before ↦ (let few = old k brick output before in omega arith)
+      | inl before ↦ (let few = old k brick output before in omega arith)
       | inr last ↦
           (let few : output.taken ≤ length lines = new brick output last.1 in
           let place : k ≡ length events = last.0 in
           let many : sent_before (length events + 1) lines ≡ length lines = all_before (length events) lines all in
           let here : sent_before (k + 1) lines ≡ length lines = rw place many in
-          omega arith) ]
+          omega arith)
+    ]
 
 pub linked_hub : (s : WorldState) (event : HubEvent) (t : HubState) → IsLinked s → Grows s.hub event t → IsReached t →
     IsFront (arrivals_of (s.hub.log.events ++ event ∷ [])) (outputs_of s.journal) →
     ((brick : ℕ) (output : Output) → event ≡ happened.Arrive brick output → output.taken ≤ length s.hub.log.sent) →
     IsLinked (record { hub = t; journal = s.journal })
 linked_hub s event t linked grows reached arrivals taken = record {
-    reached = reached;
-    served =
-        subst (λ (lines : List SentLine). IsFront s.journal (inputs_of lines)) (sym grows.sent)
-            (subst (λ (inputs : List Input). IsFront s.journal inputs) (sym (inputs_push s.hub.log.sent grows.extra))
-                (front_longer (inputs_of grows.extra) linked.served));
-    arrivals = subst (λ (events : List HubEvent). IsFront (arrivals_of events) (outputs_of s.journal)) (sym grows.events) arrivals;
-    sent =
-        subst (λ (lines : List SentLine). AreUpTo (length t.log.events) lines) (sym grows.sent)
-            (subst (λ (n : ℕ). AreUpTo n (s.hub.log.sent ++ grows.extra))
-                (sym (ap (λ (l : List HubEvent). length l) grows.events ∙ one_longer s.hub.log.events event))
-                (up_to_later (length s.hub.log.events) s.hub.log.sent grows.extra linked.sent grows.latest));
-    timely = λ k brick output there.
-        subst (λ (lines : List SentLine). output.taken ≤ sent_before (k + 1) lines) (sym grows.sent)
-            (timely_more s.hub.log.events event s.hub.log.sent grows.extra linked.timely linked.sent taken k brick output
-                (ap (λ (l : List HubEvent). slice_get l k) (sym grows.events) ∙ there));
+  reached = reached;
+  served =
+      subst (λ (lines : List SentLine). IsFront s.journal (inputs_of lines)) (sym grows.sent)
+      (subst (λ (inputs : List Input). IsFront s.journal inputs) (sym (inputs_push s.hub.log.sent grows.extra))
+      (front_longer (inputs_of grows.extra) linked.served));
+  arrivals = subst (λ (events : List HubEvent). IsFront (arrivals_of events) (outputs_of s.journal)) (sym grows.events) arrivals;
+  sent =
+      subst (λ (lines : List SentLine). AreUpTo (length t.log.events) lines) (sym grows.sent)
+      (subst (λ (n : ℕ). AreUpTo n (s.hub.log.sent ++ grows.extra))
+      (sym (ap (λ (l : List HubEvent). length l) grows.events ∙ one_longer s.hub.log.events event))
+      (up_to_later (length s.hub.log.events) s.hub.log.sent grows.extra linked.sent grows.latest));
+  timely = λ k brick output there.
+      subst (λ (lines : List SentLine). output.taken ≤ sent_before (k + 1) lines) (sym grows.sent)
+      (timely_more s.hub.log.events event s.hub.log.sent grows.extra linked.timely linked.sent taken k brick output
+      (ap (λ (l : List HubEvent). slice_get l k) (sym grows.events) ∙ there));
 }
 
 -- ---- each event
@@ -105,14 +106,14 @@ linked_submit s t session None linked due is = absurd cc
 linked_submit s t session (Some line) linked due is =
     let parts = due_parts s.hub session line due in
     let same : arrivals_of (s.hub.log.events ++ happened.Submit line.session line.line ∷ []) ≡ arrivals_of s.hub.log.events ++ [] =
-        arrivals_push s.hub.log.events (happened.Submit line.session line.line ∷ []) in
+    arrivals_push s.hub.log.events (happened.Submit line.session line.line ∷ []) in
     subst IsLinked (some_is (record { hub = submit_call s.hub line; journal = s.journal }) t is)
-        (linked_hub s (happened.Submit line.session line.line) (submit_call s.hub line) linked (submit_grows s.hub line)
-            (Submitted s.hub (submit_call s.hub line) line linked.reached parts.0 parts.1 refl)
-            (subst (λ (l : List Output). IsFront l (outputs_of s.journal))
-                (none_more (arrivals_of s.hub.log.events) ∙ sym same)
-                linked.arrivals)
-            (λ brick output same. absurd cc))
+    (linked_hub s (happened.Submit line.session line.line) (submit_call s.hub line) linked (submit_grows s.hub line)
+    (Submitted s.hub (submit_call s.hub line) line linked.reached parts.0 parts.1 refl)
+    (subst (λ (l : List Output). IsFront l (outputs_of s.journal))
+    (none_more (arrivals_of s.hub.log.events) ∙ sym same)
+    linked.arrivals)
+    (λ brick output same. absurd cc))
 
 pub arrive_taken : (s : WorldState) (output : Output) → IsLinked s → next_output s ≡ Some output →
     (brick : ℕ) (o : Output) → happened.Arrive 0 output ≡ happened.Arrive brick o → o.taken ≤ length s.hub.log.sent
@@ -128,24 +129,24 @@ pub linked_arrive : (s t : WorldState) (o : Option Output) → IsLinked s → ne
 linked_arrive s t None linked there is = absurd cc
 linked_arrive s t (Some output) linked there is =
     subst IsLinked (some_is (record { hub = arrived s.hub output; journal = s.journal }) t is)
-        (linked_hub s (happened.Arrive 0 output) (arrived s.hub output) linked (arrive_grows s.hub output)
-            (Arrived s.hub (arrived s.hub output) output linked.reached refl)
-            (subst (λ (l : List Output). IsFront l (outputs_of s.journal)) (sym (arrivals_push s.hub.log.events (happened.Arrive 0 output ∷ [])))
-                (front_next output linked.arrivals there))
-            (arrive_taken s output linked there))
+    (linked_hub s (happened.Arrive 0 output) (arrived s.hub output) linked (arrive_grows s.hub output)
+    (Arrived s.hub (arrived s.hub output) output linked.reached refl)
+    (subst (λ (l : List Output). IsFront l (outputs_of s.journal)) (sym (arrivals_push s.hub.log.events (happened.Arrive 0 output ∷ [])))
+    (front_next output linked.arrivals there))
+    (arrive_taken s output linked there))
 
 pub linked_serve : (s t : WorldState) (o : Option SentLine) → IsLinked s → next_input s ≡ o → serve_moved s o ≡ Some t → IsLinked t
 linked_serve s t None linked there is = absurd cc
 linked_serve s t (Some line) linked there is =
     subst IsLinked (some_is (record { hub = s.hub; journal = s.journal ++ line.input ∷ [] }) t is) (record {
-        reached = linked.reached;
-        served = front_next line.input linked.served (input_at s.hub.log.sent (length s.journal) line there);
-        arrivals =
-            subst (λ (l : List Output). IsFront (arrivals_of s.hub.log.events) l)
-                (sym (outputs_from_append root_alone 0 s.journal (line.input ∷ [])))
-                (front_longer (outputs_from (cells_from root_alone s.journal) (0 + length s.journal) (line.input ∷ [])) linked.arrivals);
-        sent = linked.sent;
-        timely = linked.timely;
+      reached = linked.reached;
+      served = front_next line.input linked.served (input_at s.hub.log.sent (length s.journal) line there);
+      arrivals =
+          subst (λ (l : List Output). IsFront (arrivals_of s.hub.log.events) l)
+          (sym (outputs_from_append root_alone 0 s.journal (line.input ∷ [])))
+          (front_longer (outputs_from (cells_from root_alone s.journal) (0 + length s.journal) (line.input ∷ [])) linked.arrivals);
+      sent = linked.sent;
+      timely = linked.timely;
     })
 
 pub linked_moved : (s t : WorldState) (e : Event) → IsLinked s → moved s e ≡ Some t → IsLinked t
@@ -165,17 +166,17 @@ pub honest_front : (arrivals : List Output) (journal inputs : List Input) → Is
     IsFront arrivals (outputs_of inputs)
 honest_front arrivals journal inputs front served =
     subst (λ (l : List Input). IsFront arrivals (outputs_of l)) served.joined
-        (subst (λ (l : List Output). IsFront arrivals l) (sym (outputs_from_append root_alone 0 journal served.rest))
-            (front_longer (outputs_from (cells_from root_alone journal) (0 + length journal) served.rest) front))
+    (subst (λ (l : List Output). IsFront arrivals l) (sym (outputs_from_append root_alone 0 journal served.rest))
+    (front_longer (outputs_from (cells_from root_alone journal) (0 + length journal) served.rest) front))
 
 pub run_of : (s : WorldState) → IsWorldReached s → IsRun s
 run_of s reached =
     let linked = linked_of s reached in
     record {
-        reached = linked.reached;
-        honest = record {
-            front = front_is (honest_front (arrivals_of s.hub.log.events) s.journal (inputs_of s.hub.log.sent) linked.arrivals linked.served);
-            timely = linked.timely;
-        };
-        journal = front_is linked.served;
+      reached = linked.reached;
+      honest = record {
+        front = front_is (honest_front (arrivals_of s.hub.log.events) s.journal (inputs_of s.hub.log.sent) linked.arrivals linked.served);
+        timely = linked.timely;
+      };
+      journal = front_is linked.served;
     }

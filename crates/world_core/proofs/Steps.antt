@@ -34,11 +34,11 @@ pub submit_at : {s : WorldState} (now : WorldState) (session : ℕ) (hub : HubSt
     ◌≡◌ {A = WorldState} (record { hub = hub; journal = s.journal }) (moved_or_same now (submit_moved now (call_due now.hub session)))
 submit_at {s = s} now session hub is hub_is =
     let first : ◌≡◌ {A = WorldState} (record { hub = hub; journal = s.journal }) (record { hub = submit_due s.hub (call_due s.hub session); journal = s.journal }) =
-        rw hub_is refl in
+    rw hub_is refl in
     let second : ◌≡◌ {A = WorldState} (record { hub = submit_due s.hub (call_due s.hub session); journal = s.journal }) (moved_or_same s (submit_moved s (call_due s.hub session))) =
-        submit_is s (call_due s.hub session) in
+    submit_is s (call_due s.hub session) in
     let third : ◌≡◌ {A = WorldState} (moved_or_same s (submit_moved s (call_due s.hub session))) (moved_or_same now (submit_moved now (call_due now.hub session))) =
-        ap (λ (v : WorldState). moved_or_same v (submit_moved v (call_due v.hub session))) is in
+    ap (λ (v : WorldState). moved_or_same v (submit_moved v (call_due v.hub session))) is in
     first ∙ second ∙ third
 
 pub did_submit : {s : WorldState} (now : WorldState) (session : ℕ) (did : Bool) → s ≡ now → did ≡ is_some (call_due s.hub session) →
@@ -54,7 +54,7 @@ pub reached_submit : {s : WorldState} (session : ℕ) (hub : HubState) → IsWor
     IsWorldReached (record { hub = hub; journal = s.journal })
 reached_submit {s = s} session hub reached hub_is =
     subst IsWorldReached (sym (submit_at s session hub refl hub_is))
-        (reached_moved s (Submit session) (submit_moved s (call_due s.hub session)) reached refl)
+    (reached_moved s (Submit session) (submit_moved s (call_due s.hub session)) reached refl)
 
 same_arrivals : (h : HubState) (o : Option CallLine) → length (arrivals_of h.log.events) ≡ length (arrivals_of (submit_due h o).log.events)
 same_arrivals h None = refl
@@ -77,26 +77,26 @@ pub arrive_at : {s : WorldState} (now : WorldState) (output : Output) (hub : Hub
     ◌≡◌ {A = WorldState} (record { hub = hub; journal = s.journal }) (moved_or_same now (arrive_moved now (next_output now)))
 arrive_at {s = s} now output hub is there hub_is =
     let first : ◌≡◌ {A = WorldState} (record { hub = hub; journal = s.journal }) (record { hub = arrived s.hub output; journal = s.journal }) =
-        rw hub_is refl in
+    rw hub_is refl in
     let second : ◌≡◌ {A = WorldState} (record { hub = arrived s.hub output; journal = s.journal }) (moved_or_same s (arrive_moved s (next_output s))) =
-        sym (ap (λ (o : Option Output). moved_or_same s (arrive_moved s o)) there) in
+    sym (ap (λ (o : Option Output). moved_or_same s (arrive_moved s o)) there) in
     let third : ◌≡◌ {A = WorldState} (moved_or_same s (arrive_moved s (next_output s))) (moved_or_same now (arrive_moved now (next_output now))) =
-        ap (λ (v : WorldState). moved_or_same v (arrive_moved v (next_output v))) is in
+    ap (λ (v : WorldState). moved_or_same v (arrive_moved v (next_output v))) is in
     first ∙ second ∙ third
 
 pub reached_arrive : {s : WorldState} (output : Output) (hub : HubState) → IsWorldReached s → next_output s ≡ Some output →
     hub ≡ arrived s.hub output → IsWorldReached (record { hub = hub; journal = s.journal })
 reached_arrive {s = s} output hub reached there hub_is =
     subst IsWorldReached (sym (arrive_at s output hub refl there hub_is))
-        (reached_moved s (Arrive 0) (arrive_moved s (next_output s)) reached refl)
+    (reached_moved s (Arrive 0) (arrive_moved s (next_output s)) reached refl)
 
 pub arrived_more : (h hub : HubState) (output : Output) (count : ℕ) → hub ≡ arrived h output → count ≡ length (arrivals_of h.log.events) →
     count + 1 ≡ length (arrivals_of hub.log.events)
 arrived_more h hub output count hub_is counted =
     let grows = arrive_grows h output in
     ap (λ (n : ℕ). n + 1) counted ∙ sym (arrivals_more h.log.events output)
-        ∙ ap (λ (l : List HubEvent). length (arrivals_of l)) (sym grows.events)
-        ∙ ap (λ (v : HubState). length (arrivals_of v.log.events)) (sym hub_is)
+    ∙ ap (λ (l : List HubEvent). length (arrivals_of l)) (sym grows.events)
+    ∙ ap (λ (v : HubState). length (arrivals_of v.log.events)) (sym hub_is)
 
 pub did_arrive : {s : WorldState} (now : WorldState) (output : Option Output) → s ≡ now → next_output s ≡ output →
     is_some output ≡ is_some (arrive_moved now (next_output now))
@@ -125,18 +125,18 @@ pub serve_at : {s : WorldState} (now : WorldState) (line : SentLine) (journal : 
     ◌≡◌ {A = WorldState} (record { hub = s.hub; journal = journal }) (moved_or_same now (serve_moved now (next_input now)))
 serve_at {s = s} now line journal is there journal_is =
     let first : ◌≡◌ {A = WorldState} (record { hub = s.hub; journal = journal }) (record { hub = s.hub; journal = s.journal ++ line.input ∷ [] }) =
-        rw journal_is refl in
+    rw journal_is refl in
     let second : ◌≡◌ {A = WorldState} (record { hub = s.hub; journal = s.journal ++ line.input ∷ [] }) (moved_or_same s (serve_moved s (next_input s))) =
-        sym (ap (λ (o : Option SentLine). moved_or_same s (serve_moved s o)) there) in
+    sym (ap (λ (o : Option SentLine). moved_or_same s (serve_moved s o)) there) in
     let third : ◌≡◌ {A = WorldState} (moved_or_same s (serve_moved s (next_input s))) (moved_or_same now (serve_moved now (next_input now))) =
-        ap (λ (v : WorldState). moved_or_same v (serve_moved v (next_input v))) is in
+    ap (λ (v : WorldState). moved_or_same v (serve_moved v (next_input v))) is in
     first ∙ second ∙ third
 
 pub reached_serve : {s : WorldState} (line : SentLine) (journal : List Input) → IsWorldReached s → next_input s ≡ Some line →
     journal ≡ s.journal ++ line.input ∷ [] → IsWorldReached (record { hub = s.hub; journal = journal })
 reached_serve {s = s} line journal reached there journal_is =
     subst IsWorldReached (sym (serve_at s line journal refl there journal_is))
-        (reached_moved s (Serve 0) (serve_moved s (next_input s)) reached refl)
+    (reached_moved s (Serve 0) (serve_moved s (next_input s)) reached refl)
 
 pub did_serve : {s : WorldState} (now : WorldState) (line : Option SentLine) → s ≡ now → next_input s ≡ line →
     is_some line ≡ is_some (serve_moved now (next_input now))
@@ -167,7 +167,7 @@ calls_arrive s t None is = absurd cc
 calls_arrive s t (Some output) is =
     let grows = arrive_grows s.hub output in
     let first : t.hub.calls ≡ (arrived s.hub output).calls =
-        ap (λ (v : WorldState). v.hub.calls) (sym (some_is (record { hub = arrived s.hub output; journal = s.journal }) t is)) in
+    ap (λ (v : WorldState). v.hub.calls) (sym (some_is (record { hub = arrived s.hub output; journal = s.journal }) t is)) in
     first ∙ grows.calls
 
 calls_serve : (s t : WorldState) (o : Option SentLine) → serve_moved s o ≡ Some t → t.hub.calls ≡ s.hub.calls

@@ -34,8 +34,8 @@ pub arrived_less : (s : WorldState) (t : HubState) → t.calls ≡ s.hub.calls �
     work_left (record { hub = t; journal = s.journal }) < work_left s
 arrived_less s t calls lightens more within =
     let less = arrive_less (16 * (length s.hub.calls - s.hub.submitted)) (requests_at_work s.hub.working) (requests_at_work t.working)
-        (length s.hub.log.sent) (length t.log.sent) (length s.journal) (length (outputs_of s.journal))
-        (length (arrivals_of s.hub.log.events)) lightens.more lightens.less within in
+    (length s.hub.log.sent) (length t.log.sent) (length s.journal) (length (outputs_of s.journal))
+    (length (arrivals_of s.hub.log.events)) lightens.more lightens.less within in
     let many : length t.calls ≡ length s.hub.calls = ap (λ (l : List CallLine). length l) calls in
     let submitted : t.submitted ≡ s.hub.submitted = lightens.submitted in
     rw many (rw submitted (rw more less))
@@ -86,11 +86,11 @@ pub less_arrive : (s t : WorldState) (o : Option Output) → next_output s ≡ o
 less_arrive s t None there is = absurd cc
 less_arrive s t (Some output) there is =
     let within : length (arrivals_of s.hub.log.events) < length (outputs_of s.journal) =
-        slice_get_within (outputs_of s.journal) (length (arrivals_of s.hub.log.events)) output there in
+    slice_get_within (outputs_of s.journal) (length (arrivals_of s.hub.log.events)) output there in
     let grows = arrive_grows s.hub output in
     let lightens = arrive_lightens s.hub output in
     let less = arrived_less s (arrived s.hub output) grows.calls lightens
-        (ap (λ (l : List HubEvent). length (arrivals_of l)) grows.events ∙ arrivals_more s.hub.log.events output) within in
+    (ap (λ (l : List HubEvent). length (arrivals_of l)) grows.events ∙ arrivals_more s.hub.log.events output) within in
     subst (λ (v : WorldState). work_left v < work_left s) (some_is (record { hub = arrived s.hub output; journal = s.journal }) t is) less
 
 pub less_serve : (s t : WorldState) (o : Option SentLine) → next_input s ≡ o → serve_moved s o ≡ Some t → work_left t < work_left s

@@ -92,8 +92,8 @@ requests_at_work (Some w) = requests_left w.stage
 abbrev pub work_left : WorldState → ℕ
 work_left s =
     16 * (length s.hub.calls - s.hub.submitted) + 3 * requests_at_work s.hub.working
-        + 2 * (length s.hub.log.sent - length s.journal)
-        + (length (outputs_of s.journal) - length (arrivals_of s.hub.log.events))
+    + 2 * (length s.hub.log.sent - length s.journal)
+    + (length (outputs_of s.journal) - length (arrivals_of s.hub.log.events))
 
 -- the rack that a world leaves: the hub's log, and its one brick with the journal
 pub record IsRackOf (s : WorldState) (rack : Rack) : Type 0 where

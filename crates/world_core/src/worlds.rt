@@ -4,14 +4,13 @@ ghost use Rattle.brick_node.specs.Machine.{outputs_of};
 ghost use Rattle.hub_core.specs.Follows.{call_due};
 ghost use Rattle.world_core.specs.Worlds.{world_start, moved, moved_or_same, submit_moved, arrive_moved, serve_moved, next_output, next_input, first_enabled, work_left, IsEnabled, IsQuiet, IsRun, IsRackOf};
 
-use std::alloc::{AllocError, Global};
-use std::marker::Model;
-
 use crate::events::Event;
 use brick_node::Brick;
 use fop_types::{Output, Seq};
 use hub_core::{Hub, Rack, SentLine};
 use script_lang::Script;
+use std::alloc::{AllocError, Global};
+use std::marker::Model;
 
 /// The hub with its brick, the number of outputs that have arrived, and room for the list of bricks that
 /// the world leaves. A call that wants memory and gets none has changed nothing.

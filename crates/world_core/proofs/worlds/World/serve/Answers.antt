@@ -3,9 +3,12 @@ use Rattle.world_core.proofs.Steps.{reached_serve, serve_at, did_serve, none_ser
 use Rattle.world_core.proofs.worlds.World.serve.Goals as goal
 
 pub invariant_of-self-in-Some : goal.invariant_of-self-in-Some
-invariant_of-self-in-Some c =
-    (reached_serve c.in-Some.line.now c.serve.new.self c.self.invariant.0 (sym c.in-Some.ensures) c.in_ok-serve-in-Some.ensures.ok,
-        c.self.invariant.1, c.self.invariant.2, c.self.invariant.3)
+invariant_of-self-in-Some c = (
+  reached_serve c.in-Some.line.now c.serve.new.self c.self.invariant.0 (sym c.in-Some.ensures) c.in_ok-serve-in-Some.ensures.ok,
+  c.self.invariant.1,
+  c.self.invariant.2,
+  c.self.invariant.3,
+)
 
 pub returns-in-None-clause-did : goal.returns-in-None-clause-did
 returns-in-None-clause-did c = did_serve c.args.self.now None c.self.view_is (sym c.in-None.ensures)
