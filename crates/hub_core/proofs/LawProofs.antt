@@ -250,3 +250,7 @@ whole s reached one honest answered all = by_work s.working refl (k.honest one h
         let many : length (inputs_of s.log.sent) ≡ length s.log.sent = length-inputs_of s.log.sent in
         let arrived : length (arrivals_of s.log.events) ≡ length f.answered = f.so_far.as_many in
         absurd (omega arith)
+
+-- what is sent are requests alone
+pub sent_well : (s : HubState) → IsReached s → IsSentWell s
+sent_well s reached = (kept s reached).sent

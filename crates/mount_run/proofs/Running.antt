@@ -1,0 +1,139 @@
+-- A world in which nothing is enabled has run its script lawfully.
+use Rattle.std.proofs.Common.{◌≡◌, ℕ, ◌+◌, ◌-◌, ◌<◌, ◌≤◌, List, [], ◌∷◌, ◌++◌, Option, Some, None, true, false, length, take, refl, sym, ◌∙◌, ap, subst, arith, zero, suc}
+use Rattle.std.specs.Prelude.{slice_get}
+use Rattle.std.proofs.lemmas.List.{length-take}
+use Rattle.std.proofs.lemmas.Option.{slice_get_cases}
+use Rattle.fop_types.specs.declared.calls.Call.{Call}
+use Rattle.fop_types.specs.declared.calls.Call.TheVariants as call
+use Rattle.fop_types.specs.declared.messages.Input.{Input}
+use Rattle.fop_types.specs.declared.messages.Output.{Output}
+use Rattle.script_lang.specs.declared.scripts.CallLine.{CallLine}
+use Rattle.script_lang.specs.FirstForm.{IsFirstForm, IsFirstCall, AreCallLines}
+use Rattle.brick_node.specs.Machine.{outputs_of}
+use Rattle.hub_core.specs.declared.logs.SentLine.{SentLine}
+use Rattle.hub_core.specs.declared.racks.Rack.{Rack}
+use Rattle.hub_core.specs.declared.stages.Working.{Working}
+use Rattle.hub_core.specs.Follows.{call_due, call_if_idle}
+use Rattle.hub_core.specs.Journal.{inputs_of, arrivals_of, IsBackedByBrick}
+use Rattle.hub_core.specs.Kept.{HaveOneName, HasOneName}
+use Rattle.hub_core.specs.Laws.{IsLawfulLog, IsWholeLog}
+use Rattle.hub_core.specs.Turns.{HubState, IsReached}
+use Rattle.hub_core.proofs.LawProofs.{law, whole, sent_well}
+use Rattle.hub_core.proofs.FewWinds.{few_winds}
+use Rattle.hub_core.proofs.Honesty.{IsSentWell, length-inputs_of}
+use Rattle.hub_core.proofs.Served.{outputs_as_many}
+use Rattle.world_core.specs.declared.events.Event.TheVariants.{Submit, Arrive, Serve}
+use Rattle.world_core.specs.Worlds.{WorldState, IsQuiet, IsRun, IsRackOf, moved, submit_moved, arrive_moved, serve_moved, next_output, next_input}
+use Rattle.report_text.specs.ReportText.{report_text}
+use Rattle.mount_run.specs.Headline.{IsLawfulRun}
+use Rattle.mount_run.specs.Reports.{report_of}
+
+-- ---- the calls of a script of the first form have one name each
+
+name_of_call : (c : Call) → IsFirstCall c → HasOneName c
+name_of_call (call.Mkdir path mode) f = record { name = f.0.name; parts = f.0.parts; short = f.0.short }
+name_of_call (call.Stat path) f = record { name = f.name; parts = f.parts; short = f.short }
+
+names_from : (number : ℕ) (calls : List CallLine) → AreCallLines number calls → HaveOneName calls
+names_from number [] h k line there = absurd cc
+names_from number (c ∷ calls) h zero line there = (let same : c ≡ line = cc in subst (λ (x : CallLine). HasOneName x.call) same (name_of_call c.call h.0.call))
+names_from number (c ∷ calls) h (suc k) line there = names_from (number + 1) calls h.1 k line there
+
+pub one_names : (calls : List CallLine) → IsFirstForm calls → HaveOneName calls
+one_names calls f = names_from 11 calls f.each
+
+-- ---- what is quiet
+
+past_end : {X : Type 0} (xs : List X) (k : ℕ) → slice_get xs k ≡ None → length xs ≤ k
+past_end [] k h = omega arith
+past_end (x ∷ xs) zero h = absurd cc
+past_end (x ∷ xs) (suc k) h = (let rest : length xs ≤ k = past_end xs k h in omega arith)
+
+no_input : (s : WorldState) (line : Option SentLine) → serve_moved s line ≡ None → line ≡ None
+no_input s None h = refl
+no_input s (Some line) h = absurd cc
+
+no_output : (s : WorldState) (output : Option Output) → arrive_moved s output ≡ None → output ≡ None
+no_output s None h = refl
+no_output s (Some output) h = absurd cc
+
+no_call : (s : WorldState) (line : Option CallLine) → submit_moved s line ≡ None → line ≡ None
+no_call s None h = refl
+no_call s (Some line) h = absurd cc
+
+take_all_of : {X : Type 0} (xs : List X) (n : ℕ) → length xs ≤ n → take n xs ≡ xs
+take_all_of [] zero h = refl
+take_all_of [] (suc n) h = refl
+take_all_of (x ∷ xs) zero h = absurd (omega arith)
+take_all_of (x ∷ xs) (suc n) h = ap (λ (t : List _). x ∷ t) (take_all_of xs n (omega arith))
+
+module _ (calls : List CallLine) (s : WorldState) (form : IsFirstForm calls) (same : s.hub.calls ≡ calls) (quiet : IsQuiet s) (run : IsRun s) where
+  served : length s.hub.log.sent ≤ length s.journal
+  served = past_end s.hub.log.sent (length s.journal) (no_input s (next_input s) (quiet (Serve 0)))
+
+  all_out : length (outputs_of s.journal) ≤ length (arrivals_of s.hub.log.events)
+  all_out = past_end (outputs_of s.journal) (length (arrivals_of s.hub.log.events)) (no_output s (next_output s) (quiet (Arrive 0)))
+
+  none_due : s.hub.working ≡ None → length s.hub.calls ≤ s.hub.submitted
+  none_due idle =
+      let due : call_due s.hub 0 ≡ None = no_call s (call_due s.hub 0) (quiet (Submit 0)) in
+      let next : slice_get s.hub.calls s.hub.submitted ≡ None = subst (λ (v : Option Working). call_if_idle v (slice_get s.hub.calls s.hub.submitted) ≡ None) idle due in
+      past_end s.hub.calls s.hub.submitted next
+
+  names : HaveOneName s.hub.calls
+  names = subst HaveOneName (sym same) (one_names calls form)
+
+  well : IsSentWell s.hub
+  well = sent_well s.hub run.reached
+
+  inputs : List Input
+  inputs = inputs_of s.hub.log.sent
+
+  many : length (inputs_of s.hub.log.sent) ≡ length s.hub.log.sent
+  many = length-inputs_of s.hub.log.sent
+
+  -- all that was sent is the journal
+  journal_is : s.journal ≡ inputs_of s.hub.log.sent
+  journal_is = run.journal ∙ take_all_of (inputs_of s.hub.log.sent) (length s.journal) (omega (arith, many, served))
+
+  outputs_many : length (outputs_of (inputs_of s.hub.log.sent)) ≡ length s.hub.log.sent
+  outputs_many = outputs_as_many (inputs_of s.hub.log.sent) well.requests ∙ many
+
+  answered : length s.hub.log.sent ≤ length (arrivals_of s.hub.log.events)
+  answered =
+      let out : length (outputs_of (inputs_of s.hub.log.sent)) ≤ length (arrivals_of s.hub.log.events) =
+            subst (λ (x : List Input). length (outputs_of x) ≤ length (arrivals_of s.hub.log.events)) journal_is all_out in
+      omega (arith, outputs_many)
+
+  -- and all that the brick made has arrived
+  arrivals_are : arrivals_of s.hub.log.events ≡ outputs_of s.journal
+  arrivals_are =
+      run.honest.front
+      ∙ take_all_of (outputs_of (inputs_of s.hub.log.sent)) (length (arrivals_of s.hub.log.events)) (omega (arith, outputs_many, answered))
+      ∙ ap outputs_of (sym journal_is)
+
+  lawful : IsLawfulLog s.hub.calls s.hub.log
+  lawful = law s.hub run.reached names run.honest
+
+  whole_log : IsWholeLog s.hub.calls s.hub.log
+  whole_log = whole s.hub run.reached names run.honest answered none_due
+
+  backed : IsBackedByBrick s.hub.calls s.hub.log.history s.journal (outputs_of s.journal)
+  backed = rw (sym arrivals_are) (subst (λ (x : List Input). IsBackedByBrick s.hub.calls s.hub.log.history x (arrivals_of s.hub.log.events)) (sym journal_is) lawful.backed)
+
+  pub winds_few : length s.hub.log.winds < 4294967296
+  winds_few = few_winds s.hub run.reached (rw same form.few)
+
+  pub lawful_run : (rack : Rack) (report : List ℕ) → IsRackOf s rack → report ≡ report_text (report_of rack.log) → IsLawfulRun calls report rack
+  lawful_run rack report r written = record {
+      follows = rw (r.log, sym same) lawful.follows;
+      finished = rw (r.log, sym same) whole_log.finished;
+      honest = rw r.log run.honest;
+      journal = s.journal;
+      bricks = r.bricks;
+      front = rw r.log run.journal;
+      written = written;
+      legal = rw (r.log, sym same) lawful.legal;
+      lawful = rw (r.log, sym same) lawful.lawful;
+      winds = rw r.log whole_log.balanced;
+      backed = rw (r.log, sym same) backed }
