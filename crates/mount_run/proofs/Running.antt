@@ -102,7 +102,7 @@ module _ (calls : List CallLine) (s : WorldState) (form : IsFirstForm calls) (sa
   answered : length s.hub.log.sent ≤ length (arrivals_of s.hub.log.events)
   answered =
       let out : length (outputs_of (inputs_of s.hub.log.sent)) ≤ length (arrivals_of s.hub.log.events) =
-            subst (λ (x : List Input). length (outputs_of x) ≤ length (arrivals_of s.hub.log.events)) journal_is all_out in
+      subst (λ (x : List Input). length (outputs_of x) ≤ length (arrivals_of s.hub.log.events)) journal_is all_out in
       omega (arith, outputs_many)
 
   -- and all that the brick made has arrived
@@ -126,14 +126,15 @@ module _ (calls : List CallLine) (s : WorldState) (form : IsFirstForm calls) (sa
 
   pub lawful_run : (rack : Rack) (report : List ℕ) → IsRackOf s rack → report ≡ report_text (report_of rack.log) → IsLawfulRun calls report rack
   lawful_run rack report r written = record {
-      follows = rw (r.log, sym same) lawful.follows;
-      finished = rw (r.log, sym same) whole_log.finished;
-      honest = rw r.log run.honest;
-      journal = s.journal;
-      bricks = r.bricks;
-      front = rw r.log run.journal;
-      written = written;
-      legal = rw (r.log, sym same) lawful.legal;
-      lawful = rw (r.log, sym same) lawful.lawful;
-      winds = rw r.log whole_log.balanced;
-      backed = rw (r.log, sym same) backed }
+    follows = rw (r.log, sym same) lawful.follows;
+    finished = rw (r.log, sym same) whole_log.finished;
+    honest = rw r.log run.honest;
+    journal = s.journal;
+    bricks = r.bricks;
+    front = rw r.log run.journal;
+    written = written;
+    legal = rw (r.log, sym same) lawful.legal;
+    lawful = rw (r.log, sym same) lawful.lawful;
+    winds = rw r.log whole_log.balanced;
+    backed = rw (r.log, sym same) backed;
+  }

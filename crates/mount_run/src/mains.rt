@@ -1,13 +1,13 @@
 use crate::tops::top;
 use hub_core::Rack;
-use std::env;
-use std::io;
 use std::rt::Env;
+use std::{env, io};
 use xl_base::{StdSink, StdSource};
 
 const USAGE: &str = "usage: vealepoch run SEED < SCRIPT (--help tells more)";
 
-const HELP: &str = "vealepoch runs a script of calls on a clustered volume whose bricks live in memory,
+const HELP: &str =
+    "vealepoch runs a script of calls on a clustered volume whose bricks live in memory,
 and writes a report: each call's reply with its places in the history, the history
 of accepted changes, and the winds of each graph.
 
@@ -44,7 +44,11 @@ pub fn start<R: Env + Input + Print + Eprint + AllocGlobal>(rt: &R) -> u8 {
         Ok(words) => choose(rt, words.as_slice()),
         Err(error) => {
             let _ = rt.eprintln("vealepoch: a word is not UTF-8, or want of memory");
-            if error.kind() == io::ErrorKind::InvalidData { 2 } else { 5 }
+            if error.kind() == io::ErrorKind::InvalidData {
+                2
+            } else {
+                5
+            }
         }
     }
 }

@@ -14,4 +14,4 @@ pub returns : goal.returns
 returns c =
     let same : c.run.new.self.hub.calls ≡ c.args.script.now.calls = c.run.ensures.calls ∙ ap (λ (w : WorldState). w.hub.calls) c.in_ok-world.ensures in
     lawful_run c.args.script.now.calls c.run.new.self c.requires same c.in_ok-run.ensures.quiet c.into_rack.ensures.run c.into_rack.result _ c.into_rack.ensures.rack
-      (c.in_ok-text.ensures ∙ ap report_text c.in_ok-report.ensures)
+    (c.in_ok-text.ensures ∙ ap report_text c.in_ok-report.ensures)
