@@ -17,8 +17,6 @@ mod readings;
 mod refusals;
 mod reports;
 mod runs;
-#[cfg(test)]
-mod tests;
 mod tops;
 
 use std::process::ExitCode;

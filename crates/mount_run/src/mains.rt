@@ -11,9 +11,9 @@ const HELP: &str =
 and writes a report: each call's reply with its places in the history, the history
 of accepted changes, and the winds of each graph.
 
-  vealepoch run SEED   read a script from standard input, run it in one thread with
-                       the schedule of SEED (a decimal number below 2^64), and write
-                       the report to standard output
+  vealepoch run SEED   read a script from standard input, run it in one thread, and
+                       write the report to standard output; SEED is a decimal number
+                       below 2^64, which no schedule depends on so far
   vealepoch --help     this text
   vealepoch --version  the version
 
