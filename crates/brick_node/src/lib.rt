@@ -18,3 +18,6 @@
 mod brick;
 
 pub use brick::Brick;
+
+#[cfg(test)]
+mod tests;

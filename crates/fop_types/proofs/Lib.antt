@@ -1,3 +1,4 @@
+pub mod FlatPrograms
 pub mod MapLemmas
 pub mod Names
 pub mod PathLemmas

@@ -7,8 +7,8 @@ use Rattle.fop_types.specs.declared.cells.Kind.{Kind}
 use Rattle.fop_types.specs.declared.answers.Answer.{Answer}
 use Rattle.fop_types.specs.declared.answers.Answer.TheVariants.{Done, Stat as StatOf, App, Count, Bytes, List as ListOf, Io}
 use Rattle.fop_types.specs.declared.answers.AppError.{AppError}
-use Rattle.fop_types.specs.declared.calls.Call.{Call}
-use Rattle.fop_types.specs.declared.calls.Call.TheVariants as call
+use Rattle.fop_types.specs.declared.calls.RootCall.{RootCall}
+use Rattle.fop_types.specs.declared.calls.RootCall.TheVariants as call
 use Rattle.fop_types.specs.declared.flat.FlatOp.{FlatOp}
 use Rattle.fop_types.specs.declared.flat.FlatOp.TheVariants.{Lookup, Mkdir, Stat}
 use Rattle.fop_types.specs.declared.flat.FlatAnswer.{FlatAnswer}
@@ -16,20 +16,20 @@ use Rattle.fop_types.specs.declared.flat.FlatAnswer.TheVariants as flat
 use Rattle.fop_types.specs.declared.history.Entry.{Entry}
 
 -- the call of a number; calls are numbered from 1 in the order in which they are submitted
-abbrev pub call_numbered : List Call → ℕ → Option Call
+abbrev pub call_numbered : List RootCall → ℕ → Option RootCall
 call_numbered calls number = slice_get calls (number - 1)
 
 -- how many objects a call asks to be made
-abbrev pub makes : Call → ℕ
+abbrev pub makes : RootCall → ℕ
 makes (call.Mkdir path mode) = 1
 makes (call.Stat path) = 0
 
-abbrev pub objects_made : List Call → ℕ
+abbrev pub objects_made : List RootCall → ℕ
 objects_made [] = 0
 objects_made (c ∷ calls) = makes c + objects_made calls
 
 -- the gfid that is drawn for a call: 1 plus the number of calls up to it that ask for an object
-abbrev pub drawn_by : List Call → ℕ → Gfid
+abbrev pub drawn_by : List RootCall → ℕ → Gfid
 drawn_by calls number = record { hi = 0; lo = 1 + objects_made (take number calls) }
 
 -- the last component of a path, and those before it
@@ -44,48 +44,48 @@ front_parts (part ∷ []) = []
 front_parts (part ∷ other ∷ parts) = part ∷ front_parts (other ∷ parts)
 
 -- the components that a call looks up one after another, and its last operation on what they lead to
-abbrev pub looked_up : Call → List (List ℕ)
+abbrev pub looked_up : RootCall → List (List ℕ)
 looked_up (call.Mkdir path mode) = front_parts path.parts
 looked_up (call.Stat path) = path.parts
 
-abbrev pub last_op : Call → Gfid → Gfid → FlatOp
+abbrev pub last_op : RootCall → Gfid → Gfid → FlatOp
 last_op (call.Mkdir path mode) found drawn = Mkdir found (last_part path.parts) mode drawn
 last_op (call.Stat path) found drawn = Stat found
 
 -- ---- history
 
 -- the operation of an entry. Each path has one component so far, so its directory is the root
-abbrev pub op_with : Option Call → Gfid → Option FlatOp
+abbrev pub op_with : Option RootCall → Gfid → Option FlatOp
 op_with None drawn = None
 op_with (Some c) drawn = Some (last_op c root drawn)
 
-abbrev pub entry_op : List Call → Entry → Option FlatOp
+abbrev pub entry_op : List RootCall → Entry → Option FlatOp
 entry_op calls entry = op_with (call_numbered calls entry.call) (drawn_by calls entry.call)
 
 abbrev pub after_op : Files → Option FlatOp → Files
 after_op files None = files
 after_op files (Some op) = flat_after files op
 
-abbrev pub files_after : List Call → Files → List Entry → Files
+abbrev pub files_after : List RootCall → Files → List Entry → Files
 files_after calls files [] = files
 files_after calls files (entry ∷ entries) = files_after calls (after_op files (entry_op calls entry)) entries
 
 -- the files after the first `place` entries of a history, from the empty root
-abbrev pub fs_after : List Call → List Entry → ℕ → Files
+abbrev pub fs_after : List RootCall → List Entry → ℕ → Files
 fs_after calls history place = files_after calls empty_root (take place history)
 
 abbrev pub IsAccepted : FlatAnswer → Type 0
 IsAccepted answer = answer ≡ flat.Call Done
 
 -- an entry's operation is accepted by the flat file system as the entries before it leave it
-pub record IsLegalEntry (calls : List Call) (history : List Entry) (place : ℕ) (entry : Entry) : Type 0 where
+pub record IsLegalEntry (calls : List RootCall) (history : List Entry) (place : ℕ) (entry : Entry) : Type 0 where
   pub op : FlatOp
   pub op_is : entry_op calls entry ≡ Some op
   pub accepted : IsAccepted (flat_answer (fs_after calls history place) op)
   pub first_part : entry.part ≡ 1
 
 -- no entry is repeated, and each is legal at its place
-pub record IsLegalHistory (calls : List Call) (history : List Entry) : Type 0 where
+pub record IsLegalHistory (calls : List RootCall) (history : List Entry) : Type 0 where
   pub distinct : (i j : ℕ) (entry : Entry) → slice_get history i ≡ Some entry → slice_get history j ≡ Some entry → i ≡ j
   pub legal : (place : ℕ) (entry : Entry) → slice_get history place ≡ Some entry → IsLegalEntry calls history place entry
 
@@ -161,8 +161,8 @@ abbrev pub AreBetween : List ℕ → ℕ → ℕ → Type 0
 AreBetween [] low high = Unit {0}
 AreBetween (place ∷ places) low high = (low ≤ place) × (place ≤ high) × AreBetween places place high
 
-pub record IsLawfulReply (calls : List Call) (history : List Entry) (since until number : ℕ) (places : List ℕ) (answer : Answer) : Type 0 where
-  pub call : Call
+pub record IsLawfulReply (calls : List RootCall) (history : List Entry) (since until number : ℕ) (places : List ℕ) (answer : Answer) : Type 0 where
+  pub call : RootCall
   pub numbered : 0 < number
   pub asked : call_numbered calls number ≡ Some call
   pub between : AreBetween places since until

@@ -1,7 +1,7 @@
 ghost use Rattle.std.specs.Prelude.{◌≡◌, IfOk};
 ghost use Rattle.fop_types.specs.History.{last_part, makes};
 
-use crate::calls::{Call, Path};
+use crate::calls::{Path, RootCall, RootLine, RootScript};
 use crate::lists::Seq;
 use std::alloc::{AllocError, Global};
 
@@ -37,22 +37,22 @@ impl Path {
     }
 }
 
-impl Call {
+impl RootCall {
     /// A copy of the call.
     ///
     /// # Errors
     /// Want of memory.
-    pub fn copy(&self, alloc: Global) -> Result<Call, AllocError>
+    pub fn copy(&self, alloc: Global) -> Result<RootCall, AllocError>
         ensures { IfOk result (λ c. c ≡ self.now) }
     {
         match self {
-            Call::Mkdir { path, mode } => {
+            RootCall::Mkdir { path, mode } => {
                 let path = path.copy(alloc)?;
-                Ok(Call::Mkdir { path, mode: *mode })
+                Ok(RootCall::Mkdir { path, mode: *mode })
             }
-            Call::Stat { path } => {
+            RootCall::Stat { path } => {
                 let path = path.copy(alloc)?;
-                Ok(Call::Stat { path })
+                Ok(RootCall::Stat { path })
             }
         }
     }
@@ -62,8 +62,44 @@ impl Call {
         ensures { result ≡ makes self.now }
     {
         match self {
-            Call::Mkdir { path: _, mode: _ } => 1,
-            Call::Stat { path: _ } => 0,
+            RootCall::Mkdir { path: _, mode: _ } => 1,
+            RootCall::Stat { path: _ } => 0,
         }
+    }
+}
+
+impl RootLine {
+    /// A copy of the line with its call.
+    ///
+    /// # Errors
+    /// Want of memory.
+    pub fn copy(&self, alloc: Global) -> Result<RootLine, AllocError>
+        ensures { IfOk result (λ c. c ≡ self.now) }
+    {
+        let call = self.call.copy(alloc)?;
+        Ok(RootLine {
+            line: self.line,
+            session: self.session,
+            call,
+        })
+    }
+}
+
+impl RootScript {
+    /// A copy of the script, in time and memory of its length.
+    ///
+    /// # Errors
+    /// Want of memory.
+    pub fn copy(&self, alloc: Global) -> Result<RootScript, AllocError>
+        ensures { IfOk result (λ c. c ≡ self.now) }
+    {
+        let lines = self.calls.as_slice();
+        let mut copies = Vec::with_capacity(alloc, lines.len())?;
+        for line in lines {
+            copies.push(line.copy(alloc)?)?;
+        }
+        Ok(RootScript {
+            calls: Seq::from_vec(copies),
+        })
     }
 }

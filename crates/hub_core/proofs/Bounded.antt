@@ -1,12 +1,12 @@
 -- The numbers of every state that is reached are bounded.
 use Rattle.std.proofs.Common.{◌≡◌, ℕ, ◌+◌, ◌-◌, ◌*◌, ◌<◌, ◌≤◌, Bool, true, false, List, [], ◌∷◌, ◌++◌, Option, Some, None, length, slice_get, refl, sym, ◌∙◌, ap, subst, arith}
 use Rattle.std.proofs.lemmas.Option.{slice_get_within}
-use Rattle.fop_types.specs.declared.calls.Call.{Call}
-use Rattle.fop_types.specs.declared.calls.Call.TheVariants as call
+use Rattle.fop_types.specs.declared.calls.RootCall.{RootCall}
+use Rattle.fop_types.specs.declared.calls.RootCall.TheVariants as call
 use Rattle.fop_types.specs.declared.messages.DoneArm.{DoneArm}
 use Rattle.fop_types.specs.declared.messages.Output.{Output}
 use Rattle.fop_types.specs.History.{makes}
-use Rattle.script_lang.specs.declared.scripts.CallLine.{CallLine}
+use Rattle.fop_types.specs.declared.calls.RootLine.{RootLine}
 use Rattle.hub_core.specs.declared.logs.SentLine.{SentLine}
 use Rattle.hub_core.specs.declared.stages.Stage.{Stage}
 use Rattle.hub_core.specs.declared.stages.Working.{Working}
@@ -31,15 +31,15 @@ entry_room xs x most room = let more = one_more xs x in omega arith
 pub last_turn : {A : Type 0} (xs : List A) (x : A) → length xs + 1 ≡ length (xs ++ x ∷ [])
 last_turn xs x = sym (one_more xs x)
 
-pub makes_one : (c : Call) → makes c ≤ 1
+pub makes_one : (c : RootCall) → makes c ≤ 1
 makes_one (call.Mkdir path mode) = omega arith
 makes_one (call.Stat path) = omega arith
 
-pub three_left : (c : Call) → requests_left (first_stage c) ≤ 3
+pub three_left : (c : RootCall) → requests_left (first_stage c) ≤ 3
 three_left (call.Mkdir path mode) = omega arith
 three_left (call.Stat path) = omega arith
 
-pub bounded_at_submit : (s : HubState) (line : CallLine) → IsBounded s → s.working ≡ None →
+pub bounded_at_submit : (s : HubState) (line : RootLine) → IsBounded s → s.working ≡ None →
     slice_get s.calls s.submitted ≡ Some line → IsBounded (submit_call s line)
 bounded_at_submit s line b idle there =
     let within = slice_get_within s.calls s.submitted line there in
@@ -55,7 +55,7 @@ bounded_at_submit s line b idle there =
       work = (refl, last_turn s.log.sent _, sent_room s.log.sent _ (requests_left (first_stage line.call)) (4 * (s.submitted + 1)) (omega arith), omega arith);
     }
 
-pub bounded_at_next : (s : HubState) (output : Output) → IsBounded s → (w : Working) (line : CallLine) (follows : Next) →
+pub bounded_at_next : (s : HubState) (output : Output) → IsBounded s → (w : Working) (line : RootLine) (follows : Next) →
     s.working ≡ Some w → Lowers (requests_left w.stage) (Some follows) → IsBounded (carried_out s output w line follows)
 bounded_at_next s output b w line (next.Ask request stage places) at lower =
     let work = subst (λ (v : Option Working). WorkIsBounded s.submitted (length s.log.sent) (length s.log.history) v) at b.work in
@@ -80,7 +80,7 @@ bounded_at_next s output b w line (next.Reply places answer true) at lower =
 pub bounded_at_arrive : (s : HubState) (output : Output) → IsBounded s → IsBounded (arrived s output)
 bounded_at_arrive s output b =
     arrived_by IsBounded s output (record { submitted = b.submitted; made = b.made; work = b.work })
-    (λ (w : Working) (line : CallLine) (follows : Next) (arm : DoneArm) at there is.
+    (λ (w : Working) (line : RootLine) (follows : Next) (arm : DoneArm) at there is.
     bounded_at_next s output b w line follows at
     (subst (λ (f : Option Next). Lowers (requests_left w.stage) f) is
     (next_lowers w.stage line.call w.drawn w.places (length s.log.history) arm)))

@@ -8,7 +8,7 @@ use Rattle.fop_types.specs.declared.messages.OutKind.{OutKind}
 use Rattle.fop_types.specs.declared.messages.OutKind.TheVariants as out
 use Rattle.fop_types.specs.declared.messages.Output.{Output}
 use Rattle.fop_types.specs.History.{makes}
-use Rattle.script_lang.specs.declared.scripts.CallLine.{CallLine}
+use Rattle.fop_types.specs.declared.calls.RootLine.{RootLine}
 use Rattle.hub_core.specs.declared.logs.HubEvent.TheVariants.{Submit, Arrive}
 use Rattle.hub_core.specs.declared.logs.Log.{Log}
 use Rattle.hub_core.specs.declared.stages.Stage.{Stage}
@@ -19,12 +19,12 @@ use Rattle.hub_core.specs.Turns.IsReached.{Begun, Submitted, Arrived}
 use Rattle.hub_core.specs.Follows.{follow_of, follow_output, follow_line, submit_due}
 use Rattle.hub_core.proofs.Cases.{arrived_is, by_next, by_working, by_line}
 
-pub reached_new : (calls : List CallLine) (log : Log) → log ≡ empty_log →
+pub reached_new : (calls : List RootLine) (log : Log) → log ≡ empty_log →
     IsReached (record { calls = calls; log = log; submitted = 0; made = 0; working = None })
 reached_new calls log is = rw is (Begun (start_of calls) refl)
 
 -- the state after a submission, from what its parts are
-pub submitted_is : (s : HubState) (line : CallLine) (log : Log) (turn made : ℕ) (stage : Stage) (places : List ℕ) (req : BrickReq) →
+pub submitted_is : (s : HubState) (line : RootLine) (log : Log) (turn made : ℕ) (stage : Stage) (places : List ℕ) (req : BrickReq) →
     log ≡ with_request (with_event s.log (Submit line.session line.line)) (length s.log.events + 1) (s.submitted + 1) (length s.log.sent) req →
     req ≡ ask_names → turn ≡ length s.log.sent → made ≡ makes line.call → places ≡ [] → stage ≡ first_stage line.call →
     ◌≡◌ {A = HubState} (record {
@@ -38,7 +38,7 @@ pub submitted_is : (s : HubState) (line : CallLine) (log : Log) (turn made : ℕ
 submitted_is s line log turn made stage places req log_is req_is turn_is made_is places_is stage_is =
     rw log_is (rw req_is (rw turn_is (rw made_is (rw places_is (rw stage_is refl)))))
 
-pub due_is : (s t : HubState) (line : CallLine) → slice_get s.calls s.submitted ≡ Some line → t ≡ submit_call s line →
+pub due_is : (s t : HubState) (line : RootLine) → slice_get s.calls s.submitted ≡ Some line → t ≡ submit_call s line →
     t ≡ submit_due s (slice_get s.calls s.submitted)
 due_is s t line there is = rw there is
 
@@ -50,7 +50,7 @@ ignored_is s output log none log_is =
     rw log_is (sym (arrived_is s output ∙ ap (λ (f : Option Next). by_next s output f) none))
 
 -- the state after an arrival that something follows
-pub carried_is : (s : HubState) (output : Output) (follows : Next) (w : Working) (line : CallLine) (log : Log) (working : Option Working) →
+pub carried_is : (s : HubState) (output : Output) (follows : Next) (w : Working) (line : RootLine) (log : Log) (working : Option Working) →
     follow_of s output.kind ≡ Some follows → s.working ≡ Some w → Some line ≡ slice_get s.calls (w.call - 1) →
     log ≡ log_next (with_event s.log (Arrive 0 output)) (length s.log.events + 1) w line follows →
     working ≡ working_next s.log w follows →
@@ -59,7 +59,7 @@ carried_is s output follows w line log working follow at there log_is working_is
     rw log_is (rw working_is
     (sym (arrived_is s output ∙ ap (λ (f : Option Next). by_next s output f) follow ∙
     ap (λ (v : Option Working). by_working s output follows v) at ∙
-    ap (λ (l : Option CallLine). by_line s output follows w l) (sym there))))
+    ap (λ (l : Option RootLine). by_line s output follows w l) (sym there))))
 
 -- nothing follows where the call at work has no line
 pub if_none : {A : Type 0} (test : Bool) → ◌≡◌ {A = Option A} (if test then None else None) None
@@ -86,7 +86,7 @@ line_there s w kind follows at follow there =
 
 -- ---- at the code
 
-pub reached_submit : {s : HubState} (now : HubState) (line : CallLine) (log : Log) (turn made : ℕ) (stage : Stage) (places : List ℕ) (req : BrickReq) →
+pub reached_submit : {s : HubState} (now : HubState) (line : RootLine) (log : Log) (turn made : ℕ) (stage : Stage) (places : List ℕ) (req : BrickReq) →
     IsReached s → s ≡ now → now.working ≡ None → Some line ≡ slice_get s.calls s.submitted →
     log ≡ with_request (with_event s.log (Submit line.session line.line)) (length s.log.events + 1) (s.submitted + 1) (length s.log.sent) req →
     req ≡ ask_names → turn ≡ length s.log.sent → made ≡ makes line.call → places ≡ [] → stage ≡ first_stage line.call →
@@ -109,7 +109,7 @@ reached_ignore {s = s} now output log reached is none log_is =
     Arrived s _ output reached
     (ignored_is s output log (ap (λ (v : HubState). follow_of v output.kind) is ∙ none) log_is)
 
-pub carried_at : {s : HubState} (now : HubState) (output : Output) (follows : Next) (w : Working) (line : CallLine) (log : Log) (working : Option Working) →
+pub carried_at : {s : HubState} (now : HubState) (output : Output) (follows : Next) (w : Working) (line : RootLine) (log : Log) (working : Option Working) →
     IsReached s → s ≡ now → follow_of now output.kind ≡ Some follows → s.working ≡ Some w → Some line ≡ slice_get s.calls (w.call - 1) →
     log ≡ log_next (with_event s.log (Arrive 0 output)) (length s.log.events + 1) w line follows →
     working ≡ working_next s.log w follows →
@@ -118,7 +118,7 @@ carried_at {s = s} now output follows w line log working reached is follow at th
     carried_is s output follows w line log working (ap (λ (v : HubState). follow_of v output.kind) is ∙ follow) at there log_is working_is
     ∙ ap (λ (v : HubState). arrived v output) is
 
-pub reached_carry : {s : HubState} (now : HubState) (output : Output) (follows : Next) (w : Working) (line : CallLine) (log : Log) (working : Option Working) →
+pub reached_carry : {s : HubState} (now : HubState) (output : Output) (follows : Next) (w : Working) (line : RootLine) (log : Log) (working : Option Working) →
     IsReached s → s ≡ now → follow_of now output.kind ≡ Some follows → s.working ≡ Some w → Some line ≡ slice_get s.calls (w.call - 1) →
     log ≡ log_next (with_event s.log (Arrive 0 output)) (length s.log.events + 1) w line follows →
     working ≡ working_next s.log w follows →

@@ -6,8 +6,8 @@ use Rattle.fop_types.specs.declared.cells.Kind.{Kind}
 use Rattle.fop_types.specs.declared.contents.Content.{Content}
 use Rattle.fop_types.specs.declared.contents.Content.TheVariants.{Bytes, Meta, Names}
 use Rattle.fop_types.specs.declared.contents.Item.{Item}
-use Rattle.fop_types.specs.declared.calls.Call.{Call}
-use Rattle.fop_types.specs.declared.calls.Call.TheVariants as call
+use Rattle.fop_types.specs.declared.calls.RootCall.{RootCall}
+use Rattle.fop_types.specs.declared.calls.RootCall.TheVariants as call
 use Rattle.fop_types.specs.declared.messages.DoneArm.{DoneArm}
 use Rattle.fop_types.specs.declared.messages.DoneArm.TheVariants as done
 use Rattle.fop_types.specs.declared.messages.BrickRep.{BrickRep}
@@ -15,7 +15,7 @@ use Rattle.fop_types.specs.declared.messages.BrickRep.TheVariants as rep
 use Rattle.fop_types.specs.declared.messages.OutKind.{OutKind}
 use Rattle.fop_types.specs.declared.messages.OutKind.TheVariants as out
 use Rattle.fop_types.specs.declared.messages.Output.{Output}
-use Rattle.script_lang.specs.declared.scripts.CallLine.{CallLine}
+use Rattle.fop_types.specs.declared.calls.RootLine.{RootLine}
 use Rattle.fop_types.specs.Flat.{item_named}
 use Rattle.hub_core.specs.declared.stages.Stage.{Stage}
 use Rattle.hub_core.specs.declared.stages.Stage.TheVariants.{Finding, Reading, Checking, Marking, Changing, Posting}
@@ -29,7 +29,7 @@ use Rattle.hub_core.specs.Bounds.{requests_left}
 -- ---- an arrival by what follows it
 
 -- the state after an output, by what follows it and by the call at work with its line
-abbrev pub by_line : HubState → Output → Next → Working → Option CallLine → HubState
+abbrev pub by_line : HubState → Output → Next → Working → Option RootLine → HubState
 by_line s output follows w None = ignored s output
 by_line s output follows w (Some line) = carried_out s output w line follows
 
@@ -46,13 +46,13 @@ abbrev pub IsBy : HubState → Output → Working → HubState → Option Next �
 IsBy s output w after None = after ≡ ignored s output
 IsBy s output w after (Some follows) = after ≡ by_line s output follows w (slice_get s.calls (w.call - 1))
 
-pub taken_is : (s : HubState) (output : Output) (w : Working) (line : CallLine) (follows : Option Next) →
+pub taken_is : (s : HubState) (output : Output) (w : Working) (line : RootLine) (follows : Option Next) →
     slice_get s.calls (w.call - 1) ≡ Some line →
     IsBy s output w (taken_up s output w line follows) follows
 taken_is s output w line None there = refl
 taken_is s output w line (Some follows) there = rw there refl
 
-pub done_is : (s : HubState) (output : Output) (w : Working) (line : Option CallLine) (arm : DoneArm) →
+pub done_is : (s : HubState) (output : Output) (w : Working) (line : Option RootLine) (arm : DoneArm) →
     slice_get s.calls (w.call - 1) ≡ line →
     IsBy s output w (done_for s output w line arm) (follow_line s w arm line)
 done_is s output w None arm there = refl
@@ -100,18 +100,18 @@ arrived_is s output = working_is s output s.working refl
 -- ---- a property of what an arrival leads to
 
 module _ (P : HubState → Type 0) (s : HubState) (output : Output) (same : P (ignored s output))
-    (changed : (w : Working) (line : CallLine) (follows : Next) (arm : DoneArm) → s.working ≡ Some w →
+    (changed : (w : Working) (line : RootLine) (follows : Next) (arm : DoneArm) → s.working ≡ Some w →
     slice_get s.calls (w.call - 1) ≡ Some line →
     next_of w.stage line.call w.drawn w.places (length s.log.history) arm ≡ Some follows →
     P (carried_out s output w line follows)) where
-  taken_by : (w : Working) (line : CallLine) (arm : DoneArm) (follows : Option Next) → s.working ≡ Some w →
+  taken_by : (w : Working) (line : RootLine) (arm : DoneArm) (follows : Option Next) → s.working ≡ Some w →
       slice_get s.calls (w.call - 1) ≡ Some line →
       next_of w.stage line.call w.drawn w.places (length s.log.history) arm ≡ follows →
       P (taken_up s output w line follows)
   taken_by w line arm None at there next = same
   taken_by w line arm (Some follows) at there next = changed w line follows arm at there next
 
-  done_by : (w : Working) (line : Option CallLine) (arm : DoneArm) → s.working ≡ Some w →
+  done_by : (w : Working) (line : Option RootLine) (arm : DoneArm) → s.working ≡ Some w →
       slice_get s.calls (w.call - 1) ≡ line → P (done_for s output w line arm)
   done_by w None arm at there = same
   done_by w (Some line) arm at there =
@@ -184,7 +184,7 @@ nothing_lowers left (done.Content content last) more lower = tt
 nothing_lowers left (done.Rows rows) more lower = tt
 nothing_lowers left (done.Cells cells) more lower = tt
 
-pub next_lowers : (stage : Stage) (c : Call) (drawn : Gfid) (places : List ℕ) (place : ℕ) (arm : DoneArm) →
+pub next_lowers : (stage : Stage) (c : RootCall) (drawn : Gfid) (places : List ℕ) (place : ℕ) (arm : DoneArm) →
     Lowers (requests_left stage) (next_of stage c drawn places place arm)
 next_lowers Finding c drawn places place arm = names_lower 1 arm (name_of c) places place find_next (find_lowers places place)
 next_lowers (Reading kind) c drawn places place arm = meta_lowers arm kind places place

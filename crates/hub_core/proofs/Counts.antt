@@ -9,7 +9,7 @@ use Rattle.fop_types.specs.declared.messages.Output.{Output}
 use Rattle.fop_types.specs.declared.messages.DoneArm.{DoneArm}
 use Rattle.fop_types.specs.declared.messages.BrickReq.{BrickReq}
 use Rattle.fop_types.specs.History.{objects_made, makes, drawn_by, AreBetween}
-use Rattle.script_lang.specs.declared.scripts.CallLine.{CallLine}
+use Rattle.fop_types.specs.declared.calls.RootLine.{RootLine}
 use Rattle.hub_core.specs.declared.logs.HubEvent.{HubEvent}
 use Rattle.hub_core.specs.declared.logs.HubEvent.TheVariants.{Submit, Arrive}
 use Rattle.hub_core.specs.declared.logs.ReplyLine.{ReplyLine}
@@ -23,7 +23,7 @@ use Rattle.hub_core.specs.Turns.{HubState, start_of, submit_call, ignored, taken
 use Rattle.hub_core.proofs.Lists.{get_push_old, get_push_last, get_push_cases, take_next, get_below}
 use Rattle.hub_core.proofs.Places.{AreBelow-push, AreBelow-more, submits_push, get_place, get_call, length-places_of, objects_made_push}
 
-pub counted_start : (calls : List CallLine) → IsCounted (start_of calls)
+pub counted_start : (calls : List RootLine) → IsCounted (start_of calls)
 counted_start calls = record {
   submits = refl;
   within = omega arith;
@@ -45,7 +45,7 @@ own_later s t reply same more events own = record {
   past = omega arith;
 }
 
-pub counted_submit : (s : HubState) (line : CallLine) → IsCounted s → s.working ≡ None → slice_get s.calls s.submitted ≡ Some line → IsCounted (submit_call s line)
+pub counted_submit : (s : HubState) (line : RootLine) → IsCounted s → s.working ≡ None → slice_get s.calls s.submitted ≡ Some line → IsCounted (submit_call s line)
 counted_submit s line c idle there =
     let more : length (s.log.events ++ Submit line.session line.line ∷ []) ≡ length s.log.events + 1 = length_push _ _ in
     let below : s.submitted < length s.calls = get_below s.calls s.submitted line there in
@@ -99,7 +99,7 @@ pub each_pushed : {X : Type 0} (P : X → Type 0) (xs : List X) (y : X) →
     ((k : ℕ) (x : X) → slice_get xs k ≡ Some x → P x) → P y → (k : ℕ) (x : X) → slice_get (xs ++ y ∷ []) k ≡ Some x → P x
 each_pushed P xs y old new k x h = elim (get_push_cases xs y k x h) [ inl was ↦ old k x was | inr is ↦ subst P is.1 new ]
 
-own_new : (s t : HubState) (w : Working) (line : CallLine) (reply : ReplyLine) → WorkIsCounted s w → slice_get s.calls (w.call - 1) ≡ Some line →
+own_new : (s t : HubState) (w : Working) (line : RootLine) (reply : ReplyLine) → WorkIsCounted s w → slice_get s.calls (w.call - 1) ≡ Some line →
     t.calls ≡ s.calls → t.submitted ≡ s.submitted → reply.event ≤ length t.log.events → reply.call ≡ w.call → reply.session ≡ line.session → reply.line ≡ line.line → IsOwnReply t reply
 own_new s t w line reply work there calls submitted past call session own_line =
     let number : w.call ≡ s.submitted = work.number in
@@ -108,7 +108,7 @@ own_new s t w line reply work there calls submitted past call session own_line =
     record { from_one = omega arith; submitted = omega arith; own_line = rw (calls, call, session, own_line) place; past = past }
 
 -- the call at work goes on: a request, a reply, or a reply with an entry
-pub counted_take : (s : HubState) (output : Output) (w : Working) (line : CallLine) (follows : Next) → IsCounted s → s.working ≡ Some w →
+pub counted_take : (s : HubState) (output : Output) (w : Working) (line : RootLine) (follows : Next) → IsCounted s → s.working ≡ Some w →
     slice_get s.calls (w.call - 1) ≡ Some line → IsCounted (taken_up s output w line (Some follows))
 counted_take s output w line (next.Ask request stage places) c at_work there =
     let base : IsCounted (ignored s output) = counted_ignore s output c in

@@ -7,8 +7,8 @@ use Rattle.fop_types.specs.declared.answers.Answer.{Answer}
 use Rattle.fop_types.specs.declared.answers.Answer.TheVariants as answer
 use Rattle.fop_types.specs.declared.answers.AppError.{AppError}
 use Rattle.fop_types.specs.declared.answers.AppError.TheVariants.{Enoent, Eexist}
-use Rattle.fop_types.specs.declared.calls.Call.{Call}
-use Rattle.fop_types.specs.declared.calls.Call.TheVariants as call
+use Rattle.fop_types.specs.declared.calls.RootCall.{RootCall}
+use Rattle.fop_types.specs.declared.calls.RootCall.TheVariants as call
 use Rattle.fop_types.specs.declared.calls.Path.{Path}
 use Rattle.fop_types.specs.declared.cells.Gfid.{Gfid}
 use Rattle.fop_types.specs.declared.cells.Kind.{Kind}
@@ -40,7 +40,7 @@ use Rattle.fop_types.specs.Flat.{found_answer, absent_answer}
 use Rattle.fop_types.specs.History.{after_op}
 use Rattle.fop_types.specs.Flat.{Files, object_at, flat_answer, flat_after, empty_root, root, item_named, directory_item}
 use Rattle.fop_types.specs.History.{call_numbered, drawn_by, last_part, files_after, fs_after, entry_op, IsLegalEntry, HasNoEntry}
-use Rattle.script_lang.specs.declared.scripts.CallLine.{CallLine}
+use Rattle.fop_types.specs.declared.calls.RootLine.{RootLine}
 use Rattle.brick_node.specs.Machine.{fetch_reply}
 use Rattle.brick_store.specs.Cells.{Cells, kept_at, copy_with, names_cell, meta_cell, name_added}
 use Rattle.brick_node.specs.Machine.{Served, serve_request, cells_of, outputs_of}
@@ -87,7 +87,7 @@ module _ (s : HubState) (o : Output) (w : Working) (h : IsAtWork s w) (at_work :
   now_files : fs_after (calls_of s.calls) s.log.history (length s.log.history) ≡ h.files
   now_files = files_now (calls_of s.calls) s.log.history ∙ h.so_far.files_are
 
-  asked : (c : Call) → h.line.call ≡ c → call_numbered (calls_of s.calls) w.call ≡ Some c
+  asked : (c : RootCall) → h.line.call ≡ c → call_numbered (calls_of s.calls) w.call ≡ Some c
   asked c is = get_call s.calls (w.call - 1) h.line h.line_is ∙ ap Some is
 
   no_entry : HasNoEntry s.log.history w.call
@@ -256,7 +256,7 @@ module _ (s : HubState) (o : Output) (w : Working) (h : IsAtWork s w) (at_work :
       let m : IsMkdir s h.files w h.line.call = f.change_is.mkdir in
       let n : ℕ = length s.log.history in
       let entry : Entry = record { call = w.call; part = 1 } in
-      let calls : List Call = calls_of s.calls in
+      let calls : List RootCall = calls_of s.calls in
       let op : FlatOp = Mkdir root m.one.name m.mode w.drawn in
       let replies : (serve_request (cells_of h.answered) h.request).reply ≡ rep.Done done.Nothing = ap (λ (r : BrickReq). (serve_request (cells_of h.answered) r).reply) f.asks in
       let after : flat_after h.files op ≡ grown h.files h.so_far.good m.one.name m.one.short m.mode w.drawn f.change_is.free m.absent (new_one m) =

@@ -6,7 +6,7 @@ use Rattle.fop_types.specs.declared.answers.Answer.{Answer}
 use Rattle.fop_types.specs.declared.messages.BrickReq.{BrickReq}
 use Rattle.fop_types.specs.declared.messages.DoneArm.{DoneArm}
 use Rattle.fop_types.specs.declared.messages.Output.{Output}
-use Rattle.script_lang.specs.declared.scripts.CallLine.{CallLine}
+use Rattle.fop_types.specs.declared.calls.RootLine.{RootLine}
 use Rattle.hub_core.specs.declared.logs.WindLine.{WindLine}
 use Rattle.hub_core.specs.declared.stages.Stage.{Stage}
 use Rattle.hub_core.specs.declared.stages.Working.{Working}
@@ -25,14 +25,14 @@ FewFor winds sent (Some w) = winds + 1 ≤ 2 * sent
 abbrev AreFew : HubState → Type 0
 AreFew s = FewFor (length s.log.winds) (length s.log.sent) s.working
 
-few_submit : (s : HubState) (line : CallLine) → AreFew s → s.working ≡ None → AreFew (submit_call s line)
+few_submit : (s : HubState) (line : RootLine) → AreFew s → s.working ≡ None → AreFew (submit_call s line)
 few_submit s line h idle =
     let now : length s.log.winds ≤ 2 * length s.log.sent = subst (FewFor (length s.log.winds) (length s.log.sent)) idle h in
     let winds : length (submit_call s line).log.winds ≡ length s.log.winds + 1 = length_push s.log.winds _ in
     let sent : length (submit_call s line).log.sent ≡ length s.log.sent + 1 = length_push s.log.sent _ in
     omega arith
 
-few_take : (s : HubState) (output : Output) (w : Working) (line : CallLine) (follows : Next) → AreFew s → s.working ≡ Some w → AreFew (taken_up s output w line (Some follows))
+few_take : (s : HubState) (output : Output) (w : Working) (line : RootLine) (follows : Next) → AreFew s → s.working ≡ Some w → AreFew (taken_up s output w line (Some follows))
 few_take s output w line (next.Ask request stage places) h at_work =
     let now : length s.log.winds + 1 ≤ 2 * length s.log.sent = subst (FewFor (length s.log.winds) (length s.log.sent)) at_work h in
     let ended : WindLine = record { event = length s.log.events + 1; graph = 1; call = w.call; wind = record { slot = 0; turn = w.turn }; opened = false } in

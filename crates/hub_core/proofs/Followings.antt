@@ -6,7 +6,7 @@ use Rattle.fop_types.specs.declared.answers.AppError.{AppError}
 use Rattle.fop_types.specs.declared.answers.AppError.TheVariants.{Enoent, Eexist}
 use Rattle.fop_types.specs.declared.cells.Gfid.{Gfid}
 use Rattle.fop_types.specs.declared.cells.Kind.{Kind}
-use Rattle.fop_types.specs.declared.calls.Call.{Call}
+use Rattle.fop_types.specs.declared.calls.RootCall.{RootCall}
 use Rattle.fop_types.specs.declared.contents.Content.{Content}
 use Rattle.fop_types.specs.declared.contents.Content.TheVariants.{Bytes, Meta, Names}
 use Rattle.fop_types.specs.declared.contents.Item.{Item}
@@ -62,7 +62,7 @@ checks : (places : List ℕ) (place : ℕ) (i : Option Item) → PlacesFollow pl
 checks places place None = inl refl
 checks places place (Some item) = refl
 
-pub places_follow : (stage : Stage) (c : Call) (drawn : Gfid) (places : List ℕ) (place : ℕ) (arm : DoneArm) (follows : Next) →
+pub places_follow : (stage : Stage) (c : RootCall) (drawn : Gfid) (places : List ℕ) (place : ℕ) (arm : DoneArm) (follows : Next) →
     next_of stage c drawn places place arm ≡ Some follows → PlacesFollow places place follows
 places_follow Finding c drawn places place arm follows is = names_follow arm (name_of c) places place find_next follows (finds places place) is
 places_follow (Reading kind) c drawn places place arm follows is = meta_follow arm kind places place follows is

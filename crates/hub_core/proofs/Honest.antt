@@ -7,8 +7,8 @@ use Rattle.fop_types.specs.declared.answers.Answer.{Answer}
 use Rattle.fop_types.specs.declared.answers.Answer.TheVariants as answer
 use Rattle.fop_types.specs.declared.answers.AppError.{AppError}
 use Rattle.fop_types.specs.declared.answers.AppError.TheVariants.{Enoent, Eexist}
-use Rattle.fop_types.specs.declared.calls.Call.{Call}
-use Rattle.fop_types.specs.declared.calls.Call.TheVariants as call
+use Rattle.fop_types.specs.declared.calls.RootCall.{RootCall}
+use Rattle.fop_types.specs.declared.calls.RootCall.TheVariants as call
 use Rattle.fop_types.specs.declared.calls.Path.{Path}
 use Rattle.fop_types.specs.declared.cells.Gfid.{Gfid}
 use Rattle.fop_types.specs.declared.cells.Kind.{Kind}
@@ -39,7 +39,7 @@ use Rattle.fop_types.specs.declared.store_ops.StoreOp.{StoreOp}
 use Rattle.fop_types.specs.declared.store_ops.StoreOp.TheVariants.{AddName}
 use Rattle.fop_types.specs.Flat.{Files, object_at, flat_answer, flat_after, empty_root, root, item_named, directory_item}
 use Rattle.fop_types.specs.History.{call_numbered, drawn_by, last_part, makes, files_after, fs_after, IsLegalEntry, IsLegalHistory, HasNoEntry}
-use Rattle.script_lang.specs.declared.scripts.CallLine.{CallLine}
+use Rattle.fop_types.specs.declared.calls.RootLine.{RootLine}
 use Rattle.brick_store.specs.Cells.{Cells, kept_at, copy_of, copy_with, names_cell, meta_cell, marked, posted, applied, name_added, takes_name}
 use Rattle.brick_store.specs.declared.kept.Kept.{Kept}
 use Rattle.brick_node.specs.Machine.{Served, serve_request, cells_one, cells_of, outputs_of, fetch_reply}
@@ -86,12 +86,12 @@ pub record IsIdle (s : HubState) : Type 0 where
 
 -- ---- what the call at work knows, by its stage
 
-pub record IsStat (c : Call) : Type 0 where
+pub record IsStat (c : RootCall) : Type 0 where
   pub path : Path
   pub call_is : c ≡ call.Stat path
   pub one : IsOneName path
 
-pub record IsMkdir (s : HubState) (files : Files) (w : Working) (c : Call) : Type 0 where
+pub record IsMkdir (s : HubState) (files : Files) (w : Working) (c : RootCall) : Type 0 where
   pub path : Path
   pub mode : ℕ
   pub call_is : c ≡ call.Mkdir path mode
@@ -101,13 +101,13 @@ pub record IsMkdir (s : HubState) (files : Files) (w : Working) (c : Call) : Typ
   pub absent : object_at files w.drawn ≡ None
   pub above_root : 0 < s.made
 
-pub record IsFinding (files : Files) (cells : Cells) (w : Working) (c : Call) (request : BrickReq) : Type 0 where
+pub record IsFinding (files : Files) (cells : Cells) (w : Working) (c : RootCall) (request : BrickReq) : Type 0 where
   pub stat : IsStat c
   pub places : w.places ≡ []
   pub asks : request ≡ ask_names
   pub shows : Shows files cells
 
-pub record IsReading (s : HubState) (files : Files) (cells : Cells) (w : Working) (c : Call) (request : BrickReq) (k : Kind) : Type 0 where
+pub record IsReading (s : HubState) (files : Files) (cells : Cells) (w : Working) (c : RootCall) (request : BrickReq) (k : Kind) : Type 0 where
   pub stat : IsStat c
   pub places : w.places ≡ length s.log.history ∷ []
   pub gfid : Gfid
@@ -117,18 +117,18 @@ pub record IsReading (s : HubState) (files : Files) (cells : Cells) (w : Working
   pub asks : request ≡ req.Fetch 0 (meta_cell gfid)
   pub shows : Shows files cells
 
-pub record IsChecking (s : HubState) (files : Files) (cells : Cells) (w : Working) (c : Call) (request : BrickReq) : Type 0 where
+pub record IsChecking (s : HubState) (files : Files) (cells : Cells) (w : Working) (c : RootCall) (request : BrickReq) : Type 0 where
   pub mkdir : IsMkdir s files w c
   pub asks : request ≡ ask_names
   pub shows : Shows files cells
 
 -- a change whose name is free in the root
-pub record IsFree (s : HubState) (files : Files) (good : IsGood files) (w : Working) (c : Call) (change : ℕ) : Type 0 where
+pub record IsFree (s : HubState) (files : Files) (good : IsGood files) (w : Working) (c : RootCall) (change : ℕ) : Type 0 where
   pub mkdir : IsMkdir s files w c
   pub number : change ≡ length s.log.history + 1
   pub free : item_named good.root_is.names mkdir.one.name ≡ None
 
-pub record IsMarking (s : HubState) (files : Files) (good : IsGood files) (cells : Cells) (w : Working) (c : Call) (request : BrickReq) (change : ℕ) : Type 0 where
+pub record IsMarking (s : HubState) (files : Files) (good : IsGood files) (cells : Cells) (w : Working) (c : RootCall) (request : BrickReq) (change : ℕ) : Type 0 where
   pub change_is : IsFree s files good w c change
   pub asks : request ≡ req.Mark change (names_cell root ∷ [])
   pub shows : Shows files cells
@@ -136,7 +136,7 @@ pub record IsMarking (s : HubState) (files : Files) (good : IsGood files) (cells
 abbrev pub op_of : (name : List ℕ) → ℕ → Gfid → StoreOp
 op_of name mode drawn = AddName root (directory_item name drawn) mode (Some whole_span)
 
-pub record IsChanging (s : HubState) (files : Files) (good : IsGood files) (cells : Cells) (w : Working) (c : Call) (request : BrickReq) (change : ℕ) : Type 0 where
+pub record IsChanging (s : HubState) (files : Files) (good : IsGood files) (cells : Cells) (w : Working) (c : RootCall) (request : BrickReq) (change : ℕ) : Type 0 where
   pub change_is : IsFree s files good w c change
   pub asks : request ≡ req.Op change 0 (op_of change_is.mkdir.one.name change_is.mkdir.mode w.drawn)
   pub shows : Shows files cells
@@ -144,14 +144,14 @@ pub record IsChanging (s : HubState) (files : Files) (good : IsGood files) (cell
 abbrev pub empty_post : ℕ → BrickReq
 empty_post change = req.Post change (names_cell root ∷ []) (record { 0 = 0 })
 
-pub record IsPosting (s : HubState) (files : Files) (good : IsGood files) (answered : List Input) (w : Working) (c : Call) (request : BrickReq) (change : ℕ) : Type 0 where
+pub record IsPosting (s : HubState) (files : Files) (good : IsGood files) (answered : List Input) (w : Working) (c : RootCall) (request : BrickReq) (change : ℕ) : Type 0 where
   pub change_is : IsFree s files good w c change
   pub asks : request ≡ empty_post change
   pub shows : Shows (flat_after files (Mkdir root change_is.mkdir.one.name change_is.mkdir.mode w.drawn)) (cells_of answered)
   pub op_place : ℕ
   pub op_done : IsDoneRequest answered (arrivals_of s.log.events) op_place (req.Op change 0 (op_of change_is.mkdir.one.name change_is.mkdir.mode w.drawn))
 
-abbrev pub StageIs : HubState → (answered : List Input) → (files : Files) → IsGood files → Working → Call → BrickReq → Stage → Type 0
+abbrev pub StageIs : HubState → (answered : List Input) → (files : Files) → IsGood files → Working → RootCall → BrickReq → Stage → Type 0
 StageIs s answered files good w c request Finding = IsFinding files (cells_of answered) w c request
 StageIs s answered files good w c request (Reading k) = IsReading s files (cells_of answered) w c request k
 StageIs s answered files good w c request Checking = IsChecking s files (cells_of answered) w c request
@@ -163,7 +163,7 @@ pub record IsAtWork (s : HubState) (w : Working) : Type 0 where
   pub answered : List Input
   pub files : Files
   pub request : BrickReq
-  pub line : CallLine
+  pub line : RootLine
   pub sent : inputs_of s.log.sent ≡ answered ++ Request (wire_number w.turn) 1 request ∷ []
   pub so_far : IsHonestSoFar s answered files
   pub line_is : slice_get s.calls (w.call - 1) ≡ Some line
@@ -175,7 +175,7 @@ HonestFor s (Some w) = IsAtWork s w
 
 -- ---- the start
 
-pub honest_start : (calls : List CallLine) → IsIdle (start_of calls)
+pub honest_start : (calls : List RootLine) → IsIdle (start_of calls)
 honest_start calls = record {
   files = empty_root;
   so_far = record {
@@ -202,7 +202,7 @@ request_later inputs more outputs others place r d = record {
   answered = get_push_old outputs others d.answer_at _ d.answered;
 }
 
-pub backed_later : (calls : List CallLine) (history : List Entry) (inputs more : List Input) (outputs others : List Output) →
+pub backed_later : (calls : List RootLine) (history : List Entry) (inputs more : List Input) (outputs others : List Output) →
     IsBackedByBrick calls history inputs outputs → IsBackedByBrick calls history (inputs ++ more) (outputs ++ others)
 backed_later calls history inputs more outputs others b k entry h =
     let old : IsBacked calls inputs outputs entry = b k entry h in
@@ -225,8 +225,8 @@ no_inputs : (inputs : List Input) → inputs ++ [] ≡ inputs
 no_inputs [] = refl
 no_inputs (i ∷ inputs) = ap (λ (t : List Input). i ∷ t) (no_inputs inputs)
 
-submitted_stage : (s : HubState) (line : CallLine) (files : Files) (good : IsGood files) (fresh : IsFreshAbove files (1 + s.made)) (shows : Shows files (cells_of (inputs_of s.log.sent))) →
-    (c : Call) → line.call ≡ c → HasOneName c → (w : Working) → w.places ≡ [] → w.drawn ≡ (let g : Gfid = record { hi = 0; lo = 1 + (s.made + makes line.call) } in g) →
+submitted_stage : (s : HubState) (line : RootLine) (files : Files) (good : IsGood files) (fresh : IsFreshAbove files (1 + s.made)) (shows : Shows files (cells_of (inputs_of s.log.sent))) →
+    (c : RootCall) → line.call ≡ c → HasOneName c → (w : Working) → w.places ≡ [] → w.drawn ≡ (let g : Gfid = record { hi = 0; lo = 1 + (s.made + makes line.call) } in g) →
     StageIs (submit_call s line) (inputs_of s.log.sent) files good w c ask_names (first_stage c)
 submitted_stage s line files good fresh shows (call.Mkdir path mode) is one w places drawn = record {
   mkdir = record {
@@ -249,7 +249,7 @@ submitted_stage s line files good fresh shows (call.Stat path) is one w places d
   shows = shows;
 }
 
-pub honest_submit : (s : HubState) (line : CallLine) → IsSentWell s → HaveOneName s.calls → slice_get s.calls s.submitted ≡ Some line → IsIdle s →
+pub honest_submit : (s : HubState) (line : RootLine) → IsSentWell s → HaveOneName s.calls → slice_get s.calls s.submitted ≡ Some line → IsIdle s →
     HonestFor (submit_call s line) (submit_call s line).working
 honest_submit s line well one there idle =
     let f = idle.so_far in

@@ -11,7 +11,7 @@ use Rattle.fop_types.specs.declared.messages.Input.TheVariants.{Request}
 use Rattle.fop_types.specs.declared.messages.Output.{Output}
 use Rattle.fop_types.specs.declared.messages.DoneArm.{DoneArm}
 use Rattle.fop_types.specs.declared.answers.Answer.{Answer}
-use Rattle.script_lang.specs.declared.scripts.CallLine.{CallLine}
+use Rattle.fop_types.specs.declared.calls.RootLine.{RootLine}
 use Rattle.brick_node.specs.Machine.{outputs_of}
 use Rattle.hub_core.specs.declared.logs.HubEvent.{HubEvent}
 use Rattle.hub_core.specs.declared.logs.HubEvent.TheVariants.{Submit, Arrive}
@@ -55,7 +55,7 @@ pub length-inputs_of : (lines : List SentLine) → length (inputs_of lines) ≡ 
 length-inputs_of [] = refl
 length-inputs_of (l ∷ lines) = ap suc (length-inputs_of lines)
 
-pub sent_start : (calls : List CallLine) → IsSentWell (start_of calls)
+pub sent_start : (calls : List RootLine) → IsSentWell (start_of calls)
 sent_start calls = record { requests = tt; by = tt }
 
 -- one more event, and a request that it sends
@@ -73,13 +73,13 @@ sent_same s t event h events sent =
     let many : length t.log.events ≡ length s.log.events + 1 = ap length events ∙ length_push s.log.events event in
     record { requests = rw sent h.requests; by = rw sent (sent_by_more s.log.sent (length s.log.events) (length t.log.events) h.by (omega arith)) }
 
-pub sent_submit : (s : HubState) (line : CallLine) → IsSentWell s → IsSentWell (submit_call s line)
+pub sent_submit : (s : HubState) (line : RootLine) → IsSentWell s → IsSentWell (submit_call s line)
 sent_submit s line h = sent_more s (submit_call s line) (Submit line.session line.line) _ _ h refl refl
 
 pub sent_ignore : (s : HubState) (output : Output) → IsSentWell s → IsSentWell (ignored s output)
 sent_ignore s output h = sent_same s (ignored s output) (Arrive 0 output) h refl refl
 
-pub sent_take : (s : HubState) (output : Output) (w : Working) (line : CallLine) (follows : Next) → IsSentWell s → IsSentWell (taken_up s output w line (Some follows))
+pub sent_take : (s : HubState) (output : Output) (w : Working) (line : RootLine) (follows : Next) → IsSentWell s → IsSentWell (taken_up s output w line (Some follows))
 sent_take s output w line (next.Ask request stage places) h = sent_more s (taken_up s output w line (Some (next.Ask request stage places))) (Arrive 0 output) _ _ h refl refl
 sent_take s output w line (next.Reply places answer false) h = sent_same s (taken_up s output w line (Some (next.Reply places answer false))) (Arrive 0 output) h refl refl
 sent_take s output w line (next.Reply places answer true) h = sent_same s (taken_up s output w line (Some (next.Reply places answer true))) (Arrive 0 output) h refl refl
@@ -90,7 +90,7 @@ pub data SendsMore (s t : HubState) : Type 0 where
   One_more : (wind : ℕ) → (req : BrickReq) →
       t.log.sent ≡ s.log.sent ++ (record { event = length s.log.events + 1; brick = 0; input = Request wind 1 req }) ∷ [] → SendsMore s t
 
-sends_next : (s : HubState) (output : Output) (w : Working) (line : CallLine) (follows : Next) → SendsMore s (taken_up s output w line (Some follows))
+sends_next : (s : HubState) (output : Output) (w : Working) (line : RootLine) (follows : Next) → SendsMore s (taken_up s output w line (Some follows))
 sends_next s output w line (next.Ask request stage places) = One_more _ _ refl
 sends_next s output w line (next.Reply places answer false) = Nothing_more refl
 sends_next s output w line (next.Reply places answer true) = Nothing_more refl
@@ -100,9 +100,9 @@ arrived_sends s output = of (arrived s output) (turned s output)
   where
     of : (t : HubState) → Turned s output t → SendsMore s t
     of t (Ignores _ is) = subst (SendsMore s) (sym is) (Nothing_more refl)
-    of t (Takes _ w line follows arm at_work there next is) = subst (SendsMore s) (sym is) (sends_next s output w line follows)
+    of t (Takes _ w line follows arm reply at_work there next is) = subst (SendsMore s) (sym is) (sends_next s output w line follows)
 
-events_next : (s : HubState) (output : Output) (w : Working) (line : CallLine) (follows : Next) → (taken_up s output w line (Some follows)).log.events ≡ s.log.events ++ Arrive 0 output ∷ []
+events_next : (s : HubState) (output : Output) (w : Working) (line : RootLine) (follows : Next) → (taken_up s output w line (Some follows)).log.events ≡ s.log.events ++ Arrive 0 output ∷ []
 events_next s output w line (next.Ask request stage places) = refl
 events_next s output w line (next.Reply places answer false) = refl
 events_next s output w line (next.Reply places answer true) = refl
@@ -112,7 +112,7 @@ arrived_events s output = of (arrived s output) (turned s output)
   where
     of : (t : HubState) → Turned s output t → t.log.events ≡ s.log.events ++ Arrive 0 output ∷ []
     of t (Ignores _ is) = ap (λ (x : HubState). x.log.events) is
-    of t (Takes _ w line follows arm at_work there next is) = ap (λ (x : HubState). x.log.events) is ∙ events_next s output w line follows
+    of t (Takes _ w line follows arm reply at_work there next is) = ap (λ (x : HubState). x.log.events) is ∙ events_next s output w line follows
 
 -- ---- counts of what was sent before an event
 

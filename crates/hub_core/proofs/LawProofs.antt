@@ -5,13 +5,13 @@ use Rattle.std.proofs.lemmas.Bool.{eq-eqb, eqb-true}
 use Rattle.std.proofs.lemmas.List.{length_push}
 use Rattle.std.proofs.lemmas.Bool.Decides.{nat_tests}
 use Rattle.fop_types.specs.declared.answers.Answer.{Answer}
-use Rattle.fop_types.specs.declared.calls.Call.{Call}
+use Rattle.fop_types.specs.declared.calls.RootCall.{RootCall}
 use Rattle.fop_types.specs.declared.messages.BrickReq.{BrickReq}
 use Rattle.fop_types.specs.declared.messages.DoneArm.{DoneArm}
 use Rattle.fop_types.specs.declared.messages.Output.{Output}
 use Rattle.fop_types.specs.declared.history.Entry.{Entry}
 use Rattle.fop_types.specs.History.{AreBetween, IsLegalHistory, IsLawfulReply}
-use Rattle.script_lang.specs.declared.scripts.CallLine.{CallLine}
+use Rattle.fop_types.specs.declared.calls.RootLine.{RootLine}
 use Rattle.hub_core.specs.declared.logs.HubEvent.{HubEvent}
 use Rattle.hub_core.specs.declared.logs.HubEvent.TheVariants.{Submit, Arrive}
 use Rattle.hub_core.specs.declared.logs.ReplyLine.{ReplyLine}
@@ -28,6 +28,8 @@ use Rattle.hub_core.proofs.Counts.{counted_start, counted_submit, counted_ignore
 use Rattle.hub_core.proofs.Followings.{places_follow}
 use Rattle.hub_core.proofs.Times.{timed_start, timed_submit, timed_ignore, timed_take, submits_length}
 use Rattle.hub_core.proofs.Winds.{wound_start, wound_submit, wound_take}
+use Rattle.hub_core.specs.Ties.{IsTied, LogsAreTied}
+use Rattle.hub_core.proofs.Tied.{tied_start, tied_submit, tied_event, tied_take}
 use Rattle.hub_core.proofs.Reached.{by_events, Turned, turned}
 use Rattle.hub_core.proofs.Reached.Turned.{Ignores, Takes}
 use Rattle.hub_core.proofs.Honesty.{IsSentWell, sent_start, sent_submit, sent_ignore, sent_take, SendsMore, arrived_sends, arrived_events, honest_before, few, length-inputs_of}
@@ -61,7 +63,7 @@ none_to number (r ∷ replies) below =
     let rest : replies_to number replies ≡ 0 = none_to number replies (λ k reply h. below (suc k) reply h) in
     grind (arith, nat_tests)
 
-replied_take : (s : HubState) (output : Output) (w : Working) (line : CallLine) (follows : Next) → WorkIsCounted s w → s.working ≡ Some w → IsReplied s → IsReplied (taken_up s output w line (Some follows))
+replied_take : (s : HubState) (output : Output) (w : Working) (line : RootLine) (follows : Next) → WorkIsCounted s w → s.working ≡ Some w → IsReplied s → IsReplied (taken_up s output w line (Some follows))
 replied_take s output w line (next.Ask request stage places) c at_work h number from_one le = h number from_one (rw at_work le)
 replied_take s output w line (next.Reply places answer enters) c at_work h number from_one le =
     cases enters (number == w.call) refl
@@ -98,15 +100,17 @@ replied_take s output w line (next.Reply places answer enters) c at_work h numbe
 
 record IsKept (s : HubState) : Type 0 where
   pub counted : IsCounted s
+  pub tied : IsTied s.calls s.log
   pub timed : IsTimed s
   pub wound : IsWound s
   pub sent : IsSentWell s
   pub replied : IsReplied s
   pub honest : HaveOneName s.calls → HasHonestArrivals s.log → HonestFor s s.working
 
-kept_start : (calls : List CallLine) → IsKept (start_of calls)
+kept_start : (calls : List RootLine) → IsKept (start_of calls)
 kept_start calls = record {
   counted = counted_start calls;
+  tied = tied_start calls;
   timed = timed_start calls;
   wound = wound_start calls;
   sent = sent_start calls;
@@ -114,9 +118,10 @@ kept_start calls = record {
   honest = λ one honest. honest_start calls;
 }
 
-kept_submit : (s : HubState) (line : CallLine) → IsKept s → s.working ≡ None → slice_get s.calls s.submitted ≡ Some line → IsKept (submit_call s line)
+kept_submit : (s : HubState) (line : RootLine) → IsKept s → s.working ≡ None → slice_get s.calls s.submitted ≡ Some line → IsKept (submit_call s line)
 kept_submit s line k idle there = record {
   counted = counted_submit s line k.counted idle there;
+  tied = tied_submit s line k.tied there;
   timed = timed_submit s line k.counted k.timed;
   wound = wound_submit s line k.wound idle;
   sent = sent_submit s line k.sent;
@@ -144,14 +149,16 @@ reply_bounds s c t w work k reply h = (
 kept_turned : (s : HubState) (output : Output) (t : HubState) → IsKept s → Turned s output t → (HaveOneName t.calls → HasHonestArrivals t.log → HonestFor t t.working) → IsKept t
 kept_turned s output t k (Ignores _ is) honest = subst IsKept (sym is) (record {
   counted = counted_ignore s output k.counted;
+  tied = tied_event s.calls s.log k.tied (Arrive 0 output);
   timed = timed_ignore s output k.counted k.timed;
   wound = k.wound;
   sent = sent_ignore s output k.sent;
   replied = k.replied;
   honest = subst (λ (x : HubState). HaveOneName x.calls → HasHonestArrivals x.log → HonestFor x x.working) is honest;
 })
-kept_turned s output t k (Takes _ w line follows arm at_work there next_is is) honest = subst IsKept (sym is) (record {
+kept_turned s output t k (Takes _ w line follows arm reply at_work there next_is is) honest = subst IsKept (sym is) (record {
   counted = counted_take s output w line follows k.counted at_work there;
+  tied = tied_take s output w line follows arm k.tied k.counted.as_many reply;
   timed = timed_take s output w line follows k.counted k.timed at_work (places_follow w.stage line.call w.drawn w.places (length s.log.history) arm follows next_is);
   wound = wound_take s output w line follows k.wound at_work;
   sent = sent_take s output w line follows k.sent;
@@ -181,7 +188,7 @@ kept_arrive s output k = kept_turned s output (arrived s output) k (turned s out
   where
     calls_same : (t : HubState) → Turned s output t → t.calls ≡ s.calls
     calls_same t (Ignores _ is) = ap (λ (x : HubState). x.calls) is
-    calls_same t (Takes _ w line follows arm at_work there next_is is) = ap (λ (x : HubState). x.calls) is
+    calls_same t (Takes _ w line follows arm reply at_work there next_is is) = ap (λ (x : HubState). x.calls) is
 
     honest : HaveOneName (arrived s output).calls → HasHonestArrivals (arrived s output).log → HonestFor (arrived s output) (arrived s output).working
     honest one h =
@@ -254,3 +261,7 @@ whole s reached one honest answered all = by_work s.working refl (k.honest one h
 -- what is sent are requests alone
 pub sent_well : (s : HubState) → IsReached s → IsSentWell s
 sent_well s reached = (kept s reached).sent
+
+-- each line is of the event that wrote it
+pub tied : LogsAreTied
+tied s reached = (kept s reached).tied

@@ -6,7 +6,7 @@ use Rattle.std.proofs.Math.Seq.{take-length}
 use Rattle.fop_types.specs.declared.answers.Answer.{Answer}
 use Rattle.fop_types.specs.declared.answers.Answer.TheVariants.{Done, Stat as StatOf, App, Count, Bytes, List as ListOf, Io}
 use Rattle.fop_types.specs.declared.answers.AppError.{AppError}
-use Rattle.fop_types.specs.declared.calls.Call.{Call}
+use Rattle.fop_types.specs.declared.calls.RootCall.{RootCall}
 use Rattle.fop_types.specs.declared.cells.Gfid.{Gfid}
 use Rattle.fop_types.specs.declared.flat.FlatOp.{FlatOp}
 use Rattle.fop_types.specs.declared.flat.FlatOp.TheVariants.{Lookup}
@@ -20,15 +20,15 @@ use Rattle.hub_core.proofs.Lists.{get_push_old, get_push_last, get_push_cases, g
 
 -- ---- the files after a history that grows
 
-pub files_push : (calls : List Call) (files : Files) (history : List Entry) (entry : Entry) →
+pub files_push : (calls : List RootCall) (files : Files) (history : List Entry) (entry : Entry) →
     files_after calls files (history ++ entry ∷ []) ≡ after_op (files_after calls files history) (entry_op calls entry)
 files_push calls files [] entry = refl
 files_push calls files (e ∷ history) entry = files_push calls (after_op files (entry_op calls e)) history entry
 
-pub files_now : (calls : List Call) (history : List Entry) → fs_after calls history (length history) ≡ files_after calls empty_root history
+pub files_now : (calls : List RootCall) (history : List Entry) → fs_after calls history (length history) ≡ files_after calls empty_root history
 files_now calls history = ap (files_after calls empty_root) (take-length history)
 
-pub files_before : (calls : List Call) (history : List Entry) (entry : Entry) (place : ℕ) → place ≤ length history → fs_after calls (history ++ entry ∷ []) place ≡ fs_after calls history place
+pub files_before : (calls : List RootCall) (history : List Entry) (entry : Entry) (place : ℕ) → place ≤ length history → fs_after calls (history ++ entry ∷ []) place ≡ fs_after calls history place
 files_before calls history entry place le = ap (files_after calls empty_root) (take-append-le place history (entry ∷ []) le)
 
 -- ---- replies
@@ -41,7 +41,7 @@ pub between_at_most : (places : List ℕ) (low high most : ℕ) → AreBetween p
 between_at_most [] low high most h le = tt
 between_at_most (p ∷ places) low high most h le = (omega (arith, h.1), between_at_most places p high most h.2 le)
 
-module _ (calls : List Call) (history : List Entry) (entry : Entry) (number : ℕ) (other : entry.call ≢ number) where
+module _ (calls : List RootCall) (history : List Entry) (entry : Entry) (number : ℕ) (other : entry.call ≢ number) where
   abbrev before : ℕ → Files
   before = fs_after calls history
 
@@ -100,14 +100,14 @@ module _ (calls : List Call) (history : List Entry) (entry : Entry) (number : �
       (looked_later op answer places _ _ (λ g. answered_later names g places op answer most.1) (flat_answer (before place) (Lookup directory name)) h)
 
 -- a reply but for the bounds of its places
-pub record IsAnsweredCall (calls : List Call) (history : List Entry) (number : ℕ) (places : List ℕ) (answer : Answer) : Type 0 where
-  pub call : Call
+pub record IsAnsweredCall (calls : List RootCall) (history : List Entry) (number : ℕ) (places : List ℕ) (answer : Answer) : Type 0 where
+  pub call : RootCall
   pub asked : call_numbered calls number ≡ Some call
   pub answered :
       IsAnswered (walk (looked_up call) (fs_after calls history) root places) (fs_after calls history) history number
       (λ found. last_op call found (drawn_by calls number)) answer
 
-pub answered_call_later : (calls : List Call) (history : List Entry) (entry : Entry) (number : ℕ) (places : List ℕ) (answer : Answer) →
+pub answered_call_later : (calls : List RootCall) (history : List Entry) (entry : Entry) (number : ℕ) (places : List ℕ) (answer : Answer) →
     entry.call ≢ number → AreAtMost places (length history) → IsAnsweredCall calls history number places answer → IsAnsweredCall calls (history ++ entry ∷ []) number places answer
 answered_call_later calls history entry number places answer other most a = record {
   call = a.call;
@@ -117,10 +117,10 @@ answered_call_later calls history entry number places answer other most a = reco
 
 -- ---- histories
 
-pub legal_start : (calls : List Call) → IsLegalHistory calls []
+pub legal_start : (calls : List RootCall) → IsLegalHistory calls []
 legal_start calls = record { distinct = λ i j e h k. absurd cc; legal = λ place e h. absurd cc }
 
-pub legal_later : (calls : List Call) (history : List Entry) (entry : Entry) → ((k : ℕ) (e : Entry) → slice_get history k ≡ Some e → e.call < entry.call) →
+pub legal_later : (calls : List RootCall) (history : List Entry) (entry : Entry) → ((k : ℕ) (e : Entry) → slice_get history k ≡ Some e → e.call < entry.call) →
     IsLegalHistory calls history → IsLegalEntry calls history (length history) entry → IsLegalHistory calls (history ++ entry ∷ [])
 legal_later calls history entry below legal new = record {
   distinct = λ i j e h k. distinct i j e (get_push_cases history entry i e h) (get_push_cases history entry j e k);

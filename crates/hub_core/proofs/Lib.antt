@@ -16,5 +16,6 @@ pub mod Places
 pub mod Reached
 pub mod Served
 pub mod Shown
+pub mod Tied
 pub mod Times
 pub mod Winds

@@ -7,8 +7,8 @@ use Rattle.fop_types.specs.declared.answers.Answer.{Answer}
 use Rattle.fop_types.specs.declared.answers.Answer.TheVariants as answer
 use Rattle.fop_types.specs.declared.answers.AppError.{AppError}
 use Rattle.fop_types.specs.declared.answers.AppError.TheVariants.{Enoent, Eexist}
-use Rattle.fop_types.specs.declared.calls.Call.{Call}
-use Rattle.fop_types.specs.declared.calls.Call.TheVariants as call
+use Rattle.fop_types.specs.declared.calls.RootCall.{RootCall}
+use Rattle.fop_types.specs.declared.calls.RootCall.TheVariants as call
 use Rattle.fop_types.specs.declared.calls.Path.{Path}
 use Rattle.fop_types.specs.declared.cells.Gfid.{Gfid}
 use Rattle.fop_types.specs.declared.cells.Kind.{Kind}
@@ -38,7 +38,7 @@ use Rattle.fop_types.specs.declared.messages.Output.{Output}
 use Rattle.fop_types.specs.Orders.{gfid_cmp}
 use Rattle.fop_types.specs.Flat.{Files, object_at, flat_answer, flat_after, empty_root, root, item_named, directory_item}
 use Rattle.fop_types.specs.History.{call_numbered, drawn_by, last_part, files_after, fs_after, entry_op, IsLegalEntry, HasNoEntry}
-use Rattle.script_lang.specs.declared.scripts.CallLine.{CallLine}
+use Rattle.fop_types.specs.declared.calls.RootLine.{RootLine}
 use Rattle.brick_node.specs.Machine.{fetch_reply}
 use Rattle.brick_store.specs.Cells.{Cells, kept_at, copy_with, names_cell, meta_cell, name_added}
 use Rattle.brick_node.specs.Machine.{Served, serve_request, cells_of, outputs_of}
@@ -124,7 +124,7 @@ module _ (s : HubState) (o : Output) (w : Working) (h : IsAtWork s w) (well : Is
       cc
 
 -- the reply to the open request takes the call on
-pub arrived_taken : (s : HubState) (o : Output) (w : Working) (line : CallLine) (arm : DoneArm) (follows : Next) → s.working ≡ Some w →
+pub arrived_taken : (s : HubState) (o : Output) (w : Working) (line : RootLine) (arm : DoneArm) (follows : Next) → s.working ≡ Some w →
     o.kind ≡ out.Reply (wire_number w.turn) (rep.Done arm) → slice_get s.calls (w.call - 1) ≡ Some line →
     next_of w.stage line.call w.drawn w.places (length s.log.history) arm ≡ Some follows → arrived s o ≡ taken_up s o w line (Some follows)
 arrived_taken s o w line arm follows at_work kind_is there next_is =
@@ -141,7 +141,7 @@ module _ (s : HubState) (o : Output) (w : Working) (h : IsAtWork s w) (well : Is
       ap length arrivals_more ∙ length_push (arrivals_of s.log.events) o ∙ ap (λ (n : ℕ). n + 1) h.so_far.as_many
       ∙ sym (ap length h.sent ∙ length_push h.answered (Request (wire_number w.turn) 1 h.request))
 
-  pub after_ask : (line : CallLine) (request : BrickReq) (stage : Stage) (places : List ℕ) → slice_get s.calls (w.call - 1) ≡ Some line →
+  pub after_ask : (line : RootLine) (request : BrickReq) (stage : Stage) (places : List ℕ) → slice_get s.calls (w.call - 1) ≡ Some line →
       StageIs (taken_up s o w line (Some (next.Ask request stage places))) (inputs_of s.log.sent) h.files h.so_far.good
       (record { call = w.call; drawn = w.drawn; places = places; turn = length s.log.sent; stage = stage }) line.call request stage →
       HonestFor (taken_up s o w line (Some (next.Ask request stage places))) (taken_up s o w line (Some (next.Ask request stage places))).working
@@ -170,7 +170,7 @@ module _ (s : HubState) (o : Output) (w : Working) (h : IsAtWork s w) (well : Is
   no_more [] = refl
   no_more (i ∷ inputs) = ap (λ (t : List Input). i ∷ t) (no_more inputs)
 
-  pub after_reply : (line : CallLine) (places : List ℕ) (ans : Answer) → Shows h.files (cells_of (inputs_of s.log.sent)) →
+  pub after_reply : (line : RootLine) (places : List ℕ) (ans : Answer) → Shows h.files (cells_of (inputs_of s.log.sent)) →
       IsAnsweredCall (calls_of s.calls) s.log.history w.call places ans →
       HonestFor (taken_up s o w line (Some (next.Reply places ans false))) (taken_up s o w line (Some (next.Reply places ans false))).working
   after_reply line places ans shows is = record {
@@ -190,7 +190,7 @@ module _ (s : HubState) (o : Output) (w : Working) (h : IsAtWork s w) (well : Is
   }
 
   -- a change is entered: the files are those after its operation
-  pub after_entry : (line : CallLine) (places : List ℕ) (files : Files) (good : IsGood files) → IsFreshAbove files (1 + s.made) → Shows files (cells_of (inputs_of s.log.sent)) →
+  pub after_entry : (line : RootLine) (places : List ℕ) (files : Files) (good : IsGood files) → IsFreshAbove files (1 + s.made) → Shows files (cells_of (inputs_of s.log.sent)) →
       files_after (calls_of s.calls) empty_root (s.log.history ++ (record { call = w.call; part = 1 }) ∷ []) ≡ files →
       IsLegalEntry (calls_of s.calls) s.log.history (length s.log.history) (record { call = w.call; part = 1 }) →
       ((k : ℕ) (entry : Entry) → slice_get s.log.history k ≡ Some entry → entry.call < w.call) →

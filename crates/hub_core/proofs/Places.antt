@@ -7,8 +7,8 @@ use Rattle.hub_core.specs.declared.logs.HubEvent.{HubEvent}
 use Rattle.hub_core.specs.declared.logs.HubEvent.TheVariants.{Submit, Arrive}
 use Rattle.hub_core.specs.Kept.{AreBelow}
 use Rattle.fop_types.specs.History.{AreBetween, objects_made, makes}
-use Rattle.fop_types.specs.declared.calls.Call.{Call}
-use Rattle.script_lang.specs.declared.scripts.CallLine.{CallLine}
+use Rattle.fop_types.specs.declared.calls.RootCall.{RootCall}
+use Rattle.fop_types.specs.declared.calls.RootLine.{RootLine}
 use Rattle.hub_core.proofs.Lists.{get_push_old}
 use Rattle.hub_core.specs.Journal.{places_of, calls_of, count_below, events_before, submits_of, arrivals_of, inputs_of, sent_before}
 
@@ -57,21 +57,21 @@ arrivals_push [] more = refl
 arrivals_push (Arrive brick output ∷ events) more = ap (λ t. output ∷ t) (arrivals_push events more)
 arrivals_push (Submit session line ∷ events) more = arrivals_push events more
 
-pub get_place : (lines : List CallLine) (k : ℕ) (line : CallLine) → slice_get lines k ≡ Some line → slice_get (places_of lines) k ≡ Some (line.session, line.line)
+pub get_place : (lines : List RootLine) (k : ℕ) (line : RootLine) → slice_get lines k ≡ Some line → slice_get (places_of lines) k ≡ Some (line.session, line.line)
 get_place [] k line h = absurd cc
 get_place (l ∷ lines) zero line h = let one : l ≡ line = cc in rw one refl
 get_place (l ∷ lines) (suc k) line h = get_place lines k line h
 
-pub get_call : (lines : List CallLine) (k : ℕ) (line : CallLine) → slice_get lines k ≡ Some line → slice_get (calls_of lines) k ≡ Some line.call
+pub get_call : (lines : List RootLine) (k : ℕ) (line : RootLine) → slice_get lines k ≡ Some line → slice_get (calls_of lines) k ≡ Some line.call
 get_call [] k line h = absurd cc
 get_call (l ∷ lines) zero line h = let one : l ≡ line = cc in rw one refl
 get_call (l ∷ lines) (suc k) line h = get_call lines k line h
 
-pub length-places_of : (lines : List CallLine) → length (places_of lines) ≡ length lines
+pub length-places_of : (lines : List RootLine) → length (places_of lines) ≡ length lines
 length-places_of [] = refl
 length-places_of (l ∷ lines) = ap suc (length-places_of lines)
 
-pub objects_made_push : (calls : List Call) (c : Call) → objects_made (calls ++ c ∷ []) ≡ objects_made calls + makes c
+pub objects_made_push : (calls : List RootCall) (c : RootCall) → objects_made (calls ++ c ∷ []) ≡ objects_made calls + makes c
 objects_made_push [] c = omega arith
 objects_made_push (d ∷ calls) c = let rest : objects_made (calls ++ c ∷ []) ≡ objects_made calls + makes c = objects_made_push calls c in omega arith
 

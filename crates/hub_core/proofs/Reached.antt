@@ -1,6 +1,6 @@
 use Rattle.std.proofs.Common.{◌≡◌, ℕ, ◌+◌, ◌-◌, ◌≤◌, cond, List, [], ◌∷◌, ◌++◌, Option, Some, None, length, refl, sym, ◌∙◌, ap, subst, arith, zero-add}
 use Rattle.std.specs.Prelude.{slice_get}
-use Rattle.script_lang.specs.declared.scripts.CallLine.{CallLine}
+use Rattle.fop_types.specs.declared.calls.RootLine.{RootLine}
 use Rattle.std.specs.Prelude.{Bool, true, false, ◌==◌}
 use Rattle.fop_types.specs.declared.messages.Output.{Output}
 use Rattle.fop_types.specs.declared.messages.DoneArm.{DoneArm}
@@ -8,6 +8,7 @@ use Rattle.fop_types.specs.declared.messages.BrickRep.{BrickRep}
 use Rattle.fop_types.specs.declared.messages.BrickRep.TheVariants as rep
 use Rattle.fop_types.specs.declared.messages.OutKind.{OutKind}
 use Rattle.fop_types.specs.declared.messages.OutKind.TheVariants as out
+use Rattle.std.proofs.lemmas.Bool.{eqb-true}
 use Rattle.hub_core.specs.declared.stages.Working.{Working}
 use Rattle.hub_core.specs.declared.stages.Next.{Next}
 use Rattle.hub_core.specs.Turns.{HubState, IsReached, submit_call, arrived, start_of, ignored, taken_up, next_of, done_for, reply_for, output_for, arrive_for, wire_number}
@@ -15,8 +16,8 @@ use Rattle.hub_core.specs.Turns.IsReached.{Begun, Submitted, Arrived}
 
 -- what holds at the start, and is kept by each event, holds of every state that is reached
 pub by_events : (P : HubState → Type 0) →
-    ((calls : List CallLine) → P (start_of calls)) →
-    ((s : HubState) (line : CallLine) → P s → s.working ≡ None → slice_get s.calls s.submitted ≡ Some line → P (submit_call s line)) →
+    ((calls : List RootLine) → P (start_of calls)) →
+    ((s : HubState) (line : RootLine) → P s → s.working ≡ None → slice_get s.calls s.submitted ≡ Some line → P (submit_call s line)) →
     ((s : HubState) (output : Output) → P s → P (arrived s output)) →
     (s : HubState) → IsReached s → P s
 by_events P start submit arrive s (Begun _ is) = subst P (sym is) (start s.calls)
@@ -29,52 +30,55 @@ by_events P start submit arrive t (Arrived s _ output before is) =
 module _ (s : HubState) (output : Output) where
   pub data Turned : HubState → Type 0 where
     Ignores : (t : HubState) → t ≡ ignored s output → Turned t
-    Takes : (t : HubState) → (w : Working) → (line : CallLine) → (follows : Next) → (arm : DoneArm) →
+    Takes : (t : HubState) → (w : Working) → (line : RootLine) → (follows : Next) → (arm : DoneArm) →
+        output.kind ≡ out.Reply (wire_number w.turn) (rep.Done arm) →
         s.working ≡ Some w → slice_get s.calls (w.call - 1) ≡ Some line →
         next_of w.stage line.call w.drawn w.places (length s.log.history) arm ≡ Some follows →
         t ≡ taken_up s output w line (Some follows) → Turned t
 
-  turned_next : (w : Working) (line : CallLine) (arm : DoneArm) → s.working ≡ Some w → slice_get s.calls (w.call - 1) ≡ Some line →
+  turned_next : (w : Working) (line : RootLine) (arm : DoneArm) → output.kind ≡ out.Reply (wire_number w.turn) (rep.Done arm) → s.working ≡ Some w → slice_get s.calls (w.call - 1) ≡ Some line →
       (n : Option Next) → next_of w.stage line.call w.drawn w.places (length s.log.history) arm ≡ n → Turned (taken_up s output w line n)
-  turned_next w line arm at_work there None is = Ignores _ refl
-  turned_next w line arm at_work there (Some follows) is = Takes _ w line follows arm at_work there is refl
+  turned_next w line arm reply at_work there None is = Ignores _ refl
+  turned_next w line arm reply at_work there (Some follows) is = Takes _ w line follows arm reply at_work there is refl
 
-  turned_line : (w : Working) (arm : DoneArm) → s.working ≡ Some w → (l : Option CallLine) → slice_get s.calls (w.call - 1) ≡ l → Turned (done_for s output w l arm)
-  turned_line w arm at_work None is = Ignores _ refl
-  turned_line w arm at_work (Some line) is = turned_next w line arm at_work is _ refl
+  turned_line : (w : Working) (arm : DoneArm) → output.kind ≡ out.Reply (wire_number w.turn) (rep.Done arm) → s.working ≡ Some w → (l : Option RootLine) → slice_get s.calls (w.call - 1) ≡ l → Turned (done_for s output w l arm)
+  turned_line w arm reply at_work None is = Ignores _ refl
+  turned_line w arm reply at_work (Some line) is = turned_next w line arm reply at_work is _ refl
 
-  turned_test : (w : Working) (wind : ℕ) (arm : DoneArm) → s.working ≡ Some w → (b : Bool) → (wind == wire_number w.turn) ≡ b →
+  turned_test : (w : Working) (wind : ℕ) (arm : DoneArm) → output.kind ≡ out.Reply wind (rep.Done arm) → s.working ≡ Some w → (b : Bool) → (wind == wire_number w.turn) ≡ b →
       Turned (cond b (done_for s output w (slice_get s.calls (w.call - 1)) arm) (ignored s output))
-  turned_test w wind arm at_work true is = turned_line w arm at_work _ refl
-  turned_test w wind arm at_work false is = Ignores _ refl
+  turned_test w wind arm reply at_work true is =
+      let same : wind ≡ wire_number w.turn = eqb-true wind (wire_number w.turn) is in
+      turned_line w arm (reply ∙ ap (λ (n : ℕ). out.Reply n (rep.Done arm)) same) at_work _ refl
+  turned_test w wind arm reply at_work false is = Ignores _ refl
 
-  turned_reply : (w : Working) (wind : ℕ) → s.working ≡ Some w → (r : BrickRep) → Turned (reply_for s output w wind r)
-  turned_reply w wind at_work (rep.Done arm) = turned_test w wind arm at_work _ refl
-  turned_reply w wind at_work rep.Gone = Ignores _ refl
-  turned_reply w wind at_work rep.Fault = Ignores _ refl
-  turned_reply w wind at_work rep.Unfit = Ignores _ refl
-  turned_reply w wind at_work rep.BadFd = Ignores _ refl
+  turned_reply : (w : Working) (wind : ℕ) → s.working ≡ Some w → (r : BrickRep) → output.kind ≡ out.Reply wind r → Turned (reply_for s output w wind r)
+  turned_reply w wind at_work (rep.Done arm) reply = turned_test w wind arm reply at_work _ refl
+  turned_reply w wind at_work rep.Gone reply = Ignores _ refl
+  turned_reply w wind at_work rep.Fault reply = Ignores _ refl
+  turned_reply w wind at_work rep.Unfit reply = Ignores _ refl
+  turned_reply w wind at_work rep.BadFd reply = Ignores _ refl
 
-  turned_kind : (w : Working) → s.working ≡ Some w → (k : OutKind) → Turned (output_for s output w k)
-  turned_kind w at_work (out.Reply wind r) = turned_reply w wind at_work r
-  turned_kind w at_work out.Closed = Ignores _ refl
-  turned_kind w at_work out.Opened = Ignores _ refl
-  turned_kind w at_work (out.Connected graph version) = Ignores _ refl
-  turned_kind w at_work (out.Malformed place) = Ignores _ refl
+  turned_kind : (w : Working) → s.working ≡ Some w → (k : OutKind) → output.kind ≡ k → Turned (output_for s output w k)
+  turned_kind w at_work (out.Reply wind r) is = turned_reply w wind at_work r is
+  turned_kind w at_work out.Closed is = Ignores _ refl
+  turned_kind w at_work out.Opened is = Ignores _ refl
+  turned_kind w at_work (out.Connected graph version) is = Ignores _ refl
+  turned_kind w at_work (out.Malformed place) is = Ignores _ refl
 
   turned_work : (v : Option Working) → s.working ≡ v → Turned (arrive_for s output v)
   turned_work None is = Ignores _ refl
-  turned_work (Some w) is = turned_kind w is output.kind
+  turned_work (Some w) is = turned_kind w is output.kind refl
 
   pub turned : Turned (arrived s output)
   turned = turned_work s.working refl
 
 -- the same induction, by what an arrival does
 pub by_turns : (P : HubState → Type 0) →
-    ((calls : List CallLine) → P (start_of calls)) →
-    ((s : HubState) (line : CallLine) → P s → s.working ≡ None → slice_get s.calls s.submitted ≡ Some line → P (submit_call s line)) →
+    ((calls : List RootLine) → P (start_of calls)) →
+    ((s : HubState) (line : RootLine) → P s → s.working ≡ None → slice_get s.calls s.submitted ≡ Some line → P (submit_call s line)) →
     ((s : HubState) (output : Output) → P s → P (ignored s output)) →
-    ((s : HubState) (output : Output) (w : Working) (line : CallLine) (follows : Next) (arm : DoneArm) → P s → s.working ≡ Some w →
+    ((s : HubState) (output : Output) (w : Working) (line : RootLine) (follows : Next) (arm : DoneArm) → P s → s.working ≡ Some w →
     slice_get s.calls (w.call - 1) ≡ Some line →
     next_of w.stage line.call w.drawn w.places (length s.log.history) arm ≡ Some follows →
     P (taken_up s output w line (Some follows))) →
@@ -83,7 +87,7 @@ by_turns P start submit ignore take s reached = by_events P start submit arrive 
   where
     split : (s : HubState) (output : Output) (t : HubState) → P s → Turned s output t → P t
     split s output t p (Ignores _ is) = subst P (sym is) (ignore s output p)
-    split s output t p (Takes _ w line follows arm at_work there next is) = subst P (sym is) (take s output w line follows arm p at_work there next)
+    split s output t p (Takes _ w line follows arm reply at_work there next is) = subst P (sym is) (take s output w line follows arm p at_work there next)
 
     arrive : (s : HubState) (output : Output) → P s → P (arrived s output)
     arrive s output p = split s output (arrived s output) p (turned s output)

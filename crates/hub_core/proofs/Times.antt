@@ -7,10 +7,10 @@ use Rattle.fop_types.specs.declared.history.Entry.{Entry}
 use Rattle.fop_types.specs.declared.messages.Output.{Output}
 use Rattle.fop_types.specs.declared.messages.BrickReq.{BrickReq}
 use Rattle.fop_types.specs.declared.messages.DoneArm.{DoneArm}
-use Rattle.fop_types.specs.declared.calls.Call.{Call}
+use Rattle.fop_types.specs.declared.calls.RootCall.{RootCall}
 use Rattle.fop_types.specs.declared.cells.Gfid.{Gfid}
 use Rattle.fop_types.specs.History.{AreBetween}
-use Rattle.script_lang.specs.declared.scripts.CallLine.{CallLine}
+use Rattle.fop_types.specs.declared.calls.RootLine.{RootLine}
 use Rattle.hub_core.specs.declared.logs.HubEvent.{HubEvent}
 use Rattle.hub_core.specs.declared.logs.HubEvent.TheVariants.{Submit, Arrive}
 use Rattle.hub_core.specs.declared.logs.ReplyLine.{ReplyLine}
@@ -55,10 +55,10 @@ until_entry s reply own = count_below_push (reply.event + 1) s.log.entered (leng
 pub until_now : (s : HubState) → IsCounted s → count_below (length s.log.events + 1 + 1) s.log.entered ≡ length s.log.history
 until_now s c = count_below_all _ s.log.entered (AreBelow-more s.log.entered (length s.log.events + 1) _ c.entered (omega arith)) ∙ c.as_many
 
-pub timed_start : (calls : List CallLine) → IsTimed (start_of calls)
+pub timed_start : (calls : List RootLine) → IsTimed (start_of calls)
 timed_start calls = record { replies = λ k reply h. absurd cc; work = tt }
 
-pub timed_submit : (s : HubState) (line : CallLine) → IsCounted s → IsTimed s → IsTimed (submit_call s line)
+pub timed_submit : (s : HubState) (line : RootLine) → IsCounted s → IsTimed s → IsTimed (submit_call s line)
 timed_submit s line c t =
     let many : length (submits_of s.log.events) ≡ s.submitted = submits_length s c in
     let event : HubEvent = Submit line.session line.line in
@@ -91,7 +91,7 @@ between_at : (places more : List ℕ) (place : ℕ) → AreBetween places place 
 between_at places more place h (inl is) = rw is h
 between_at places more place h (inr is) = rw is (AreBetween-push places place place place (omega arith) h (omega arith))
 
-pub timed_take : (s : HubState) (output : Output) (w : Working) (line : CallLine) (follows : Next) → IsCounted s → IsTimed s → s.working ≡ Some w →
+pub timed_take : (s : HubState) (output : Output) (w : Working) (line : RootLine) (follows : Next) → IsCounted s → IsTimed s → s.working ≡ Some w →
     PlacesFollow w.places (length s.log.history) follows → IsTimed (taken_up s output w line (Some follows))
 timed_take s output w line (next.Ask request stage places) c t at_work follow =
     let base : IsTimed (ignored s output) = timed_ignore s output c t in

@@ -7,7 +7,7 @@ use Rattle.std.proofs.lemmas.Bool.Decides.{nat_tests}
 use Rattle.fop_types.specs.declared.answers.Answer.{Answer}
 use Rattle.fop_types.specs.declared.messages.Output.{Output}
 use Rattle.fop_types.specs.declared.messages.BrickReq.{BrickReq}
-use Rattle.script_lang.specs.declared.scripts.CallLine.{CallLine}
+use Rattle.fop_types.specs.declared.calls.RootLine.{RootLine}
 use Rattle.hub_core.specs.declared.logs.WindLine.{WindLine}
 use Rattle.hub_core.specs.declared.logs.WindNo.{WindNo}
 use Rattle.hub_core.specs.declared.logs.SentLine.{SentLine}
@@ -140,20 +140,20 @@ end_wind lines turns event number turn o =
       same_call = o.call;
     })
 
-pub wound_start : (calls : List CallLine) → IsWound (start_of calls)
+pub wound_start : (calls : List RootLine) → IsWound (start_of calls)
 wound_start calls = record {
   once = record { opened_once = λ wind. omega arith; ended_once = λ wind. omega arith; ends = λ k line h closed. absurd cc };
   below = tt;
   ended = λ wind. refl;
 }
 
-pub wound_submit : (s : HubState) (line : CallLine) → IsWound s → s.working ≡ None → IsWound (submit_call s line)
+pub wound_submit : (s : HubState) (line : RootLine) → IsWound s → s.working ≡ None → IsWound (submit_call s line)
 wound_submit s line h idle =
     let ended : AllEnded s.log.winds (length s.log.sent) = subst (WindsKept s.log.winds (length s.log.sent)) idle h in
     subst (λ (n : ℕ). LastOpen (submit_call s line).log.winds n (s.submitted + 1) (length s.log.sent)) (sym (length_push s.log.sent _))
     (open_wind s.log.winds (length s.log.sent) (length s.log.events + 1) (s.submitted + 1) ended)
 
-pub wound_take : (s : HubState) (output : Output) (w : Working) (line : CallLine) (follows : Next) → IsWound s → s.working ≡ Some w → IsWound (taken_up s output w line (Some follows))
+pub wound_take : (s : HubState) (output : Output) (w : Working) (line : RootLine) (follows : Next) → IsWound s → s.working ≡ Some w → IsWound (taken_up s output w line (Some follows))
 wound_take s output w line (next.Ask request stage places) h at_work =
     let open_now : LastOpen s.log.winds (length s.log.sent) w.call w.turn = subst (WindsKept s.log.winds (length s.log.sent)) at_work h in
     let ended : AllEnded (s.log.winds ++ wind_line (length s.log.events + 1) w.call w.turn false ∷ []) (length s.log.sent) =

@@ -11,8 +11,8 @@ use Rattle.fop_types.specs.declared.cells.Kind.{Kind}
 use Rattle.fop_types.specs.declared.contents.Content.{Content}
 use Rattle.fop_types.specs.declared.contents.Content.TheVariants.{Bytes, Meta, Names}
 use Rattle.fop_types.specs.declared.contents.Item.{Item}
-use Rattle.fop_types.specs.declared.calls.Call.{Call}
-use Rattle.fop_types.specs.declared.calls.Call.TheVariants as call
+use Rattle.fop_types.specs.declared.calls.RootCall.{RootCall}
+use Rattle.fop_types.specs.declared.calls.RootCall.TheVariants as call
 use Rattle.fop_types.specs.declared.history.Entry.{Entry}
 use Rattle.fop_types.specs.declared.messages.BrickReq.{BrickReq}
 use Rattle.fop_types.specs.declared.messages.BrickReq.TheVariants as req
@@ -29,7 +29,7 @@ use Rattle.fop_types.specs.declared.store_ops.StoreOp.{StoreOp}
 use Rattle.fop_types.specs.declared.store_ops.StoreOp.TheVariants.{AddName}
 use Rattle.fop_types.specs.Flat.{root, item_named, directory_item}
 use Rattle.fop_types.specs.History.{last_part, makes}
-use Rattle.script_lang.specs.declared.scripts.CallLine.{CallLine}
+use Rattle.fop_types.specs.declared.calls.RootLine.{RootLine}
 use Rattle.brick_store.specs.Cells.{names_cell, meta_cell}
 use Rattle.hub_core.specs.declared.logs.HubEvent.{HubEvent}
 use Rattle.hub_core.specs.declared.logs.HubEvent.TheVariants.{Submit, Arrive}
@@ -51,15 +51,15 @@ use Rattle.hub_core.specs.Turns.{HubState, submit_call, find_next, check_next, e
 -- ---- submission
 
 -- the next call of the script where no call is at work
-abbrev pub call_if_idle : Option Working → Option CallLine → Option CallLine
+abbrev pub call_if_idle : Option Working → Option RootLine → Option RootLine
 call_if_idle None line = line
 call_if_idle (Some w) line = None
 
 -- the call that a session may submit: there is one session, with number 0
-abbrev pub call_due : HubState → ℕ → Option CallLine
+abbrev pub call_due : HubState → ℕ → Option RootLine
 call_due s session = if session == 0 then call_if_idle s.working (slice_get s.calls s.submitted) else None
 
-abbrev pub submit_due : HubState → Option CallLine → HubState
+abbrev pub submit_due : HubState → Option RootLine → HubState
 submit_due s None = s
 submit_due s (Some line) = submit_call s line
 
@@ -79,7 +79,7 @@ is_nothing (done.Content content last) = false
 is_nothing (done.Rows rows) = false
 is_nothing (done.Cells cells) = false
 
-abbrev pub op_next : ℕ → Call → Gfid → List ℕ → Next
+abbrev pub op_next : ℕ → RootCall → Gfid → List ℕ → Next
 op_next change c drawn places =
     next.Ask (req.Op change 0 (AddName root (directory_item (name_of c) drawn) (mode_of c) (Some whole_span))) (Changing change) places
 
@@ -90,7 +90,7 @@ abbrev pub entry_next : List ℕ → ℕ → Next
 entry_next places place = next.Reply (places ++ (place + 1) ∷ []) answer.Done true
 
 -- what follows a step of a change
-abbrev pub change_next : Stage → Call → Gfid → List ℕ → ℕ → Option Next
+abbrev pub change_next : Stage → RootCall → Gfid → List ℕ → ℕ → Option Next
 change_next (Marking change) c drawn places place = Some (op_next change c drawn places)
 change_next (Changing change) c drawn places place = Some (post_next change places)
 change_next (Posting change) c drawn places place = Some (entry_next places place)
@@ -100,7 +100,7 @@ change_next (Reading kind) c drawn places place = None
 
 -- ---- arrival
 
-abbrev pub follow_line : HubState → Working → DoneArm → Option CallLine → Option Next
+abbrev pub follow_line : HubState → Working → DoneArm → Option RootLine → Option Next
 follow_line s w arm None = None
 follow_line s w arm (Some line) = next_of w.stage line.call w.drawn w.places (length s.log.history) arm
 
@@ -128,7 +128,7 @@ abbrev pub follow_of : HubState → OutKind → Option Next
 follow_of s kind = follow_working s kind s.working
 
 -- the state after what follows has been carried out for this call at work, of this line
-abbrev pub carried_out : HubState → Output → Working → CallLine → Next → HubState
+abbrev pub carried_out : HubState → Output → Working → RootLine → Next → HubState
 carried_out s output w line follows = record s {
   log = log_next (with_event s.log (Arrive 0 output)) (length s.log.events + 1) w line follows;
   working = working_next s.log w follows;

@@ -4,8 +4,8 @@ use Rattle.std.specs.Prelude.{◌≡◌, ◌≢◌, ℕ, zero, suc, ◌+◌, ◌
 use Rattle.fop_types.specs.declared.answers.Answer.{Answer}
 use Rattle.fop_types.specs.declared.cells.Gfid.{Gfid}
 use Rattle.fop_types.specs.declared.contents.Span.{Span}
-use Rattle.fop_types.specs.declared.calls.Call.{Call}
-use Rattle.fop_types.specs.declared.calls.Call.TheVariants as call
+use Rattle.fop_types.specs.declared.calls.RootCall.{RootCall}
+use Rattle.fop_types.specs.declared.calls.RootCall.TheVariants as call
 use Rattle.fop_types.specs.declared.history.Entry.{Entry}
 use Rattle.fop_types.specs.declared.messages.BrickReq.{BrickReq}
 use Rattle.fop_types.specs.declared.messages.BrickReq.TheVariants.{Op, Post}
@@ -23,7 +23,7 @@ use Rattle.fop_types.specs.declared.store_ops.StoreOp.{StoreOp}
 use Rattle.fop_types.specs.declared.store_ops.StoreOp.TheVariants.{AddName}
 use Rattle.fop_types.specs.Flat.{root, directory_item}
 use Rattle.fop_types.specs.History.{IsLawfulReply, IsLegalHistory, call_numbered, drawn_by, last_part}
-use Rattle.script_lang.specs.declared.scripts.CallLine.{CallLine}
+use Rattle.fop_types.specs.declared.calls.RootLine.{RootLine}
 use Rattle.brick_store.specs.Cells.{names_cell}
 use Rattle.brick_node.specs.Machine.{outputs_of}
 use Rattle.hub_core.specs.declared.logs.HubEvent.{HubEvent}
@@ -53,11 +53,11 @@ submits_of [] = []
 submits_of (Submit session line ∷ events) = (session, line) ∷ submits_of events
 submits_of (Arrive brick output ∷ events) = submits_of events
 
-abbrev pub places_of : List CallLine → List (ℕ × ℕ)
+abbrev pub places_of : List RootLine → List (ℕ × ℕ)
 places_of [] = []
 places_of (line ∷ lines) = (line.session, line.line) ∷ places_of lines
 
-abbrev pub calls_of : List CallLine → List Call
+abbrev pub calls_of : List RootLine → List RootCall
 calls_of [] = []
 calls_of (line ∷ lines) = line.call ∷ calls_of lines
 
@@ -88,7 +88,7 @@ length_at_reply log event = count_below (event + 1) log.entered
 -- ---- following, honest, finished
 
 -- the submitted calls are the first lines of the script, in their order
-pub record FollowsScript (calls : List CallLine) (log : Log) : Type 0 where
+pub record FollowsScript (calls : List RootLine) (log : Log) : Type 0 where
   pub submitted : submits_of log.events ≡ take (length (submits_of log.events)) (places_of calls)
 
 -- what arrived is a front of what the brick makes of what was sent to it, and each output came only after
@@ -104,7 +104,7 @@ replies_to number [] = 0
 replies_to number (reply ∷ replies) = (if reply.call == number then 1 else 0) + replies_to number replies
 
 -- every call was submitted and has one reply, and what was sent has been answered
-pub record IsFinished (calls : List CallLine) (log : Log) : Type 0 where
+pub record IsFinished (calls : List RootLine) (log : Log) : Type 0 where
   pub submitted : length (submits_of log.events) ≡ length calls
   pub replied : (number : ℕ) → 0 < number → number ≤ length calls → replies_to number log.replies ≡ 1
   pub arrived : length (arrivals_of log.events) ≡ length log.sent
@@ -147,13 +147,13 @@ pub record WindsAreBalanced (lines : List WindLine) : Type 0 where
 
 -- ---- replies
 
-pub record IsLawfulLine (calls : List CallLine) (log : Log) (reply : ReplyLine) : Type 0 where
+pub record IsLawfulLine (calls : List RootLine) (log : Log) (reply : ReplyLine) : Type 0 where
   pub lawful :
       IsLawfulReply (calls_of calls) log.history (length_at_submit log reply.call) (length_at_reply log reply.event)
       reply.call reply.places reply.answer
   pub own_line : slice_get (places_of calls) (reply.call - 1) ≡ Some (reply.session, reply.line)
 
-abbrev pub AreLawful : List CallLine → Log → Type 0
+abbrev pub AreLawful : List RootLine → Log → Type 0
 AreLawful calls log = (k : ℕ) (reply : ReplyLine) → slice_get log.replies k ≡ Some reply → IsLawfulLine calls log reply
 
 -- ---- changes on the brick
@@ -162,14 +162,14 @@ AreLawful calls log = (k : ℕ) (reply : ReplyLine) → slice_get log.replies k 
 abbrev pub whole_span : Span
 whole_span = record { first = 0; last = 4294967295 }
 
-abbrev pub store_op_with : Option Call → Gfid → Option StoreOp
+abbrev pub store_op_with : Option RootCall → Gfid → Option StoreOp
 store_op_with None drawn = None
 store_op_with (Some (call.Mkdir path mode)) drawn =
     Some (AddName root (directory_item (last_part path.parts) drawn) mode (Some whole_span))
 store_op_with (Some (call.Stat path)) drawn = None
 
 -- the store op of an entry
-abbrev pub store_op_of : List CallLine → Entry → Option StoreOp
+abbrev pub store_op_of : List RootLine → Entry → Option StoreOp
 store_op_of calls entry = store_op_with (call_numbered (calls_of calls) entry.call) (drawn_by (calls_of calls) entry.call)
 
 -- a request of graph 1 stands at this place in the journal, and an output answers it Done
@@ -181,7 +181,7 @@ pub record IsDoneRequest (journal : List Input) (outputs : List Output) (place :
   pub answered : slice_get outputs answer_at ≡ Some (record { taken = taken; kind = Reply wind (Done Nothing) })
 
 -- the entry's op and then its post, under one change number, are in the journal, each answered Done
-pub record IsBacked (calls : List CallLine) (journal : List Input) (outputs : List Output) (entry : Entry) : Type 0 where
+pub record IsBacked (calls : List RootLine) (journal : List Input) (outputs : List Output) (entry : Entry) : Type 0 where
   pub op : StoreOp
   pub op_is : store_op_of calls entry ≡ Some op
   pub change : ℕ
@@ -191,6 +191,6 @@ pub record IsBacked (calls : List CallLine) (journal : List Input) (outputs : Li
   pub post_done : IsDoneRequest journal outputs post_place (Post change (names_cell root ∷ []) (record { 0 = 0 }))
   pub later : op_place < post_place
 
-abbrev pub IsBackedByBrick : List CallLine → List Entry → List Input → List Output → Type 0
+abbrev pub IsBackedByBrick : List RootLine → List Entry → List Input → List Output → Type 0
 IsBackedByBrick calls history journal outputs =
     (k : ℕ) (entry : Entry) → slice_get history k ≡ Some entry → IsBacked calls journal outputs entry

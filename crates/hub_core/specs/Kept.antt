@@ -2,9 +2,9 @@
 -- the call at work.
 use Rattle.std.specs.Prelude.{◌≡◌, ℕ, ◌+◌, ◌-◌, ◌<◌, ◌≤◌, List, [], ◌∷◌, Option, Some, None, Bool, true, false, length, take, slice_get, if◌then◌else◌}
 use Rattle.fop_types.specs.declared.calls.Path.{Path}
-use Rattle.fop_types.specs.declared.calls.Call.{Call}
-use Rattle.fop_types.specs.declared.calls.Call.TheVariants as call
-use Rattle.script_lang.specs.declared.scripts.CallLine.{CallLine}
+use Rattle.fop_types.specs.declared.calls.RootCall.{RootCall}
+use Rattle.fop_types.specs.declared.calls.RootCall.TheVariants as call
+use Rattle.fop_types.specs.declared.calls.RootLine.{RootLine}
 use Rattle.fop_types.specs.declared.history.Entry.{Entry}
 use Rattle.fop_types.specs.History.{objects_made, drawn_by, AreBetween}
 use Rattle.hub_core.specs.declared.logs.ReplyLine.{ReplyLine}
@@ -100,9 +100,9 @@ pub record IsOneName (path : Path) : Type 0 where
   pub parts : path.parts ≡ name ∷ []
   pub short : length name ≤ 255
 
-abbrev pub HasOneName : Call → Type 0
+abbrev pub HasOneName : RootCall → Type 0
 HasOneName (call.Mkdir path mode) = IsOneName path
 HasOneName (call.Stat path) = IsOneName path
 
-abbrev pub HaveOneName : List CallLine → Type 0
-HaveOneName calls = (k : ℕ) (line : CallLine) → slice_get calls k ≡ Some line → HasOneName line.call
+abbrev pub HaveOneName : List RootLine → Type 0
+HaveOneName calls = (k : ℕ) (line : RootLine) → slice_get calls k ≡ Some line → HasOneName line.call

@@ -1,7 +1,7 @@
 -- The laws of the hub, over every run of events: what honest arrivals give.
 use Rattle.std.specs.Prelude.{◌≡◌, ◌≤◌, ℕ, List, Option, Some, None, length}
 use Rattle.fop_types.specs.History.{IsLegalHistory}
-use Rattle.script_lang.specs.declared.scripts.CallLine.{CallLine}
+use Rattle.fop_types.specs.declared.calls.RootLine.{RootLine}
 use Rattle.hub_core.specs.declared.logs.Log.{Log}
 use Rattle.hub_core.specs.Journal.{FollowsScript, IsFinished, HasHonestArrivals, WindsAreOnce, WindsAreBalanced, AreLawful, IsBackedByBrick, calls_of, inputs_of, arrivals_of}
 use Rattle.hub_core.specs.Kept.{HaveOneName}
@@ -9,7 +9,7 @@ use Rattle.hub_core.specs.Turns.{HubState, IsReached}
 
 -- the log follows the script; its history is legal and its replies are lawful; winds are opened and ended
 -- once at most; every entry's op and post were sent and answered Done
-pub record IsLawfulLog (calls : List CallLine) (log : Log) : Type 0 where
+pub record IsLawfulLog (calls : List RootLine) (log : Log) : Type 0 where
   pub follows : FollowsScript calls log
   pub legal : IsLegalHistory (calls_of calls) log.history
   pub lawful : AreLawful calls log
@@ -17,7 +17,7 @@ pub record IsLawfulLog (calls : List CallLine) (log : Log) : Type 0 where
   pub backed : IsBackedByBrick calls log.history (inputs_of log.sent) (arrivals_of log.events)
 
 -- a log to which nothing can be added: it is finished, and every wind is ended
-pub record IsWholeLog (calls : List CallLine) (log : Log) : Type 0 where
+pub record IsWholeLog (calls : List RootLine) (log : Log) : Type 0 where
   pub finished : IsFinished calls log
   pub balanced : WindsAreBalanced log.winds
 

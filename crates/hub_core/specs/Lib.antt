@@ -3,4 +3,5 @@ pub mod Follows
 pub mod Journal
 pub mod Kept
 pub mod Laws
+pub mod Ties
 pub mod Turns

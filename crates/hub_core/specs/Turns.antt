@@ -11,8 +11,8 @@ use Rattle.fop_types.specs.declared.cells.Kind.{Kind}
 use Rattle.fop_types.specs.declared.contents.Content.{Content}
 use Rattle.fop_types.specs.declared.contents.Content.TheVariants.{Bytes, Meta, Names}
 use Rattle.fop_types.specs.declared.contents.Item.{Item}
-use Rattle.fop_types.specs.declared.calls.Call.{Call}
-use Rattle.fop_types.specs.declared.calls.Call.TheVariants as call
+use Rattle.fop_types.specs.declared.calls.RootCall.{RootCall}
+use Rattle.fop_types.specs.declared.calls.RootCall.TheVariants as call
 use Rattle.fop_types.specs.declared.history.Entry.{Entry}
 use Rattle.fop_types.specs.declared.messages.BrickReq.{BrickReq}
 use Rattle.fop_types.specs.declared.messages.BrickReq.TheVariants as req
@@ -29,7 +29,7 @@ use Rattle.fop_types.specs.declared.store_ops.StoreOp.{StoreOp}
 use Rattle.fop_types.specs.declared.store_ops.StoreOp.TheVariants.{AddName}
 use Rattle.fop_types.specs.Flat.{root, item_named, directory_item}
 use Rattle.fop_types.specs.History.{last_part, makes}
-use Rattle.script_lang.specs.declared.scripts.CallLine.{CallLine}
+use Rattle.fop_types.specs.declared.calls.RootLine.{RootLine}
 use Rattle.brick_store.specs.Cells.{names_cell, meta_cell}
 use Rattle.hub_core.specs.declared.logs.HubEvent.{HubEvent}
 use Rattle.hub_core.specs.declared.logs.HubEvent.TheVariants.{Submit, Arrive}
@@ -48,7 +48,7 @@ use Rattle.hub_core.specs.Journal.{whole_span}
 -- the hub: its script, its log, how many calls were submitted and how many of these asked for an object,
 -- and the call at work
 pub record HubState : Type 0 where
-  pub calls : List CallLine
+  pub calls : List RootLine
   pub log : Log
   pub submitted : ℕ
   pub made : ℕ
@@ -94,15 +94,15 @@ with_reply log reply = record log { replies = log.replies ++ reply ∷ [] }
 abbrev pub ask_names : BrickReq
 ask_names = req.Fetch 0 (names_cell root)
 
-abbrev pub first_stage : Call → Stage
+abbrev pub first_stage : RootCall → Stage
 first_stage (call.Mkdir path mode) = Checking
 first_stage (call.Stat path) = Finding
 
-abbrev pub name_of : Call → List ℕ
+abbrev pub name_of : RootCall → List ℕ
 name_of (call.Mkdir path mode) = last_part path.parts
 name_of (call.Stat path) = last_part path.parts
 
-abbrev pub mode_of : Call → ℕ
+abbrev pub mode_of : RootCall → ℕ
 mode_of (call.Mkdir path mode) = mode
 mode_of (call.Stat path) = 0
 
@@ -145,7 +145,7 @@ nothing_next (done.Cells cells) more = None
 
 -- what follows a Done in a stage; `None` where it is not the Done that was asked for. `place` is the length
 -- of the history
-abbrev pub next_of : Stage → Call → Gfid → List ℕ → ℕ → DoneArm → Option Next
+abbrev pub next_of : Stage → RootCall → Gfid → List ℕ → ℕ → DoneArm → Option Next
 next_of Finding c drawn places place arm = names_next arm (name_of c) places place find_next
 next_of (Reading kind) c drawn places place arm = meta_next arm kind places place
 next_of Checking c drawn places place arm = names_next arm (name_of c) places place check_next
@@ -161,7 +161,7 @@ next_of (Posting change) c drawn places place arm =
 -- ---- events
 
 -- the next call is submitted where none is at work and one is left
-abbrev pub submit_call : HubState → CallLine → HubState
+abbrev pub submit_call : HubState → RootLine → HubState
 submit_call s line = record s {
   log = with_request (with_event s.log (Submit line.session line.line)) (length s.log.events + 1) (s.submitted + 1)
       (length s.log.sent) ask_names;
@@ -177,7 +177,7 @@ submit_call s line = record s {
 }
 
 -- the log and the call at work, after the reply to its request
-abbrev pub log_next : Log → ℕ → Working → CallLine → Next → Log
+abbrev pub log_next : Log → ℕ → Working → RootLine → Next → Log
 log_next log event w line (next.Ask request stage places) =
     with_request (with_end log event w.call w.turn) event w.call (length log.sent) request
 log_next log event w line (next.Reply places answer false) =
@@ -196,14 +196,14 @@ working_next log w (next.Reply places answer enters) = None
 abbrev pub ignored : HubState → Output → HubState
 ignored s output = record s { log = with_event s.log (Arrive 0 output) }
 
-abbrev pub taken_up : HubState → Output → Working → CallLine → Option Next → HubState
+abbrev pub taken_up : HubState → Output → Working → RootLine → Option Next → HubState
 taken_up s output w line None = ignored s output
 taken_up s output w line (Some follows) = record s {
   log = log_next (with_event s.log (Arrive 0 output)) (length s.log.events + 1) w line follows;
   working = working_next s.log w follows;
 }
 
-abbrev pub done_for : HubState → Output → Working → Option CallLine → DoneArm → HubState
+abbrev pub done_for : HubState → Output → Working → Option RootLine → DoneArm → HubState
 done_for s output w None arm = ignored s output
 done_for s output w (Some line) arm =
     taken_up s output w line (next_of w.stage line.call w.drawn w.places (length s.log.history) arm)
@@ -232,12 +232,12 @@ arrived s output = arrive_for s output s.working
 
 -- ---- what can be reached
 
-abbrev pub start_of : List CallLine → HubState
+abbrev pub start_of : List RootLine → HubState
 start_of calls = record { calls = calls; log = empty_log; submitted = 0; made = 0; working = None }
 
 -- the states that events lead to from the start of a script, whatever arrives
 pub data IsReached : HubState → Type 0 where
   Begun : (s : HubState) → s ≡ start_of s.calls → IsReached s
-  Submitted : (s t : HubState) → (line : CallLine) → IsReached s → s.working ≡ None →
+  Submitted : (s t : HubState) → (line : RootLine) → IsReached s → s.working ≡ None →
       slice_get s.calls s.submitted ≡ Some line → t ≡ submit_call s line → IsReached t
   Arrived : (s t : HubState) → (output : Output) → IsReached s → t ≡ arrived s output → IsReached t

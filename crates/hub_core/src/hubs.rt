@@ -7,8 +7,7 @@ use crate::log_lists::LogLists;
 use crate::logs::{Log, SentLine};
 use crate::stages::{Next, Working};
 use crate::turns::{after_done, ask_for_names, stage_at_first};
-use fop_types::{BrickRep, DoneArm, Gfid, OutKind, Output, Seq};
-use script_lang::{CallLine, Script};
+use fop_types::{BrickRep, DoneArm, Gfid, OutKind, Output, RootLine, RootScript, Seq};
 use std::alloc::{AllocError, Global};
 use std::marker::Model;
 
@@ -17,7 +16,7 @@ use std::marker::Model;
 /// nothing.
 #[derive(Drop)]
 pub struct Hub {
-    script: Script,
+    script: RootScript,
     lists: LogLists,
     submitted: usize,
     made: u64,
@@ -36,14 +35,14 @@ impl Model for Hub {
 }
 
 /// The line at an index.
-fn line_at(calls: &Seq<CallLine>, index: usize) -> Option<&CallLine>
+fn line_at(calls: &Seq<RootLine>, index: usize) -> Option<&RootLine>
     ensures { option_copied result ≡ slice_get calls.now index }
 {
     calls.as_slice().get(index)
 }
 
 /// The line of the call at work.
-fn line_at_work<'a>(calls: &'a Seq<CallLine>, w: &Working) -> Option<&'a CallLine>
+fn line_at_work<'a>(calls: &'a Seq<RootLine>, w: &Working) -> Option<&'a RootLine>
     ensures { option_copied result ≡ slice_get calls.now (w.now.call - 1) }
 {
     line_at(calls, (w.call as usize).saturating_sub(1))
@@ -54,7 +53,7 @@ impl Hub {
     ///
     /// # Errors
     /// Want of memory.
-    pub fn new(alloc: Global, script: &Script) -> Result<Hub, AllocError>
+    pub fn new(alloc: Global, script: &RootScript) -> Result<Hub, AllocError>
         requires { length script.now.calls ≤ 4096 }
         ensures { IfOk result (λ hub. hub ≡ start_of script.now.calls) }
     {
@@ -274,7 +273,7 @@ impl Hub {
     }
 
     /// The calls of the script.
-    pub fn calls(&self) -> &[CallLine]
+    pub fn calls(&self) -> &[RootLine]
         ensures { result.now ≡ self.now.calls }
     {
         self.script.calls.as_slice()
@@ -295,7 +294,7 @@ impl Hub {
     }
 
     /// The script and the log, with nothing copied.
-    pub fn into_log(self) -> (Script, Log)
+    pub fn into_log(self) -> (RootScript, Log)
         ensures script { result.0.calls ≡ self.calls }
         ensures log { result.1 ≡ self.log }
     {

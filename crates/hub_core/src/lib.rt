@@ -29,6 +29,9 @@ mod stages;
 mod turns;
 
 pub use hubs::Hub;
-pub use laws::{ended_logs_are_whole, honest_logs_are_lawful};
+pub use laws::{ended_logs_are_whole, honest_logs_are_lawful, logs_are_tied};
 pub use logs::{HubEvent, Log, ReplyLine, SentLine, WindLine, WindNo};
 pub use racks::Rack;
+
+#[cfg(test)]
+mod tests;

@@ -5,8 +5,7 @@ ghost use Rattle.hub_core.specs.Turns.{empty_log, with_event, with_request, with
 
 use crate::logs::{HubEvent, Log, ReplyLine, SentLine, WindLine, WindNo};
 use crate::stages::{Next, Working};
-use fop_types::{Answer, BrickReq, Entry, Input, Output, Seq};
-use script_lang::CallLine;
+use fop_types::{Answer, BrickReq, Entry, Input, Output, RootLine, Seq};
 use std::alloc::{AllocError, Global};
 use std::marker::Model;
 
@@ -254,7 +253,7 @@ impl LogLists {
         &mut self,
         output: Output,
         w: &Working,
-        line: &CallLine,
+        line: &RootLine,
         follows: Next,
     ) -> Result<Option<Working>, AllocError>
         requires { length self.old.sent < 2 ^ 32 }

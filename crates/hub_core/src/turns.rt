@@ -8,8 +8,8 @@ ghost use Rattle.hub_core.specs.Follows.{search_next, items_next, is_nothing, op
 
 use crate::stages::{Next, Search, Stage};
 use fop_types::{
-    Answer, AppError, Aspect, BrickReq, Call, Cell, Content, DoneArm, Gfid, Item, Kind, Mask, Seq,
-    Span, StoreOp, find_item,
+    Answer, AppError, Aspect, BrickReq, Cell, Content, DoneArm, Gfid, Item, Kind, Mask, RootCall,
+    Seq, Span, StoreOp, find_item,
 };
 use std::alloc::{AllocError, Global};
 
@@ -45,32 +45,32 @@ pub fn ask_for_names() -> BrickReq
 }
 
 /// What a call waits for first.
-pub fn stage_at_first(call: &Call) -> Stage
+pub fn stage_at_first(call: &RootCall) -> Stage
     ensures { result ≡ first_stage call.now }
 {
     match call {
-        Call::Mkdir { path: _, mode: _ } => Stage::Checking,
-        Call::Stat { path: _ } => Stage::Finding,
+        RootCall::Mkdir { path: _, mode: _ } => Stage::Checking,
+        RootCall::Stat { path: _ } => Stage::Finding,
     }
 }
 
 /// The name that a call is about.
-fn name_in(call: &Call) -> &[u8]
+fn name_in(call: &RootCall) -> &[u8]
     ensures { result.now ≡ name_of call.now }
 {
     match call {
-        Call::Mkdir { path, mode: _ } => path.last(),
-        Call::Stat { path } => path.last(),
+        RootCall::Mkdir { path, mode: _ } => path.last(),
+        RootCall::Stat { path } => path.last(),
     }
 }
 
 /// The mode that a call gives, 0 where it gives none.
-fn mode_in(call: &Call) -> u16
+fn mode_in(call: &RootCall) -> u16
     ensures { result ≡ mode_of call.now }
 {
     match call {
-        Call::Mkdir { path: _, mode } => *mode,
-        Call::Stat { path: _ } => 0,
+        RootCall::Mkdir { path: _, mode } => *mode,
+        RootCall::Stat { path: _ } => 0,
     }
 }
 
@@ -288,7 +288,7 @@ fn brings_nothing(arm: &DoneArm) -> bool
 fn after_mark(
     alloc: Global,
     change: u64,
-    call: &Call,
+    call: &RootCall,
     drawn: Gfid,
     places: &Seq<u32>,
 ) -> Result<Next, AllocError>
@@ -354,7 +354,7 @@ fn after_post(alloc: Global, places: &Seq<u32>, place: u32) -> Result<Next, Allo
 fn after_change(
     alloc: Global,
     stage: Stage,
-    call: &Call,
+    call: &RootCall,
     drawn: Gfid,
     places: &Seq<u32>,
     place: u32,
@@ -386,7 +386,7 @@ fn after_nothing(
     alloc: Global,
     arm: &DoneArm,
     stage: Stage,
-    call: &Call,
+    call: &RootCall,
     drawn: Gfid,
     places: &Seq<u32>,
     place: u32,
@@ -409,7 +409,7 @@ fn after_nothing(
 pub fn after_done(
     alloc: Global,
     stage: Stage,
-    call: &Call,
+    call: &RootCall,
     drawn: Gfid,
     places: &Seq<u32>,
     place: u32,

@@ -2,7 +2,7 @@
 use Rattle.std.proofs.Common.{◌≡◌, ℕ, ◌+◌, ◌-◌, ◌*◌, ◌<◌, ◌≤◌, Bool, true, false, List, [], ◌∷◌, ◌++◌, Option, Some, None, length, slice_get, refl, sym, ◌∙◌, ap, subst, arith, append_assoc}
 use Rattle.fop_types.specs.declared.messages.DoneArm.{DoneArm}
 use Rattle.fop_types.specs.declared.messages.Output.{Output}
-use Rattle.script_lang.specs.declared.scripts.CallLine.{CallLine}
+use Rattle.fop_types.specs.declared.calls.RootLine.{RootLine}
 use Rattle.hub_core.specs.declared.logs.HubEvent.{HubEvent}
 use Rattle.hub_core.specs.declared.logs.HubEvent.TheVariants.{Submit, Arrive}
 use Rattle.hub_core.specs.declared.logs.SentLine.{SentLine}
@@ -44,10 +44,10 @@ pub one_longer : {X : Type 0} (xs : List X) (x : X) → length (xs ++ x ∷ []) 
 one_longer [] x = refl
 one_longer (y ∷ xs) x = let more = one_longer xs x in omega arith
 
-pub submit_grows : (s : HubState) (line : CallLine) → Grows s (Submit line.session line.line) (submit_call s line)
+pub submit_grows : (s : HubState) (line : RootLine) → Grows s (Submit line.session line.line) (submit_call s line)
 submit_grows s line = record { events = refl; extra = request_line (length s.log.events + 1) (length s.log.sent) ask_names ∷ []; sent = refl; latest = (omega arith, tt); calls = refl }
 
-pub next_grows : (s : HubState) (output : Output) (w : Working) (line : CallLine) (follows : Next) →
+pub next_grows : (s : HubState) (output : Output) (w : Working) (line : RootLine) (follows : Next) →
     Grows s (Arrive 0 output) (carried_out s output w line follows)
 next_grows s output w line (next.Ask request stage places) =
     record { events = refl; extra = request_line (length s.log.events + 1) (length s.log.sent) request ∷ []; sent = refl; latest = (omega arith, tt); calls = refl }
@@ -60,13 +60,13 @@ pub arrive_grows : (s : HubState) (output : Output) → Grows s (Arrive 0 output
 arrive_grows s output =
     arrived_by (Grows s (Arrive 0 output)) s output
     (record { events = refl; extra = []; sent = none_more s.log.sent; latest = tt; calls = refl })
-    (λ (w : Working) (line : CallLine) (follows : Next) (arm : DoneArm) at there is. next_grows s output w line follows)
+    (λ (w : Working) (line : RootLine) (follows : Next) (arm : DoneArm) at there is. next_grows s output w line follows)
 
 pub room_for : {X : Type 0} (xs : List X) (x : X) (left before : ℕ) → left + 1 ≤ before →
     3 * left + 2 * length (xs ++ x ∷ []) ≤ 3 * before + 2 * length xs
 room_for xs x left before less = let more = one_longer xs x in omega arith
 
-pub next_lightens : (s : HubState) (output : Output) (w : Working) (line : CallLine) (follows : Next) → s.working ≡ Some w →
+pub next_lightens : (s : HubState) (output : Output) (w : Working) (line : RootLine) (follows : Next) → s.working ≡ Some w →
     Lowers (requests_left w.stage) (Some follows) → Lightens s (carried_out s output w line follows)
 next_lightens s output w line (next.Ask request stage places) at lower =
     record {
@@ -80,7 +80,7 @@ next_lightens s output w line (next.Reply places answer false) at lower = record
 pub arrive_lightens : (s : HubState) (output : Output) → Lightens s (arrived s output)
 arrive_lightens s output =
     arrived_by (Lightens s) s output (record { submitted = refl; more = omega arith; less = omega arith })
-    (λ (w : Working) (line : CallLine) (follows : Next) (arm : DoneArm) at there is.
+    (λ (w : Working) (line : RootLine) (follows : Next) (arm : DoneArm) at there is.
     next_lightens s output w line follows at
     (subst (λ (f : Option Next). Lowers (requests_left w.stage) f) is
     (next_lowers w.stage line.call w.drawn w.places (length s.log.history) arm)))

@@ -2,7 +2,7 @@
 use Rattle.std.proofs.Common.{◌≡◌, ℕ, ◌+◌, ◌-◌, ◌*◌, ◌<◌, ◌≤◌, ◌==◌, ◌⊎◌, inl, inr, Bool, true, false, List, [], ◌∷◌, ◌++◌, Option, Some, None, length, take, slice_get, if◌then◌else◌, refl, sym, ◌∙◌, ap, subst, arith, append_assoc}
 use Rattle.fop_types.specs.declared.messages.Input.{Input}
 use Rattle.fop_types.specs.declared.messages.Output.{Output}
-use Rattle.script_lang.specs.declared.scripts.CallLine.{CallLine}
+use Rattle.fop_types.specs.declared.calls.RootLine.{RootLine}
 use Rattle.brick_node.specs.Machine.{outputs_of, outputs_from, cells_from}
 use Rattle.brick_node.specs.Runs.{outputs_from_append}
 use Rattle.brick_store.specs.Cells.{root_alone}
@@ -30,7 +30,7 @@ pub record IsLinked (s : WorldState) : Type 0 where
   pub timely : (k : ℕ) (brick : ℕ) (output : Output) → slice_get s.hub.log.events k ≡ Some (happened.Arrive brick output) →
       output.taken ≤ sent_before (k + 1) s.hub.log.sent
 
-pub linked_start : (calls : List CallLine) → IsLinked (world_start calls)
+pub linked_start : (calls : List RootLine) → IsLinked (world_start calls)
 linked_start calls = record {
   reached = HubBegun (start_of calls) refl;
   served = record { rest = []; joined = refl };
@@ -87,20 +87,20 @@ pub if_some : {A : Type 0} (b : Bool) (o : Option A) (x : A) → (if b then o el
 if_some true o x there = there
 if_some false o x there = absurd cc
 
-pub due_idle : (b : Bool) (w : Option Working) (l : Option CallLine) (line : CallLine) → (if b then call_if_idle w l else None) ≡ Some line →
+pub due_idle : (b : Bool) (w : Option Working) (l : Option RootLine) (line : RootLine) → (if b then call_if_idle w l else None) ≡ Some line →
     (w ≡ None) × (l ≡ Some line)
 due_idle true None l line there = (refl, there)
 due_idle true (Some w) l line there = absurd cc
 due_idle false w l line there = absurd cc
 
-pub due_parts : (h : HubState) (session : ℕ) (line : CallLine) → call_due h session ≡ Some line →
+pub due_parts : (h : HubState) (session : ℕ) (line : RootLine) → call_due h session ≡ Some line →
     (h.working ≡ None) × (slice_get h.calls h.submitted ≡ Some line)
 due_parts h session line due = due_idle (session == 0) h.working (slice_get h.calls h.submitted) line due
 
 pub some_is : {A : Type 0} (x y : A) → Some x ≡ Some y → x ≡ y
 some_is x y same = cc
 
-pub linked_submit : (s t : WorldState) (session : ℕ) (o : Option CallLine) → IsLinked s → call_due s.hub session ≡ o →
+pub linked_submit : (s t : WorldState) (session : ℕ) (o : Option RootLine) → IsLinked s → call_due s.hub session ≡ o →
     submit_moved s o ≡ Some t → IsLinked t
 linked_submit s t session None linked due is = absurd cc
 linked_submit s t session (Some line) linked due is =

@@ -2,7 +2,7 @@
 use Rattle.std.proofs.Common.{◌≡◌, ℕ, ◌+◌, ◌<◌, ◌==◌, Bool, true, false, List, [], ◌∷◌, ◌++◌, Option, Some, None, length, slice_get, is_some, refl, sym, ◌∙◌, ap, subst}
 use Rattle.fop_types.specs.declared.messages.Input.{Input}
 use Rattle.fop_types.specs.declared.messages.Output.{Output}
-use Rattle.script_lang.specs.declared.scripts.CallLine.{CallLine}
+use Rattle.fop_types.specs.declared.calls.RootLine.{RootLine}
 use Rattle.brick_node.specs.Machine.{outputs_of}
 use Rattle.hub_core.specs.declared.logs.HubEvent.{HubEvent}
 use Rattle.hub_core.specs.declared.logs.SentLine.{SentLine}
@@ -17,16 +17,16 @@ use Rattle.world_core.proofs.Grows.{Grows, arrive_grows, submit_grows}
 use Rattle.world_core.proofs.Links.{some_is, if_some}
 use Rattle.world_core.proofs.Work.{arrivals_same, arrivals_more, submit_enabled, less_if}
 
-pub reached_start : (hub : HubState) (journal : List Input) (calls : List CallLine) → hub ≡ start_of calls → journal ≡ [] →
+pub reached_start : (hub : HubState) (journal : List Input) (calls : List RootLine) → hub ≡ start_of calls → journal ≡ [] →
     IsWorldReached (record { hub = hub; journal = journal })
 reached_start hub journal calls hub_is journal_is = rw hub_is (rw journal_is (Begun (world_start calls) refl))
 
-pub none_arrived : (hub : HubState) (calls : List CallLine) → hub ≡ start_of calls → 0 ≡ length (arrivals_of hub.log.events)
+pub none_arrived : (hub : HubState) (calls : List RootLine) → hub ≡ start_of calls → 0 ≡ length (arrivals_of hub.log.events)
 none_arrived hub calls is = rw is refl
 
 -- ---- a submission
 
-pub submit_is : (s : WorldState) (o : Option CallLine) → ◌≡◌ {A = WorldState} (record { hub = submit_due s.hub o; journal = s.journal }) (moved_or_same s (submit_moved s o))
+pub submit_is : (s : WorldState) (o : Option RootLine) → ◌≡◌ {A = WorldState} (record { hub = submit_due s.hub o; journal = s.journal }) (moved_or_same s (submit_moved s o))
 submit_is s None = refl
 submit_is s (Some line) = refl
 
@@ -56,7 +56,7 @@ reached_submit {s = s} session hub reached hub_is =
     subst IsWorldReached (sym (submit_at s session hub refl hub_is))
     (reached_moved s (Submit session) (submit_moved s (call_due s.hub session)) reached refl)
 
-same_arrivals : (h : HubState) (o : Option CallLine) → length (arrivals_of h.log.events) ≡ length (arrivals_of (submit_due h o).log.events)
+same_arrivals : (h : HubState) (o : Option RootLine) → length (arrivals_of h.log.events) ≡ length (arrivals_of (submit_due h o).log.events)
 same_arrivals h None = refl
 same_arrivals h (Some line) = sym (arrivals_same h.log.events line.session line.line)
 
@@ -157,7 +157,7 @@ none_serves {s = s} now is there =
 pub less_step : (s t : WorldState) (e : Event) → IsEnabled s e → t ≡ moved_or_same s (moved s e) → work_left t < work_left s
 less_step s t e enabled is = rw is (less_if s e (moved s e) refl enabled)
 
-calls_submit : (s t : WorldState) (o : Option CallLine) → submit_moved s o ≡ Some t → t.hub.calls ≡ s.hub.calls
+calls_submit : (s t : WorldState) (o : Option RootLine) → submit_moved s o ≡ Some t → t.hub.calls ≡ s.hub.calls
 calls_submit s t None is = absurd cc
 calls_submit s t (Some line) is =
     ap (λ (v : WorldState). v.hub.calls) (sym (some_is (record { hub = submit_call s.hub line; journal = s.journal }) t is))

@@ -4,7 +4,7 @@ use Rattle.std.proofs.lemmas.Option.{slice_get_within}
 use Rattle.fop_types.specs.declared.messages.Input.{Input}
 use Rattle.fop_types.specs.declared.messages.Input.TheVariants.{Request, Down, Up, Connect, Disconnect, FaultAt}
 use Rattle.fop_types.specs.declared.messages.Output.{Output}
-use Rattle.script_lang.specs.declared.scripts.CallLine.{CallLine}
+use Rattle.fop_types.specs.declared.calls.RootLine.{RootLine}
 use Rattle.brick_node.specs.Machine.{outputs_of}
 use Rattle.brick_node.specs.Runs.{outputs_due_one, requests_among, length-outputs_of}
 use Rattle.hub_core.specs.declared.logs.HubEvent.{HubEvent}
@@ -36,7 +36,7 @@ arrived_less s t calls lightens more within =
     let less = arrive_less (16 * (length s.hub.calls - s.hub.submitted)) (requests_at_work s.hub.working) (requests_at_work t.working)
     (length s.hub.log.sent) (length t.log.sent) (length s.journal) (length (outputs_of s.journal))
     (length (arrivals_of s.hub.log.events)) lightens.more lightens.less within in
-    let many : length t.calls ≡ length s.hub.calls = ap (λ (l : List CallLine). length l) calls in
+    let many : length t.calls ≡ length s.hub.calls = ap (λ (l : List RootLine). length l) calls in
     let submitted : t.submitted ≡ s.hub.submitted = lightens.submitted in
     rw many (rw submitted (rw more less))
 
@@ -69,7 +69,7 @@ arrivals_more events output =
     let more : arrivals_of (events ++ happened.Arrive 0 output ∷ []) ≡ arrivals_of events ++ output ∷ [] = arrivals_push events (happened.Arrive 0 output ∷ []) in
     ap (λ (l : List Output). length l) more ∙ one_longer (arrivals_of events) output
 
-pub less_submit : (s t : WorldState) (session : ℕ) (o : Option CallLine) → call_due s.hub session ≡ o → submit_moved s o ≡ Some t →
+pub less_submit : (s t : WorldState) (session : ℕ) (o : Option RootLine) → call_due s.hub session ≡ o → submit_moved s o ≡ Some t →
     work_left t < work_left s
 less_submit s t session None due is = absurd cc
 less_submit s t session (Some line) due is =
@@ -121,7 +121,7 @@ pub if_none : {A : Type 0} (b : Bool) (o : Option A) → o ≡ None → (if b th
 if_none true o none = none
 if_none false o none = refl
 
-pub submit_enabled : (s : WorldState) (o : Option CallLine) → is_some (submit_moved s o) ≡ is_some o
+pub submit_enabled : (s : WorldState) (o : Option RootLine) → is_some (submit_moved s o) ≡ is_some o
 submit_enabled s None = refl
 submit_enabled s (Some line) = refl
 
@@ -154,7 +154,7 @@ pub none_due : (s : WorldState) → call_due s.hub 0 ≡ None → (session : ℕ
 none_due s none session = if_none (session == 0) (call_if_idle s.hub.working (slice_get s.hub.calls s.hub.submitted)) none
 
 pub quiet_of : (s : WorldState) → call_due s.hub 0 ≡ None → next_output s ≡ None → next_input s ≡ None → IsQuiet s
-quiet_of s due output input (Submit session) = ap (λ (o : Option CallLine). submit_moved s o) (none_due s due session)
+quiet_of s due output input (Submit session) = ap (λ (o : Option RootLine). submit_moved s o) (none_due s due session)
 quiet_of s due output input (Arrive brick) =
     if_none (brick == 0) (arrive_moved s (next_output s)) (ap (λ (o : Option Output). arrive_moved s o) output)
 quiet_of s due output input (Serve brick) =

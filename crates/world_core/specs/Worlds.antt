@@ -3,7 +3,7 @@
 use Rattle.std.specs.Prelude.{◌≡◌, ℕ, ◌+◌, ◌-◌, ◌*◌, ◌≤◌, ◌==◌, Bool, true, false, List, [], ◌∷◌, ◌++◌, Option, Some, None, length, take, slice_get, is_some, if◌then◌else◌}
 use Rattle.fop_types.specs.declared.messages.Input.{Input}
 use Rattle.fop_types.specs.declared.messages.Output.{Output}
-use Rattle.script_lang.specs.declared.scripts.CallLine.{CallLine}
+use Rattle.fop_types.specs.declared.calls.RootLine.{RootLine}
 use Rattle.brick_node.specs.Machine.{outputs_of}
 use Rattle.hub_core.specs.declared.logs.SentLine.{SentLine}
 use Rattle.hub_core.specs.declared.stages.Working.{Working}
@@ -20,7 +20,7 @@ pub record WorldState : Type 0 where
   pub hub : HubState
   pub journal : List Input
 
-abbrev pub world_start : List CallLine → WorldState
+abbrev pub world_start : List RootLine → WorldState
 world_start calls = record { hub = start_of calls; journal = [] }
 
 -- ---- events
@@ -32,7 +32,7 @@ next_output s = slice_get (outputs_of s.journal) (length (arrivals_of s.hub.log.
 abbrev pub next_input : WorldState → Option SentLine
 next_input s = slice_get s.hub.log.sent (length s.journal)
 
-abbrev pub submit_moved : WorldState → Option CallLine → Option WorldState
+abbrev pub submit_moved : WorldState → Option RootLine → Option WorldState
 submit_moved s None = None
 submit_moved s (Some line) = Some (record s { hub = submit_call s.hub line })
 

@@ -23,3 +23,6 @@ mod worlds;
 pub use events::Event;
 pub use hub_core::{Log, Rack};
 pub use worlds::World;
+
+#[cfg(test)]
+mod tests;

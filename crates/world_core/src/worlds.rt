@@ -6,9 +6,8 @@ ghost use Rattle.world_core.specs.Worlds.{world_start, moved, moved_or_same, sub
 
 use crate::events::Event;
 use brick_node::Brick;
-use fop_types::{Output, Seq};
+use fop_types::{Output, RootScript, Seq};
 use hub_core::{Hub, Rack, SentLine};
-use script_lang::Script;
 use std::alloc::{AllocError, Global};
 use std::marker::Model;
 
@@ -56,7 +55,7 @@ impl World {
     ///
     /// # Errors
     /// Want of memory.
-    pub fn new(alloc: Global, script: &Script) -> Result<World, AllocError>
+    pub fn new(alloc: Global, script: &RootScript) -> Result<World, AllocError>
         requires { length script.now.calls ≤ 4096 }
         ensures { IfOk result (λ world. world ≡ world_start script.now.calls) }
     {

@@ -1,0 +1,5 @@
+use Rattle.hub_core.proofs.LawProofs.{tied}
+use Rattle.hub_core.proofs.laws.logs_are_tied.Goals as goal
+
+pub returns : goal.returns
+returns c = tied
