@@ -1,3 +1,5 @@
-pub mod Forms
-pub mod Lines
+pub mod Counts
 pub mod Modes
+pub mod Parts
+pub mod RoomKept
+pub mod TextRead

@@ -2,7 +2,7 @@
 use Rattle.std.proofs.Common.{◌≡◌, ℕ, ◌+◌, ◌-◌, ◌*◌, ◌<◌, ◌≤◌, List, [], ◌∷◌, length, drop, None, get_or, arith, ap, ◌∙◌, sym}
 use Rattle.std.proofs.lemmas.List.{drop_more}
 use Rattle.std.proofs.lemmas.Bool.Decides.{nat_tests}
-use Rattle.script_lang.specs.ScriptText.{octal_after, nine_bits}
+use Rattle.script_lang.specs.WordForms.{octal_after, nine_bits}
 
 -- more digits write no smaller number
 octal_grows : (v : ℕ) (ds : List ℕ) → v ≤ octal_after v ds

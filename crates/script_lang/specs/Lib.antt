@@ -1,2 +1,7 @@
-pub mod FirstForm
+pub mod CallText
+pub mod ControlText
+pub mod Kinds
+pub mod Rooms
 pub mod ScriptText
+pub mod StatementText
+pub mod WordForms

@@ -1,110 +1,115 @@
--- The grammar of a script of the first form, as a function of its bytes: nine lines that are always the
--- same, then `phase`, then lines that each make a call of the session `s`. A text gives the calls, or
--- the number of its first line that is not of this form.
-use Rattle.std.specs.Prelude.{ℕ, suc, ◌+◌, ◌-◌, ◌*◌, ◌==◌, ◌&&◌, ◌||◌, nat_le, not, Bool, if◌then◌else◌, List, [], ◌∷◌, ◌++◌, length, take, drop, slice_index_or, codes, Option, Some, None, Result, Ok, Err}
-use Rattle.std.specs.List.{list_all, starts_with}
-use Rattle.std.specs.Option.{option_map}
-use Rattle.std.specs.Cmp.Lexicographic.{pointwise}
-use Rattle.fop_types.specs.declared.calls.Call.{Call}
-use Rattle.fop_types.specs.declared.calls.Call.TheVariants.{Mkdir, Stat}
-use Rattle.script_lang.specs.declared.scripts.CallLine.{CallLine}
+-- The grammar of a script, as a function of its bytes. What was read so far is a draft of the script, and
+-- inside a volfile what was read of that. A line gives what is read after it, or the first kind of
+-- refusal that holds of it. A text gives its script, or the first line that is refused.
+use Rattle.std.specs.Prelude.{◌≡◌, ℕ, ◌+◌, ◌==◌, nat_le, not, Bool, true, false, if◌then◌else◌, List, [], ◌∷◌, ◌++◌, length, codes, Option, Some, None, Result, Ok, Err}
+use Rattle.std.specs.List.{list_all}
+use Rattle.volfile.specs.TextLines.{lines_of, words_of, is_blank, is_text_byte, is_text}
+use Rattle.volfile.specs.VolfileText.{Reading as VolReading, line_read as vol_line_read}
+use Rattle.volfile.specs.declared.errors.VolKind.{VolKind}
+use Rattle.volfile.specs.declared.errors.VolKind.TheVariants.{Unclosed as VolUnclosed, Empty as VolEmpty}
+use Rattle.volfile.specs.declared.volumes.Volfile.{Volfile}
+use Rattle.volfile.specs.declared.volumes.Volume.{Volume}
+use Rattle.script_lang.specs.StatementText.{statement, phases_read}
+use Rattle.script_lang.specs.declared.errors.ScriptKind.{ScriptKind}
+use Rattle.script_lang.specs.declared.errors.ScriptKind.TheVariants.{BadByte, LongLine, WordCount, Unclosed, NoStart, Vol}
+use Rattle.script_lang.specs.declared.errors.ScriptError.{ScriptError}
+use Rattle.script_lang.specs.declared.errors.ScriptError.TheVariants.{At, Mem}
+use Rattle.script_lang.specs.declared.scripts.Script.{Script}
+use Rattle.script_lang.specs.declared.drafts.Draft.{Draft}
+use Rattle.script_lang.specs.declared.drafts.Part.{Part}
+use Rattle.script_lang.specs.declared.drafts.Part.TheVariants as part
+use Rattle.script_lang.specs.declared.drafts.Reading.{Reading}
+use Rattle.script_lang.specs.declared.drafts.Reading.TheVariants.{InScript, InVolfile}
 
-abbrev pub onto_first : ℕ → List (List ℕ) → List (List ℕ)
-onto_first b [] = (b ∷ []) ∷ []
-onto_first b (l ∷ ls) = (b ∷ l) ∷ ls
+-- before the first line
+abbrev pub nothing_said : Reading
+nothing_said =
+    InScript (record { part = part.Bricks; bricks = []; volfiles = []; start = 0; sessions = []; phases = []; calls = []; controls = []; call_count = 0; is_great = false })
 
--- the lines of a text: each ends at a line feed, and a last one without it counts if it is not empty
-abbrev pub lines : List ℕ → List (List ℕ)
-lines [] = []
-lines (b ∷ bs) = if b == 10 then [] ∷ lines bs else onto_first b (lines bs)
+-- ---- one line
+-- the first byte that is no blank is `#`
+abbrev pub is_comment : List ℕ → Bool
+is_comment [] = false
+is_comment (b ∷ bs) = if is_blank b then is_comment bs else b == 35
 
--- how many bytes stand before the first `stop`
-abbrev pub front_len : ℕ → List ℕ → ℕ
-front_len stop [] = 0
-front_len stop (b ∷ bs) = if b == stop then 0 else suc (front_len stop bs)
+abbrev pub is_long : List ℕ → Bool
+is_long line = nat_le 140001 (length line)
 
-abbrev pub is_text : List ℕ → List ℕ → Bool
-is_text word text = pointwise ◌==◌ word text
+-- a line that says something has bytes that may stand there, and not too many
+abbrev pub line_refusal : List ℕ → Option ScriptKind
+line_refusal line = if not (list_all is_text_byte line) then Some BadByte else if is_long line then Some LongLine else None
 
--- the first ten lines of every script
-abbrev pub fixed_lines : List (List ℕ)
-fixed_lines =
-    codes "brick b0 h /b0" ∷ codes "volfile g" ∷ codes "volume c0" ∷ codes "type protocol/client" ∷ codes "option remote-host h"
-    ∷ codes "option remote-subvolume /b0" ∷ codes "end-volume" ∷ codes "end-volfile" ∷ codes "start g" ∷ codes "phase" ∷ []
+abbrev pub unless_refused : Option ScriptKind → Result Reading ScriptKind → Result Reading ScriptKind
+unless_refused None said = said
+unless_refused (Some kind) said = Err kind
 
--- a byte of a name: 33 to 126 without the slash
-abbrev pub is_name_byte : ℕ → Bool
-is_name_byte b = nat_le 33 b && nat_le b 126 && not (b == 47)
+abbrev pub said_if_plain : List ℕ → Result Reading ScriptKind → Result Reading ScriptKind
+said_if_plain line said = unless_refused (line_refusal line) said
 
-abbrev pub is_name : List ℕ → Bool
-is_name name = nat_le 1 (length name) && nat_le (length name) 255 && list_all is_name_byte name
+abbrev pub script_line_read : Draft → ℕ → List ℕ → Result Reading ScriptKind
+script_line_read d number line =
+    if is_comment line then (if is_long line then Err LongLine else Ok (InScript d)) else said_if_plain line (statement d number (words_of line))
 
--- `.` and `..` name no component
-abbrev pub is_dots : List ℕ → Bool
-is_dots name = is_text name (codes ".") || is_text name (codes "..")
+-- ---- one line inside a volfile
+abbrev pub volfile_goes_on : Draft → List ℕ → Result VolReading VolKind → Result Reading ScriptKind
+volfile_goes_on d name (Ok r) = Ok (InVolfile d name r)
+volfile_goes_on d name (Err kind) = Err (Vol kind)
 
--- one component of a path, of at most 255 bytes
-abbrev pub is_component : List ℕ → Bool
-is_component name = is_name name && not (is_dots name)
+abbrev pub inner_line_read : Draft → List ℕ → VolReading → ℕ → List ℕ → Result Reading ScriptKind
+inner_line_read d name r number line = if is_long line then Err LongLine else volfile_goes_on d name (vol_line_read r number line)
 
-abbrev pub component : List ℕ → Option (List ℕ)
-component name = if is_component name then Some name else None
+-- a volfile ends outside a block and has a volume or more
+abbrev pub volfile_ended : Draft → List ℕ → Option Volume → List Volume → Result Reading ScriptKind
+volfile_ended d name (Some block) volumes = Err (Vol VolUnclosed)
+volfile_ended d name None [] = Err (Vol VolEmpty)
+volfile_ended d name None (v ∷ vs) = Ok (InScript (record d { volfiles = d.volfiles ++ record { name = name; volfile = record { volumes = v ∷ vs } } ∷ [] }))
 
-abbrev pub is_octal : ℕ → Bool
-is_octal b = nat_le 48 b && nat_le b 55
+-- `end-volfile` and these words
+abbrev pub end_read : Draft → List ℕ → VolReading → List (List ℕ) → Result Reading ScriptKind
+end_read d name r [] = volfile_ended d name r.block r.volumes
+end_read d name r (more ∷ rest) = Err WordCount
 
--- the number that octal digits write after those of `above`
-abbrev pub octal_after : ℕ → List ℕ → ℕ
-octal_after above [] = above
-octal_after above (d ∷ ds) = octal_after (above * 8 + (d - 48)) ds
+-- a line of these words: the first of them may end the volfile
+abbrev pub volfile_line_read : Draft → List ℕ → VolReading → ℕ → List ℕ → List (List ℕ) → Result Reading ScriptKind
+volfile_line_read d name r number line [] = inner_line_read d name r number line
+volfile_line_read d name r number line (word ∷ rest) = if is_text word (codes "end-volfile") then said_if_plain line (end_read d name r rest) else inner_line_read d name r number line
 
--- the number, where it is at most 777 octal
-abbrev pub nine_bits : ℕ → Option ℕ
-nine_bits n = if nat_le n 511 then Some n else None
+-- the line with this number
+abbrev pub line_read : Reading → ℕ → List ℕ → Result Reading ScriptKind
+line_read (InScript d) number line = script_line_read d number line
+line_read (InVolfile d name r) number line = volfile_line_read d name r number line (words_of line)
 
--- one to four octal digits of a number up to 777 octal
-abbrev pub mode_of : List ℕ → Option ℕ
-mode_of ds = if nat_le 1 (length ds) && nat_le (length ds) 4 && list_all is_octal ds then nine_bits (octal_after 0 ds) else None
+-- ---- the whole text
+abbrev pub has_start : Part → Bool
+has_start part.Bricks = false
+has_start part.Volfiles = false
+has_start part.Start = true
+has_start part.Phases = true
 
-abbrev pub mkdir_with : Option (List ℕ) → Option ℕ → Option Call
-mkdir_with None mode = None
-mkdir_with (Some name) None = None
-mkdir_with (Some name) (Some mode) = Some (Mkdir (record { parts = name ∷ [] }) mode)
+abbrev pub script_of : Draft → Script
+script_of d =
+    record { bricks = d.bricks; volfiles = d.volfiles; start = d.start; sessions = d.sessions; phases = phases_read d }
 
--- what follows `do s mkdir /`: a name, one space and a mode
-abbrev pub mkdir_of : List ℕ → Option Call
-mkdir_of words = let n = front_len 32 words in mkdir_with (component (take n words)) (mode_of (drop (n + 1) words))
+-- the text ends at the line with this number
+abbrev pub text_ended : Reading → ℕ → Result Script ScriptError
+text_ended (InVolfile d name r) number = Err (At number Unclosed)
+text_ended (InScript d) number = if has_start d.part then Ok (script_of d) else Err (At number NoStart)
 
--- what follows `do s stat /`: a name
-abbrev pub stat_of : List ℕ → Option Call
-stat_of name = option_map (λ name. Stat (record { parts = name ∷ [] })) (component name)
+abbrev pub read_on : Result Reading ScriptKind → ℕ → (Reading → Result Script ScriptError) → Result Script ScriptError
+read_on (Err kind) number rest = Err (At number kind)
+read_on (Ok r) number rest = rest r
 
-abbrev pub call_of : List ℕ → Option Call
-call_of line =
-    if starts_with ◌==◌ line (codes "do s mkdir /") then mkdir_of (drop 12 line)
-    else if starts_with ◌==◌ line (codes "do s stat /") then stat_of (drop 11 line)
-    else None
+-- the lines behind the line with this number
+abbrev pub lines_read : List (List ℕ) → Reading → ℕ → Result Script ScriptError
+lines_read [] r number = text_ended r number
+lines_read (line ∷ rest) r number = read_on (line_read r (number + 1) line) (number + 1) (λ s. lines_read rest s (number + 1))
 
--- the calls that the line with this number makes, and None where it is not of the form: at most 4,096
--- lines make a call, one each
-abbrev pub line_at : ℕ → List ℕ → Option (List CallLine)
-line_at number line =
-    if nat_le number 10 then (if is_text line (slice_index_or fixed_lines (number - 1) []) then Some [] else None)
-    else if nat_le number 4106 then option_map (λ call. record { line = number; session = 0; call = call } ∷ []) (call_of line)
-    else None
+-- what a text says
+abbrev pub parsed : List ℕ → Result Script ScriptError
+parsed text = lines_read (lines_of text) nothing_said 0
 
-abbrev pub with_front : List CallLine → Result (List CallLine) ℕ → Result (List CallLine) ℕ
-with_front calls (Ok more) = Ok (calls ++ more)
-with_front calls (Err number) = Err number
-
-abbrev pub followed_by : Option (List CallLine) → ℕ → Result (List CallLine) ℕ → Result (List CallLine) ℕ
-followed_by None number rest = Err number
-followed_by (Some calls) number rest = with_front calls rest
-
--- what lines say whose first has this number; nine are the least
-abbrev pub parsed_from : List (List ℕ) → ℕ → Result (List CallLine) ℕ
-parsed_from [] number = if nat_le number 9 then Err (number - 1) else Ok []
-parsed_from (line ∷ rest) number = followed_by (line_at number line) number (parsed_from rest (number + 1))
-
-abbrev pub parsed : List ℕ → Result (List CallLine) ℕ
-parsed text = parsed_from (lines text) 1
+-- a result that is this one, but for want of memory
+abbrev pub IsButForMemory : {A : Type 0} → Result A ScriptError → Result A ScriptError → Type 0
+IsButForMemory (Ok a) wanted = wanted ≡ Ok a
+IsButForMemory (Err (At line kind)) wanted = wanted ≡ Err (At line kind)
+IsButForMemory (Err Mem) wanted = Unit {0}

@@ -1,31 +1,56 @@
 //! The script: the text that says what a run does.
 //!
 //! ```text
-//! brick b0 h /b0                    lines 1 to 9: one brick, one volfile with one client, start
-//! volfile g
-//! ..
-//! start g
-//! phase                             line 10, if there is one
-//! do s mkdir /NAME MODE             each later line is a call of the session `s`
-//! do s stat /NAME
+//! brick NAME HOST PATH              up to 60
+//! volfile NAME                      up to 16, each with the lines of a volfile
+//!   ..
+//! end-volfile
+//! start NAME                        the volfile that is mounted first
+//! phase                             up to 4,096
+//! do SESSION CALL                   up to 4,096 in all, of up to 64 sessions
+//! control ACTION
+//! control before BRICK PROC N ACTION
+//! control after BRICK PROC N ACTION
 //! ```
 //!
-//! At this stage a script has just this form, and [`parse`] refuses the first line that is not of it.
-//! The program's top call reads scripts by it.
+//! ```text
+//!   text --lines--> Reading -- `volfile` --> volfile::VolfileReader
+//!                   a draft <- `end-volfile`       |
+//!                     |
+//!                     +--> statements --> calls, controls --> words: paths, numbers, data, names
+//!                     v
+//!                   Script
+//! ```
+//!
+//! [`parse`] reads a whole text, line by line. Its result is the grammar of `specs/ScriptText`: the script,
+//! or the first line that is refused with the first kind that holds of it. The program's top call reads
+//! scripts by it; plans, the hub and the report go by the [`Script`] that it gives.
 #![tactic(auto)]
 
-mod call_copies;
-mod call_lines;
-mod cuts;
+mod actions;
+mod calls;
+mod controls;
+mod drafts;
 mod errors;
-mod fixed_lines;
+mod fd_calls;
+mod few;
+mod kinds;
 mod numbers;
 mod parses;
+mod path_calls;
+mod paths;
+mod phase_lines;
+mod places;
+mod readings;
 mod scripts;
+mod statements;
+mod words;
 
 pub use errors::{ScriptError, ScriptKind};
 pub use parses::parse;
-pub use scripts::{CallLine, Script};
+pub use scripts::{Action, BrickLine, CallLine, ControlLine, NamedVolfile, Phase, Script, When};
 
+#[cfg(test)]
+mod call_tests;
 #[cfg(test)]
 mod tests;

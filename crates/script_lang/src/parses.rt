@@ -1,85 +1,102 @@
-ghost use Rattle.std.specs.Prelude.{◌≡◌, ◌++◌, ◌≤◌, Ok, Err, Some, None, ℕ, ⊤, IfOk, IsErrOf};
-ghost use Rattle.std.specs.Bool.{MatchBool};
-ghost use Rattle.std.specs.Option.{option_map};
-ghost use Rattle.script_lang.specs.FirstForm.{IsFirstForm};
-ghost use Rattle.script_lang.specs.ScriptText.{line_at, parsed};
-ghost use Rattle.script_lang.specs.declared.errors.ScriptError.TheVariants.{At};
-ghost use Rattle.script_lang.specs.declared.errors.ScriptKind.TheVariants.{Later};
+ghost use Rattle.std.specs.Prelude.{◌≡◌, ◌≤◌, length, IfOk};
+ghost use Rattle.script_lang.specs.ScriptText.{IsButForMemory, has_start as has_start_part, nothing_said, parsed, script_of, text_ended};
 
-use crate::call_lines::call_of;
-use crate::cuts::first_line;
+use crate::drafts::{Draft, Part, Reading};
 use crate::errors::{ScriptError, ScriptKind};
-use crate::fixed_lines::is_fixed_line;
-use crate::scripts::{CallLine, Script};
+use crate::few::Few;
+use crate::phase_lines::phases_of;
+use crate::readings::with_line;
+use crate::scripts::Script;
 use fop_types::Seq;
 use std::alloc::{AllocError, Global};
+use volfile::first_line;
 
-/// The calls of a script. It looks at each byte a few times and copies the names alone.
+/// The script that a text of at most 2,097,152 bytes says.
+///
+/// Each byte is looked at a few times, and words are copied once. A name is looked for among the at most
+/// 60 bricks, 16 volfiles or 64 sessions that were read.
 ///
 /// # Errors
-/// `At` with the kind `Later` exactly at the first line that is not of the form: lines 1 to 9 and 10 are
-/// fixed; each later line is `do s mkdir /NAME MODE` or `do s stat /NAME` with single spaces; at most
-/// 4,096 lines make a call. Where the text ends before line 9, the line is the number of lines. `Mem` is
-/// want of memory.
+/// `At` with the first line that is refused, and of the kinds that hold of it the first, in the order of
+/// [`ScriptKind`]; where the text ends too early the line is the number of lines. `Mem` is want of memory.
 pub fn parse(alloc: Global, text: &[u8]) -> Result<Script, ScriptError>
-    ensures ok { IfOk result (λ script. parsed text.now ≡ Ok script.calls) }
-    ensures refused { (line : ℕ) → IsErrOf result (At line Later) → parsed text.now ≡ Err line }
-    ensures form { IfOk result (λ script. IsFirstForm script.calls) }
+    requires { length text.now ≤ 2097152 }
+    ensures { IsButForMemory result (parsed text.now) }
 {
-    let mut calls = Seq::new(alloc);
-    let mut number: u32 = 1;
+    let mut reading = nothing_read(alloc);
+    let mut number: u32 = 0;
     let mut at = 0;
     while at < text.len() {
         let line = first_line(text, at);
-        if !add_line(alloc, &mut calls, number, line)? {
-            return Err(later(number));
-        }
         number += 1;
+        match with_line(alloc, reading, number, line)? {
+            Ok(next) => reading = next,
+            Err(kind) => return Err(ScriptError::At { line: number, kind }),
+        }
         at += line.len() + 1;
     }
-    if number <= 9 {
-        return Err(later(number - 1));
-    }
-    Ok(Script { calls })
+    finish(reading, number)
 }
 
-fn later(line: u32) -> ScriptError
-    ensures { result ≡ At line Later }
+fn nothing_read(alloc: Global) -> Reading
+    ensures { result ≡ nothing_said }
 {
-    ScriptError::At {
-        line,
-        kind: ScriptKind::Later,
-    }
+    Reading::InScript(Draft {
+        part: Part::Bricks,
+        bricks: Few::new(alloc),
+        volfiles: Few::new(alloc),
+        start: 0,
+        sessions: Few::new(alloc),
+        phases: Seq::new(alloc),
+        calls: Seq::new(alloc),
+        controls: Seq::new(alloc),
+        call_count: 0,
+        is_great: false,
+    })
 }
 
-// Adds the call that the line makes. False, and nothing is added, where it is not of the form.
-fn add_line(
-    alloc: Global,
-    calls: &mut Seq<CallLine>,
-    number: u32,
-    line: &[u8],
-) -> Result<bool, AllocError>
-    requires { 1 ≤ number }
-    ensures ok { IfOk result (λ did. MatchBool did
-        (option_map (λ more. calls.old ++ more) (line_at number line.now) ≡ Some calls.new)
-        (line_at number line.now ≡ None)) }
-    ensures last { IfOk result (λ did. MatchBool did (number ≤ 4106) ⊤) }
+// The text ends at the line with this number.
+fn finish(reading: Reading, number: u32) -> Result<Script, ScriptError>
+    ensures { IsButForMemory result (text_ended reading number) }
 {
-    if number <= 10 {
-        return Ok(is_fixed_line(number, line));
-    }
-    if number > 4106 {
-        return Ok(false);
-    }
-    match call_of(alloc, line)? {
-        Some(call) => {
-            calls.push(CallLine {
-                line: number,
-                session: 0,
-                call,
-            })?;
-            Ok(true)
+    match reading {
+        Reading::InScript(draft) => {
+            if !has_start(draft.part) {
+                return Err(ScriptError::At {
+                    line: number,
+                    kind: ScriptKind::NoStart,
+                });
+            }
+            let script = script(draft)?;
+            Ok(script)
         }
-        None => Ok(false),
+        Reading::InVolfile(_, _, _) => Err(ScriptError::At {
+            line: number,
+            kind: ScriptKind::Unclosed,
+        }),
+    }
+}
+
+fn script(draft: Draft) -> Result<Script, AllocError>
+    ensures { IfOk result (λ script. script ≡ script_of draft) }
+{
+    let phases = phases_of(draft.part, draft.phases, draft.calls, draft.controls)?;
+    Ok(Script {
+        bricks: draft.bricks.into_seq(),
+        volfiles: draft.volfiles.into_seq(),
+        start: draft.start,
+        sessions: draft.sessions.into_seq(),
+        phases,
+    })
+}
+
+fn has_start(part: Part) -> bool
+    ensures { result ≡ has_start_part part }
+{
+    match part {
+        Part::Bricks => false,
+        Part::Volfiles => false,
+        Part::Start => true,
+        Part::Phases => true,
     }
 }

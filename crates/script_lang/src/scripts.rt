@@ -1,7 +1,16 @@
-use fop_types::{Call, Seq};
+use fop_types::{Call, Proc, Seq};
+use volfile::Volfile;
 
-/// A line of a script that makes a call. `session` is the number of the line's session, by the order in
-/// which sessions are first named, from 0.
+/// A brick: its name in the script, and the host and path by which volumes name it.
+#[derive(Debug, Drop, PartialEq, Eq)]
+pub struct BrickLine {
+    pub name: Seq<u8>,
+    pub host: Seq<u8>,
+    pub path: Seq<u8>,
+}
+
+/// A line that makes a call. `session` is the number of the line's session, from 0, in the order in which
+/// `do` lines first name them.
 #[derive(Debug, Drop, PartialEq, Eq)]
 pub struct CallLine {
     pub line: u32,
@@ -9,8 +18,58 @@ pub struct CallLine {
     pub call: Call,
 }
 
-/// An accepted script. `calls` stand in the order of their lines.
+/// When a control is carried out: in its turn, or directly before or after the request to a brick that
+/// is the nth of its procedure in the phase. `Before(b, p, n)` and `After(b, p, n)` name the brick by its
+/// number, from 0; n is 1 to 65,535.
+#[derive(Debug, Clone, Copy, PartialEq, Eq)]
+pub enum When {
+    Now,
+    Before(u8, Proc, u32),
+    After(u8, Proc, u32),
+}
+
+/// What a control does. Bricks and volfiles are named by their numbers, from 0. `Down(b, s)` has s, 0 to
+/// 65,535, requests served before the brick goes down; `Fault(b, p, n)` has the nth request of the
+/// procedure, 1 to 65,535, answered by a fault.
+#[derive(Debug, Clone, Copy, PartialEq, Eq)]
+pub enum Action {
+    Down(u8, u32),
+    Up(u8),
+    Cut(u8),
+    Fault(u8, Proc, u32),
+    Heal,
+    Switch(u8),
+}
+
+/// A line that controls bricks or the mount.
+#[derive(Debug, Clone, Copy, PartialEq, Eq)]
+pub struct ControlLine {
+    pub line: u32,
+    pub when: When,
+    pub action: Action,
+}
+
+/// A phase: its calls and its controls, each in the order of their lines.
+#[derive(Debug, Drop, PartialEq, Eq)]
+pub struct Phase {
+    pub calls: Seq<CallLine>,
+    pub controls: Seq<ControlLine>,
+}
+
+/// A volfile and its name in the script.
+#[derive(Debug, Drop, PartialEq, Eq)]
+pub struct NamedVolfile {
+    pub name: Seq<u8>,
+    pub volfile: Volfile,
+}
+
+/// An accepted script. `start` is the number of the volfile that is mounted first, from 0; `sessions` are
+/// the names of the sessions by their numbers.
 #[derive(Debug, Drop, PartialEq, Eq)]
 pub struct Script {
-    pub calls: Seq<CallLine>,
+    pub bricks: Seq<BrickLine>,
+    pub volfiles: Seq<NamedVolfile>,
+    pub start: u8,
+    pub sessions: Seq<Seq<u8>>,
+    pub phases: Seq<Phase>,
 }

@@ -1,5 +1,5 @@
 use Rattle.std.proofs.Common.{◌≡◌, ◌≤◌, drop}
-use Rattle.script_lang.specs.ScriptText.{octal_after}
+use Rattle.script_lang.specs.WordForms.{octal_after}
 use Rattle.script_lang.proofs.numbers.octal.Given as goal
 
 abbrev pub invariant-loop-digit : goal.invariant-loop-digit

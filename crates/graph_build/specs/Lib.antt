@@ -1,0 +1,6 @@
+pub mod Follows
+pub mod Known
+pub mod Marks
+pub mod PlanRules
+pub mod Plans
+pub mod VolumeRules
