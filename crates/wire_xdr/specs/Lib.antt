@@ -1,0 +1,11 @@
+pub mod Classes
+pub mod Loops
+pub mod MessageReading
+pub mod MessageText
+pub mod Order
+pub mod PartReading
+pub mod PartText
+pub mod Places
+pub mod Reading
+pub mod WireText
+pub mod Xdr
