@@ -1,0 +1,13 @@
+pub mod Vacancy
+pub mod Puts
+pub mod Sound
+pub mod Lists
+pub mod Winds
+pub mod Told
+pub mod Steps
+pub mod Opening
+pub mod Ending
+pub mod Balanced
+pub mod Leads
+pub mod Awaiting
+pub mod Following

@@ -1,0 +1,7 @@
+use Rattle.std.proofs.Common.{sym, ap, ◌∙◌}
+use Rattle.frame_stack.specs.Cells.{cell_at}
+use Rattle.frame_stack.proofs.Vacancy.{emptied}
+use Rattle.frame_stack.proofs.keyed.Keyed.remove.Goals as goal
+
+pub invariant_of-self : goal.invariant_of-self
+invariant_of-self g c = rw (c.replace.ensures.after, c.push_reserved.ensures.items, c.push_reserved.ensures.capacity) (emptied _ _ _ c.args.key _ (ap (λ cs. cell_at cs c.args.key) c.self.view_is ∙ sym c.in-Some.ensures) c.self.invariant)

@@ -1,0 +1,6 @@
+use Rattle.std.proofs.Common.{rules, None}
+use Rattle.frame_stack.proofs.Leads.{local_to}
+use Rattle.frame_stack.proofs.stack.FrameStack.take.Goals as goal
+
+pub returns-clause-leads : goal.returns-clause-leads
+returns-clause-leads g c = local_to c.args.self.now _ c.args.frame None (search rules)

@@ -1,0 +1,13 @@
+use Rattle.std.proofs.Common.{◌≡◌, sym, ap, ◌∙◌, subst, ◌<◌, ◌+◌, ◌*◌}
+use Rattle.frame_stack.specs.Cells.{taken, put_at}
+use Rattle.frame_stack.specs.Stack.{word_of, awaits}
+use Rattle.std.specs.Prelude.{false, ◌||◌, ◌&&◌, ◌==◌}
+use Rattle.frame_stack.proofs.Awaiting.{awaits_put}
+use Rattle.frame_stack.proofs.Sound.{wound_kept}
+use Rattle.frame_stack.proofs.stack.FrameStack.wind.Goals as goal
+
+pub invariant_of-self-2 : goal.invariant_of-self-2
+invariant_of-self-2 g c = wound_kept c.self.inside.openers _ c.self.inside.words.items _ _ _ _ _ (subst (λ s. awaits s c.args.frame c.args.slot ≡ false) (sym c.self.view_is) c.requires.slot) c.self.invariant c.if-self.false (subst (λ s. taken s.openers < 2147483648) (sym c.self.view_is) c.requires.room) c.in_ok-slot.ensures.ok (ap (λ ws. word_of ws c.in_ok-slot.slot) (sym c.in_ok-reserve-2.ensures.items) ∙ c.open_word-turn.ensures.turn) (c.open_word-turn.ensures.pending ∙ ap (λ ws. put_at ws c.in_ok-slot.slot (c.open_word-turn.result * 4 + 1)) c.in_ok-reserve-2.ensures.items)
+
+pub returns-clause-awaits : goal.returns-clause-awaits
+returns-clause-awaits g c = λ k n. awaits_put c.self.inside.openers _ c.in_ok-slot.slot _ c.in_ok-slot.ensures.ok k n ∙ ap (λ s. awaits s k n || ((c.args.frame == k) && (c.args.slot == n))) c.self.view_is

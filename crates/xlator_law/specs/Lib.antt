@@ -1,0 +1,4 @@
+pub mod Law
+pub mod Frames
+pub mod Samples
+pub mod Numbers
