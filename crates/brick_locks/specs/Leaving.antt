@@ -1,10 +1,9 @@
--- Whose requests leave a brick: one owner's, a graph's, or all.
+-- Whose requests leave a brick: one owner's, or a graph's.
 use Rattle.std.specs.Prelude.{ℕ, Bool, true, false, cond, not, ◌==◌, List, []}
 use Rattle.std.specs.List.{filter}
+use Rattle.queue_index.specs.declared.key.Key.{Key}
 use Rattle.brick_locks.specs.declared.owner.Owner.{Owner as Caller}
 use Rattle.brick_locks.specs.declared.request.Request.{Request}
-use Rattle.brick_locks.specs.declared.leaving.Leaving.{Leaving}
-use Rattle.brick_locks.specs.declared.leaving.Leaving.TheVariants.{Owner, Graph, All}
 use Rattle.brick_locks.specs.Locks.{is_of, holds, freed, owners}
 
 abbrev pub other_owner : Caller → Request → Bool
@@ -12,11 +11,6 @@ other_owner o r = not (is_of o r)
 
 abbrev pub other_graph : ℕ → Request → Bool
 other_graph g r = not (g == r.owner.graph)
-
-abbrev pub stays : Leaving → Request → Bool
-stays (Owner o) r = other_owner o r
-stays (Graph g) r = other_graph g r
-stays All r = false
 
 -- a release takes the owner's request away where it holds, and frees what waits for it alone
 abbrev pub released : Caller → List Request → List Request

@@ -1,3 +1,5 @@
 pub mod Locks
 pub mod Leaving
 pub mod Fate
+pub mod Keys
+pub mod Walks

@@ -13,14 +13,17 @@
 //! two is sole. A request holds exactly where no earlier one conflicts with it, and waits otherwise, so
 //! held locks never conflict, and a later request never overtakes one that waits for the same cell.
 //!
+//! The requests stand in a queue that finds them by owner, by graph and by cell. So a call that asks or
+//! releases walks over the requests of its own cells alone, however many others hold and wait.
+//!
 //! Called by the brick, for its requests lock and unlock, and where it connects, disconnects or goes
 //! down.
 #![tactic(auto)]
 
-mod leaving;
 mod locks;
 mod owner;
 mod request;
+mod rivals;
 mod walk;
 
 pub use locks::{Asked, BrickLocks, Dropped};

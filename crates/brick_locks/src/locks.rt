@@ -1,14 +1,18 @@
-ghost use Rattle.std.specs.Prelude.{◌≡◌, false, [], ◌∷◌, ◌++◌, OnOk, OnErr, IfOk};
+ghost use Rattle.std.specs.Prelude.{◌≡◌, not, false, [], ◌∷◌, ◌++◌, OnOk, OnErr, IfOk};
 ghost use Rattle.std.specs.List.{filter};
-ghost use Rattle.brick_locks.specs.Locks.{is_known, request, held, waiting, AreApart, owners, gone, freed};
+ghost use Rattle.brick_locks.specs.Locks.{is_known, request, held, waiting, AreApart, owners, gone, freed, holds};
+ghost use Rattle.brick_locks.specs.Keys.{keys_of};
+ghost use Rattle.queue_index.specs.Queue.{touches};
+ghost use Rattle.queue_index.specs.declared.key.Key.{Key};
 ghost use Rattle.brick_locks.specs.Leaving.{other_graph, released, freed_by};
 ghost use Rattle.brick_locks.specs.Fate.{fate_after};
 
-use crate::leaving::Leaving;
 use crate::owner::Owner;
-use crate::request::Request;
-use crate::walk::{freed_owners, gone_owners, is_held, is_kept, remove_leaving, waiting_owners};
+use crate::request::{Request, graph_key, owner_key};
+use crate::rivals::waiting_rivals;
+use crate::walk::{any_holds, is_kept, push_holders, remove_all, waiting_owners};
 use fop_types::{Cell, Seq};
+use queue_index::{Key, KeyedQueue};
 use std::alloc::{AllocError, Global};
 use std::marker::Model;
 
@@ -31,16 +35,17 @@ pub struct Dropped {
 /// were asked.
 #[derive(Drop)]
 pub struct BrickLocks {
-    requests: Vec<Request>,
+    queue: KeyedQueue<Request>,
 }
 
 impl Model for BrickLocks {
     ghost use Rattle.std.specs.Prelude.{List};
+    ghost use Rattle.queue_index.specs.Queue.{items};
     ghost use Rattle.brick_locks.specs.declared.request.Request.{Request};
 
     ghost Value = { List Request };
 
-    ghost view = { λ b. b.requests.items };
+    ghost view = { λ b. items b.queue };
 }
 
 #[tactic(auto, using(crate::proofs::Apart::held_apart))]
@@ -50,7 +55,7 @@ impl BrickLocks {
         ensures { result ≡ [] }
     {
         BrickLocks {
-            requests: Vec::new(alloc),
+            queue: KeyedQueue::new(alloc),
         }
     }
 
@@ -58,12 +63,7 @@ impl BrickLocks {
     pub fn knows(&self, owner: Owner) -> bool
         ensures { result ≡ is_known owner self.now }
     {
-        for request in &self.requests {
-            if request.owner == owner {
-                return true;
-            }
-        }
-        false
+        self.queue.has(owner_key(owner))
     }
 
     /// Asks for a lock on all these cells at once. It is granted where no request that holds or waits
@@ -84,19 +84,17 @@ impl BrickLocks {
         ensures apart { OnOk result (AreApart (held self.new)) }
         ensures err { OnErr result (self.new ≡ self.old) }
     {
-        let cells = Seq::from_vec(Vec::from_slice(alloc, cells)?);
-        let request = Request {
+        let own = Seq::from_vec(Vec::from_slice(alloc, cells)?);
+        let number = self.queue.push_back(Request {
             owner,
-            cells,
+            cells: own,
             shared,
-        };
-        let kept = is_kept(&self.requests, &request);
-        self.requests.push(request)?;
-        if kept {
-            Ok(Asked::Queued)
-        } else {
-            Ok(Asked::Granted)
+        })?;
+        self.queue.numbers_rise();
+        if is_kept(&self.queue, number, cells, shared) {
+            return Ok(Asked::Queued);
         }
+        Ok(Asked::Granted)
     }
 
     /// Takes the owner's lock away, and gives the owners that wait no longer and hold from then on, in
@@ -110,13 +108,12 @@ impl BrickLocks {
         ensures apart { OnOk result (AreApart (held self.new)) }
         ensures err { OnErr result (self.new ≡ self.old) }
     {
-        if !is_held(&self.requests, owner) {
-            return Ok(Seq::new(alloc));
+        let holds = self.is_holder(alloc, owner)?;
+        if holds {
+            let dropped = self.take_out(alloc, owner_key(owner))?;
+            return Ok(dropped.granted);
         }
-        let leaving = Leaving::Owner(owner);
-        let granted = freed_owners(alloc, &self.requests, &leaving)?;
-        remove_leaving(&mut self.requests, &leaving);
-        Ok(granted)
+        Ok(Seq::new(alloc))
     }
 
     /// Drops every request of a graph: its locks, and its requests that wait.
@@ -130,11 +127,8 @@ impl BrickLocks {
         ensures apart { OnOk result (AreApart (held self.new)) }
         ensures err { OnErr result (self.new ≡ self.old) }
     {
-        let leaving = Leaving::Graph(graph);
-        let gone = gone_owners(alloc, &self.requests, &leaving)?;
-        let granted = freed_owners(alloc, &self.requests, &leaving)?;
-        remove_leaving(&mut self.requests, &leaving);
-        Ok(Dropped { gone, granted })
+        let dropped = self.take_out(alloc, graph_key(graph))?;
+        Ok(dropped)
     }
 
     /// Drops every request. The owners that waited are gone, and none is granted.
@@ -147,11 +141,44 @@ impl BrickLocks {
         ensures granted { IfOk result (λ d. d.granted ≡ []) }
         ensures err { OnErr result (self.new ≡ self.old) }
     {
-        let gone = waiting_owners(alloc, &self.requests)?;
-        self.requests.clear();
+        self.queue.numbers_rise();
+        let numbers = self.queue.all_numbers(alloc)?;
+        let gone = waiting_owners(alloc, &self.queue, &numbers)?;
+        self.queue = KeyedQueue::new(alloc);
         Ok(Dropped {
             gone,
             granted: Seq::new(alloc),
+        })
+    }
+
+    // Whether a request of the owner holds.
+    fn is_holder(&self, alloc: Global, owner: Owner) -> Result<bool, AllocError>
+        ensures { IfOk result (λ b. b ≡ holds owner self.now) }
+    {
+        self.queue.numbers_rise();
+        let numbers = self.queue.numbers_of(alloc, owner_key(owner))?;
+        let held = any_holds(&self.queue, &numbers);
+        Ok(held)
+    }
+
+    // Takes the requests of a key out. All that wants memory comes first.
+    fn take_out(&mut self, alloc: Global, key: Key) -> Result<Dropped, AllocError>
+        ensures left { OnOk result (self.new ≡ filter (λ r. not (touches keys_of key r)) self.old) }
+        ensures gone { IfOk result (λ d. d.gone ≡ owners (gone (λ r. not (touches keys_of key r)) self.old)) }
+        ensures granted { IfOk result (λ d. d.granted ≡ owners (freed (λ r. not (touches keys_of key r)) self.old)) }
+        ensures err { OnErr result (self.new ≡ self.old) }
+    {
+        self.queue.numbers_rise();
+        let numbers = self.queue.numbers_of(alloc, key)?;
+        let gone = waiting_owners(alloc, &self.queue, &numbers)?;
+        let rivals = waiting_rivals(alloc, &self.queue, key, &numbers)?;
+        let mut granted = Vec::with_capacity(alloc, rivals.len())?;
+        remove_all(&mut self.queue, &numbers);
+        self.queue.numbers_rise();
+        push_holders(&self.queue, &rivals, &mut granted);
+        Ok(Dropped {
+            gone,
+            granted: Seq::from_vec(granted),
         })
     }
 }

@@ -1,8 +1,14 @@
 ghost use Rattle.std.specs.Prelude.{◌≡◌};
-ghost use Rattle.brick_locks.specs.Locks.{conflicts, has_cell};
+ghost use Rattle.queue_index.specs.Places.{has_key};
+ghost use Rattle.brick_locks.specs.Keys.{owner_key, graph_key, cell_key, keys_of};
 
 use crate::owner::Owner;
 use fop_types::{Cell, Seq};
+use queue_index::{Key, Keyed};
+
+const OWNERS: u8 = 3;
+
+const GRAPHS: u8 = 4;
 
 /// A lock that was asked for, on all its cells at once.
 #[derive(Debug, Drop)]
@@ -12,30 +18,82 @@ pub struct Request {
     pub shared: bool,
 }
 
+/// The key of the requests of an owner.
+pub(crate) fn owner_key(owner: Owner) -> Key
+    ensures { result ≡ owner_key owner }
+{
+    Key {
+        kind: OWNERS,
+        hi: u64::from(owner.graph),
+        lo: u64::from(owner.call),
+        mode: 0,
+    }
+}
+
+/// The key of the requests of a graph.
+pub(crate) fn graph_key(graph: u32) -> Key
+    ensures { result ≡ graph_key graph }
+{
+    Key {
+        kind: GRAPHS,
+        hi: u64::from(graph),
+        lo: 0,
+        mode: 0,
+    }
+}
+
+/// The key of the requests that have a cell, of the sole ones or of the shared ones.
+pub(crate) fn cell_key(cell: Cell, shared: bool) -> Key
+    ensures { result ≡ cell_key cell shared }
+{
+    let mode = if shared { 1 } else { 0 };
+    Key {
+        kind: cell.aspect.rank(),
+        hi: cell.gfid.hi,
+        lo: cell.gfid.lo,
+        mode,
+    }
+}
+
 impl Request {
-    fn has_cell(&self, cell: Cell) -> bool
-        ensures { result ≡ has_cell self.now cell }
+    /// Whether one of its keys is this one.
+    pub(crate) fn has_key(&self, key: Key) -> bool
+        ensures { result ≡ has_key key (keys_of self.now) }
     {
-        for own in self.cells.as_slice() {
-            if cell == *own {
+        for at in 0..self.key_count() {
+            if key == self.key(at) {
                 return true;
             }
         }
         false
+    }
+}
+
+impl Keyed for Request {
+    ghost use Rattle.std.specs.Prelude.{refl};
+    ghost use Rattle.brick_locks.specs.Keys.{keys_of};
+
+    ghost keys = { keys_of };
+
+    ghost marked = { λ r. r };
+
+    fn key_count(&self) -> usize {
+        self.cells.as_slice().len() + 2
     }
 
-    /// Whether the two have a cell in common and one of them is sole.
-    pub(crate) fn conflicts(&self, other: &Request) -> bool
-        ensures { result ≡ conflicts self.now other.now }
-    {
-        if self.shared && other.shared {
-            return false;
+    fn key(&self, at: usize) -> Key {
+        if at == 0 {
+            return owner_key(self.owner);
         }
-        for cell in self.cells.as_slice() {
-            if other.has_cell(*cell) {
-                return true;
-            }
+        if at == 1 {
+            return graph_key(self.owner.graph);
         }
-        false
+        let cell = self.cells.as_slice()[at - 2];
+        cell_key(cell, self.shared)
     }
+
+    // No request of a brick has a mark.
+    fn mark(&mut self) {}
+
+    ghost stays = { λ _. refl };
 }

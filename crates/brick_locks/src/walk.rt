@@ -1,110 +1,132 @@
-//! Walks over the requests in the order in which they were asked.
-ghost use Rattle.std.specs.Prelude.{◌≡◌, IfOk};
-ghost use Rattle.std.specs.List.{filter};
-ghost use Rattle.brick_locks.specs.Locks.{is_kept_by, freed, gone, holds, waiting, owners};
-ghost use Rattle.brick_locks.specs.Leaving.{stays};
+//! Which requests wait, found by the requests of their own cells.
+ghost use Rattle.std.specs.Prelude.{◌≡◌, ◌≤◌, ◌==◌, [], length, not, IfOk};
+ghost use Rattle.std.specs.List.{list_any, filter, AllByRecursion};
+ghost use Rattle.std.specs.Vec.{vec_capacity};
+ghost use Rattle.std.specs.Ordering.{nat_cmp, is_eq};
+ghost use Rattle.queue_index.specs.Queue.{items, before, without};
+ghost use Rattle.brick_locks.specs.Walks.{bars, meets, waits, is_at_number, owner_at, picked};
 
-use crate::leaving::Leaving;
 use crate::owner::Owner;
-use crate::request::Request;
-use fop_types::Seq;
+use crate::request::{Request, cell_key};
+use fop_types::{Cell, Seq};
+use queue_index::KeyedQueue;
 use std::alloc::{AllocError, Global};
 
-/// Whether the request conflicts with one of those before it.
-pub(crate) fn is_kept(before: &[Request], request: &Request) -> bool
-    ensures { result ≡ is_kept_by before.now request.now }
+/// Whether a request on a cell conflicts with one before its number.
+fn is_barred(queue: &KeyedQueue<Request>, number: u64, cell: Cell, shared: bool) -> bool
+    ensures { result ≡ list_any (bars cell shared) (items (before number queue.now)) }
 {
-    for other in before {
-        if request.conflicts(other) {
+    if queue.has_before(cell_key(cell, false), number) {
+        return true;
+    }
+    if shared {
+        return false;
+    }
+    queue.has_before(cell_key(cell, true), number)
+}
+
+/// Whether a request on these cells conflicts with one before its number.
+pub(crate) fn is_kept(
+    queue: &KeyedQueue<Request>,
+    number: u64,
+    cells: &[Cell],
+    shared: bool,
+) -> bool
+    ensures { result ≡ list_any (meets cells.now shared) (items (before number queue.now)) }
+{
+    for cell in cells {
+        if is_barred(queue, number, *cell, shared) {
             return true;
         }
     }
     false
 }
 
-/// The same, of those that stay.
-pub(crate) fn is_kept_by_staying(before: &[Request], leaving: &Leaving, request: &Request) -> bool
-    ensures { result ≡ is_kept_by (filter (stays leaving.now) before.now) request.now }
+/// Whether the request of a number is there and holds.
+fn is_held(queue: &KeyedQueue<Request>, number: u64) -> bool
+    ensures { result ≡ is_at_number (λ n r. not (waits queue.now n r)) queue.now number }
 {
-    for other in before {
-        if leaving.stays(other) && request.conflicts(other) {
+    let Some(request) = queue.get(number) else {
+        return false;
+    };
+    !is_kept(queue, number, request.cells.as_slice(), request.shared)
+}
+
+/// Whether one of the requests of these numbers holds.
+pub(crate) fn any_holds(queue: &KeyedQueue<Request>, numbers: &[u64]) -> bool
+    ensures { result ≡ list_any (is_at_number (λ n r. not (waits queue.now n r)) queue.now) numbers.now }
+{
+    for number in numbers {
+        if is_held(queue, *number) {
             return true;
         }
     }
     false
 }
 
-/// Whether a request of the owner holds.
-pub(crate) fn is_held(requests: &[Request], owner: Owner) -> bool
-    ensures { result ≡ holds owner requests.now }
+/// The owner of the request of a number, where it is there and waits.
+fn waiter(queue: &KeyedQueue<Request>, number: u64) -> Option<Owner>
+    ensures { result ≡ owner_at (waits queue.now) queue.now number }
 {
-    for at in 0..requests.len() {
-        let request = &requests[at];
-        if request.owner == owner && !is_kept(&requests[..at], request) {
-            return true;
-        }
+    let Some(request) = queue.get(number) else {
+        return None;
+    };
+    if is_kept(queue, number, request.cells.as_slice(), request.shared) {
+        return Some(request.owner);
     }
-    false
+    None
 }
 
-/// The owners of the requests that wait now and hold once the others have left.
-pub(crate) fn freed_owners(
+/// The owner of the request of a number, where it is there and holds.
+fn holder(queue: &KeyedQueue<Request>, number: u64) -> Option<Owner>
+    ensures { result ≡ owner_at (λ n r. not (waits queue.now n r)) queue.now number }
+{
+    let Some(request) = queue.get(number) else {
+        return None;
+    };
+    if is_kept(queue, number, request.cells.as_slice(), request.shared) {
+        return None;
+    }
+    Some(request.owner)
+}
+
+/// The owners of those of these numbers whose requests wait.
+pub(crate) fn waiting_owners(
     alloc: Global,
-    requests: &[Request],
-    leaving: &Leaving,
+    queue: &KeyedQueue<Request>,
+    numbers: &[u64],
 ) -> Result<Seq<Owner>, AllocError>
-    ensures { IfOk result (λ o. o ≡ owners (freed (stays leaving.now) requests.now)) }
+    ensures { IfOk result (λ o. o ≡ picked (waits queue.now) queue.now numbers.now) }
 {
-    let mut freed = Seq::new(alloc);
-    for at in 0..requests.len() {
-        let request = &requests[at];
-        let before = &requests[..at];
-        if leaving.stays(request)
-            && is_kept(before, request)
-            && !is_kept_by_staying(before, leaving, request)
-        {
-            freed.push(request.owner)?;
-        }
+    let mut owners = Seq::new(alloc);
+    for number in numbers {
+        let Some(owner) = waiter(queue, *number) else {
+            continue;
+        };
+        owners.push(owner)?;
     }
-    Ok(freed)
+    Ok(owners)
 }
 
-/// The owners of the requests that wait and leave.
-pub(crate) fn gone_owners(
-    alloc: Global,
-    requests: &[Request],
-    leaving: &Leaving,
-) -> Result<Seq<Owner>, AllocError>
-    ensures { IfOk result (λ o. o ≡ owners (gone (stays leaving.now) requests.now)) }
+/// The owners of those of these numbers whose requests hold. It takes no memory.
+pub(crate) fn push_holders(queue: &KeyedQueue<Request>, numbers: &[u64], owners: &mut Vec<Owner>)
+    requires none { owners.old.items ≡ [] }
+    requires room { length numbers.now ≤ vec_capacity owners.old }
+    ensures { owners.new.items ≡ picked (λ n r. not (waits queue.now n r)) queue.now numbers.now }
 {
-    let mut gone = Seq::new(alloc);
-    for at in 0..requests.len() {
-        let request = &requests[at];
-        if !leaving.stays(request) && is_kept(&requests[..at], request) {
-            gone.push(request.owner)?;
-        }
+    for number in numbers {
+        let Some(owner) = holder(queue, *number) else {
+            continue;
+        };
+        owners.push_reserved(owner);
     }
-    Ok(gone)
 }
 
-/// The owners of all requests that wait.
-pub(crate) fn waiting_owners(alloc: Global, requests: &[Request]) -> Result<Seq<Owner>, AllocError>
-    ensures { IfOk result (λ o. o ≡ owners (waiting requests.now)) }
+/// Takes the requests of these numbers out. It takes no memory.
+pub(crate) fn remove_all(queue: &mut KeyedQueue<Request>, numbers: &[u64])
+    ensures { queue.new ≡ filter (λ e. not (list_any (λ n. is_eq (nat_cmp e.0 n)) numbers.now)) queue.old }
 {
-    let gone = gone_owners(alloc, requests, &Leaving::All)?;
-    Ok(gone)
-}
-
-/// Takes the requests away that leave.
-pub(crate) fn remove_leaving(requests: &mut Vec<Request>, leaving: &Leaving)
-    ensures { requests.new.items ≡ filter (stays leaving.now) requests.old.items }
-{
-    let mut at = 0;
-    while at < requests.len() {
-        if leaving.stays(&requests[at]) {
-            at += 1;
-        } else {
-            requests.remove(at);
-        }
+    for number in numbers {
+        queue.remove(*number);
     }
 }

@@ -3,3 +3,4 @@ pub mod Putting
 pub mod Numbers
 pub mod Reading
 pub mod Dropping
+pub mod LastUsed

@@ -1,5 +1,6 @@
 ghost use Rattle.std.specs.Prelude.{◌≡◌, ◌≤◌, ◌<◌, ◌^◌, length, OnOk, OnErr, IfOk};
 ghost use Rattle.io_cache.specs.Pages.{no_pages, answer, after_read, put_page, without_file, AreBelow};
+ghost use Rattle.io_cache.specs.Uses.{HoldsLastUsed};
 
 use crate::page_key::PageKey;
 use crate::pages::{PAGE, cut, drop_pages, is_past_end, needed_end, use_pages};
@@ -115,6 +116,16 @@ impl PageCache {
     {
         self.held.clear();
         self.bound = 0;
+    }
+
+    /// While no file is dropped, the held pages are the last ones used: after any uses, each a put or a hit
+    /// of a page that is held, they are the first of all pages in the order of their last use, as many as
+    /// may be held. Pages that are held at the beginning count as used before, in their order. The call
+    /// does nothing; it is there for its contract.
+    pub fn holds_the_last_used(&self)
+        ensures { HoldsLastUsed self.now }
+    {
+        self.held.len();
     }
 
     // The bound once the page is put. It starts anew where no page is held.

@@ -1,0 +1,195 @@
+-- Where the requests of a key leave: which numbers are found, who is gone, and who is freed.
+use Rattle.std.proofs.Common.{◌≡◌, ℕ, Bool, true, false, not, ◌&&◌, ◌||◌, ◌==◌, nat_lt, cond, List, [], ◌∷◌, ◌++◌, Option, Some, None, refl, sym, ap, ◌∙◌, subst, map}
+use Rattle.std.specs.List.{list_any, filter, AllByRecursion}
+use Rattle.std.specs.Ordering.{nat_cmp, is_eq}
+use Rattle.std.specs.Map.{keys_of as keys_in}
+use Rattle.std.specs.List.Sorted.{IsStrictlySortedBy}
+use Rattle.std.specs.BTreeSet as sorted
+use Rattle.std.specs.BTreeSet.{BTreeSet}
+use Rattle.std.specs.Cmp.{nat_eq_equiv}
+use Rattle.std.proofs.lemmas.List.Elements.{filter_agree}
+use Rattle.fop_types.specs.declared.cells.Cell.{Cell}
+use Rattle.fop_types.specs.Rank.{rank}
+use Rattle.queue_index.specs.declared.key.Key.{Key}
+use Rattle.queue_index.specs.Queue.{item_at, items, numbers, before, touches, touching}
+use Rattle.queue_index.proofs.Entries.{founds}
+use Rattle.brick_locks.specs.declared.owner.Owner.{Owner}
+use Rattle.brick_locks.specs.declared.request.Request.{Request}
+use Rattle.brick_locks.specs.Locks.{is_cell, has_cell, conflicts, is_kept_by, is_of, held, waiting, is_freed, freed, gone, owners, holds}
+use Rattle.brick_locks.specs.Keys.{owner_key, graph_key, keys_of}
+use Rattle.brick_locks.specs.Leaving.{other_owner, other_graph}
+use Rattle.brick_locks.specs.Walks.{meets, waits, passes, is_at_number, picked, meets_number, meets_at, is_rival, stays_waiting}
+use Rattle.brick_locks.proofs.Lists.{any_same, any_swap, any_map, any_filter, none, filter_filter, filter_all, filter_members, filter_map_is}
+use Rattle.brick_locks.proofs.Touches.{touches_owner, touches_graph}
+use Rattle.brick_locks.proofs.Numbered.{held_is, waiting_is, freed_is, gone_is, picked_is, any_numbers, filter_numbers, number_in, set_is}
+
+-- ---- the rivals that are found
+meets_all : (q : ℕ) (p : ℕ × Request → Bool) (es fs : List (ℕ × Request)) → AllByRecursion (λ e. item_at e.0 es ≡ Some e.1) fs → list_any (meets_at es q) (numbers (filter p fs)) ≡ list_any (λ r. passes (λ _. meets r.cells r.shared) q (item_at q es)) (items (filter p fs))
+meets_all q p es [] h = refl
+meets_all q p es (e ∷ fs) h = elim (p e) as (λ (b : Bool). list_any (meets_at es q) (numbers (cond b (e ∷ filter p fs) (filter p fs))) ≡ list_any (λ r. passes (λ _. meets r.cells r.shared) q (item_at q es)) (items (cond b (e ∷ filter p fs) (filter p fs)))) [
+  | true ↦ ap (λ (o : Option Request). meets_number es q o || list_any (meets_at es q) (numbers (filter p fs))) h.0 ∙ ap (λ (b : Bool). passes (λ _. meets e.1.cells e.1.shared) q (item_at q es) || b) (meets_all q p es fs h.1)
+  | false ↦ meets_all q p es fs h.1
+]
+
+through : (q : ℕ) (rs : List Request) (o : Option Request) → list_any (λ r. passes (λ _. meets r.cells r.shared) q o) rs ≡ passes (λ _ s. list_any (λ r. meets r.cells r.shared s) rs) q o
+through q rs None = none rs
+through q rs (Some s) = refl
+
+pub rivals_are : (k : Key) (es : List (ℕ × Request)) (ns is : List ℕ) (found : BTreeSet ℕ) → IsStrictlySortedBy nat_cmp (keys_in es) → ns ≡ numbers (touching keys_of k es) → ((q : ℕ) → sorted.contains nat_cmp found q ≡ list_any (meets_at es q) ns) → sorted.IsOrdered nat_cmp found → is ≡ filter (is_at_number (stays_waiting k es) es) found.keys → is ≡ numbers (filter (λ e. is_rival k es e.1 && stays_waiting k es e.0 e.1) es)
+rivals_are k es ns is found s all has rise chosen =
+    chosen
+    ∙ ap (λ (l : List ℕ). filter (is_at_number (stays_waiting k es) es) l) (set_is (λ e. is_rival k es e.1) found es s rise (λ q. has q ∙ ap (list_any (meets_at es q)) all ∙ meets_all q (λ e. touches keys_of k e.1) es es (founds es s) ∙ through q (items (touching keys_of k es)) (item_at q es)))
+    ∙ filter_numbers (stays_waiting k es) (λ e. is_rival k es e.1) es es (founds es s)
+
+-- ---- what stays
+in_touching : (k : Key) (es fs : List (ℕ × Request)) → IsStrictlySortedBy nat_cmp (keys_in es) → AllByRecursion (λ e. item_at e.0 es ≡ Some e.1) fs → AllByRecursion (λ e. not (list_any (λ n. is_eq (nat_cmp e.0 n)) (numbers (touching keys_of k es))) ≡ not (touches keys_of k e.1)) fs
+in_touching k es [] s h = tt
+in_touching k es (e ∷ fs) s h = (ap not (number_in (λ f. touches keys_of k f.1) e.0 es s ∙ ap (λ (o : Option Request). passes (λ _ r. touches keys_of k r) e.0 o) h.0), in_touching k es fs s h.1)
+
+pub left_is : (k : Key) (es fs : List (ℕ × Request)) (ns : List ℕ) → IsStrictlySortedBy nat_cmp (keys_in es) → ns ≡ numbers (touching keys_of k es) → fs ≡ filter (λ e. not (list_any (λ n. is_eq (nat_cmp e.0 n)) ns)) es → fs ≡ filter (λ e. not (touches keys_of k e.1)) es
+left_is k es fs ns s all is =
+    is
+    ∙ ap (λ (l : List ℕ). filter (λ e. not (list_any (λ n. is_eq (nat_cmp e.0 n)) l)) es) all
+    ∙ filter_members (λ e. not (list_any (λ n. is_eq (nat_cmp e.0 n)) (numbers (touching keys_of k es)))) (λ e. not (touches keys_of k e.1)) es (in_touching k es es s (founds es s))
+
+pub items_left : (k : Key) (es fs : List (ℕ × Request)) → fs ≡ filter (λ e. not (touches keys_of k e.1)) es → items fs ≡ filter (λ r. not (touches keys_of k r)) (items es)
+items_left k es fs is = ap (λ (l : List (ℕ × Request)). items l) is ∙ sym (filter_map_is (λ r. not (touches keys_of k r)) (λ e. e.1) es)
+
+-- ---- who is gone
+not_not : (b : Bool) → not (not b) ≡ b
+not_not true = refl
+not_not false = refl
+
+pub gone_are : (k : Key) (es : List (ℕ × Request)) (ns : List ℕ) (os : List Owner) → IsStrictlySortedBy nat_cmp (keys_in es) → ns ≡ numbers (touching keys_of k es) → os ≡ picked (waits es) es ns → os ≡ owners (gone (λ r. not (touches keys_of k r)) (items es))
+gone_are k es ns os s all is =
+    is
+    ∙ ap (λ (l : List ℕ). picked (waits es) es l) all
+    ∙ picked_is (waits es) (λ e. touches keys_of k e.1) es es (founds es s)
+    ∙ ap (λ (l : List (ℕ × Request)). owners (items l)) (filter_agree (λ e. touches keys_of k e.1 && waits es e.0 e.1) (λ e. not (not (touches keys_of k e.1)) && waits es e.0 e.1) (λ e. ap (λ (b : Bool). b && waits es e.0 e.1) (sym (not_not (touches keys_of k e.1)))) es)
+    ∙ ap (λ (l : List Request). owners l) (sym (gone_is (λ r. not (touches keys_of k r)) es s))
+
+numbers_all : (es : List (ℕ × Request)) → numbers es ≡ numbers (filter (λ _. true) es)
+numbers_all es = ap (λ (l : List (ℕ × Request)). numbers l) (sym (filter_all es))
+
+pub all_gone : (es : List (ℕ × Request)) (ns : List ℕ) (os : List Owner) → IsStrictlySortedBy nat_cmp (keys_in es) → ns ≡ numbers es → os ≡ picked (waits es) es ns → os ≡ owners (waiting (items es))
+all_gone es ns os s all is =
+    is
+    ∙ ap (λ (l : List ℕ). picked (waits es) es l) (all ∙ numbers_all es)
+    ∙ picked_is (waits es) (λ _. true) es es (founds es s)
+    ∙ ap (λ (l : List Request). owners l) (sym (waiting_is es s))
+
+-- ---- who is freed: one that waited and waits no longer conflicts with one that left
+eq_flip : (a b : ℕ) → (a == b) ≡ (b == a)
+eq_flip a b = nat_eq_equiv.symm a b
+
+cell_flip : (a b : Cell) → is_cell a b ≡ is_cell b a
+cell_flip a b =
+    ap (λ (t : Bool). (t && (a.gfid.lo == b.gfid.lo)) && (rank a.aspect == rank b.aspect)) (eq_flip a.gfid.hi b.gfid.hi)
+    ∙ ap (λ (t : Bool). ((b.gfid.hi == a.gfid.hi) && t) && (rank a.aspect == rank b.aspect)) (eq_flip a.gfid.lo b.gfid.lo)
+    ∙ ap (λ (t : Bool). ((b.gfid.hi == a.gfid.hi) && (b.gfid.lo == a.gfid.lo)) && t) (eq_flip (rank a.aspect) (rank b.aspect))
+
+and_flip : (a b : Bool) → (a && b) ≡ (b && a)
+and_flip true true = refl
+and_flip true false = refl
+and_flip false true = refl
+and_flip false false = refl
+
+conflict_flip : (r s : Request) → conflicts r s ≡ meets s.cells s.shared r
+conflict_flip r s =
+    ap (λ (b : Bool). b && not (r.shared && s.shared)) (any_swap (λ c d. is_cell c d) r.cells s.cells ∙ any_same (λ d. list_any (λ c. is_cell c d) r.cells) (has_cell r) s.cells (λ d. any_same (λ c. is_cell c d) (is_cell d) r.cells (λ c. cell_flip c d)))
+    ∙ ap (λ (b : Bool). list_any (has_cell r) s.cells && not b) (and_flip r.shared s.shared)
+
+or_parts : (p q a b c : Bool) → c ≡ (a || b) → ((p) || c) ≡ (cond q a (p || a) || cond q (p || b) b)
+or_parts true true a b c h = or_true a
+  where
+    or_true : (a : Bool) → true ≡ (a || true)
+    or_true true = refl
+    or_true false = refl
+or_parts true false a b c h = refl
+or_parts false true a b c h = h
+or_parts false false a b c h = h
+
+any_cond : {X : Type 0} (p : X → Bool) (b : Bool) (x : X) (xs : List X) → list_any p (cond b (x ∷ xs) xs) ≡ cond b (p x || list_any p xs) (list_any p xs)
+any_cond p true x xs = refl
+any_cond p false x xs = refl
+
+cond_of_not : (b x y : Bool) → cond (not b) x y ≡ cond b y x
+cond_of_not true x y = refl
+cond_of_not false x y = refl
+
+any_split : (p t : Request → Bool) (rs : List Request) → list_any p rs ≡ (list_any p (filter (λ r. not (t r)) rs) || list_any p (filter t rs))
+any_split p t [] = refl
+any_split p t (r ∷ rs) =
+    or_parts (p r) (t r) (list_any p (filter (λ r. not (t r)) rs)) (list_any p (filter t rs)) (list_any p rs) (any_split p t rs)
+    ∙ ap (λ (b : Bool). b || cond (t r) (p r || list_any p (filter t rs)) (list_any p (filter t rs))) (sym (any_cond p (not (t r)) r (filter (λ r. not (t r)) rs) ∙ cond_of_not (t r) (p r || list_any p (filter (λ r. not (t r)) rs)) (list_any p (filter (λ r. not (t r)) rs))))
+    ∙ ap (λ (b : Bool). list_any p (cond (not (t r)) (r ∷ filter (λ r. not (t r)) rs) (filter (λ r. not (t r)) rs)) || b) (sym (any_cond p (t r) r (filter t rs)))
+
+-- what an earlier one passes, one of all passes
+any_before : (p t : Request → Bool) (n : ℕ) (es : List (ℕ × Request)) → list_any p (filter t (items (before n es))) ≡ true → list_any p (filter t (items es)) ≡ true
+any_before p t n [] h = h
+any_before p t n (e ∷ es) h = more (nat_lt e.0 n) refl (t e.1) refl (p e.1) refl (any_before p t n es)
+  where
+    more : (a : Bool) → nat_lt e.0 n ≡ a → (b : Bool) → t e.1 ≡ b → (c : Bool) → p e.1 ≡ c → (list_any p (filter t (items (before n es))) ≡ true → list_any p (filter t (items es)) ≡ true) → list_any p (cond (t e.1) (e.1 ∷ filter t (items es)) (filter t (items es))) ≡ true
+    more a x true y true z on = ap (λ (b : Bool). list_any p (cond b (e.1 ∷ filter t (items es)) (filter t (items es)))) y ∙ ap (λ (b : Bool). b || list_any p (filter t (items es))) z
+    more true x true y false z on = ap (λ (b : Bool). list_any p (cond b (e.1 ∷ filter t (items es)) (filter t (items es)))) y ∙ ap (λ (b : Bool). b || list_any p (filter t (items es))) z ∙ on (sym (ap (λ (b : Bool). list_any p (filter t (items (cond b (e ∷ before n es) (before n es))))) x ∙ ap (λ (b : Bool). list_any p (cond b (e.1 ∷ filter t (items (before n es))) (filter t (items (before n es))))) y ∙ ap (λ (b : Bool). b || list_any p (filter t (items (before n es)))) z) ∙ h)
+    more true x false y c z on = ap (λ (b : Bool). list_any p (cond b (e.1 ∷ filter t (items es)) (filter t (items es)))) y ∙ on (sym (ap (λ (b : Bool). list_any p (filter t (items (cond b (e ∷ before n es) (before n es))))) x ∙ ap (λ (b : Bool). list_any p (cond b (e.1 ∷ filter t (items (before n es))) (filter t (items (before n es))))) y) ∙ h)
+    more false x true y false z on = ap (λ (b : Bool). list_any p (cond b (e.1 ∷ filter t (items es)) (filter t (items es)))) y ∙ ap (λ (b : Bool). b || list_any p (filter t (items es))) z ∙ on (sym (ap (λ (b : Bool). list_any p (filter t (items (cond b (e ∷ before n es) (before n es))))) x) ∙ h)
+    more false x false y c z on = ap (λ (b : Bool). list_any p (cond b (e.1 ∷ filter t (items es)) (filter t (items es)))) y ∙ on (sym (ap (λ (b : Bool). list_any p (filter t (items (cond b (e ∷ before n es) (before n es))))) x) ∙ h)
+
+other_side : (w a b : Bool) → w ≡ (a || b) → w ≡ true → a ≡ false → b ≡ true
+other_side w a b is one off = sym (is ∙ ap (λ (x : Bool). x || b) off) ∙ one
+
+is_needed : (k : Key) (es : List (ℕ × Request)) (n : ℕ) (r : Request) → is_kept_by (items (before n es)) r ≡ true → is_kept_by (filter (λ s. not (touches keys_of k s)) (items (before n es))) r ≡ false → is_rival k es r ≡ true
+is_needed k es n r kept free =
+    any_same (λ s. meets s.cells s.shared r) (conflicts r) (items (touching keys_of k es)) (λ s. sym (conflict_flip r s))
+    ∙ ap (list_any (conflicts r)) (sym (filter_map_is (touches keys_of k) (λ (e : ℕ × Request). e.1) es))
+    ∙ any_before (conflicts r) (touches keys_of k) n es (other_side _ _ _ (any_split (conflicts r) (touches keys_of k) (items (before n es))) kept free)
+
+-- what stood before a number and stays
+before_left : (st : Request → Bool) (n : ℕ) (es : List (ℕ × Request)) → items (before n (filter (λ e. st e.1) es)) ≡ filter st (items (before n es))
+before_left st n es =
+    ap (λ (l : List (ℕ × Request)). items l) (filter_filter (λ e. nat_lt e.0 n) (λ e. st e.1) es ∙ filter_agree (λ e. st e.1 && nat_lt e.0 n) (λ e. nat_lt e.0 n && st e.1) (λ e. and_flip (st e.1) (nat_lt e.0 n)) es ∙ sym (filter_filter (λ e. st e.1) (λ e. nat_lt e.0 n) es))
+    ∙ sym (filter_map_is st (λ e. e.1) (before n es))
+
+choose : (st riv wt w2 : Bool) → (wt ≡ true → w2 ≡ false → riv ≡ true) → (st && ((riv && (st && wt)) && not w2)) ≡ (st && (wt && not w2))
+choose false riv wt w2 h = refl
+choose true true wt w2 h = refl
+choose true false false w2 h = refl
+choose true false true true h = refl
+choose true false true false h = absurd (let t = h refl refl in cc)
+
+twice : (t riv wt : Bool) → (not t && (riv && (not t && wt))) ≡ (riv && (not t && wt))
+twice true true wt = refl
+twice true false wt = refl
+twice false riv wt = refl
+
+pub freed_are : (k : Key) (es fs : List (ℕ × Request)) (ns : List ℕ) (os : List Owner) → IsStrictlySortedBy nat_cmp (keys_in es) → IsStrictlySortedBy nat_cmp (keys_in fs) → fs ≡ filter (λ e. not (touches keys_of k e.1)) es → ns ≡ numbers (filter (λ e. is_rival k es e.1 && stays_waiting k es e.0 e.1) es) → os ≡ picked (λ n r. not (waits fs n r)) fs ns → os ≡ owners (freed (λ r. not (touches keys_of k r)) (items es))
+freed_are k es fs ns os s t left found is =
+    let st = λ (e : ℕ × Request). not (touches keys_of k e.1) in
+    let w = λ (e : ℕ × Request). is_rival k es e.1 && stays_waiting k es e.0 e.1 in
+    let chosen : ns ≡ numbers (filter w fs) = found ∙ ap (λ (l : List (ℕ × Request)). numbers l) (sym (ap (filter w) left ∙ filter_filter w st es ∙ filter_agree (λ e. st e && w e) w (λ e. twice (touches keys_of k e.1) (is_rival k es e.1) (waits es e.0 e.1)) es)) in
+    is
+    ∙ ap (λ (l : List ℕ). picked (λ n r. not (waits fs n r)) fs l) chosen
+    ∙ picked_is (λ n r. not (waits fs n r)) w fs fs (founds fs t)
+    ∙ ap (λ (l : List (ℕ × Request)). owners (items (filter (λ e. w e && not (waits l e.0 e.1)) l))) left
+    ∙ ap (λ (l : List (ℕ × Request)). owners (items l)) (filter_filter (λ e. w e && not (waits (filter st es) e.0 e.1)) st es
+    ∙ filter_agree (λ e. st e && (w e && not (waits (filter st es) e.0 e.1))) (λ e. is_freed (λ r. not (touches keys_of k r)) (items (before e.0 es)) e.1) (λ e.
+    ap (λ (l : List Request). st e && (w e && not (is_kept_by l e.1))) (before_left (λ r. not (touches keys_of k r)) e.0 es)
+    ∙ choose (st e) (is_rival k es e.1) (waits es e.0 e.1) (is_kept_by (filter (λ r. not (touches keys_of k r)) (items (before e.0 es))) e.1) (is_needed k es e.0 e.1)) es)
+    ∙ ap (λ (l : List Request). owners l) (sym (freed_is (λ r. not (touches keys_of k r)) es s))
+
+-- ---- whether an owner holds
+pub holds_is : (o : Owner) (k : Key) (es : List (ℕ × Request)) (ns : List ℕ) (b : Bool) → k ≡ owner_key o → IsStrictlySortedBy nat_cmp (keys_in es) → ns ≡ numbers (touching keys_of k es) → b ≡ list_any (is_at_number (λ n r. not (waits es n r)) es) ns → b ≡ holds o (items es)
+holds_is o k es ns b key s all is =
+    is
+    ∙ ap (list_any (is_at_number (λ n r. not (waits es n r)) es)) all
+    ∙ any_numbers (λ n r. not (waits es n r)) (λ e. touches keys_of k e.1) es es (founds es s)
+    ∙ any_same (λ e. touches keys_of k e.1 && not (waits es e.0 e.1)) (λ e. not (waits es e.0 e.1) && is_of o e.1) es (λ e. ap (λ (j : Key). touches keys_of j e.1 && not (waits es e.0 e.1)) key ∙ ap (λ (b : Bool). b && not (waits es e.0 e.1)) (touches_owner o e.1) ∙ and_flip (is_of o e.1) (not (waits es e.0 e.1)))
+    ∙ sym (ap (list_any (is_of o)) (held_is es s) ∙ any_map (is_of o) (λ (e : ℕ × Request). e.1) (filter (λ e. not (waits es e.0 e.1)) es) ∙ any_filter (λ e. is_of o e.1) (λ e. not (waits es e.0 e.1)) es)
+
+-- ---- the two keys by which requests leave
+pub owner_stays : (o : Owner) (k : Key) → k ≡ owner_key o → ◌≡◌ {A = Request → Bool} (λ r. not (touches keys_of k r)) (other_owner o)
+owner_stays o k is = λ i r. (ap (λ (j : Key). not (touches keys_of j r)) is ∙ ap not (touches_owner o r)) i
+
+pub graph_stays : (g : ℕ) (k : Key) → k ≡ graph_key g → ◌≡◌ {A = Request → Bool} (λ r. not (touches keys_of k r)) (other_graph g)
+graph_stays g k is = λ i r. (ap (λ (j : Key). not (touches keys_of j r)) is ∙ ap not (touches_graph g r)) i

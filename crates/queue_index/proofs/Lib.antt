@@ -1,0 +1,5 @@
+pub mod Orders
+pub mod Steps
+pub mod Found
+pub mod Entries
+pub mod Touching

@@ -1,0 +1,13 @@
+use Rattle.std.proofs.Common.{arith, sym, ap, ◌∙◌, ◌-◌, ◌++◌, ◌∷◌, [], List, ℕ, Some}
+use Rattle.queue_index.proofs.Entries.{at_the_front, between_front}
+use Rattle.queue_index.proofs.queue.KeyedQueue.push_front.Goals as goal
+
+pub invariant_of-self-2 : goal.invariant_of-self-2
+invariant_of-self-2 g c = record {
+  placed = c.in_ok-add_entry.ensures.placed;
+  rising = c.in_ok-add_entry.ensures.ordered;
+  between = between_front c.self.inside.held.entries c.add_entry.new.held.entries c.self.inside.front c.self.inside.back (c.self.inside.front - 1) (Some c.args.item) (omega arith) c.self.invariant.between c.in_ok-add_entry.ensures.updates;
+}
+
+pub returns-clause-added : goal.returns-clause-added
+returns-clause-added g c = rw (← c.self.view_is) (c.in_ok-add_entry.ensures.ok ∙ at_the_front c.self.inside.held.entries c.self.inside.front c.self.inside.back (c.self.inside.front - 1) c.args.item c.self.invariant.rising c.self.invariant.between (omega arith))

@@ -1,0 +1,46 @@
+-- A queue of entries with rising numbers, and which of them have a key. An entry is a number and an item;
+-- `keys` tells the keys of an item.
+use Rattle.std.specs.Prelude.{ℕ, Bool, not, ◌==◌, nat_lt, nat_le, ◌&&◌, cond, List, map, Option}
+use Rattle.std.specs.List.{filter}
+use Rattle.std.specs.Map.{lookup}
+use Rattle.std.specs.Ordering.{nat_cmp}
+use Rattle.std.specs.BTreeMap.{is_at}
+use Rattle.queue_index.specs.declared.key.Key.{Key}
+use Rattle.queue_index.specs.Places.{has_key}
+
+module _ {T : Type 0} where
+  -- the item of a number
+  abbrev pub item_at : ℕ → List (ℕ × T) → Option T
+  item_at n es = lookup (is_at (nat_cmp n)) es
+
+  -- the items, in the order of the queue
+  abbrev pub items : List (ℕ × T) → List T
+  items es = map (λ e. e.1) es
+
+  abbrev pub numbers : List (ℕ × T) → List ℕ
+  numbers es = map (λ e. e.0) es
+
+  -- the entries before a number
+  abbrev pub before : ℕ → List (ℕ × T) → List (ℕ × T)
+  before n es = filter (λ e. nat_lt e.0 n) es
+
+  -- the entries but that of a number
+  abbrev pub without : ℕ → List (ℕ × T) → List (ℕ × T)
+  without n es = filter (λ e. not (n == e.0)) es
+
+  -- the entries, with that of a number changed
+  abbrev pub changed_at : (T → T) → ℕ → List (ℕ × T) → List (ℕ × T)
+  changed_at change n es = map (λ e. cond (n == e.0) (e.0, change e.1) e) es
+
+module _ {T : Type 0} (keys : T → List Key) where
+  -- whether an item has a key
+  abbrev pub touches : Key → T → Bool
+  touches k x = has_key k (keys x)
+
+  -- the entries that have a key, from a number on
+  abbrev pub touching_from : Key → ℕ → List (ℕ × T) → List (ℕ × T)
+  touching_from k from es = filter (λ e. nat_le from e.0 && touches k e.1) es
+
+  -- all entries that have a key
+  abbrev pub touching : Key → List (ℕ × T) → List (ℕ × T)
+  touching k es = filter (λ e. touches k e.1) es

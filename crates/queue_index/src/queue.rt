@@ -1,0 +1,182 @@
+ghost use Rattle.std.specs.Prelude.{◌≡◌, ◌<◌, ◌≤◌, ◌+◌, ◌^◌, ℕ, [], ◌∷◌, ◌++◌, OnOk, OnErr, IfOk, IfSome, IfNone, None, option_copied};
+ghost use Rattle.std.specs.Map.{keys_of};
+ghost use Rattle.std.specs.Ordering.{nat_cmp};
+ghost use Rattle.std.specs.List.{list_any};
+ghost use Rattle.std.specs.List.Sorted.{IsStrictlySortedBy};
+ghost use Rattle.queue_index.specs.Queue.{item_at, items, numbers, before, without, changed_at, touches, touching, touching_from};
+
+use crate::entry::add_entry;
+use crate::key::Key;
+use crate::keyed::Keyed;
+use crate::place::{Place, first_place, remove_places};
+use std::alloc::{AllocError, Global};
+use std::collections::{BTreeMap, BTreeSet};
+use std::marker::Model;
+
+const MIDDLE: u64 = 9223372036854775808;
+
+/// A queue of entries that are found by keys. Contracts see its entries, each with its number, by rising
+/// number.
+#[derive(Drop)]
+pub struct KeyedQueue<T: Keyed> {
+    held: BTreeMap<u64, T>,
+    places: BTreeSet<Place>,
+    front: u64,
+    back: u64,
+}
+
+impl<T: Keyed> Model for KeyedQueue<T> {
+    ghost use Rattle.std.specs.Prelude.{List, ℕ};
+    ghost use Rattle.queue_index.specs.Whole.{IsWhole};
+
+    ghost Value = { List (ℕ × T) };
+
+    ghost view = { λ q. q.held.entries };
+
+    ghost invariant = { λ q. IsWhole T.keys q.held.entries q.places q.front q.back };
+}
+
+impl<T: Keyed + Drop> KeyedQueue<T> {
+    /// The empty queue, which takes no memory.
+    pub fn new(alloc: Global) -> KeyedQueue<T>
+        ensures { result ≡ [] }
+    {
+        KeyedQueue {
+            held: BTreeMap::new(alloc),
+            places: BTreeSet::new(alloc),
+            front: MIDDLE,
+            back: MIDDLE,
+        }
+    }
+
+    /// The numbers rise. The call does nothing; it is there for its contract.
+    pub fn numbers_rise(&self)
+        ensures { IsStrictlySortedBy nat_cmp (keys_of self.now) }
+    {
+        let _ = &self.held;
+    }
+
+    /// The item of a number, `None` exactly where no entry has it.
+    pub fn get(&self, number: u64) -> Option<&T>
+        ensures { option_copied result ≡ item_at number self.now }
+    {
+        self.held.get(&number)
+    }
+
+    /// Puts an entry at the end, and gives its number.
+    ///
+    /// # Errors
+    /// Want of memory, or of a number: 2^63 entries were put at the end before. The queue is unchanged.
+    pub fn push_back(&mut self, item: T) -> Result<u64, AllocError>
+        ensures added { IfOk result (λ n. self.new ≡ self.old ++ (n, item) ∷ []) }
+        ensures err { OnErr result (self.new ≡ self.old) }
+    {
+        let number = self.back;
+        if number == u64::MAX {
+            return Err(AllocError);
+        }
+        add_entry(&mut self.held, &mut self.places, number, item)?;
+        self.back = number + 1;
+        Ok(number)
+    }
+
+    /// Puts an entry at the front, and gives its number.
+    ///
+    /// # Errors
+    /// Want of memory, or of a number: 2^63 entries were put at the front before. The queue is unchanged.
+    pub fn push_front(&mut self, item: T) -> Result<u64, AllocError>
+        ensures added { IfOk result (λ n. self.new ≡ (n, item) ∷ self.old) }
+        ensures err { OnErr result (self.new ≡ self.old) }
+    {
+        if self.front == 0 {
+            return Err(AllocError);
+        }
+        let number = self.front - 1;
+        add_entry(&mut self.held, &mut self.places, number, item)?;
+        self.front = number;
+        Ok(number)
+    }
+
+    /// Takes the entry of a number out, where there is one. It takes no memory.
+    pub fn remove(&mut self, number: u64)
+        ensures { self.new ≡ without number self.old }
+    {
+        let Some(item) = self.held.remove(&number) else {
+            return;
+        };
+        remove_places(&mut self.places, &item, number);
+    }
+
+    /// Sets the mark of the entry of a number, where there is one.
+    pub fn mark(&mut self, number: u64)
+        ensures { self.new ≡ changed_at T.marked number self.old }
+    {
+        let Some(item) = self.held.get_mut(&number) else {
+            return;
+        };
+        item.mark();
+    }
+
+    /// The first number from `from` on whose entry has the key.
+    fn next(&self, key: Key, from: u64) -> Option<u64>
+        ensures found { IfSome result (λ m. numbers (touching_from T.keys key from self.now) ≡ m ∷ numbers (touching_from T.keys key (m + 1) self.now)) }
+        ensures none { IfNone result (numbers (touching_from T.keys key from self.now) ≡ []) }
+        ensures late { IfSome result (λ m. from ≤ m) }
+        ensures fits { IfSome result (λ m. m + 1 < 2 ^ 64) }
+    {
+        let Some(found) = first_place(&self.places, key, from) else {
+            return None;
+        };
+        Some(found)
+    }
+
+    /// The numbers of all entries that have the key, rising.
+    ///
+    /// # Errors
+    /// Want of memory.
+    pub fn numbers_of(&self, alloc: Global, key: Key) -> Result<Vec<u64>, AllocError>
+        ensures { IfOk result (λ ns. ns.items ≡ numbers (touching T.keys key self.now)) }
+    {
+        let mut found = Vec::new(alloc);
+        let mut from = 0;
+        while let Some(number) = self.next(key, from) {
+            found.push(number)?;
+            from = number + 1;
+        }
+        Ok(found)
+    }
+
+    /// Whether an entry before a number has the key.
+    pub fn has_before(&self, key: Key, number: u64) -> bool
+        ensures { result ≡ list_any (touches T.keys key) (items (before number self.now)) }
+    {
+        let Some(first) = self.next(key, 0) else {
+            return false;
+        };
+        first < number
+    }
+
+    /// Whether an entry has the key.
+    pub fn has(&self, key: Key) -> bool
+        ensures { result ≡ list_any (touches T.keys key) (items self.now) }
+    {
+        let Some(_) = self.next(key, 0) else {
+            return false;
+        };
+        true
+    }
+
+    /// The numbers of all entries, rising.
+    ///
+    /// # Errors
+    /// Want of memory.
+    pub fn all_numbers(&self, alloc: Global) -> Result<Vec<u64>, AllocError>
+        ensures { IfOk result (λ ns. ns.items ≡ numbers self.now) }
+    {
+        let mut found = Vec::new(alloc);
+        for number in self.held.keys() {
+            found.push(*number)?;
+        }
+        Ok(found)
+    }
+}
