@@ -3,22 +3,19 @@ use Rattle.std.proofs.Common.{◌≡◌, ℕ, ◌+◌, ◌-◌, ◌<◌, ◌≤�
 use Rattle.std.specs.Prelude.{slice_get}
 use Rattle.std.proofs.lemmas.List.{length-take}
 use Rattle.std.proofs.lemmas.Option.{slice_get_cases}
-use Rattle.fop_types.specs.declared.calls.Call.{Call}
-use Rattle.fop_types.specs.declared.calls.Call.TheVariants as call
 use Rattle.fop_types.specs.declared.messages.Input.{Input}
 use Rattle.fop_types.specs.declared.messages.Output.{Output}
-use Rattle.script_lang.specs.declared.scripts.CallLine.{CallLine}
-use Rattle.script_lang.specs.FirstForm.{IsFirstForm, IsFirstCall, AreCallLines}
+use Rattle.fop_types.specs.declared.calls.RootLine.{RootLine}
 use Rattle.brick_node.specs.Machine.{outputs_of}
 use Rattle.hub_core.specs.declared.logs.SentLine.{SentLine}
 use Rattle.hub_core.specs.declared.racks.Rack.{Rack}
 use Rattle.hub_core.specs.declared.stages.Working.{Working}
 use Rattle.hub_core.specs.Follows.{call_due, call_if_idle}
 use Rattle.hub_core.specs.Journal.{inputs_of, arrivals_of, IsBackedByBrick}
-use Rattle.hub_core.specs.Kept.{HaveOneName, HasOneName}
+use Rattle.hub_core.specs.Kept.{HaveOneName}
 use Rattle.hub_core.specs.Laws.{IsLawfulLog, IsWholeLog}
 use Rattle.hub_core.specs.Turns.{HubState, IsReached}
-use Rattle.hub_core.proofs.LawProofs.{law, whole, sent_well}
+use Rattle.hub_core.proofs.LawProofs.{law, whole, sent_well, tied}
 use Rattle.hub_core.proofs.FewWinds.{few_winds}
 use Rattle.hub_core.proofs.Honesty.{IsSentWell, length-inputs_of}
 use Rattle.hub_core.proofs.Served.{outputs_as_many}
@@ -27,20 +24,7 @@ use Rattle.world_core.specs.Worlds.{WorldState, IsQuiet, IsRun, IsRackOf, moved,
 use Rattle.report_text.specs.ReportText.{report_text}
 use Rattle.mount_run.specs.Headline.{IsLawfulRun}
 use Rattle.mount_run.specs.Reports.{report_of}
-
--- ---- the calls of a script of the first form have one name each
-
-name_of_call : (c : Call) → IsFirstCall c → HasOneName c
-name_of_call (call.Mkdir path mode) f = record { name = f.0.name; parts = f.0.parts; short = f.0.short }
-name_of_call (call.Stat path) f = record { name = f.name; parts = f.parts; short = f.short }
-
-names_from : (number : ℕ) (calls : List CallLine) → AreCallLines number calls → HaveOneName calls
-names_from number [] h k line there = absurd cc
-names_from number (c ∷ calls) h zero line there = (let same : c ≡ line = cc in subst (λ (x : CallLine). HasOneName x.call) same (name_of_call c.call h.0.call))
-names_from number (c ∷ calls) h (suc k) line there = names_from (number + 1) calls h.1 k line there
-
-pub one_names : (calls : List CallLine) → IsFirstForm calls → HaveOneName calls
-one_names calls f = names_from 11 calls f.each
+use Rattle.mount_run.specs.declared.reports.Names.{Names}
 
 -- ---- what is quiet
 
@@ -57,7 +41,7 @@ no_output : (s : WorldState) (output : Option Output) → arrive_moved s output 
 no_output s None h = refl
 no_output s (Some output) h = absurd cc
 
-no_call : (s : WorldState) (line : Option CallLine) → submit_moved s line ≡ None → line ≡ None
+no_call : (s : WorldState) (line : Option RootLine) → submit_moved s line ≡ None → line ≡ None
 no_call s None h = refl
 no_call s (Some line) h = absurd cc
 
@@ -67,7 +51,7 @@ take_all_of [] (suc n) h = refl
 take_all_of (x ∷ xs) zero h = absurd (omega arith)
 take_all_of (x ∷ xs) (suc n) h = ap (λ (t : List _). x ∷ t) (take_all_of xs n (omega arith))
 
-module _ (calls : List CallLine) (s : WorldState) (form : IsFirstForm calls) (same : s.hub.calls ≡ calls) (quiet : IsQuiet s) (run : IsRun s) where
+module _ (calls : List RootLine) (s : WorldState) (few : length calls ≤ 4096) (one : HaveOneName calls) (same : s.hub.calls ≡ calls) (quiet : IsQuiet s) (run : IsRun s) where
   served : length s.hub.log.sent ≤ length s.journal
   served = past_end s.hub.log.sent (length s.journal) (no_input s (next_input s) (quiet (Serve 0)))
 
@@ -81,7 +65,7 @@ module _ (calls : List CallLine) (s : WorldState) (form : IsFirstForm calls) (sa
       past_end s.hub.calls s.hub.submitted next
 
   names : HaveOneName s.hub.calls
-  names = subst HaveOneName (sym same) (one_names calls form)
+  names = subst HaveOneName (sym same) one
 
   well : IsSentWell s.hub
   well = sent_well s.hub run.reached
@@ -122,10 +106,10 @@ module _ (calls : List CallLine) (s : WorldState) (form : IsFirstForm calls) (sa
   backed = rw (sym arrivals_are) (subst (λ (x : List Input). IsBackedByBrick s.hub.calls s.hub.log.history x (arrivals_of s.hub.log.events)) (sym journal_is) lawful.backed)
 
   pub winds_few : length s.hub.log.winds < 4294967296
-  winds_few = few_winds s.hub run.reached (rw same form.few)
+  winds_few = few_winds s.hub run.reached (rw same few)
 
-  pub lawful_run : (rack : Rack) (report : List ℕ) → IsRackOf s rack → report ≡ report_text (report_of rack.log) → IsLawfulRun calls report rack
-  lawful_run rack report r written = record {
+  pub lawful_run : (shown : Names) (rack : Rack) (report : List ℕ) → IsRackOf s rack → report ≡ report_text (report_of shown rack.log) → IsLawfulRun calls shown report rack
+  lawful_run shown rack report r written = record {
     follows = rw (r.log, sym same) lawful.follows;
     finished = rw (r.log, sym same) whole_log.finished;
     honest = rw r.log run.honest;
@@ -137,4 +121,5 @@ module _ (calls : List CallLine) (s : WorldState) (form : IsFirstForm calls) (sa
     lawful = rw (r.log, sym same) lawful.lawful;
     winds = rw r.log whole_log.balanced;
     backed = rw (r.log, sym same) backed;
+    tied = rw (r.log, sym same) (tied s.hub run.reached);
   }

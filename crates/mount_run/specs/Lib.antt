@@ -1,5 +1,9 @@
+pub mod Checks
 pub mod Commands
 pub mod Headline
+pub mod Limits
 pub mod Outcomes
+pub mod Plans
 pub mod Refusals
 pub mod Reports
+pub mod Served

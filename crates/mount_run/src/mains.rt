@@ -4,20 +4,27 @@ use std::rt::Env;
 use std::{env, io};
 use xl_base::{StdSink, StdSource};
 
-const USAGE: &str = "usage: vealepoch run SEED < SCRIPT (--help tells more)";
+const USAGE: &str =
+    "usage: vealepoch check < SCRIPT, or vealepoch run SEED < SCRIPT (--help tells more)";
 
 const HELP: &str =
-    "vealepoch runs a script of calls on a clustered volume whose bricks live in memory,
-and writes a report: each call's reply with its places in the history, the history
-of accepted changes, and the winds of each graph.
+    "vealepoch reads a script that names bricks, volfiles and calls on a clustered volume
+whose bricks live in memory, and judges it or runs it.
 
-  vealepoch run SEED   read a script from standard input, run it in one thread, and
-                       write the report to standard output; SEED is a decimal number
-                       below 2^64, which no schedule depends on so far
+  vealepoch check      read a script from standard input and plan its volfiles, and
+                       write one line: ok bricks B volfiles V phases P calls C
+  vealepoch run SEED   run it in one thread, and write a report to standard output:
+                       each call's reply with its places in the history, the history
+                       of accepted changes, and the winds of each graph; SEED is a
+                       decimal number below 2^64, which no schedule depends on so far
   vealepoch --help     this text
   vealepoch --version  the version
 
-status 0  the script was read to its end and every line was answered
+So far a run serves one brick and volfiles of one client, one session, and the calls
+mkdir and stat of names of the root; it refuses the first statement that asks for more
+as Later.
+
+status 0  the script was read to its end and every line was answered, or accepted
        1  the script is refused; one line `fault line L KIND` is written
        2  the words are no command; nothing is read or written
        3  reading failed; nothing is written
@@ -63,8 +70,10 @@ fn choose<R: Input + Print + Eprint + AllocGlobal>(rt: &R, words: &[String]) -> 
                 print(rt, HELP)
             } else if word == b"--version".as_slice() {
                 print(rt, "vealepoch 0.1.0\n")
+            } else if word == b"check".as_slice() {
+                carry_out(rt, words)
             } else if word == b"run".as_slice() {
-                run(rt, words)
+                carry_out(rt, words)
             } else {
                 usage(rt)
             }
@@ -77,15 +86,18 @@ fn usage<R: Eprint>(rt: &R) -> u8 {
     2
 }
 
-fn print<R: Print>(rt: &R, text: &str) -> u8 {
+fn print<R: Print + Eprint>(rt: &R, text: &str) -> u8 {
     match rt.print(text) {
         Ok(()) => 0,
-        Err(_) => 4,
+        Err(_) => {
+            tell(rt, 4);
+            4
+        }
     }
 }
 
-// Runs the top call over standard input and output, and tells why where it could not.
-fn run<R: Input + Print + Eprint + AllocGlobal>(rt: &R, words: &[String]) -> u8 {
+// Makes the top call over standard input and output, and tells why where it could not.
+fn carry_out<R: Input + Print + Eprint + AllocGlobal>(rt: &R, words: &[String]) -> u8 {
     let mut source = StdSource::new(rt.reader());
     let mut sink = StdSink::new(io::writer(rt));
     let mut rack = Rack::new(rt.alloc());

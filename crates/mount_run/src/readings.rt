@@ -1,13 +1,16 @@
-ghost use Rattle.std.specs.Prelude.{◌≡◌, ◌<◌, ◌≤◌, ◌-◌, ◌^◌, Some, length, IfOk, IsErrOf};
-ghost use Rattle.mount_run.specs.Refusals.{refusal_of, IsScript};
-ghost use Rattle.script_lang.specs.FirstForm.{IsFirstForm};
+ghost use Rattle.std.specs.Prelude.{◌≡◌, ◌<◌, ◌≤◌, ◌-◌, ◌^◌, Ok, Err, length, IfOk, IsErrOf};
+ghost use Rattle.mount_run.specs.Limits.{IsWithinLimits};
 ghost use Rattle.mount_run.specs.Outcomes.{IsAccepted, IsRefused};
+ghost use Rattle.mount_run.specs.Served.{verdict_of};
 ghost use Rattle.mount_run.specs.declared.readings.NotRead.TheVariants as not_read;
 ghost use Rattle.mount_run.specs.declared.refusals.Refusal.{Refusal};
 
+use crate::commands::Command;
+use crate::plans::{Accepted, accept};
 use crate::refusals::Refusal;
-use script_lang::{Script, ScriptError, ScriptKind, parse};
-use std::alloc::Global;
+use crate::served::first_later;
+use script_lang::ScriptKind;
+use std::alloc::{AllocError, Global};
 use xl_base::{ReadError, Source, read_all};
 
 // The bytes of a script, at most.
@@ -21,42 +24,63 @@ pub enum NotRead {
     Mem,
 }
 
-/// Reads a text to its end, and the script that it is.
+impl From<AllocError> for NotRead {
+    ghost use Rattle.std.specs.Prelude.{◌≡◌};
+    ghost use Rattle.mount_run.specs.declared.readings.NotRead.TheVariants.{Mem};
+
+    ghost from_gives = { λ _ r. r ≡ Mem };
+
+    fn from(_: AllocError) -> NotRead {
+        NotRead::Mem
+    }
+}
+
+// What a text within the limit is by the command: a run refuses what it does not serve so far.
+fn judge(alloc: Global, command: Command, text: &[u8]) -> Result<Accepted, NotRead>
+    requires { length text.now ≤ 2097152 }
+    ensures accepted { IfOk result (λ a. verdict_of command text.now ≡ Ok a) }
+    ensures limits { IfOk result (λ a. IsWithinLimits a.script) }
+    ensures refused { (refusal : Refusal) → IsErrOf result (not_read.Refused refusal) → verdict_of command text.now ≡ Err refusal }
+    ensures no_fault { IsErrOf result not_read.Fault → ⊥ }
+{
+    match command {
+        Command::Check => accept(alloc, text),
+        Command::Run(_) => match accept(alloc, text) {
+            Ok(read) => match first_later(&read.script) {
+                None => Ok(read),
+                Some(line) => Err(NotRead::Refused(Refusal::OfScript {
+                    line,
+                    kind: ScriptKind::Later,
+                })),
+            },
+            Err(error) => Err(error),
+        },
+    }
+}
+
+/// Reads a text to its end, and judges it by the command.
 ///
 /// # Errors
 /// `Fault` only where the source's count of faults rose in this call; `Refused` with the first refusal of
 /// the text; `Mem` is want of memory.
-pub fn read_script<S: Source>(alloc: Global, source: &mut S) -> Result<Script, NotRead>
+pub fn read_script<S: Source>(
+    alloc: Global,
+    command: Command,
+    source: &mut S,
+) -> Result<Accepted, NotRead>
     requires { S.faults source.old < 2 ^ 64 - 1 }
-    ensures accepted { IfOk result (λ script. IsAccepted (S.left source.old) script.calls) }
-    ensures form { IfOk result (λ script. IsFirstForm script.calls) }
-    ensures refused { (refusal : Refusal) → IsErrOf result (not_read.Refused refusal) → IsRefused (S.left source.old) refusal }
+    ensures accepted { IfOk result (λ read. IsAccepted command (S.left source.old) read) }
+    ensures limits { IfOk result (λ read. IsWithinLimits read.script) }
+    ensures refused { (refusal : Refusal) → IsErrOf result (not_read.Refused refusal) → IsRefused command (S.left source.old) refusal }
     ensures fault { IsErrOf result not_read.Fault → S.faults source.old < S.faults source.new }
 {
     match read_all(alloc, source, LIMIT) {
-        Ok(text) => parse_script(alloc, text.as_slice()),
+        Ok(text) => judge(alloc, command, text.as_slice()),
         Err(ReadError::ReadFault) => Err(NotRead::Fault),
-        Err(ReadError::TooLong) => Err(NotRead::Refused(Refusal::TooLong)),
+        Err(ReadError::TooLong) => Err(NotRead::Refused(Refusal::OfScript {
+            line: 0,
+            kind: ScriptKind::TooLong,
+        })),
         Err(ReadError::Mem) => Err(NotRead::Mem),
-    }
-}
-
-// The script that a text within the limit is.
-fn parse_script(alloc: Global, text: &[u8]) -> Result<Script, NotRead>
-    requires { length text.now ≤ 2097152 }
-    ensures accepted { IfOk result (λ script. IsScript text.now script.calls) }
-    ensures form { IfOk result (λ script. IsFirstForm script.calls) }
-    ensures refused { (refusal : Refusal) → IsErrOf result (not_read.Refused refusal) → refusal_of text.now ≡ Some refusal }
-    ensures no_fault { IsErrOf result not_read.Fault → ⊥ }
-{
-    match parse(alloc, text) {
-        Ok(script) => Ok(script),
-        Err(
-            ScriptError::At {
-                line,
-                kind: ScriptKind::Later,
-            },
-        ) => Err(NotRead::Refused(Refusal::Later(line))),
-        Err(ScriptError::Mem) => Err(NotRead::Mem),
     }
 }

@@ -1,23 +1,76 @@
 ghost use Rattle.std.specs.Prelude.{◌≡◌, ◌≤◌, ◌<◌, ◌^◌, IfOk, map, take, length};
-ghost use Rattle.mount_run.specs.Reports.{report_of as report_of_log, shown_call, shown_entry, shown_answer, shown_io, shown_item, shown_list, shown_brick, shown_row, session_name, graph_name, set_name, brick_name};
+ghost use Rattle.mount_run.specs.Reports.{report_of as report_of_log, shown_call, shown_entry, shown_answer, shown_io, shown_item, shown_list, shown_brick, shown_row, first_text, first_brick, first_volume, names_of};
 
 use fop_types::{Answer, Entry, IoError, Item, Kind, Seq, SplitRow};
 use hub_core::{Log, ReplyLine};
 use report_text::{Report, ReportAnswer, ReportCall, ReportGraph, ReportIo, ReportRow};
+use script_lang::{BrickLine, Script};
 use std::alloc::{AllocError, Global};
+use volfile::Volume;
 
-// The name of the one brick.
-fn brick(alloc: Global) -> Result<Seq<u8>, AllocError>
-    ensures { IfOk result (λ name. name ≡ brick_name) }
-{
-    Seq::from_bytes(alloc, b"b0")
+/// The names that a script gives to what a report shows: its session, its graph, its set and its brick.
+#[derive(Debug, Drop, PartialEq, Eq)]
+pub struct Names {
+    pub session: Seq<u8>,
+    pub graph: Seq<u8>,
+    pub set: Seq<u8>,
+    pub brick: Seq<u8>,
 }
 
-// The name of the one set.
-fn set(alloc: Global) -> Result<Seq<u8>, AllocError>
-    ensures { IfOk result (λ name. name ≡ set_name) }
+fn first_session(alloc: Global, sessions: &[Seq<u8>]) -> Result<Seq<u8>, AllocError>
+    ensures { IfOk result (λ name. name ≡ first_text sessions.now) }
 {
-    Seq::from_bytes(alloc, b"c0")
+    match sessions {
+        [] => Ok(Seq::new(alloc)),
+        [name, ..] => name.copy(alloc),
+    }
+}
+
+fn first_brick_name(alloc: Global, bricks: &[BrickLine]) -> Result<Seq<u8>, AllocError>
+    ensures { IfOk result (λ name. name ≡ first_brick bricks.now) }
+{
+    match bricks {
+        [] => Ok(Seq::new(alloc)),
+        [brick, ..] => brick.name.copy(alloc),
+    }
+}
+
+fn first_volume_name(alloc: Global, volumes: &[Volume]) -> Result<Seq<u8>, AllocError>
+    ensures { IfOk result (λ name. name ≡ first_volume volumes.now) }
+{
+    match volumes {
+        [] => Ok(Seq::new(alloc)),
+        [volume, ..] => volume.name.copy(alloc),
+    }
+}
+
+/// The names of a script of one session and one client.
+///
+/// # Errors
+/// Want of memory.
+pub fn script_names(alloc: Global, script: &Script) -> Result<Names, AllocError>
+    ensures { IfOk result (λ names. names ≡ names_of script.now) }
+{
+    let session = first_session(alloc, script.sessions.as_slice())?;
+    let brick = first_brick_name(alloc, script.bricks.as_slice())?;
+    match script.volfiles.as_slice().get(script.start as usize) {
+        None => Ok(Names {
+            session,
+            graph: Seq::new(alloc),
+            set: Seq::new(alloc),
+            brick,
+        }),
+        Some(named) => {
+            let graph = named.name.copy(alloc)?;
+            let set = first_volume_name(alloc, named.volfile.volumes.as_slice())?;
+            Ok(Names {
+                session,
+                graph,
+                set,
+                brick,
+            })
+        }
+    }
 }
 
 fn show_items(alloc: Global, items: &[Item]) -> Result<Seq<(Seq<u8>, Kind)>, AllocError>
@@ -31,35 +84,43 @@ fn show_items(alloc: Global, items: &[Item]) -> Result<Seq<(Seq<u8>, Kind)>, All
     Ok(shown)
 }
 
-fn show_lost(alloc: Global, lost: &[(u8, u32)]) -> Result<Seq<(Seq<u8>, u32)>, AllocError>
-    ensures { IfOk result (λ list. list ≡ map shown_brick lost.now) }
+fn show_lost(
+    alloc: Global,
+    names: &Names,
+    lost: &[(u8, u32)],
+) -> Result<Seq<(Seq<u8>, u32)>, AllocError>
+    ensures { IfOk result (λ list. list ≡ map (shown_brick names.now) lost.now) }
 {
     let mut shown = Seq::new(alloc);
     for pair in lost {
-        let name = brick(alloc)?;
+        let name = names.brick.copy(alloc)?;
         shown.push((name, pair.1))?;
     }
     Ok(shown)
 }
 
-fn show_faults(alloc: Global, faults: &[(u8, u64)]) -> Result<Seq<(Seq<u8>, u64)>, AllocError>
-    ensures { IfOk result (λ list. list ≡ map shown_brick faults.now) }
+fn show_faults(
+    alloc: Global,
+    names: &Names,
+    faults: &[(u8, u64)],
+) -> Result<Seq<(Seq<u8>, u64)>, AllocError>
+    ensures { IfOk result (λ list. list ≡ map (shown_brick names.now) faults.now) }
 {
     let mut shown = Seq::new(alloc);
     for pair in faults {
-        let name = brick(alloc)?;
+        let name = names.brick.copy(alloc)?;
         shown.push((name, pair.1))?;
     }
     Ok(shown)
 }
 
-fn show_row(alloc: Global, row: &SplitRow) -> Result<ReportRow, AllocError>
-    ensures { IfOk result (λ shown. shown ≡ shown_row row.now) }
+fn show_row(alloc: Global, names: &Names, row: &SplitRow) -> Result<ReportRow, AllocError>
+    ensures { IfOk result (λ shown. shown ≡ shown_row names.now row.now) }
 {
     let pending = Vec::from_slice(alloc, &row.row.pending[..1])?;
     Ok(ReportRow {
         cell: row.cell,
-        brick: brick(alloc)?,
+        brick: names.brick.copy(alloc)?,
         present: row.row.present,
         dirty: row.row.dirty,
         pending: Seq::from_vec(pending),
@@ -67,32 +128,32 @@ fn show_row(alloc: Global, row: &SplitRow) -> Result<ReportRow, AllocError>
     })
 }
 
-fn show_rows(alloc: Global, rows: &[SplitRow]) -> Result<Seq<ReportRow>, AllocError>
-    ensures { IfOk result (λ list. list ≡ map shown_row rows.now) }
+fn show_rows(alloc: Global, names: &Names, rows: &[SplitRow]) -> Result<Seq<ReportRow>, AllocError>
+    ensures { IfOk result (λ list. list ≡ map (shown_row names.now) rows.now) }
 {
     let mut shown = Seq::new(alloc);
     for row in rows {
-        let text = show_row(alloc, row)?;
+        let text = show_row(alloc, names, row)?;
         shown.push(text)?;
     }
     Ok(shown)
 }
 
-fn show_io(alloc: Global, error: &IoError) -> Result<ReportIo, AllocError>
-    ensures { IfOk result (λ shown. shown ≡ shown_io error.now) }
+fn show_io(alloc: Global, names: &Names, error: &IoError) -> Result<ReportIo, AllocError>
+    ensures { IfOk result (λ shown. shown ≡ shown_io names.now error.now) }
 {
     match error {
         IoError::Quorum { set: _, lost } => {
-            let lost = show_lost(alloc, lost.as_slice())?;
+            let lost = show_lost(alloc, names, lost.as_slice())?;
             Ok(ReportIo::Quorum {
-                set: set(alloc)?,
+                set: names.set.copy(alloc)?,
                 lost,
             })
         }
         IoError::Split { set: _, rows } => {
-            let rows = show_rows(alloc, rows.as_slice())?;
+            let rows = show_rows(alloc, names, rows.as_slice())?;
             Ok(ReportIo::Split {
-                set: set(alloc)?,
+                set: names.set.copy(alloc)?,
                 rows,
             })
         }
@@ -101,10 +162,10 @@ fn show_io(alloc: Global, error: &IoError) -> Result<ReportIo, AllocError>
             faults,
             lost,
         } => {
-            let faults = show_faults(alloc, faults.as_slice())?;
-            let lost = show_lost(alloc, lost.as_slice())?;
+            let faults = show_faults(alloc, names, faults.as_slice())?;
+            let lost = show_lost(alloc, names, lost.as_slice())?;
             Ok(ReportIo::Fault {
-                set: set(alloc)?,
+                set: names.set.copy(alloc)?,
                 faults,
                 lost,
             })
@@ -122,8 +183,8 @@ fn show_list(items: Seq<(Seq<u8>, Kind)>) -> ReportAnswer
     }
 }
 
-fn show_answer(alloc: Global, answer: &Answer) -> Result<ReportAnswer, AllocError>
-    ensures { IfOk result (λ shown. shown ≡ shown_answer answer.now) }
+fn show_answer(alloc: Global, names: &Names, answer: &Answer) -> Result<ReportAnswer, AllocError>
+    ensures { IfOk result (λ shown. shown ≡ shown_answer names.now answer.now) }
 {
     match answer {
         Answer::Done => Ok(ReportAnswer::Done),
@@ -139,30 +200,34 @@ fn show_answer(alloc: Global, answer: &Answer) -> Result<ReportAnswer, AllocErro
             Ok(show_list(items))
         }
         Answer::App(error) => Ok(ReportAnswer::App(*error)),
-        Answer::Io(error) => Ok(ReportAnswer::Io(show_io(alloc, error)?)),
+        Answer::Io(error) => Ok(ReportAnswer::Io(show_io(alloc, names, error)?)),
     }
 }
 
-fn show_call(alloc: Global, reply: &ReplyLine) -> Result<ReportCall, AllocError>
-    ensures { IfOk result (λ shown. shown ≡ shown_call reply.now) }
+fn show_call(alloc: Global, names: &Names, reply: &ReplyLine) -> Result<ReportCall, AllocError>
+    ensures { IfOk result (λ shown. shown ≡ shown_call names.now reply.now) }
 {
-    let answer = show_answer(alloc, &reply.answer)?;
+    let answer = show_answer(alloc, names, &reply.answer)?;
     let places = reply.places.copy(alloc)?;
     Ok(ReportCall {
         call: reply.call,
-        session: Seq::from_bytes(alloc, b"s")?,
+        session: names.session.copy(alloc)?,
         line: reply.line,
         places,
         answer,
     })
 }
 
-fn show_calls(alloc: Global, replies: &[ReplyLine]) -> Result<Seq<ReportCall>, AllocError>
-    ensures { IfOk result (λ list. list ≡ map shown_call replies.now) }
+fn show_calls(
+    alloc: Global,
+    names: &Names,
+    replies: &[ReplyLine],
+) -> Result<Seq<ReportCall>, AllocError>
+    ensures { IfOk result (λ list. list ≡ map (shown_call names.now) replies.now) }
 {
     let mut shown = Seq::new(alloc);
     for reply in replies {
-        let call = show_call(alloc, reply)?;
+        let call = show_call(alloc, names, reply)?;
         shown.push(call)?;
     }
     Ok(shown)
@@ -183,11 +248,11 @@ fn show_history(alloc: Global, history: &[Entry]) -> Result<Seq<(u32, u8)>, Allo
 ///
 /// # Errors
 /// Want of memory.
-pub fn report_of(alloc: Global, log: &Log) -> Result<Report, AllocError>
+pub fn report_of(alloc: Global, names: &Names, log: &Log) -> Result<Report, AllocError>
     requires { length log.now.winds < 2 ^ 32 }
-    ensures { IfOk result (λ report. report ≡ report_of_log log.now) }
+    ensures { IfOk result (λ report. report ≡ report_of_log names.now log.now) }
 {
-    let calls = show_calls(alloc, log.replies.as_slice())?;
+    let calls = show_calls(alloc, names, log.replies.as_slice())?;
     let history = show_history(alloc, log.history.as_slice())?;
     let winds = log.winds.as_slice();
     let opened = winds.iter().filter(|line| line.opened).count() as u32;
@@ -195,7 +260,7 @@ pub fn report_of(alloc: Global, log: &Log) -> Result<Report, AllocError>
     let mut graphs = Seq::new(alloc);
     graphs.push(ReportGraph {
         graph: 1,
-        name: Seq::from_bytes(alloc, b"g")?,
+        name: names.graph.copy(alloc)?,
         opened,
         ended,
     })?;

@@ -1,8 +1,11 @@
-ghost use Rattle.std.specs.Prelude.{IfOk};
-ghost use Rattle.script_lang.specs.FirstForm.{IsFirstForm};
+ghost use Rattle.std.specs.Prelude.{◌≤◌, IfOk};
+ghost use Rattle.mount_run.specs.Checks.{calls_in};
 ghost use Rattle.mount_run.specs.Headline.{IsLawfulRun};
+ghost use Rattle.mount_run.specs.Reports.{names_of};
+ghost use Rattle.mount_run.specs.Served.{calls_to_run};
 
-use crate::reports::report_of;
+use crate::reports::{report_of, script_names};
+use crate::served::calls;
 use hub_core::Rack;
 use report_text::print;
 use script_lang::Script;
@@ -15,13 +18,15 @@ use world_core::World;
 /// # Errors
 /// Want of memory.
 pub fn run_script(alloc: Global, script: &Script, rack: &mut Rack) -> Result<Vec<u8>, AllocError>
-    requires { IsFirstForm script.now.calls }
-    ensures { IfOk result (λ report. IsLawfulRun script.now.calls report.items rack.new) }
+    requires { calls_in script.now.phases ≤ 4096 }
+    ensures { IfOk result (λ report. IsLawfulRun (calls_to_run script.now) (names_of script.now) report.items rack.new) }
 {
-    let mut world = World::new(alloc, script)?;
+    let calls = calls(alloc, script)?;
+    let mut world = World::new(alloc, &calls)?;
     world.run(alloc)?;
     *rack = world.into_rack();
-    let report = report_of(alloc, &rack.log)?;
+    let names = script_names(alloc, script)?;
+    let report = report_of(alloc, &names, &rack.log)?;
     let text = print(alloc, &report)?;
     Ok(text)
 }

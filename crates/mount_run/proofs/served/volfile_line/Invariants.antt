@@ -1,0 +1,6 @@
+use Rattle.std.proofs.Common.{◌≡◌, ◌+◌, [], drop}
+use Rattle.mount_run.specs.Served.{unserved_volfile}
+use Rattle.mount_run.proofs.served.volfile_line.Given as goal
+
+abbrev pub invariant-loop-named : goal.invariant-loop-named
+invariant-loop-named l = unserved_volfile l.alone (drop l.named-index l.volfiles) ≡ unserved_volfile l.alone l.volfiles

@@ -1,0 +1,195 @@
+ghost use Rattle.std.specs.Prelude.{◌≡◌, is_some, IfOk};
+ghost use Rattle.mount_run.specs.Served.{is_one_name as has_one_name, root_call as root_call_of, root_lines as lines_with, root_phases as phases_with, calls_to_run, is_unserved_volume as is_more, unserved_volume, unserved_volfile, unserved_call, unserved_control, unserved_phase, earlier as earlier_of, or_else as or_else_of, first_unserved};
+
+use fop_types::{Call, Path, RootCall, RootLine, RootScript, Seq};
+use script_lang::{CallLine, ControlLine, NamedVolfile, Phase, Script};
+use std::alloc::{AllocError, Global};
+use volfile::{Volume, is_same};
+
+// Whether a path has one component, of at most 255 bytes.
+fn is_one_name(path: &Path) -> bool
+    ensures { result ≡ has_one_name path.now.parts }
+{
+    match path.parts.as_slice() {
+        [name] => name.len() <= 255,
+        _ => false,
+    }
+}
+
+// Whether the hub takes the call.
+fn is_root_call(call: &Call) -> bool
+    ensures { result ≡ is_some (root_call_of call.now) }
+{
+    match call {
+        Call::Mkdir { path, .. } => is_one_name(path),
+        Call::Stat { path } => is_one_name(path),
+        _ => false,
+    }
+}
+
+// The call as the hub takes it; `None` where it does not.
+fn root_call(alloc: Global, call: &Call) -> Result<Option<RootCall>, AllocError>
+    ensures { IfOk result (λ c. c ≡ root_call_of call.now) }
+{
+    match call {
+        Call::Mkdir { path, mode } => {
+            if is_one_name(path) {
+                let path = path.copy(alloc)?;
+                Ok(Some(RootCall::Mkdir { path, mode: *mode }))
+            } else {
+                Ok(None)
+            }
+        }
+        Call::Stat { path } => {
+            if is_one_name(path) {
+                let path = path.copy(alloc)?;
+                Ok(Some(RootCall::Stat { path }))
+            } else {
+                Ok(None)
+            }
+        }
+        _ => Ok(None),
+    }
+}
+
+// The served calls of these lines, behind those that are done.
+fn root_lines(
+    alloc: Global,
+    done: Seq<RootLine>,
+    lines: &[CallLine],
+) -> Result<Seq<RootLine>, AllocError>
+    ensures { IfOk result (λ all. all ≡ lines_with done lines.now) }
+{
+    let mut all = done;
+    for line in lines {
+        match root_call(alloc, &line.call)? {
+            None => {}
+            Some(call) => {
+                all.push(RootLine {
+                    line: line.line,
+                    session: line.session,
+                    call,
+                })?;
+            }
+        }
+    }
+    Ok(all)
+}
+
+/// The calls of a script that the hub serves, in the order of their lines.
+///
+/// # Errors
+/// Want of memory.
+pub fn calls(alloc: Global, script: &Script) -> Result<RootScript, AllocError>
+    ensures { IfOk result (λ s. s.calls ≡ calls_to_run script.now) }
+{
+    let mut all = Seq::new(alloc);
+    for phase in script.phases.as_slice() {
+        all = root_lines(alloc, all, phase.calls.as_slice())?;
+    }
+    Ok(RootScript { calls: all })
+}
+
+fn is_unserved_volume(alone: bool, volume: &Volume) -> bool
+    ensures { result ≡ is_more alone volume.now }
+{
+    !alone || !is_same(volume.kind.as_slice(), b"protocol/client")
+}
+
+fn volume_line(alone: bool, volumes: &[Volume]) -> Option<u32>
+    ensures { result ≡ unserved_volume alone volumes.now }
+{
+    for volume in volumes {
+        if is_unserved_volume(alone, volume) {
+            return Some(volume.line);
+        }
+    }
+    None
+}
+
+fn or_else(line: Option<u32>, other: Option<u32>) -> Option<u32>
+    ensures { result ≡ or_else_of line other }
+{
+    match line {
+        Some(line) => Some(line),
+        None => other,
+    }
+}
+
+fn volfile_line(alone: bool, volfiles: &[NamedVolfile]) -> Option<u32>
+    ensures { result ≡ unserved_volfile alone volfiles.now }
+{
+    for named in volfiles {
+        match volume_line(alone, named.volfile.volumes.as_slice()) {
+            Some(line) => return Some(line),
+            None => {}
+        }
+    }
+    None
+}
+
+fn call_line(lines: &[CallLine]) -> Option<u32>
+    ensures { result ≡ unserved_call lines.now }
+{
+    for line in lines {
+        if line.session != 0 || !is_root_call(&line.call) {
+            return Some(line.line);
+        }
+    }
+    None
+}
+
+fn control_line(controls: &[ControlLine]) -> Option<u32>
+    ensures { result ≡ unserved_control controls.now }
+{
+    match controls {
+        [] => None,
+        [control, ..] => Some(control.line),
+    }
+}
+
+fn earlier(line: Option<u32>, other: Option<u32>) -> Option<u32>
+    ensures { result ≡ earlier_of line other }
+{
+    match line {
+        None => other,
+        Some(line) => match other {
+            None => Some(line),
+            Some(other) => {
+                if line <= other {
+                    Some(line)
+                } else {
+                    Some(other)
+                }
+            }
+        },
+    }
+}
+
+fn phase_line(phases: &[Phase]) -> Option<u32>
+    ensures { result ≡ unserved_phase phases.now }
+{
+    for phase in phases {
+        match earlier(
+            call_line(phase.calls.as_slice()),
+            control_line(phase.controls.as_slice()),
+        ) {
+            Some(line) => return Some(line),
+            None => {}
+        }
+    }
+    None
+}
+
+/// The line of the first statement of a script that a run does not serve so far: a volume of another type
+/// than a client, or any volume where the script has more than one brick; a call of a second session, or
+/// one other than `mkdir` and `stat` of a name of the root of at most 255 bytes; a control.
+pub fn first_later(script: &Script) -> Option<u32>
+    ensures { result ≡ first_unserved script.now }
+{
+    let alone = script.bricks.len() <= 1;
+    or_else(
+        volfile_line(alone, script.volfiles.as_slice()),
+        phase_line(script.phases.as_slice()),
+    )
+}
