@@ -15,6 +15,7 @@ pub mod Payloads
 pub mod QuadLaws
 pub mod ReplyLaws
 pub mod RequestLaws
+pub mod Sizes
 pub mod StringLaws
 pub mod StringReading
 pub mod UnitReading

@@ -7,5 +7,6 @@ pub mod PartReading
 pub mod PartText
 pub mod Places
 pub mod Reading
+pub mod Rooms
 pub mod WireText
 pub mod Xdr

@@ -3,6 +3,7 @@ ghost use Rattle.wire_xdr.specs.WireText.{input_text, IsInput, output_text, IsOu
 
 use crate::put_replies::put_output;
 use crate::put_requests::put_input;
+use crate::rooms::{input_room, output_room};
 use fop_types::{Input, Output};
 use std::alloc::{AllocError, Global};
 
@@ -14,7 +15,7 @@ pub fn encode_req(alloc: Global, input: &Input) -> Result<Vec<u8>, AllocError>
     requires { IsInput input.now }
     ensures { IfOk result (λ bytes. bytes.items ≡ input_text input.now) }
 {
-    let mut bytes = Vec::with_capacity(alloc, 128)?;
+    let mut bytes = Vec::with_capacity(alloc, input_room(input))?;
     put_input(&mut bytes, input)?;
     Ok(bytes)
 }
@@ -27,7 +28,7 @@ pub fn encode_rep(alloc: Global, output: &Output) -> Result<Vec<u8>, AllocError>
     requires { IsOutput output.now }
     ensures { IfOk result (λ bytes. bytes.items ≡ output_text output.now) }
 {
-    let mut bytes = Vec::with_capacity(alloc, 128)?;
+    let mut bytes = Vec::with_capacity(alloc, output_room(output))?;
     put_output(&mut bytes, output)?;
     Ok(bytes)
 }

@@ -31,6 +31,7 @@ mod put_replies;
 mod put_requests;
 mod replies;
 mod requests;
+mod rooms;
 mod rows;
 mod strings;
 mod units;

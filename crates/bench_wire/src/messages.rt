@@ -1,0 +1,108 @@
+ghost use Rattle.std.specs.Prelude.{◌≤◌, length, IfOk};
+ghost use Rattle.wire_xdr.specs.WireText.{IsInput};
+
+use fop_types::{BrickReq, Gfid, Input, Seq, StoreOp};
+use std::alloc::{AllocError, Global};
+use wire_xdr::{decode_req, encode_req, Decoded};
+
+/// The bytes of a write.
+pub const SIZE: usize = 65536;
+
+/// The bytes that are written.
+pub fn payload(alloc: Global) -> Result<Seq<u8>, AllocError>
+    ensures { IfOk result (λ bytes. length bytes ≤ 65536) }
+{
+    let block = [7u8; SIZE];
+    Seq::from_bytes(alloc, &block)
+}
+
+/// The request that writes these bytes.
+pub fn request(bytes: Seq<u8>) -> Input
+    requires { length bytes ≤ 65536 }
+    ensures { IsInput result }
+{
+    let op = StoreOp::Write {
+        gfid: Gfid { hi: 0, lo: 2 },
+        offset: 0,
+        bytes,
+    };
+    let req = BrickReq::Op {
+        change: 9,
+        fd: 0,
+        op,
+    };
+    Input::Request {
+        wind: 5,
+        graph: 1,
+        req,
+    }
+}
+
+/// The sum of a byte of each of so many copies of the bytes.
+pub fn copied(alloc: Global, bytes: &[u8], rounds: u32) -> Result<u64, AllocError> {
+    let mut sum = 0u64;
+    for round in 0..rounds {
+        let copy = Vec::from_slice(alloc, bytes)?;
+        sum = sum.wrapping_add(byte_of(copy.as_slice(), round));
+    }
+    Ok(sum)
+}
+
+/// The sum of a byte of each of so many spellings of the input.
+pub fn encoded(alloc: Global, input: &Input, rounds: u32) -> Result<u64, AllocError>
+    requires { IsInput input.now }
+{
+    let mut sum = 0u64;
+    for round in 0..rounds {
+        let spelled = encode_req(alloc, input)?;
+        sum = sum.wrapping_add(byte_of(spelled.as_slice(), round));
+    }
+    Ok(sum)
+}
+
+/// The sum of a byte of each of so many readings of the message.
+pub fn decoded(alloc: Global, message: &[u8], rounds: u32) -> Result<u64, AllocError> {
+    let mut sum = 0u64;
+    for round in 0..rounds {
+        let answer = decode_req(alloc, message)?;
+        sum = sum.wrapping_add(byte_of_decoded(&answer, round));
+    }
+    Ok(sum)
+}
+
+/// A byte of what the input of a message writes, or 0 where it writes nothing.
+fn byte_of_decoded(answer: &Decoded<Input>, round: u32) -> u64 {
+    match answer {
+        Decoded::Front { value, .. } => byte_of_input(value, round),
+        Decoded::Bad(_) => 0,
+    }
+}
+
+fn byte_of_input(input: &Input, round: u32) -> u64 {
+    match input {
+        Input::Request { req, .. } => byte_of_request(req, round),
+        _ => 0,
+    }
+}
+
+fn byte_of_request(req: &BrickReq, round: u32) -> u64 {
+    match req {
+        BrickReq::Op { op, .. } => byte_of_op(op, round),
+        _ => 0,
+    }
+}
+
+fn byte_of_op(op: &StoreOp, round: u32) -> u64 {
+    match op {
+        StoreOp::Write { bytes, .. } => byte_of(bytes.as_slice(), round),
+        _ => 0,
+    }
+}
+
+/// A byte of which the place changes from round to round.
+fn byte_of(bytes: &[u8], round: u32) -> u64 {
+    match bytes.get(round as usize % SIZE) {
+        Some(byte) => u64::from(*byte),
+        None => 0,
+    }
+}

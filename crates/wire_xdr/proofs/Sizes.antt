@@ -1,0 +1,34 @@
+-- How long the spellings of parts are.
+use Rattle.std.proofs.Common.{◌≡◌, ◌∷◌, ◌∙◌, ◌++◌, ◌+◌, ◌-◌, ◌*◌, ◌%◌, ℕ, suc, zero, sym, refl, ap, ap₂, List, [], length, arith, length-append}
+use Rattle.fop_types.specs.declared.cells.Gfid.{Gfid}
+use Rattle.fop_types.specs.declared.cells.Cell.{Cell}
+use Rattle.wire_xdr.specs.Xdr.{unit, padding, opaque, texts, list}
+use Rattle.wire_xdr.specs.PartText.{cell_text}
+use Rattle.wire_xdr.proofs.QuadLaws.{unit_size}
+
+pub joined_size : (a b : List ℕ) → length (a ++ b) ≡ length a + length b
+joined_size a b = length-append a b
+
+pub padding_size : (n : ℕ) → length (padding n) ≡ (4 - n % 4) % 4
+padding_size zero = refl
+padding_size (suc zero) = refl
+padding_size (suc (suc zero)) = refl
+padding_size (suc (suc (suc zero))) = refl
+padding_size (suc (suc (suc (suc n)))) = padding_size n ∙ omega arith
+
+pub opaque_size : (bytes : List ℕ) → length (opaque bytes) ≡ 4 + (length bytes + (4 - length bytes % 4) % 4)
+opaque_size bytes = simp (length-append, unit_size, padding_size) refl
+
+-- a list of parts of one size
+pub same_sizes : {A : Type 0} → (text : A → List ℕ) (size : ℕ) → ((x : A) → length (text x) ≡ size) → (xs : List A) → length (texts text xs) ≡ length xs * size
+same_sizes text size each [] = omega arith
+same_sizes text size each (x ∷ xs) = length-append (text x) (texts text xs) ∙ ap₂ (λ (a b : ℕ). a + b) (each x) (same_sizes text size each xs) ∙ omega arith
+
+pub units_size : (numbers : List ℕ) → length (texts unit numbers) ≡ length numbers * 4
+units_size numbers = same_sizes unit 4 unit_size numbers
+
+cell_size : (cell : Cell) → length (cell_text cell) ≡ 20
+cell_size cell = simp (length-append, unit_size) refl
+
+pub cells_size : (cells : List Cell) → length (list cell_text cells) ≡ 4 + length cells * 20
+cells_size cells = simp (length-append, unit_size) (omega (arith, same_sizes cell_text 20 cell_size cells))
