@@ -1,9 +1,10 @@
 -- How long the spellings of parts are.
-use Rattle.std.proofs.Common.{◌≡◌, ◌∷◌, ◌∙◌, ◌++◌, ◌+◌, ◌-◌, ◌*◌, ◌%◌, ℕ, suc, zero, sym, refl, ap, ap₂, List, [], length, arith, length-append}
-use Rattle.fop_types.specs.declared.cells.Gfid.{Gfid}
+use Rattle.std.proofs.Common.{◌≡◌, ◌∷◌, ◌∙◌, ◌++◌, ◌+◌, ◌-◌, ◌*◌, ◌%◌, ◌≤◌, ◌^◌, ℕ, suc, zero, min, sym, refl, ap, ap₂, subst, List, [], length, drop, arith, length-append}
+use Rattle.std.proofs.lemmas.List.{drop_all}
 use Rattle.fop_types.specs.declared.cells.Cell.{Cell}
 use Rattle.wire_xdr.specs.Xdr.{unit, padding, opaque, texts, list}
 use Rattle.wire_xdr.specs.PartText.{cell_text}
+use Rattle.wire_xdr.specs.Rooms.{room_of}
 use Rattle.wire_xdr.proofs.QuadLaws.{unit_size}
 
 pub joined_size : (a b : List ℕ) → length (a ++ b) ≡ length a + length b
@@ -32,3 +33,11 @@ cell_size cell = simp (length-append, unit_size) refl
 
 pub cells_size : (cells : List Cell) → length (list cell_text cells) ≡ 4 + length cells * 20
 cells_size cells = simp (length-append, unit_size) (omega (arith, same_sizes cell_text 20 cell_size cells))
+
+-- a list whose parts have all been counted
+pub list_room : {A : Type 0} → (text : A → List ℕ) (xs : List A) (i room : ℕ) → length xs ≤ i → room ≤ 2 ^ 64 - 1
+    → min (room + length (texts text (drop i xs))) (2 ^ 64 - 1) ≡ min (4 + length (texts text xs)) (2 ^ 64 - 1) → room ≡ room_of (list text xs)
+list_room {A = A} text xs i room past fits h =
+    let size : length (list text xs) ≡ 4 + length (texts text xs) = length-append (unit (length xs)) (texts text xs) ∙ ap (λ (n : ℕ). n + length (texts text xs)) (unit_size (length xs)) in
+    let all : min (room + 0) (2 ^ 64 - 1) ≡ min (4 + length (texts text xs)) (2 ^ 64 - 1) = subst (λ (ys : List A). min (room + length (texts text ys)) (2 ^ 64 - 1) ≡ min (4 + length (texts text xs)) (2 ^ 64 - 1)) (drop_all i xs past) h in
+    omega (arith, size, all, fits)

@@ -7,7 +7,7 @@ use crate::rooms::{input_room, output_room};
 use fop_types::{Input, Output};
 use std::alloc::{AllocError, Global};
 
-/// The spelling of an input, which must have one.
+/// The spelling of an input, which must have one. Its memory is taken once, as long as the spelling.
 ///
 /// # Errors
 /// Want of memory.
@@ -20,7 +20,7 @@ pub fn encode_req(alloc: Global, input: &Input) -> Result<Vec<u8>, AllocError>
     Ok(bytes)
 }
 
-/// The spelling of an output, which must have one.
+/// The spelling of an output, which must have one. Its memory is taken once, as long as the spelling.
 ///
 /// # Errors
 /// Want of memory.

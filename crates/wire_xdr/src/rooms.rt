@@ -6,7 +6,8 @@ ghost use Rattle.wire_xdr.specs.WireText.{input_text, out_text, output_text};
 ghost use Rattle.wire_xdr.specs.Rooms.{room_of};
 
 use fop_types::{
-    Attr, BrickRep, BrickReq, Cell, Content, DoneArm, Input, Item, OutKind, Output, Row, Span, StoreOp,
+    Attr, BrickRep, BrickReq, Cell, Content, DoneArm, Input, Item, OutKind, Output, Row, Span,
+    StoreOp,
 };
 
 /// The room of an opaque: its length, its bytes and its padding.
@@ -158,7 +159,7 @@ pub fn input_room(input: &Input) -> usize
 fn row_room(row: &Row) -> usize
     ensures { result ≡ room_of (row_text row.now) }
 {
-    let counters = row.pending.len();
+    let counters = row.pending.as_slice().len();
     counters.saturating_mul(4).saturating_add(16)
 }
 

@@ -1,4 +1,7 @@
+mod rooms;
+
 use super::*;
+use crate::rooms::{input_room, output_room};
 use std::alloc::{AllocError, Global};
 use std::test::Fail;
 
@@ -200,23 +203,25 @@ fn put_zeros(bytes: &mut Vec<u8>, count: u32) -> Result<(), AllocError> {
     Ok(())
 }
 
-// Whether all of the bytes are an input, which has this spelling.
+// Whether all of the bytes are an input, which has this spelling and a room of its length.
 fn is_same_again(alloc: Global, bytes: &[u8]) -> Result<bool, AllocError> {
     match decode_req(alloc, bytes)? {
         Decoded::Front { value, used } => {
             let again = encode_req(alloc, &value)?;
-            Ok(used as usize == bytes.len() && again.as_slice() == bytes)
+            let is_room = input_room(&value) == bytes.len();
+            Ok(is_room && used as usize == bytes.len() && again.as_slice() == bytes)
         }
         Decoded::Bad(_) => Ok(false),
     }
 }
 
-// Whether all of the bytes are an output, which has this spelling.
+// Whether all of the bytes are an output, which has this spelling and a room of its length.
 fn is_same_output_again(alloc: Global, bytes: &[u8]) -> Result<bool, AllocError> {
     match decode_rep(alloc, bytes)? {
         Decoded::Front { value, used } => {
             let again = encode_rep(alloc, &value)?;
-            Ok(used as usize == bytes.len() && again.as_slice() == bytes)
+            let is_room = output_room(&value) == bytes.len();
+            Ok(is_room && used as usize == bytes.len() && again.as_slice() == bytes)
         }
         Decoded::Bad(_) => Ok(false),
     }
