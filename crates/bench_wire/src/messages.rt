@@ -3,7 +3,7 @@ ghost use Rattle.wire_xdr.specs.WireText.{IsInput};
 
 use fop_types::{BrickReq, Gfid, Input, Seq, StoreOp};
 use std::alloc::{AllocError, Global};
-use wire_xdr::{decode_req, encode_req, Decoded};
+use wire_xdr::{Decoded, decode_req, encode_req};
 
 /// The bytes of a write.
 pub const SIZE: usize = 65536;

@@ -1,5 +1,5 @@
 -- How long the spellings of parts are.
-use Rattle.std.proofs.Common.{◌≡◌, ◌∷◌, ◌∙◌, ◌++◌, ◌+◌, ◌-◌, ◌*◌, ◌%◌, ◌≤◌, ◌^◌, ℕ, suc, zero, min, sym, refl, ap, ap₂, subst, List, [], length, drop, arith, length-append}
+use Rattle.std.proofs.Common.{◌≡◌, ◌∷◌, ◌∙◌, ◌++◌, ◌+◌, ◌-◌, ◌*◌, ◌%◌, ◌≤◌, ◌^◌, ℕ, suc, zero, min, refl, ap, ap₂, subst, List, [], length, drop, arith, length-append}
 use Rattle.std.proofs.lemmas.List.{drop_all}
 use Rattle.fop_types.specs.declared.cells.Cell.{Cell}
 use Rattle.wire_xdr.specs.Xdr.{unit, padding, opaque, texts, list}

@@ -1,4 +1,4 @@
-use Rattle.std.proofs.Common.{◌≡◌, ◌≤◌, length, arith}
+use Rattle.std.proofs.Common.{arith}
 use Rattle.wire_xdr.specs.PartText.{item_text}
 use Rattle.wire_xdr.proofs.Sizes.{list_room}
 use Rattle.wire_xdr.proofs.rooms.items_room.Goals as goal
