@@ -1,8 +1,7 @@
 //! Times how a request that writes 65,536 bytes is encoded and decoded, beside a plain copy of the bytes.
 //!
 //! Without arguments it does nothing. With the argument `time` it writes to standard error how many
-//! bytes each second are copied, encoded and decoded, and how many times as long as the copy the other
-//! two take.
+//! bytes each second are copied, encoded and decoded, and the time of each in hundredths of the copy's.
 #![tactic(auto)]
 
 mod messages;

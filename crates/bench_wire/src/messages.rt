@@ -38,6 +38,15 @@ pub fn request(bytes: Seq<u8>) -> Input
     }
 }
 
+/// The message of an input. Memory below it is held meanwhile and then given back, so that each round
+/// which is timed takes that memory again, and none waits for pages of the system.
+pub fn message(alloc: Global, input: &Input) -> Result<Vec<u8>, AllocError>
+    requires { IsInput input.now }
+{
+    let _held: Vec<u8> = Vec::with_capacity(alloc, 98304)?;
+    encode_req(alloc, input)
+}
+
 /// The sum of a byte of each of so many copies of the bytes.
 pub fn copied(alloc: Global, bytes: &[u8], rounds: u32) -> Result<u64, AllocError> {
     let mut sum = 0u64;

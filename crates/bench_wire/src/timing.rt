@@ -1,43 +1,96 @@
-ghost use Rattle.std.specs.Prelude.{◌≤◌, length};
 ghost use Rattle.wire_xdr.specs.WireText.{IsInput};
 
-use crate::messages::{SIZE, copied, decoded, encoded, payload, request};
-use fop_types::{Input, Seq};
+use crate::messages::{SIZE, copied, decoded, encoded, message, payload, request};
+use fop_types::Input;
 use std::alloc::Global;
 use std::io;
 use std::rt::Runtime;
 use std::time::{Duration, Instant};
-use wire_xdr::encode_req;
 
-/// How often each is done while it is timed.
-const ROUNDS: u32 = 20000;
+/// How often each is done in a pass.
+const ROUNDS: u32 = 2000;
 
-/// The nanoseconds that all rounds took, and the sum of a byte of what each gave.
+/// How many passes follow the first. The quickest is told, since others may use the processor meanwhile.
+const PASSES: u32 = 20;
+
+/// The nanoseconds that the rounds of a pass took, and the sum of a byte of what each gave.
 #[derive(Clone, Copy)]
 struct Timed {
     nanoseconds: u64,
     sum: u64,
 }
 
+/// What is timed in a pass.
+#[derive(Clone, Copy)]
+struct Pass {
+    copy: Timed,
+    encode: Timed,
+    decode: Timed,
+}
+
 /// Writes to standard error how fast 65,536 bytes are copied, encoded as a write and decoded.
 pub fn report<R: Runtime>(rt: &R, alloc: Global) -> io::Result<()> {
     let bytes = payload(alloc)?;
-    let copy = time_of_copies(rt, alloc, bytes.as_slice())?;
-    eprintln!(rt; "a write of 65536 bytes, {ROUNDS} times:")?;
-    report_one(rt, "copy", copy, copy)?;
-    report_wire(rt, alloc, bytes, copy)
+    let input = request(payload(alloc)?);
+    let message = message(alloc, &input)?;
+    let best = best_pass(rt, alloc, bytes.as_slice(), &input, message.as_slice())?;
+    report_pass(rt, best)
 }
 
-/// Writes how fast the request that writes these bytes is encoded and decoded.
-fn report_wire<R: Runtime>(rt: &R, alloc: Global, bytes: Seq<u8>, copy: Timed) -> io::Result<()>
-    requires { length bytes ≤ 65536 }
+fn report_pass<R: Runtime>(rt: &R, pass: Pass) -> io::Result<()> {
+    eprintln!(rt; "a write of 65536 bytes, the quickest pass of {ROUNDS} rounds:")?;
+    report_one(rt, "copy", pass.copy, pass.copy)?;
+    report_one(rt, "encode", pass.encode, pass.copy)?;
+    report_one(rt, "decode", pass.decode, pass.copy)
+}
+
+/// The quickest of all passes, each of the three for itself.
+fn best_pass<R: Runtime>(
+    rt: &R,
+    alloc: Global,
+    bytes: &[u8],
+    input: &Input,
+    message: &[u8],
+) -> io::Result<Pass>
+    requires { IsInput input.now }
 {
-    let input = request(bytes);
-    let encode = time_of_spellings(rt, alloc, &input)?;
-    report_one(rt, "encode", encode, copy)?;
-    let message = encode_req(alloc, &input)?;
-    let decode = time_of_readings(rt, alloc, message.as_slice())?;
-    report_one(rt, "decode", decode, copy)
+    let mut best = one_pass(rt, alloc, bytes, input, message)?;
+    for _ in 0..PASSES {
+        let next = one_pass(rt, alloc, bytes, input, message)?;
+        best = Pass {
+            copy: quicker(best.copy, next.copy),
+            encode: quicker(best.encode, next.encode),
+            decode: quicker(best.decode, next.decode),
+        };
+    }
+    Ok(best)
+}
+
+fn one_pass<R: Runtime>(
+    rt: &R,
+    alloc: Global,
+    bytes: &[u8],
+    input: &Input,
+    message: &[u8],
+) -> io::Result<Pass>
+    requires { IsInput input.now }
+{
+    let copy = time_of_copies(rt, alloc, bytes)?;
+    let encode = time_of_spellings(rt, alloc, input)?;
+    let decode = time_of_readings(rt, alloc, message)?;
+    Ok(Pass {
+        copy,
+        encode,
+        decode,
+    })
+}
+
+fn quicker(one: Timed, other: Timed) -> Timed {
+    if other.nanoseconds < one.nanoseconds {
+        other
+    } else {
+        one
+    }
 }
 
 fn time_of_copies<R: Runtime>(rt: &R, alloc: Global, bytes: &[u8]) -> io::Result<Timed> {
@@ -68,15 +121,15 @@ fn time_of_readings<R: Runtime>(rt: &R, alloc: Global, message: &[u8]) -> io::Re
 fn report_one<R: Runtime>(rt: &R, name: &str, timed: Timed, copy: Timed) -> io::Result<()> {
     let each = timed.nanoseconds / u64::from(ROUNDS);
     let speed = (SIZE as u64 * 1000).checked_div(each).unwrap_or(0);
-    let tenths = timed
+    let hundredths = timed
         .nanoseconds
-        .saturating_mul(10)
+        .saturating_mul(100)
         .checked_div(copy.nanoseconds)
         .unwrap_or(0);
-    let whole = tenths / 10;
-    let tenth = tenths % 10;
     let sum = timed.sum;
-    eprintln!(rt; "  {name}: {each} ns, {speed} MB/s, {whole}.{tenth} times the copy; sum {sum}")
+    eprintln!(rt;
+        "  {name}: {each} ns, {speed} MB/s, {hundredths} % of the time of the copy; sum {sum}"
+    )
 }
 
 fn nanoseconds_of(time: Duration) -> u64 {
