@@ -5,54 +5,21 @@ use Rattle.std.specs.Cmp.{nat_eq_equiv}
 use Rattle.fop_types.specs.declared.cells.Gfid.{Gfid}
 use Rattle.mount_locks.specs.declared.request.Request.{Request}
 use Rattle.mount_locks.specs.Rule.{held, waiting, is_gfid, names, shares, conflicts, any_conflicts, granted_now, without, Turned, turn, grant_in_order, released, AreApart}
-
--- ---- lists
-any-append : {X : Type 0} (p : X → Bool) (xs ys : List X) → list_any p (xs ++ ys) ≡ (list_any p xs || list_any p ys)
-any-append p [] ys = refl
-any-append p (x ∷ xs) ys = elim (p x) as (λ b. (b || list_any p (xs ++ ys)) ≡ ((b || list_any p xs) || list_any p ys)) [ true ↦ refl | false ↦ any-append p xs ys ]
-
-filter-append : {X : Type 0} (p : X → Bool) (xs ys : List X) → filter p (xs ++ ys) ≡ filter p xs ++ filter p ys
-filter-append p [] ys = refl
-filter-append p (x ∷ xs) ys = elim (p x) as (λ b. cond b (x ∷ filter p (xs ++ ys)) (filter p (xs ++ ys)) ≡ cond b (x ∷ filter p xs) (filter p xs) ++ filter p ys) [ true ↦ ap (λ t. x ∷ t) (filter-append p xs ys) | false ↦ filter-append p xs ys ]
-
-any_same : {X : Type 0} (p q : X → Bool) (xs : List X) → ((x : X) → p x ≡ q x) → list_any p xs ≡ list_any q xs
-any_same p q [] h = refl
-any_same p q (x ∷ xs) h = ap (λ b. b || list_any p xs) (h x) ∙ ap (λ t. q x || t) (any_same p q xs h)
-
-or_swap : (a b c d : Bool) → ((a || b) || (c || d)) ≡ ((a || c) || (b || d))
-or_swap true b c d = refl
-or_swap false true true d = refl
-or_swap false true false d = refl
-or_swap false false true d = refl
-or_swap false false false d = refl
-
-any_or : {X : Type 0} (p q : X → Bool) (xs : List X) → list_any (λ x. p x || q x) xs ≡ (list_any p xs || list_any q xs)
-any_or p q [] = refl
-any_or p q (x ∷ xs) = ap (λ t. (p x || q x) || t) (any_or p q xs) ∙ or_swap (p x) (q x) (list_any p xs) (list_any q xs)
-
-none : {X : Type 0} (xs : List X) → list_any (λ _. false) xs ≡ false
-none [] = refl
-none (x ∷ xs) = none xs
+use Rattle.mount_locks.proofs.Lists.{any-append, any_same, any_or, none, and_flip, or_false, not_false, any_cond, any_left, filter-append, filter_swap, nil_end, joined}
 
 -- ---- to conflict goes both ways
-eq_flip : (a b : ℕ) → (a == b) ≡ (b == a)
+pub eq_flip : (a b : ℕ) → (a == b) ≡ (b == a)
 eq_flip a b = nat_eq_equiv.symm a b
 
-gfid_flip : (a b : Gfid) → is_gfid a b ≡ is_gfid b a
+pub gfid_flip : (a b : Gfid) → is_gfid a b ≡ is_gfid b a
 gfid_flip a b = ap (λ t. t && (a.lo == b.lo)) (eq_flip a.hi b.hi) ∙ ap (λ t. (b.hi == a.hi) && t) (eq_flip a.lo b.lo)
 
-shares_flip : (a b : List Gfid) → shares a b ≡ shares b a
+pub shares_flip : (a b : List Gfid) → shares a b ≡ shares b a
 shares_flip [] b = none b
 shares_flip (x ∷ xs) b =
     any_or (is_gfid x) (names xs) b
     ∙ ap (λ t. t || shares xs b) (any_same (is_gfid x) (λ y. is_gfid y x) b (gfid_flip x))
     ∙ ap (λ t. names b x || t) (shares_flip xs b)
-
-and_flip : (a b : Bool) → (a && b) ≡ (b && a)
-and_flip true true = refl
-and_flip true false = refl
-and_flip false true = refl
-and_flip false false = refl
 
 pub conflicts_flip : (a b : Request) → conflicts a b ≡ conflicts b a
 conflicts_flip a b =
@@ -61,10 +28,6 @@ conflicts_flip a b =
     ∙ ap (λ t. not (b.call == a.call) && (not (b.shared && a.shared) && t)) (shares_flip a.gfids b.gfids)
 
 -- ---- one more among requests that are apart
-or_false : (a b : Bool) → (a || b) ≡ false → (a ≡ false) × (b ≡ false)
-or_false true b h = absurd cc
-or_false false b h = (refl, h)
-
 still_free : (xs ys : List Request) (r x : Request) → conflicts r x ≡ false → any_conflicts (xs ++ ys) x ≡ false → any_conflicts (xs ++ r ∷ ys) x ≡ false
 still_free xs ys r x both_ways free =
     any-append (λ a. conflicts a x) xs (r ∷ ys)
@@ -77,20 +40,6 @@ apart_insert [] ys r apart free = (free, apart)
 apart_insert (x ∷ xs) ys r apart free =
     let two = or_false (conflicts x r) (any_conflicts (xs ++ ys) r) free in
     (still_free xs ys r x (conflicts_flip r x ∙ two.0) apart.0, apart_insert xs ys r apart.1 two.1)
-
-both_same : {X : Type 0} (b : Bool) (x : X) → cond b x x ≡ x
-both_same true x = refl
-both_same false x = refl
-
-filter_cond : {X : Type 0} (p : X → Bool) (b : Bool) (x : X) (xs : List X) → filter p (cond b (x ∷ xs) xs) ≡ cond b (cond (p x) (x ∷ filter p xs) (filter p xs)) (filter p xs)
-filter_cond p true x xs = refl
-filter_cond p false x xs = refl
-
-cond_swap : {X : Type 0} (a b : Bool) (x : X) (t : List X) → cond b (cond a (x ∷ t) t) t ≡ cond a (cond b (x ∷ t) t) t
-cond_swap true true x t = refl
-cond_swap true false x t = refl
-cond_swap false true x t = refl
-cond_swap false false x t = refl
 
 or_turn : (a b c : Bool) → ((a || b) || c) ≡ ((a || c) || b)
 or_turn true b c = refl
@@ -108,21 +57,12 @@ second_of true b h = absurd cc
 second_of false b h = h
 
 -- ---- the rule
-not_false : (b : Bool) → not b ≡ true → b ≡ false
-not_false true h = absurd cc
-not_false false h = refl
-
--- a request at the end
 or_all : (p c : Bool) (a b : Bool) → (cond p (c || a) a || cond (not p) (c || b) b) ≡ (c || (a || b))
 or_all true true a b = refl
 or_all true false a b = refl
 or_all false true true b = refl
 or_all false true false b = refl
 or_all false false a b = refl
-
-any_cond : {X : Type 0} (p : X → Bool) (b : Bool) (x : X) (xs : List X) → list_any p (cond b (x ∷ xs) xs) ≡ cond b (p x || list_any p xs) (list_any p xs)
-any_cond p true x xs = refl
-any_cond p false x xs = refl
 
 pub any_split : (q : List Request) (r : Request) → (any_conflicts (held q) r || any_conflicts (waiting q) r) ≡ any_conflicts q r
 any_split [] r = refl
@@ -132,29 +72,7 @@ any_split (x ∷ xs) r =
     ∙ or_all x.granted (conflicts x r) (any_conflicts (held xs) r) (any_conflicts (waiting xs) r)
     ∙ ap (λ t. conflicts x r || t) (any_split xs r)
 
-nil_end : {X : Type 0} (xs : List X) → xs ++ [] ≡ xs
-nil_end [] = refl
-nil_end (x ∷ xs) = ap (λ t. x ∷ t) (nil_end xs)
-
-pub apart_asked : (q : List Request) (r : Request) (g : Bool) → g ≡ not (any_conflicts q r) → AreApart (held q) → AreApart (held (q ++ record r { granted = g } ∷ []))
-apart_asked q r true is apart =
-    let free : any_conflicts (held q) r ≡ false = (or_false _ _ (any_split q r ∙ not_false _ (sym is))).0 in
-    rw (filter-append (λ (a : Request). a.granted) q (record r { granted = true } ∷ []))
-    (apart_insert (held q) [] (record r { granted = true }) (rw (nil_end (held q)) apart) (rw (nil_end (held q)) free))
-apart_asked q r false is apart =
-    rw (filter-append (λ (a : Request). a.granted) q (record r { granted = false } ∷ [])) (rw (nil_end (held q)) apart)
-
-pub apart_extended : (q : List Request) (r : Request) (g : Bool) → g ≡ not (any_conflicts (held q) r) → AreApart (held q) → AreApart (held (record r { granted = g } ∷ q))
-apart_extended q r true is apart = (not_false _ (sym is), apart)
-apart_extended q r false is apart = apart
-
 -- fewer requests
-any_left : {X : Type 0} (p q : X → Bool) (xs : List X) → list_any p xs ≡ false → list_any p (filter q xs) ≡ false
-any_left p q [] h = refl
-any_left p q (x ∷ xs) h =
-    let two = or_false (p x) (list_any p xs) h in
-    any_cond p (q x) x (filter q xs) ∙ ap (λ t. cond (q x) (t || list_any p (filter q xs)) (list_any p (filter q xs))) two.0 ∙ both_same (q x) _ ∙ any_left p q xs two.1
-
 apart_left : (q : Request → Bool) (xs : List Request) → AreApart xs → AreApart (filter q xs)
 apart_left q [] apart = tt
 apart_left q (x ∷ xs) apart =
@@ -163,12 +81,8 @@ apart_left q (x ∷ xs) apart =
       | false ↦ apart_left q xs apart.1
     ]
 
-filter_swap : {X : Type 0} (p q : X → Bool) (xs : List X) → filter p (filter q xs) ≡ filter q (filter p xs)
-filter_swap p q [] = refl
-filter_swap p q (x ∷ xs) = filter_cond p (q x) x (filter q xs) ∙ ap (λ t. cond (q x) (cond (p x) (x ∷ t) t) t) (filter_swap p q xs) ∙ cond_swap (p x) (q x) x (filter q (filter p xs)) ∙ sym (filter_cond q (p x) x (filter p xs))
-
-pub apart_without : (c : ℕ) (q : List Request) → AreApart (held q) → AreApart (held (without c q))
-apart_without c q apart = rw (filter_swap (λ (a : Request). a.granted) (λ (a : Request). not (a.call == c)) q) (apart_left (λ (a : Request). not (a.call == c)) (held q) apart)
+pub apart_fewer : (t : Request → Bool) (q : List Request) → AreApart (held q) → AreApart (held (filter t q))
+apart_fewer t q apart = rw (filter_swap (λ (a : Request). a.granted) t q) (apart_left t (held q) apart)
 
 -- ---- the turns
 pub free_is : (earlier later : List Request) (r : Request) → granted_now (held earlier ++ held later) (waiting earlier) r ≡ not (any_conflicts earlier r || any_conflicts (held later) r)
@@ -181,16 +95,12 @@ free_is earlier later r =
 free_of_held : (a b : List Request) (r : Request) → granted_now a b r ≡ true → any_conflicts a r ≡ false
 free_of_held a b r h = (or_false _ _ (not_false _ h)).0
 
-joined : (xs : List Request) (y : Request) (ys : List Request) → (xs ++ y ∷ []) ++ ys ≡ xs ++ y ∷ ys
-joined [] y ys = refl
-joined (x ∷ xs) y ys = ap (λ (t : List Request). x ∷ t) (joined xs y ys)
-
 old_apart : (earlier later : List Request) (r : Request) → r.granted ≡ false → AreApart (held (earlier ++ r ∷ later)) → AreApart (held earlier ++ held later)
 old_apart earlier later r waits apart =
     let split = filter-append (λ (a : Request). a.granted) earlier (r ∷ later) in
     subst (λ (t : List Request). AreApart t) (split ∙ ap (λ b. held earlier ++ cond b (r ∷ held later) (held later)) waits) apart
 
-apart_turn : (before : Turned) (r : Request) (after : List Request) → AreApart (held (before.queue ++ r ∷ after)) → AreApart (held ((turn before r after).queue ++ after))
+pub apart_turn : (before : Turned) (r : Request) (after : List Request) → AreApart (held (before.queue ++ r ∷ after)) → AreApart (held ((turn before r after).queue ++ after))
 apart_turn before r after apart =
     elim (not r.granted && granted_now (held before.queue ++ held after) (waiting before.queue) r) as (λ b.
     (not r.granted && granted_now (held before.queue ++ held after) (waiting before.queue) r) ≡ b
@@ -203,9 +113,15 @@ apart_turn before r after apart =
       | false ↦ λ e. rw (joined before.queue r after) apart
     ] refl
 
+-- one more that waits
+pub apart_waiting : (earlier later : List Request) (r : Request) → r.granted ≡ false → AreApart (held (earlier ++ later)) → AreApart (held (earlier ++ r ∷ later))
+apart_waiting earlier later r waits apart =
+    let split = filter-append (λ (a : Request). a.granted) earlier (r ∷ later) in
+    subst (λ (t : List Request). AreApart t) (filter-append (λ (a : Request). a.granted) earlier later ∙ sym (split ∙ ap (λ b. held earlier ++ cond b (r ∷ held later) (held later)) waits)) apart
+
 pub apart_turned : (after : List Request) (before : Turned) → AreApart (held (before.queue ++ after)) → AreApart (held (grant_in_order before after).queue)
 apart_turned [] before apart = subst (λ (q : List Request). AreApart (held q)) (nil_end before.queue) apart
 apart_turned (r ∷ after) before apart = apart_turned after (turn before r after) (apart_turn before r after apart)
 
 pub apart_released : (c : ℕ) (q : List Request) → AreApart (held q) → AreApart (held (released c q).queue)
-apart_released c q apart = apart_turned (without c q) (record { queue = []; calls = [] }) (apart_without c q apart)
+apart_released c q apart = apart_turned (without c q) (record { queue = []; calls = [] }) (apart_fewer (λ (a : Request). not (a.call == c)) q apart)

@@ -1,2 +1,10 @@
+pub mod Lists
 pub mod Apart
+pub mod Touches
+pub mod Numbered
+pub mod Counts
 pub mod Turns
+pub mod Blocked
+pub mod Rests
+pub mod Leaving
+pub mod Asking

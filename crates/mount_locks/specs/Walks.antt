@@ -1,11 +1,94 @@
--- What a walk of the queue looks for.
-use Rattle.std.specs.Prelude.{ℕ, Bool, ◌||◌, List}
+-- The requests by their numbers: which of them are blocked, and what their turns make of the queue.
+use Rattle.std.specs.Prelude.{◌≡◌, ℕ, Bool, true, false, cond, not, ◌==◌, nat_lt, ◌&&◌, ◌||◌, List, [], ◌∷◌, Option, Some, None}
+use Rattle.std.specs.List.{list_any}
+use Rattle.fop_types.specs.declared.cells.Gfid.{Gfid}
+use Rattle.queue_index.specs.declared.key.Key.{Key}
+use Rattle.queue_index.specs.Queue.{item_at, items, changed_at, touching}
 use Rattle.mount_locks.specs.declared.request.Request.{Request}
-use Rattle.mount_locks.specs.Rule.{held, any_conflicts, Turned}
-
--- an earlier request, or a later one that is granted, conflicts with r
-abbrev pub is_blocked : List Request → List Request → Request → Bool
-is_blocked earlier later r = any_conflicts earlier r || any_conflicts (held later) r
+use Rattle.mount_locks.specs.Rule.{held, names, shares, conflicts, AreApart, Turned}
+use Rattle.mount_locks.specs.Keys.{keys_of, marked}
 
 abbrev pub turned_of : List Request → List ℕ → Turned
 turned_of queue calls = record { queue = queue; calls = calls }
+
+-- whether the entry of a number is there and passes
+abbrev pub passes : (ℕ → Request → Bool) → ℕ → Option Request → Bool
+passes p n None = false
+passes p n (Some r) = p n r
+
+abbrev pub is_at_number : (ℕ → Request → Bool) → List (ℕ × Request) → ℕ → Bool
+is_at_number p es n = passes p n (item_at n es)
+
+-- whether s of number m is of another call, and stands before the number n or is granted
+abbrev pub bars : ℕ → ℕ → ℕ → Request → Bool
+bars call n m s = not (s.call == call) && (nat_lt m n || s.granted)
+
+-- whether s names a gfid, and s or one that asks for it, together with others or alone, is alone
+abbrev pub is_on : Gfid → Bool → Request → Bool
+is_on g together s = names s.gfids g && not (together && s.shared)
+
+-- the same of several gfids
+abbrev pub meets : List Gfid → Bool → Request → Bool
+meets gs together s = shares s.gfids gs && not (together && s.shared)
+
+-- whether an entry stands in the way of a request at a number: the two conflict, and the entry stands
+-- before it or is granted
+abbrev pub blocks : ℕ → Request → ℕ × Request → Bool
+blocks n r e = conflicts e.1 r && (nat_lt e.0 n || e.1.granted)
+
+abbrev pub is_blocked : List (ℕ × Request) → ℕ → Request → Bool
+is_blocked es n r = list_any (blocks n r) es
+
+-- each request that waits is blocked
+abbrev pub AreBlocked : List (ℕ × Request) → Type 0
+AreBlocked es = (n : ℕ) (r : Request) → item_at n es ≡ Some r → r.granted ≡ false → is_blocked es n r ≡ true
+
+-- what the queue keeps: no two holds conflict, and none waits that could be granted
+pub record IsSettled (es : List (ℕ × Request)) : Type 0 where
+  pub apart : AreApart (held (items es))
+  pub blocked : AreBlocked es
+
+-- a request is due where it waits and nothing blocks it
+abbrev pub is_due : List (ℕ × Request) → ℕ → Request → Bool
+is_due es n r = not r.granted && not (is_blocked es n r)
+
+-- the queue after the turn of a number: its request is granted where it is due
+abbrev pub turn_of : List (ℕ × Request) → ℕ → Option Request → List (ℕ × Request)
+turn_of es n None = es
+turn_of es n (Some r) = cond (is_due es n r) (changed_at marked n es) es
+
+abbrev pub turn_at : List (ℕ × Request) → ℕ → List (ℕ × Request)
+turn_at es n = turn_of es n (item_at n es)
+
+-- the call that is granted at the turn of a number
+abbrev pub call_of : List (ℕ × Request) → ℕ → Option Request → Option ℕ
+call_of es n None = None
+call_of es n (Some r) = cond (is_due es n r) (Some r.call) None
+
+abbrev pub call_at : List (ℕ × Request) → ℕ → Option ℕ
+call_at es n = call_of es n (item_at n es)
+
+abbrev pub with_call : Option ℕ → List ℕ → List ℕ
+with_call None calls = calls
+with_call (Some call) calls = call ∷ calls
+
+-- the turns of several numbers, one after the other
+abbrev pub turns : List (ℕ × Request) → List ℕ → List (ℕ × Request)
+turns es [] = es
+turns es (n ∷ ns) = turns (turn_at es n) ns
+
+abbrev pub calls_of : List (ℕ × Request) → List ℕ → List ℕ
+calls_of es [] = []
+calls_of es (n ∷ ns) = with_call (call_at es n) (calls_of (turn_at es n) ns)
+
+-- whether the request of one number conflicts with that of another, where their calls differ
+abbrev pub meets_number : List (ℕ × Request) → ℕ → Option Request → Bool
+meets_number es q None = false
+meets_number es q (Some r) = is_at_number (λ _. meets r.gfids r.shared) es q
+
+abbrev pub meets_at : List (ℕ × Request) → ℕ → ℕ → Bool
+meets_at es q n = meets_number es q (item_at n es)
+
+-- the same of the request of a number and one that has a key
+abbrev pub is_rival : Key → List (ℕ × Request) → Request → Bool
+is_rival k es s = list_any (λ r. meets r.gfids r.shared s) (items (touching keys_of k es))

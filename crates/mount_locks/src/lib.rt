@@ -17,6 +17,8 @@
 mod locks;
 mod queue;
 mod request;
+mod rivals;
+mod walk;
 #[cfg(test)]
 mod tests;
 

@@ -1,8 +1,10 @@
 ghost use Rattle.std.specs.Prelude.{◌≡◌, [], true, false, OnOk, OnErr, IfOk, length, ◌∷◌, ◌==◌};
 ghost use Rattle.mount_locks.specs.Rule.{held, waiting, request_of, granted_now, answer, asked, extended, without, released, AreApart};
 
-use crate::queue::{any_conflicts, any_held_conflicts, any_waits, forget, grant};
-use crate::request::{Held, Request};
+use crate::queue::RequestQueue;
+use crate::request::{Held, Request, call_key};
+use crate::rivals::rivals_of;
+use crate::walk::{forget, grant, settle};
 use fop_types::{Gfid, Seq};
 use std::alloc::{AllocError, Global};
 use std::marker::Model;
@@ -10,19 +12,20 @@ use std::marker::Model;
 /// The queue of requests for holds.
 #[derive(Drop)]
 pub struct MountLocks {
-    requests: Vec<Request>,
+    queue: RequestQueue,
 }
 
 impl Model for MountLocks {
     ghost use Rattle.std.specs.Prelude.{List};
+    ghost use Rattle.queue_index.specs.Queue.{items};
     ghost use Rattle.mount_locks.specs.declared.request.Request.{Request};
-    ghost use Rattle.mount_locks.specs.Rule.{held, AreApart};
+    ghost use Rattle.mount_locks.specs.Walks.{IsSettled};
 
     ghost Value = { List Request };
 
-    ghost view = { λ m. m.requests.items };
+    ghost view = { λ m. items m.queue };
 
-    ghost invariant = { λ m. AreApart (held m.requests.items) };
+    ghost invariant = { λ m. IsSettled m.queue };
 }
 
 impl MountLocks {
@@ -31,7 +34,7 @@ impl MountLocks {
         ensures { result ≡ [] }
     {
         MountLocks {
-            requests: Vec::new(alloc),
+            queue: RequestQueue::new(alloc),
         }
     }
 
@@ -39,7 +42,7 @@ impl MountLocks {
     pub fn holds_are_apart(&self)
         ensures { AreApart (held self.now) }
     {
-        let _ = &self.requests;
+        let _ = &self.queue;
     }
 
     /// Asks for a hold on some gfids, shared or alone, at the end of the queue. It is `Granted` exactly
@@ -60,16 +63,16 @@ impl MountLocks {
         ensures err { OnErr result (self.new ≡ self.old) }
     {
         let gfids = Seq::from_vec(Vec::from_slice(alloc, gfids)?);
-        let mut request = Request {
+        let request = Request {
             call,
             gfids,
             shared,
             granted: false,
         };
-        let granted = !any_conflicts(self.requests.as_slice(), &request);
-        request.granted = granted;
-        self.requests.push(request)?;
-        Ok(Held::of(granted))
+        let number = self.queue.push_back(request)?;
+        self.queue.numbers_rise();
+        let held = settle(&mut self.queue, number);
+        Ok(held)
     }
 
     /// Extends the hold of a call by one gfid alone, before all waiting requests. It is `Granted` exactly
@@ -85,16 +88,16 @@ impl MountLocks {
     {
         let mut gfids = Seq::new(alloc);
         gfids.push(gfid)?;
-        let mut request = Request {
+        let request = Request {
             call,
             gfids,
             shared: false,
             granted: false,
         };
-        let granted = !any_held_conflicts(self.requests.as_slice(), &request);
-        request.granted = granted;
-        self.requests.insert(0, request)?;
-        Ok(Held::of(granted))
+        let number = self.queue.push_front(request)?;
+        self.queue.numbers_rise();
+        let held = settle(&mut self.queue, number);
+        Ok(held)
     }
 
     /// Takes all requests of a call out of the queue, and then grants the waiting ones that can be granted,
@@ -107,9 +110,11 @@ impl MountLocks {
         ensures ok { OnOk result (self.new ≡ (released call self.old).queue) }
         ensures err { OnErr result (self.new ≡ self.old) }
     {
-        let mut calls = Vec::with_capacity(alloc, self.requests.len())?;
-        forget(&mut self.requests, call);
-        grant(&mut self.requests, &mut calls);
+        self.queue.numbers_rise();
+        let rivals = rivals_of(alloc, self.queue.requests(), call_key(call))?;
+        let mut calls = Vec::with_capacity(alloc, rivals.len())?;
+        forget(&mut self.queue, call_key(call));
+        grant(&mut self.queue, rivals, &mut calls);
         Ok(calls)
     }
 
@@ -120,10 +125,10 @@ impl MountLocks {
         ensures done { result ≡ true → self.new ≡ without call self.old }
         ensures kept { result ≡ false → self.new ≡ self.old }
     {
-        if any_waits(self.requests.as_slice()) {
+        if self.queue.has_waiting() {
             return false;
         }
-        forget(&mut self.requests, call);
+        forget(&mut self.queue, call_key(call));
         true
     }
 }

@@ -1,89 +1,123 @@
-// Walks of the queue.
-ghost use Rattle.std.specs.Prelude.{◌≡◌, ◌≤◌, ◌<◌, List, [], ◌∷◌, ◌++◌, length, take, drop, not, ◌==◌, slice_index_or, slice_set, true};
-ghost use Rattle.std.specs.Vec.{vec_capacity};
-ghost use Rattle.mount_locks.specs.declared.request.Request.{Request};
-ghost use Rattle.mount_locks.specs.Rule.{held, waiting, any_conflicts, without, grant_in_order};
-ghost use Rattle.mount_locks.specs.Walks.{is_blocked, turned_of};
+ghost use Rattle.std.specs.Prelude.{◌≡◌, [], ◌∷◌, ◌++◌, length, not, ◌==◌, true, false, OnErr, IfOk};
+ghost use Rattle.std.specs.Map.{keys_of as keys_in};
+ghost use Rattle.std.specs.Ordering.{nat_cmp};
+ghost use Rattle.std.specs.List.Sorted.{IsStrictlySortedBy};
+ghost use Rattle.queue_index.specs.Queue.{items, without, changed_at};
+ghost use Rattle.mount_locks.specs.Keys.{marked};
+ghost use Rattle.mount_locks.specs.Rule.{waiting};
+ghost use Rattle.mount_locks.specs.Walks.{is_at_number};
 
 use crate::request::Request;
+use queue_index::KeyedQueue;
+use std::alloc::{AllocError, Global};
+use std::marker::Model;
 
-// True exactly where one of the requests conflicts with this one.
-pub(crate) fn any_conflicts(requests: &[Request], request: &Request) -> bool
-    ensures { result ≡ any_conflicts requests.now request.now }
-{
-    for other in requests {
-        if other.conflicts(request) {
-            return true;
+/// The requests, found by their calls and gfids, and how many of them wait. Contracts see the requests,
+/// each with its number, by rising number.
+#[derive(Drop)]
+pub(crate) struct RequestQueue {
+    requests: KeyedQueue<Request>,
+    waiting: u64,
+}
+
+impl Model for RequestQueue {
+    ghost use Rattle.std.specs.Prelude.{List, ℕ, ◌≡◌, length};
+    ghost use Rattle.queue_index.specs.Queue.{items};
+    ghost use Rattle.mount_locks.specs.declared.request.Request.{Request};
+    ghost use Rattle.mount_locks.specs.Rule.{waiting as waiting_of};
+
+    ghost Value = { List (ℕ × Request) };
+
+    ghost view = { λ q. q.requests };
+
+    ghost invariant = { λ q. q.waiting ≡ length (waiting_of (items q.requests)) };
+}
+
+impl RequestQueue {
+    /// The empty queue, which takes no memory.
+    pub(crate) fn new(alloc: Global) -> RequestQueue
+        ensures { result ≡ [] }
+    {
+        RequestQueue {
+            requests: KeyedQueue::new(alloc),
+            waiting: 0,
         }
     }
-    false
-}
 
-// True exactly where one that is granted conflicts with this one.
-pub(crate) fn any_held_conflicts(requests: &[Request], request: &Request) -> bool
-    ensures { result ≡ any_conflicts (held requests.now) request.now }
-{
-    for other in requests {
-        if other.granted && other.conflicts(request) {
-            return true;
+    /// The requests, to look them up.
+    pub(crate) fn requests(&self) -> &KeyedQueue<Request>
+        ensures value { result.now ≡ self.now }
+    {
+        &self.requests
+    }
+
+    /// The numbers rise. The call does nothing; it is there for its contract.
+    pub(crate) fn numbers_rise(&self)
+        ensures { IsStrictlySortedBy nat_cmp (keys_in self.now) }
+    {
+        self.requests.numbers_rise();
+    }
+
+    /// Whether a request waits.
+    pub(crate) fn has_waiting(&self) -> bool
+        ensures { result ≡ not (length (waiting (items self.now)) == 0) }
+    {
+        self.waiting != 0
+    }
+
+    /// Puts a request that waits at the end, and gives its number.
+    pub(crate) fn push_back(&mut self, request: Request) -> Result<u64, AllocError>
+        requires { request.granted ≡ false }
+        ensures added { IfOk result (λ n. self.new ≡ self.old ++ (n, request) ∷ []) }
+        ensures err { OnErr result (self.new ≡ self.old) }
+    {
+        let number = self.requests.push_back(request)?;
+        self.requests.len();
+        self.waiting += 1;
+        Ok(number)
+    }
+
+    /// Puts a request that waits at the front, and gives its number.
+    pub(crate) fn push_front(&mut self, request: Request) -> Result<u64, AllocError>
+        requires { request.granted ≡ false }
+        ensures added { IfOk result (λ n. self.new ≡ (n, request) ∷ self.old) }
+        ensures err { OnErr result (self.new ≡ self.old) }
+    {
+        let number = self.requests.push_front(request)?;
+        self.requests.len();
+        self.waiting += 1;
+        Ok(number)
+    }
+
+    /// Grants the request of a number, which waits.
+    pub(crate) fn grant(&mut self, number: u64)
+        requires { is_at_number (λ _ r. not r.granted) self.old number ≡ true }
+        ensures { self.new ≡ changed_at marked number self.old }
+    {
+        self.requests.numbers_rise();
+        self.requests.mark(number);
+        self.waiting -= 1;
+    }
+
+    /// Takes the request of a number out, where there is one. It takes no memory.
+    pub(crate) fn remove(&mut self, number: u64)
+        ensures { self.new ≡ without number self.old }
+    {
+        self.requests.numbers_rise();
+        let waits = waits_at(&self.requests, number);
+        self.requests.remove(number);
+        if waits {
+            self.waiting -= 1;
         }
     }
-    false
 }
 
-// Takes the requests of a call out of the queue.
-pub(crate) fn forget(requests: &mut Vec<Request>, call: u32)
-    ensures kept { requests.new.items ≡ without call requests.old.items }
-    ensures room { length requests.new.items ≤ length requests.old.items }
+/// Whether the request of a number is there and waits.
+fn waits_at(requests: &KeyedQueue<Request>, number: u64) -> bool
+    ensures { result ≡ is_at_number (λ _ r. not r.granted) requests.now number }
 {
-    requests.retain(|request| request.call != call);
-}
-
-// True exactly where one of the requests waits.
-pub(crate) fn any_waits(requests: &[Request]) -> bool
-    ensures { result ≡ not (length (waiting requests.now) == 0) }
-{
-    for request in requests {
-        if !request.granted {
-            return true;
-        }
-    }
-    false
-}
-
-// True exactly where the request at a place has a granted or an earlier request that conflicts with it.
-fn is_blocked(requests: &[Request], place: usize, request: &Request) -> bool
-    requires { place ≤ length requests.now }
-    ensures { result ≡ is_blocked (take place requests.now) (drop place requests.now) request.now }
-{
-    any_conflicts(&requests[..place], request) || any_held_conflicts(&requests[place..], request)
-}
-
-// Grants the request at a place.
-fn mark(requests: &mut Vec<Request>, place: usize)
-    requires { place < length requests.old.items }
-    ensures { (r : Request) → r ≡ slice_index_or requests.old.items place r → requests.new.items ≡ slice_set requests.old.items place (record r { granted = true }) }
-{
-    requests[place].granted = true;
-}
-
-// Gives each waiting request its turn, in queue order, and notes the calls that are granted.
-pub(crate) fn grant(requests: &mut Vec<Request>, calls: &mut Vec<u32>)
-    requires none { calls.old.items ≡ [] }
-    requires room { length requests.old.items ≤ vec_capacity calls.old }
-    ensures turned { turned_of requests.new.items calls.new.items ≡ grant_in_order (turned_of [] []) requests.old.items }
-{
-    let count = requests.len();
-    for place in 0..count {
-        let request = &requests[place];
-        if request.granted {
-            continue;
-        }
-        if is_blocked(requests.as_slice(), place, request) {
-            continue;
-        }
-        let call = request.call;
-        mark(requests, place);
-        calls.push_reserved(call);
-    }
+    let Some(request) = requests.get(number) else {
+        return false;
+    };
+    !request.granted
 }

@@ -1,7 +1,13 @@
 ghost use Rattle.std.specs.Prelude.{◌≡◌};
 ghost use Rattle.mount_locks.specs.Rule.{conflicts, shares, answer};
+ghost use Rattle.mount_locks.specs.Keys.{call_key, gfid_key};
 
 use fop_types::{Gfid, Seq};
+use queue_index::{Key, Keyed};
+
+const CALLS: u8 = 0;
+
+const GFIDS: u8 = 1;
 
 /// One request for a hold: the call that asked, the gfids, whether it holds them shared or alone, and
 /// whether it is granted or waits.
@@ -56,4 +62,56 @@ fn shares(one: &[Gfid], other: &[Gfid]) -> bool
         }
     }
     false
+}
+
+/// The key of the requests of a call.
+pub(crate) fn call_key(call: u32) -> Key
+    ensures { result ≡ call_key call }
+{
+    Key {
+        kind: CALLS,
+        hi: 0,
+        lo: u64::from(call),
+        mode: 0,
+    }
+}
+
+/// The key of the requests that name a gfid, of those alone or of the shared ones.
+pub(crate) fn gfid_key(gfid: Gfid, shared: bool) -> Key
+    ensures { result ≡ gfid_key gfid shared }
+{
+    let mode = if shared { 1 } else { 0 };
+    Key {
+        kind: GFIDS,
+        hi: gfid.hi,
+        lo: gfid.lo,
+        mode,
+    }
+}
+
+impl Keyed for Request {
+    ghost use Rattle.std.specs.Prelude.{refl};
+    ghost use Rattle.mount_locks.specs.Keys.{keys_of, marked};
+
+    ghost keys = { keys_of };
+
+    ghost marked = { marked };
+
+    fn key_count(&self) -> usize {
+        self.gfids.as_slice().len() + 1
+    }
+
+    fn key(&self, at: usize) -> Key {
+        if at == 0 {
+            return call_key(self.call);
+        }
+        let gfid = self.gfids.as_slice()[at - 1];
+        gfid_key(gfid, self.shared)
+    }
+
+    fn mark(&mut self) {
+        self.granted = true;
+    }
+
+    ghost stays = { λ _. refl };
 }

@@ -1,4 +1,4 @@
-ghost use Rattle.std.specs.Prelude.{◌≡◌, ◌<◌, ◌≤◌, ◌+◌, ◌^◌, ℕ, [], ◌∷◌, ◌++◌, OnOk, OnErr, IfOk, IfSome, IfNone, None, option_copied};
+ghost use Rattle.std.specs.Prelude.{◌≡◌, ◌<◌, ◌≤◌, ◌+◌, ◌^◌, ℕ, [], ◌∷◌, ◌++◌, OnOk, OnErr, IfOk, IfSome, IfNone, None, option_copied, length};
 ghost use Rattle.std.specs.Map.{keys_of};
 ghost use Rattle.std.specs.Ordering.{nat_cmp};
 ghost use Rattle.std.specs.List.{list_any};
@@ -54,6 +54,13 @@ impl<T: Keyed + Drop> KeyedQueue<T> {
         ensures { IsStrictlySortedBy nat_cmp (keys_of self.now) }
     {
         let _ = &self.held;
+    }
+
+    /// The number of entries.
+    pub fn len(&self) -> usize
+        ensures { result ≡ length self.now }
+    {
+        self.held.len()
     }
 
     /// The item of a number, `None` exactly where no entry has it.
@@ -117,8 +124,9 @@ impl<T: Keyed + Drop> KeyedQueue<T> {
         item.mark();
     }
 
-    /// The first number from `from` on whose entry has the key.
-    fn next(&self, key: Key, from: u64) -> Option<u64>
+    /// The first number from `from` on whose entry has the key, `None` exactly where there is none. It is
+    /// found in time of the order log n, so a walk from one to the next stops where it likes.
+    pub fn next(&self, key: Key, from: u64) -> Option<u64>
         ensures found { IfSome result (λ m. numbers (touching_from T.keys key from self.now) ≡ m ∷ numbers (touching_from T.keys key (m + 1) self.now)) }
         ensures none { IfNone result (numbers (touching_from T.keys key from self.now) ≡ []) }
         ensures late { IfSome result (λ m. from ≤ m) }

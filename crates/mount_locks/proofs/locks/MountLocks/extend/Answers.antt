@@ -1,13 +1,12 @@
-use Rattle.std.proofs.Common.{sym, ap, ◌∙◌, not, List, false, subst}
-use Rattle.mount_locks.specs.declared.request.Request.{Request}
-use Rattle.mount_locks.specs.Rule.{held, any_conflicts, request_of, AreApart}
-use Rattle.mount_locks.proofs.Apart.{apart_extended}
+use Rattle.std.proofs.Common.{◌∷◌, []}
+use Rattle.mount_locks.proofs.Asking.{extended_in}
 use Rattle.mount_locks.proofs.locks.MountLocks.extend.Goals as goal
 
 pub invariant_of-self-2 : goal.invariant_of-self-2
-invariant_of-self-2 c =
-    let r = request_of c.args.call c.push.new.self false in
-    subst (λ (q : List Request). AreApart (held q)) (sym c.in_ok-insert.ensures.items)
-    (apart_extended c.self.inside.requests.items r (not c.any_held_conflicts-granted.result)
-    (ap not (c.any_held_conflicts-granted.ensures ∙ ap (λ (q : List Request). any_conflicts (held q) r) c.as_slice.ensures.value))
-    c.self.invariant)
+invariant_of-self-2 c = (extended_in c.self.inside.queue c.push_front.new.self c.settle-held.new.queue c.in_ok-number.number c.args.call c.push.new.self (c.args.gfid ∷ []) c.settle-held.result c.in_ok-push.ensures.ok c.in_ok-number.ensures.added c.numbers_rise.ensures c.self.invariant c.settle-held.ensures.turned c.settle-held.ensures.held).settled
+
+pub returns-clause-answer : goal.returns-clause-answer
+returns-clause-answer c = rw (← c.self.view_is) (extended_in c.self.inside.queue c.push_front.new.self c.settle-held.new.queue c.in_ok-number.number c.args.call c.push.new.self (c.args.gfid ∷ []) c.settle-held.result c.in_ok-push.ensures.ok c.in_ok-number.ensures.added c.numbers_rise.ensures c.self.invariant c.settle-held.ensures.turned c.settle-held.ensures.held).told_is
+
+pub returns-clause-ok : goal.returns-clause-ok
+returns-clause-ok c = rw (← c.self.view_is) (extended_in c.self.inside.queue c.push_front.new.self c.settle-held.new.queue c.in_ok-number.number c.args.call c.push.new.self (c.args.gfid ∷ []) c.settle-held.result c.in_ok-push.ensures.ok c.in_ok-number.ensures.added c.numbers_rise.ensures c.self.invariant c.settle-held.ensures.turned c.settle-held.ensures.held).queue_is

@@ -1,12 +1,11 @@
-use Rattle.std.proofs.Common.{sym, ap, List, [], subst}
-use Rattle.mount_locks.specs.declared.request.Request.{Request}
-use Rattle.mount_locks.specs.Rule.{held, AreApart, Turned, grant_in_order}
-use Rattle.mount_locks.specs.Walks.{turned_of}
-use Rattle.mount_locks.proofs.Apart.{apart_released}
+use Rattle.mount_locks.proofs.Leaving.{released_is}
 use Rattle.mount_locks.proofs.locks.MountLocks.release.Goals as goal
 
 pub invariant_of-self : goal.invariant_of-self
-invariant_of-self c =
-    subst (λ (q : List Request). AreApart (held q)) (sym (ap (λ (t : Turned). t.queue) c.grant.ensures.turned))
-    (subst (λ (q : List Request). AreApart (held (grant_in_order (turned_of [] []) q).queue)) (sym c.forget.ensures.kept)
-    (apart_released c.args.call c.self.inside.requests.items c.self.invariant))
+invariant_of-self c = (released_is c.args.call c.call_key.result c.call_key-2.result c.self.inside.queue c.requests.result.now c.forget.new.queue c.grant.new.queue c.in_ok-rivals.rivals c.grant.new.calls.items c.call_key.ensures c.call_key-2.ensures c.numbers_rise.ensures c.self.invariant c.requests.ensures.value c.in_ok-rivals.ensures.found c.in_ok-rivals.ensures.ordered c.forget.ensures c.grant.ensures.turned c.grant.ensures.calls).settled
+
+pub returns-clause-calls : goal.returns-clause-calls
+returns-clause-calls c = rw (← c.self.view_is) (released_is c.args.call c.call_key.result c.call_key-2.result c.self.inside.queue c.requests.result.now c.forget.new.queue c.grant.new.queue c.in_ok-rivals.rivals c.grant.new.calls.items c.call_key.ensures c.call_key-2.ensures c.numbers_rise.ensures c.self.invariant c.requests.ensures.value c.in_ok-rivals.ensures.found c.in_ok-rivals.ensures.ordered c.forget.ensures c.grant.ensures.turned c.grant.ensures.calls).calls_are
+
+pub returns-clause-ok : goal.returns-clause-ok
+returns-clause-ok c = rw (← c.self.view_is) (released_is c.args.call c.call_key.result c.call_key-2.result c.self.inside.queue c.requests.result.now c.forget.new.queue c.grant.new.queue c.in_ok-rivals.rivals c.grant.new.calls.items c.call_key.ensures c.call_key-2.ensures c.numbers_rise.ensures c.self.invariant c.requests.ensures.value c.in_ok-rivals.ensures.found c.in_ok-rivals.ensures.ordered c.forget.ensures c.grant.ensures.turned c.grant.ensures.calls).queue

@@ -1,8 +1,10 @@
-use Rattle.std.proofs.Common.{subst, sym, List}
-use Rattle.mount_locks.specs.declared.request.Request.{Request}
-use Rattle.mount_locks.specs.Rule.{held, AreApart}
-use Rattle.mount_locks.proofs.Apart.{apart_without}
+use Rattle.std.proofs.Common.{ap, ◌∙◌}
+use Rattle.mount_locks.specs.Rule.{without}
+use Rattle.mount_locks.proofs.Leaving.{done_settled, without_is}
 use Rattle.mount_locks.proofs.locks.MountLocks.release_done.Goals as goal
 
 pub invariant_of-self : goal.invariant_of-self
-invariant_of-self c = subst (λ (q : List Request). AreApart (held q)) (sym c.forget.ensures.kept) (apart_without c.args.call _ c.self.invariant)
+invariant_of-self c = done_settled c.call_key.result c.self.inside.queue c.forget.new.queue c.has_waiting.result c.forget.ensures c.has_waiting.ensures c.if-has_waiting.false c.self.invariant
+
+pub returns-clause-done : goal.returns-clause-done
+returns-clause-done c = λ _. without_is c.args.call c.call_key.result c.self.inside.queue c.forget.new.queue c.call_key.ensures c.forget.ensures ∙ ap (without c.args.call) c.self.view_is

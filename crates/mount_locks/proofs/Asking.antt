@@ -1,0 +1,86 @@
+-- A request that is put in at an end and has its first turn.
+use Rattle.std.proofs.Common.{◌≡◌, ℕ, Bool, true, false, not, ◌&&◌, ◌||◌, ◌==◌, cond, List, [], ◌∷◌, ◌++◌, Option, Some, None, refl, sym, ap, ◌∙◌, subst}
+use Rattle.std.specs.List.{list_any}
+use Rattle.std.specs.Ordering.{nat_cmp, is_eq}
+use Rattle.fop_types.specs.declared.cells.Gfid.{Gfid}
+use Rattle.queue_index.specs.Queue.{item_at, items}
+use Rattle.mount_locks.specs.declared.request.Request.{Request}
+use Rattle.mount_locks.specs.declared.request.Held.{Held}
+use Rattle.mount_locks.specs.Rule.{held, waiting, granted_now, request_of, answer, Turned, turn, asked, extended, AreApart}
+use Rattle.mount_locks.specs.Walks.{turned_of, blocks, is_blocked, AreBlocked, IsSettled, is_due, is_at_number, turn_at}
+use Rattle.mount_locks.proofs.Lists.{any-append, or_false, or_true, nil_end}
+use Rattle.mount_locks.proofs.Apart.{apart_turn, apart_waiting}
+use Rattle.mount_locks.proofs.Numbered.{Rise}
+use Rattle.mount_locks.proofs.Turns.{queue_here, due_at, items_middle}
+use Rattle.mount_locks.proofs.Blocked.{AreBlockedBut, is_among, ends}
+
+-- what the request makes of the queue: what is asked, and what it is told
+pub record IsIn (queue : List Request) (granted : Bool) (gs : List (ℕ × Request)) (told : Held) : Type 0 where
+  pub queue_is : items gs ≡ queue
+  pub told_is : told ≡ answer granted
+  pub settled : IsSettled gs
+
+one_number : (n m : ℕ) → is_among (m ∷ []) n ≡ false → is_eq (nat_cmp n m) ≡ false
+one_number n m h = (or_false (is_eq (nat_cmp n m)) false h).0
+
+settled_here : (pre : List (ℕ × Request)) (n : ℕ) (r : Request) (post : List (ℕ × Request)) → r.granted ≡ false → Rise (pre ++ (n, r) ∷ post) → AreApart (held (items pre ++ items post)) → AreBlockedBut (is_among (n ∷ [])) (pre ++ (n, r) ∷ post) → IsSettled (turn_at (pre ++ (n, r) ∷ post) n)
+settled_here pre n r post waits s apart rest = record {
+  apart = subst (λ (q : List Request). AreApart (held q)) (sym (queue_here pre (n, r) post [] s)) (apart_turn (turned_of (items pre) []) r (items post) (apart_waiting (items pre) (items post) r waits apart));
+  blocked = ends (n ∷ []) (pre ++ (n, r) ∷ post) rest;
+}
+
+-- ---- at the end
+at_end : (m n : ℕ) (x : Request) (es : List (ℕ × Request)) → is_eq (nat_cmp m n) ≡ false → item_at m (es ++ (n, x) ∷ []) ≡ item_at m es
+at_end m n x [] h = ap (λ (b : Bool). cond b (Some x) None) h
+at_end m n x (e ∷ es) h = ap (λ (o : Option Request). cond (is_eq (nat_cmp m e.0)) (Some e.1) o) (at_end m n x es h)
+
+end_blocked : (es : List (ℕ × Request)) (n : ℕ) (x : Request) → AreBlocked es → AreBlockedBut (is_among (n ∷ [])) (es ++ (n, x) ∷ [])
+end_blocked es n x h = λ m r is waits out.
+    any-append (blocks m r) es ((n, x) ∷ [])
+    ∙ ap (λ (b : Bool). b || list_any (blocks m r) ((n, x) ∷ [])) (h m r (sym (at_end m n x es (one_number m n out)) ∙ is) waits)
+
+pick_last : (g : Bool) (q : List Request) (r : Request) (c d : List ℕ) → (cond {A = Turned} g (turned_of (q ++ record r { granted = true } ∷ []) c) (turned_of (q ++ record r { granted = false } ∷ []) d)).queue ≡ q ++ record r { granted = g } ∷ []
+pick_last true q r c d = refl
+pick_last false q r c d = refl
+
+asked_is : (q : List Request) (call : ℕ) (gs : List Gfid) (together : Bool) → (turn (turned_of q []) (request_of call gs together) []).queue ++ [] ≡ asked q (request_of call gs together)
+asked_is q call gs together =
+    let r = request_of call gs together in
+    let test : granted_now (held q ++ []) (waiting q) r ≡ granted_now (held q) (waiting q) r = ap (λ (l : List Request). granted_now l (waiting q) r) (nil_end (held q)) in
+    nil_end (turn (turned_of q []) r []).queue
+    ∙ pick_last (granted_now (held q ++ []) (waiting q) r) q r (call ∷ []) []
+    ∙ ap (λ (g : Bool). q ++ record r { granted = g } ∷ []) test
+
+pub asked_in : (es fs gs : List (ℕ × Request)) (n call : ℕ) (own ids : List Gfid) (together : Bool) (told : Held) → own ≡ ids → fs ≡ es ++ (n, request_of call own together) ∷ [] → Rise fs → IsSettled es → gs ≡ turn_at fs n → told ≡ answer (is_at_number (is_due fs) fs n) → IsIn (asked (items es) (request_of call ids together)) (granted_now (held (items es)) (waiting (items es)) (request_of call ids together)) gs told
+asked_in es fs gs n call own ids together told same added s settled turned held_is =
+    let r = request_of call ids together in
+    let is : fs ≡ es ++ (n, r) ∷ [] = added ∙ ap (λ (l : List Gfid). es ++ (n, request_of call l together) ∷ []) same in
+    let t : Rise (es ++ (n, r) ∷ []) = subst (λ (l : List (ℕ × Request)). Rise l) is s in
+    let end : gs ≡ turn_at (es ++ (n, r) ∷ []) n = turned ∙ ap (λ (l : List (ℕ × Request)). turn_at l n) is in
+    record {
+      queue_is = ap (λ (l : List (ℕ × Request)). items l) end ∙ queue_here es (n, r) [] [] t ∙ asked_is (items es) call ids together;
+      told_is = held_is ∙ ap (λ (l : List (ℕ × Request)). answer (is_at_number (is_due l) l n)) is ∙ ap answer (due_at es (n, r) [] t) ∙ ap (λ (l : List Request). answer (granted_now l (waiting (items es)) r)) (nil_end (held (items es)));
+      settled = subst (λ (l : List (ℕ × Request)). IsSettled l) (sym end) (settled_here es n r [] refl t (subst (λ (l : List Request). AreApart (held l)) (sym (nil_end (items es))) settled.apart) (end_blocked es n r settled.blocked));
+    }
+
+-- ---- at the front
+front_blocked : (es : List (ℕ × Request)) (n : ℕ) (x : Request) → AreBlocked es → AreBlockedBut (is_among (n ∷ [])) ((n, x) ∷ es)
+front_blocked es n x h = λ m r is waits out.
+    let old : item_at m es ≡ Some r = sym (ap (λ (b : Bool). cond b (Some x) (item_at m es)) (one_number m n out)) ∙ is in
+    ap (λ (b : Bool). blocks m r (n, x) || b) (h m r old waits) ∙ or_true (blocks m r (n, x))
+
+pick_first : (g : Bool) (q : List Request) (r : Request) (c d : List ℕ) → (cond {A = Turned} g (turned_of (record r { granted = true } ∷ []) c) (turned_of (record r { granted = false } ∷ []) d)).queue ++ q ≡ record r { granted = g } ∷ q
+pick_first true q r c d = refl
+pick_first false q r c d = refl
+
+pub extended_in : (es fs gs : List (ℕ × Request)) (n call : ℕ) (own ids : List Gfid) (told : Held) → own ≡ ids → fs ≡ (n, request_of call own false) ∷ es → Rise fs → IsSettled es → gs ≡ turn_at fs n → told ≡ answer (is_at_number (is_due fs) fs n) → IsIn (extended (items es) (request_of call ids false)) (granted_now (held (items es)) [] (request_of call ids false)) gs told
+extended_in es fs gs n call own ids told same added s settled turned held_is =
+    let r = request_of call ids false in
+    let is : fs ≡ (n, r) ∷ es = added ∙ ap (λ (l : List Gfid). (n, request_of call l false) ∷ es) same in
+    let t : Rise ((n, r) ∷ es) = subst (λ (l : List (ℕ × Request)). Rise l) is s in
+    let end : gs ≡ turn_at ((n, r) ∷ es) n = turned ∙ ap (λ (l : List (ℕ × Request)). turn_at l n) is in
+    record {
+      queue_is = ap (λ (l : List (ℕ × Request)). items l) end ∙ queue_here [] (n, r) es [] t ∙ pick_first (granted_now (held (items es)) [] r) (items es) r (call ∷ []) [];
+      told_is = held_is ∙ ap (λ (l : List (ℕ × Request)). answer (is_at_number (is_due l) l n)) is ∙ ap answer (due_at [] (n, r) es t);
+      settled = subst (λ (l : List (ℕ × Request)). IsSettled l) (sym end) (settled_here [] n r es refl t settled.apart (front_blocked es n r settled.blocked));
+    }
