@@ -7,12 +7,13 @@ use Rattle.queue_index.specs.Queue.{item_at, items}
 use Rattle.mount_locks.specs.declared.request.Request.{Request}
 use Rattle.mount_locks.specs.declared.request.Held.{Held}
 use Rattle.mount_locks.specs.Rule.{held, waiting, granted_now, request_of, answer, Turned, turn, asked, extended, AreApart}
-use Rattle.mount_locks.specs.Walks.{turned_of, blocks, is_blocked, AreBlocked, IsSettled, is_due, is_at_number, turn_at}
+use Rattle.mount_locks.specs.Walks.{turned_of, blocks, is_blocked, AreBlocked, AreUnpassed, IsSettled, is_due, is_at_number, turn_at}
 use Rattle.mount_locks.proofs.Lists.{any-append, or_false, or_true, nil_end}
 use Rattle.mount_locks.proofs.Apart.{apart_turn, apart_waiting}
-use Rattle.mount_locks.proofs.Numbered.{Rise}
+use Rattle.mount_locks.proofs.Numbered.{Rise, all_below}
 use Rattle.mount_locks.proofs.Turns.{queue_here, due_at, items_middle}
 use Rattle.mount_locks.proofs.Blocked.{AreBlockedBut, is_among, ends}
+use Rattle.mount_locks.proofs.Passed.{at_end, end_unpassed, front_unpassed}
 
 -- what the request makes of the queue: what is asked, and what it is told
 pub record IsIn (queue : List Request) (granted : Bool) (gs : List (ℕ × Request)) (told : Held) : Type 0 where
@@ -23,17 +24,14 @@ pub record IsIn (queue : List Request) (granted : Bool) (gs : List (ℕ × Reque
 one_number : (n m : ℕ) → is_among (m ∷ []) n ≡ false → is_eq (nat_cmp n m) ≡ false
 one_number n m h = (or_false (is_eq (nat_cmp n m)) false h).0
 
-settled_here : (pre : List (ℕ × Request)) (n : ℕ) (r : Request) (post : List (ℕ × Request)) → r.granted ≡ false → Rise (pre ++ (n, r) ∷ post) → AreApart (held (items pre ++ items post)) → AreBlockedBut (is_among (n ∷ [])) (pre ++ (n, r) ∷ post) → IsSettled (turn_at (pre ++ (n, r) ∷ post) n)
-settled_here pre n r post waits s apart rest = record {
+settled_here : (pre : List (ℕ × Request)) (n : ℕ) (r : Request) (post : List (ℕ × Request)) → r.granted ≡ false → Rise (pre ++ (n, r) ∷ post) → AreApart (held (items pre ++ items post)) → AreBlockedBut (is_among (n ∷ [])) (pre ++ (n, r) ∷ post) → AreUnpassed (turn_at (pre ++ (n, r) ∷ post) n) → IsSettled (turn_at (pre ++ (n, r) ∷ post) n)
+settled_here pre n r post waits s apart rest unpassed = record {
   apart = subst (λ (q : List Request). AreApart (held q)) (sym (queue_here pre (n, r) post [] s)) (apart_turn (turned_of (items pre) []) r (items post) (apart_waiting (items pre) (items post) r waits apart));
   blocked = ends (n ∷ []) (pre ++ (n, r) ∷ post) rest;
+  unpassed = unpassed;
 }
 
 -- ---- at the end
-at_end : (m n : ℕ) (x : Request) (es : List (ℕ × Request)) → is_eq (nat_cmp m n) ≡ false → item_at m (es ++ (n, x) ∷ []) ≡ item_at m es
-at_end m n x [] h = ap (λ (b : Bool). cond b (Some x) None) h
-at_end m n x (e ∷ es) h = ap (λ (o : Option Request). cond (is_eq (nat_cmp m e.0)) (Some e.1) o) (at_end m n x es h)
-
 end_blocked : (es : List (ℕ × Request)) (n : ℕ) (x : Request) → AreBlocked es → AreBlockedBut (is_among (n ∷ [])) (es ++ (n, x) ∷ [])
 end_blocked es n x h = λ m r is waits out.
     any-append (blocks m r) es ((n, x) ∷ [])
@@ -51,8 +49,8 @@ asked_is q call gs together =
     ∙ pick_last (granted_now (held q ++ []) (waiting q) r) q r (call ∷ []) []
     ∙ ap (λ (g : Bool). q ++ record r { granted = g } ∷ []) test
 
-pub asked_in : (es fs gs : List (ℕ × Request)) (n call : ℕ) (own ids : List Gfid) (together : Bool) (told : Held) → own ≡ ids → fs ≡ es ++ (n, request_of call own together) ∷ [] → Rise fs → IsSettled es → gs ≡ turn_at fs n → told ≡ answer (is_at_number (is_due fs) fs n) → IsIn (asked (items es) (request_of call ids together)) (granted_now (held (items es)) (waiting (items es)) (request_of call ids together)) gs told
-asked_in es fs gs n call own ids together told same added s settled turned held_is =
+pub asked_in : (es fs gs : List (ℕ × Request)) (n call : ℕ) (own ids : List Gfid) (together : Bool) (told : Held) → own ≡ ids → fs ≡ es ++ (n, request_of call own together) ∷ [] → Rise fs → IsSettled es → gs ≡ turn_at fs n → told ≡ answer (is_at_number (is_due fs) fs n) → AreUnpassed gs → IsIn (asked (items es) (request_of call ids together)) (granted_now (held (items es)) (waiting (items es)) (request_of call ids together)) gs told
+asked_in es fs gs n call own ids together told same added s settled turned held_is unpassed =
     let r = request_of call ids together in
     let is : fs ≡ es ++ (n, r) ∷ [] = added ∙ ap (λ (l : List Gfid). es ++ (n, request_of call l together) ∷ []) same in
     let t : Rise (es ++ (n, r) ∷ []) = subst (λ (l : List (ℕ × Request)). Rise l) is s in
@@ -60,8 +58,11 @@ asked_in es fs gs n call own ids together told same added s settled turned held_
     record {
       queue_is = ap (λ (l : List (ℕ × Request)). items l) end ∙ queue_here es (n, r) [] [] t ∙ asked_is (items es) call ids together;
       told_is = held_is ∙ ap (λ (l : List (ℕ × Request)). answer (is_at_number (is_due l) l n)) is ∙ ap answer (due_at es (n, r) [] t) ∙ ap (λ (l : List Request). answer (granted_now l (waiting (items es)) r)) (nil_end (held (items es)));
-      settled = subst (λ (l : List (ℕ × Request)). IsSettled l) (sym end) (settled_here es n r [] refl t (subst (λ (l : List Request). AreApart (held l)) (sym (nil_end (items es))) settled.apart) (end_blocked es n r settled.blocked));
+      settled = subst (λ (l : List (ℕ × Request)). IsSettled l) (sym end) (settled_here es n r [] refl t (subst (λ (l : List Request). AreApart (held l)) (sym (nil_end (items es))) settled.apart) (end_blocked es n r settled.blocked) (subst (λ (l : List (ℕ × Request)). AreUnpassed l) end unpassed));
     }
+
+pub end_waits : (es fs : List (ℕ × Request)) (n : ℕ) (x : Request) → x.granted ≡ false → fs ≡ es ++ (n, x) ∷ [] → Rise fs → IsSettled es → AreUnpassed fs
+end_waits es fs n x waits is s settled = end_unpassed es fs n x waits is (all_below es (n, x) [] (subst (λ (l : List (ℕ × Request)). Rise l) is s)) settled.unpassed
 
 -- ---- at the front
 front_blocked : (es : List (ℕ × Request)) (n : ℕ) (x : Request) → AreBlocked es → AreBlockedBut (is_among (n ∷ [])) ((n, x) ∷ es)
@@ -73,8 +74,8 @@ pick_first : (g : Bool) (q : List Request) (r : Request) (c d : List ℕ) → (c
 pick_first true q r c d = refl
 pick_first false q r c d = refl
 
-pub extended_in : (es fs gs : List (ℕ × Request)) (n call : ℕ) (own ids : List Gfid) (told : Held) → own ≡ ids → fs ≡ (n, request_of call own false) ∷ es → Rise fs → IsSettled es → gs ≡ turn_at fs n → told ≡ answer (is_at_number (is_due fs) fs n) → IsIn (extended (items es) (request_of call ids false)) (granted_now (held (items es)) [] (request_of call ids false)) gs told
-extended_in es fs gs n call own ids told same added s settled turned held_is =
+pub extended_in : (es fs gs : List (ℕ × Request)) (n call : ℕ) (own ids : List Gfid) (told : Held) → own ≡ ids → fs ≡ (n, request_of call own false) ∷ es → Rise fs → IsSettled es → gs ≡ turn_at fs n → told ≡ answer (is_at_number (is_due fs) fs n) → AreUnpassed gs → IsIn (extended (items es) (request_of call ids false)) (granted_now (held (items es)) [] (request_of call ids false)) gs told
+extended_in es fs gs n call own ids told same added s settled turned held_is unpassed =
     let r = request_of call ids false in
     let is : fs ≡ (n, r) ∷ es = added ∙ ap (λ (l : List Gfid). (n, request_of call l false) ∷ es) same in
     let t : Rise ((n, r) ∷ es) = subst (λ (l : List (ℕ × Request)). Rise l) is s in
@@ -82,5 +83,5 @@ extended_in es fs gs n call own ids told same added s settled turned held_is =
     record {
       queue_is = ap (λ (l : List (ℕ × Request)). items l) end ∙ queue_here [] (n, r) es [] t ∙ pick_first (granted_now (held (items es)) [] r) (items es) r (call ∷ []) [];
       told_is = held_is ∙ ap (λ (l : List (ℕ × Request)). answer (is_at_number (is_due l) l n)) is ∙ ap answer (due_at [] (n, r) es t);
-      settled = subst (λ (l : List (ℕ × Request)). IsSettled l) (sym end) (settled_here [] n r es refl t settled.apart (front_blocked es n r settled.blocked));
+      settled = subst (λ (l : List (ℕ × Request)). IsSettled l) (sym end) (settled_here [] n r es refl t settled.apart (front_blocked es n r settled.blocked) (subst (λ (l : List (ℕ × Request)). AreUnpassed l) end unpassed));
     }

@@ -10,14 +10,15 @@ use Rattle.queue_index.proofs.Entries.{founds, found_in}
 use Rattle.mount_locks.specs.declared.request.Request.{Request}
 use Rattle.mount_locks.specs.Keys.{call_key, keys_of}
 use Rattle.mount_locks.specs.Rule.{held, waiting, conflicts, without, Turned, grant_in_order, released, AreApart}
-use Rattle.mount_locks.specs.Walks.{turned_of, passes, is_at_number, meets, blocks, is_blocked, AreBlocked, IsSettled, turns, calls_of, meets_number, meets_at, is_rival}
+use Rattle.mount_locks.specs.Walks.{turned_of, passes, is_at_number, meets, blocks, is_blocked, AreBlocked, AreUnpassed, IsSettled, turns, calls_of, meets_number, meets_at, is_rival}
 use Rattle.mount_locks.proofs.Lists.{any_rest, none, or_false, filter_map_is, all_filter, all_pass}
 use Rattle.mount_locks.proofs.Apart.{apart_fewer, apart_released}
 use Rattle.mount_locks.proofs.Touches.{touches_call, no_conflict}
-use Rattle.mount_locks.proofs.Numbered.{Rise, filter_numbers, number_in, fewer_rise, set_is}
+use Rattle.mount_locks.proofs.Numbered.{Rise, was_there, filter_numbers, number_in, fewer_rise, set_is}
 use Rattle.mount_locks.proofs.Counts.{all_granted}
 use Rattle.mount_locks.proofs.Turns.{walked}
 use Rattle.mount_locks.proofs.Blocked.{AreBlockedBut, is_among, skip, ends}
+use Rattle.mount_locks.proofs.Passed.{left_unpassed}
 
 -- ---- the rivals that are found
 meets_all : (q : ℕ) (p : ℕ × Request → Bool) (es fs : List (ℕ × Request)) → AllByRecursion (λ e. item_at e.0 es ≡ Some e.1) fs → list_any (meets_at es q) (numbers (filter p fs)) ≡ list_any (λ r. passes (λ _. meets r.gfids r.shared) q (item_at q es)) (items (filter p fs))
@@ -46,10 +47,6 @@ call_stays call k is = λ i r. (ap (λ (j : Key). not (touches keys_of j r)) is 
 
 pub without_is : (call : ℕ) (k : Key) (es fs : List (ℕ × Request)) → k ≡ call_key call → fs ≡ filter (stays k) es → items fs ≡ without call (items es)
 without_is call k es fs key left = ap (λ (l : List (ℕ × Request)). items l) left ∙ items_left k es ∙ ap (λ (t : Request → Bool). filter t (items es)) (call_stays call k key)
-
--- an entry that stays was there before
-was_there : (t : ℕ × Request → Bool) (es : List (ℕ × Request)) (n : ℕ) (r : Request) → Rise es → item_at n (filter t es) ≡ Some r → item_at n es ≡ Some r
-was_there t es n r s is = found_in (λ m x. item_at m es ≡ Some x) n r (filter t es) (all_filter (λ (e : ℕ × Request). item_at e.0 es ≡ Some e.1) t es (founds es s)) is
 
 passed : (t : Request → Bool) (es : List (ℕ × Request)) (n : ℕ) (r : Request) → item_at n (filter (λ e. t e.1) es) ≡ Some r → t r ≡ true
 passed t es n r is = found_in (λ m x. t x ≡ true) n r (filter (λ e. t e.1) es) (all_pass (λ (e : ℕ × Request). t e.1) es) is
@@ -105,8 +102,8 @@ pub record IsReleased (call : ℕ) (es gs : List (ℕ × Request)) (calls : List
   pub calls_are : calls ≡ (released call (items es)).calls
   pub settled : IsSettled gs
 
-pub released_is : (call : ℕ) (k l : Key) (es seen fs gs : List (ℕ × Request)) (found : BTreeSet ℕ) (calls : List ℕ) → k ≡ call_key call → l ≡ call_key call → Rise es → IsSettled es → seen ≡ es → ((q : ℕ) → sorted.contains nat_cmp found q ≡ is_at_number (λ _. is_rival k seen) seen q) → sorted.IsOrdered nat_cmp found → fs ≡ filter (stays l) es → gs ≡ turns fs found.keys → calls ≡ calls_of fs found.keys → IsReleased call es gs calls
-released_is call k l es seen fs gs found calls key again s settled same_seen has rise left turned called =
+pub released_is : (call : ℕ) (k l : Key) (es seen fs gs : List (ℕ × Request)) (found : BTreeSet ℕ) (calls : List ℕ) → k ≡ call_key call → l ≡ call_key call → Rise es → IsSettled es → seen ≡ es → ((q : ℕ) → sorted.contains nat_cmp found q ≡ is_at_number (λ _. is_rival k seen) seen q) → sorted.IsOrdered nat_cmp found → fs ≡ filter (stays l) es → gs ≡ turns fs found.keys → calls ≡ calls_of fs found.keys → AreUnpassed gs → IsReleased call es gs calls
+released_is call k l es seen fs gs found calls key again s settled same_seen has rise left turned called unpassed =
     let out = left_is call k es found.keys key s settled.blocked (set_is (λ e. is_rival k es e.1) found es s rise (λ q. has q ∙ ap (λ (l : List (ℕ × Request)). is_at_number (λ _. is_rival k l) l q) same_seen)) in
     let same : fs ≡ filter (stays k) es = left ∙ ap (λ (j : Key). filter (stays j) es) (again ∙ sym key) in
     let queue_is : gs ≡ turns (filter (stays k) es) found.keys = turned ∙ ap (λ (f : List (ℕ × Request)). turns f found.keys) same in
@@ -117,6 +114,7 @@ released_is call k l es seen fs gs found calls key again s settled same_seen has
       settled = record {
         apart = subst (λ (q : List Request). AreApart (held q)) (sym queue_items) (apart_released call (items es) settled.apart);
         blocked = subst (λ (f : List (ℕ × Request)). AreBlocked f) (sym queue_is) out.blocked;
+        unpassed = unpassed;
       };
     }
 
@@ -127,10 +125,11 @@ not_both r a b = let t : true ≡ false = sym a ∙ b in absurd cc
 empty_if : (n : ℕ) (b : Bool) → b ≡ not (n == 0) → b ≡ false → n ≡ 0
 empty_if n b is off = let t : not (n == 0) ≡ false = sym is ∙ off in grind (arith, t)
 
-pub done_settled : (k : Key) (es fs : List (ℕ × Request)) (b : Bool) → fs ≡ filter (stays k) es → b ≡ not (length (waiting (items es)) == 0) → b ≡ false → IsSettled es → IsSettled fs
-done_settled k es fs b left is off settled =
+pub done_settled : (k : Key) (es fs : List (ℕ × Request)) (b : Bool) → Rise es → fs ≡ filter (stays k) es → b ≡ not (length (waiting (items es)) == 0) → b ≡ false → IsSettled es → IsSettled fs
+done_settled k es fs b s left is off settled =
     let granted = all_granted es (empty_if (length (waiting (items es))) b is off) in
     subst (λ (l : List (ℕ × Request)). IsSettled l) (sym left) (record {
       apart = subst (λ (q : List Request). AreApart (held q)) (sym (items_left k es)) (apart_fewer (λ r. not (touches keys_of k r)) (items es) settled.apart);
       blocked = λ n r is waits. absurd (not_both r (found_in (λ m x. x.granted ≡ true) n r (filter (stays k) es) (all_filter (λ (e : ℕ × Request). e.1.granted ≡ true) (stays k) es granted) is) waits);
+      unpassed = left_unpassed (stays k) es (filter (stays k) es) s settled.unpassed refl;
     })

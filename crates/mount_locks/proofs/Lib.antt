@@ -5,6 +5,7 @@ pub mod Numbered
 pub mod Counts
 pub mod Turns
 pub mod Blocked
+pub mod Passed
 pub mod Rests
 pub mod Leaving
 pub mod Asking

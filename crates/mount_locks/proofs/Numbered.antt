@@ -13,12 +13,12 @@ use Rattle.std.proofs.lemmas.Map.Keys.{sorted_head, sorted_tail}
 use Rattle.std.proofs.lemmas.Map.Lookups.{btree_set_from_contains, exact_unsigned}
 use Rattle.queue_index.specs.declared.key.Key.{Key}
 use Rattle.queue_index.specs.Queue.{item_at, items, numbers, without, changed_at, touches, touching_from}
-use Rattle.queue_index.proofs.Entries.{founds, each, at_is}
+use Rattle.queue_index.proofs.Entries.{founds, each, found_in, at_is}
 use Rattle.queue_index.proofs.Touching.{numbers_start}
 use Rattle.mount_locks.specs.declared.request.Request.{Request}
 use Rattle.mount_locks.specs.Keys.{keys_of, marked}
 use Rattle.mount_locks.specs.Walks.{passes, is_at_number}
-use Rattle.mount_locks.proofs.Lists.{all_middle, filter_filter, filter_members, fewer}
+use Rattle.mount_locks.proofs.Lists.{all_middle, all_filter, filter_filter, filter_members, fewer}
 use Rattle.mount_locks.proofs.Apart.{eq_flip}
 
 -- the numbers rise
@@ -149,6 +149,10 @@ fewer_rise p (e ∷ es) s = elim (p e) as (λ (b : Bool). IsStrictlySortedBy nat
 -- a set of numbers that has those of the entries that pass, and no others
 pub set_is : (p : ℕ × Request → Bool) (found : BTreeSet ℕ) (es : List (ℕ × Request)) → Rise es → sorted.IsOrdered nat_cmp found → ((q : ℕ) → sorted.contains nat_cmp found q ≡ is_at_number (λ n r. p (n, r)) es q) → found.keys ≡ numbers (filter p es)
 set_is p found es s t h = btree_set_from_contains nat_cmp_total found (record { keys = numbers (filter p es) }) t (fewer_rise p es s) (λ q. h q ∙ sym (number_in p q es s)) exact_unsigned
+
+-- an entry that stays was there before
+pub was_there : (t : ℕ × Request → Bool) (es : List (ℕ × Request)) (n : ℕ) (r : Request) → Rise es → item_at n (filter t es) ≡ Some r → item_at n es ≡ Some r
+was_there t es n r s is = found_in (λ m x. item_at m es ≡ Some x) n r (filter t es) (all_filter (λ (e : ℕ × Request). item_at e.0 es ≡ Some e.1) t es (founds es s)) is
 
 -- ---- the first entry that has a key
 pub first_touches : (k : Key) (m : ℕ) (ms : List ℕ) (es : List (ℕ × Request)) → Rise es → numbers (touching_from keys_of k 0 es) ≡ m ∷ ms → is_at_number (λ _ r. touches keys_of k r) es m ≡ true

@@ -11,10 +11,11 @@ use Rattle.queue_index.proofs.Touching.{numbers_start}
 use Rattle.mount_locks.specs.declared.request.Request.{Request}
 use Rattle.mount_locks.specs.Rule.{request_of, answer}
 use Rattle.mount_locks.specs.Keys.{gfid_key, keys_of, marked}
-use Rattle.mount_locks.specs.Walks.{bars, is_on, meets, passes, is_at_number, is_blocked, is_due, turn_of, call_of}
+use Rattle.mount_locks.specs.Walks.{bars, is_on, meets, passes, is_at_number, is_blocked, is_kept, AreUnpassed, is_due, turn_of, call_of}
 use Rattle.mount_locks.proofs.Lists.{none}
 use Rattle.mount_locks.proofs.Touches.{bars_by, on_modes, any_meets}
 use Rattle.mount_locks.proofs.Numbered.{Rise, any_numbers}
+use Rattle.mount_locks.proofs.Passed.{kept_is}
 
 -- ---- numbers that are put in
 or_move : (f a r : Bool) → ((f || a) || r) ≡ (f || (a || r))
@@ -74,8 +75,8 @@ both_put g together q o k l f h i a b is js t puts at again bt =
     ∙ ap (λ (x : Bool). f || x) (on_both g together q o)
 
 -- ---- a walk from one number of a key to the next
-pub bars_start : (k : Key) (call n : ℕ) (es : List (ℕ × Request)) → Rise es → list_any (is_at_number (bars call n) es) (numbers (touching_from keys_of k 0 es)) ≡ list_any (bars_by k call n) es
-bars_start k call n es s = ap (list_any (is_at_number (bars call n) es)) (numbers_start keys_of k es) ∙ any_numbers (bars call n) (λ e. touches keys_of k e.1) es es (founds es s)
+pub bars_start : (k : Key) (together : Bool) (call n : ℕ) (es : List (ℕ × Request)) → Rise es → list_any (is_at_number (bars together call n) es) (numbers (touching_from keys_of k 0 es)) ≡ list_any (bars_by k together call n) es
+bars_start k together call n es s = ap (list_any (is_at_number (bars together call n) es)) (numbers_start keys_of k es) ∙ any_numbers (bars together call n) (λ e. touches keys_of k e.1) es es (founds es s)
 
 pub bar_hit : (p : ℕ → Bool) (ms ns : List ℕ) (m : ℕ) (w : Bool) → ms ≡ m ∷ ns → p m ≡ true → list_any p ms ≡ w → true ≡ w
 bar_hit p ms ns m w is hit so_far = sym (ap (list_any p) is ∙ ap (λ (b : Bool). b || list_any p ns) hit) ∙ so_far
@@ -87,8 +88,8 @@ pub bar_none : (p : ℕ → Bool) (ms : List ℕ) (w : Bool) → ms ≡ [] → l
 bar_none p ms w is so_far = sym (ap (list_any p) is) ∙ so_far
 
 -- ---- a turn
-pub blocked_is : (b : Bool) (l : List Gfid) (r : Request) (n : ℕ) (es : List (ℕ × Request)) → l ≡ r.gfids → b ≡ is_blocked es n (request_of r.call l r.shared) → b ≡ is_blocked es n r
-blocked_is b l r n es is e = e ∙ ap (λ (x : List Gfid). is_blocked es n (request_of r.call x r.shared)) is
+pub kept_on : (b : Bool) (l : List Gfid) (r : Request) (n : ℕ) (es : List (ℕ × Request)) → AreUnpassed es → Some r ≡ item_at n es → r.granted ≡ false → l ≡ r.gfids → b ≡ is_kept es n (request_of r.call l r.shared) → b ≡ is_blocked es n r
+kept_on b l r n es unpassed is waits same e = e ∙ ap (λ (x : List Gfid). is_kept es n (request_of r.call x r.shared)) same ∙ kept_is es n r unpassed (sym is) waits
 
 off_if : (g b : Bool) → g ≡ true → (not g && not b) ≡ false
 off_if true b h = refl

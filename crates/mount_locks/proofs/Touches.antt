@@ -8,7 +8,7 @@ use Rattle.queue_index.specs.Queue.{touches}
 use Rattle.mount_locks.specs.declared.request.Request.{Request}
 use Rattle.mount_locks.specs.Rule.{is_gfid, names, shares, conflicts, request_of, without}
 use Rattle.mount_locks.specs.Keys.{call_key, gfid_key, mode_of, keys_of}
-use Rattle.mount_locks.specs.Walks.{bars, is_on, meets, blocks, is_blocked}
+use Rattle.mount_locks.specs.Walks.{bars, is_on, meets, keeps, is_kept}
 use Rattle.mount_locks.proofs.Lists.{any_same, any_or, any_and, any_when, any_swap, any_map, and_flip, and_true, or_false}
 use Rattle.mount_locks.proofs.Apart.{eq_flip, gfid_flip, shares_flip}
 
@@ -79,30 +79,30 @@ and_over false true b x = refl
 and_over false false b x = refl
 
 -- a request that has a key, and bars
-abbrev pub bars_by : Key → ℕ → ℕ → ℕ × Request → Bool
-bars_by k call n e = touches keys_of k e.1 && bars call n e.0 e.1
+abbrev pub bars_by : Key → Bool → ℕ → ℕ → ℕ × Request → Bool
+bars_by k together call n e = touches keys_of k e.1 && bars together call n e.0 e.1
 
-any_on : (g : Gfid) (together : Bool) (call n : ℕ) (es : List (ℕ × Request)) → list_any (λ e. is_on g together e.1 && bars call n e.0 e.1) es ≡ (list_any (bars_by (gfid_key g false) call n) es || (not together && list_any (bars_by (gfid_key g true) call n) es))
+any_on : (g : Gfid) (together : Bool) (call n : ℕ) (es : List (ℕ × Request)) → list_any (λ e. is_on g together e.1 && bars together call n e.0 e.1) es ≡ (list_any (bars_by (gfid_key g false) together call n) es || (not together && list_any (bars_by (gfid_key g true) together call n) es))
 any_on g together call n es =
-    any_same (λ e. is_on g together e.1 && bars call n e.0 e.1) (λ e. bars_by (gfid_key g false) call n e || (not together && bars_by (gfid_key g true) call n e)) es (λ e. ap (λ (b : Bool). b && bars call n e.0 e.1) (sym (on_modes g together e.1)) ∙ and_over (touches keys_of (gfid_key g false) e.1) (not together) (touches keys_of (gfid_key g true) e.1) (bars call n e.0 e.1))
-    ∙ any_or (bars_by (gfid_key g false) call n) (λ e. not together && bars_by (gfid_key g true) call n e) es
-    ∙ ap (λ (b : Bool). list_any (bars_by (gfid_key g false) call n) es || b) (any_when (not together) (bars_by (gfid_key g true) call n) es)
+    any_same (λ e. is_on g together e.1 && bars together call n e.0 e.1) (λ e. bars_by (gfid_key g false) together call n e || (not together && bars_by (gfid_key g true) together call n e)) es (λ e. ap (λ (b : Bool). b && bars together call n e.0 e.1) (sym (on_modes g together e.1)) ∙ and_over (touches keys_of (gfid_key g false) e.1) (not together) (touches keys_of (gfid_key g true) e.1) (bars together call n e.0 e.1))
+    ∙ any_or (bars_by (gfid_key g false) together call n) (λ e. not together && bars_by (gfid_key g true) together call n e) es
+    ∙ ap (λ (b : Bool). list_any (bars_by (gfid_key g false) together call n) es || b) (any_when (not together) (bars_by (gfid_key g true) together call n) es)
 
-pub barred_alone : (g : Gfid) (together : Bool) (call n : ℕ) (k : Key) (es : List (ℕ × Request)) → k ≡ gfid_key g false → true ≡ list_any (bars_by k call n) es → true ≡ list_any (λ e. is_on g together e.1 && bars call n e.0 e.1) es
-barred_alone g together call n k es is h = sym (any_on g together call n es ∙ ap (λ (b : Bool). b || (not together && list_any (bars_by (gfid_key g true) call n) es)) (ap (λ (t : Key). list_any (bars_by t call n) es) (sym is) ∙ sym h))
+pub barred_alone : (g : Gfid) (together : Bool) (call n : ℕ) (k : Key) (es : List (ℕ × Request)) → k ≡ gfid_key g false → true ≡ list_any (bars_by k together call n) es → true ≡ list_any (λ e. is_on g together e.1 && bars together call n e.0 e.1) es
+barred_alone g together call n k es is h = sym (any_on g together call n es ∙ ap (λ (b : Bool). b || (not together && list_any (bars_by (gfid_key g true) together call n) es)) (ap (λ (t : Key). list_any (bars_by t together call n) es) (sym is) ∙ sym h))
 
-pub barred_none : (g : Gfid) (together : Bool) (call n : ℕ) (k : Key) (es : List (ℕ × Request)) → k ≡ gfid_key g false → false ≡ list_any (bars_by k call n) es → together ≡ true → false ≡ list_any (λ e. is_on g together e.1 && bars call n e.0 e.1) es
+pub barred_none : (g : Gfid) (together : Bool) (call n : ℕ) (k : Key) (es : List (ℕ × Request)) → k ≡ gfid_key g false → false ≡ list_any (bars_by k together call n) es → together ≡ true → false ≡ list_any (λ e. is_on g together e.1 && bars together call n e.0 e.1) es
 barred_none g together call n k es is h t =
     sym (any_on g together call n es
-    ∙ ap (λ (b : Bool). b || (not together && list_any (bars_by (gfid_key g true) call n) es)) (ap (λ (t : Key). list_any (bars_by t call n) es) (sym is) ∙ sym h)
-    ∙ ap (λ (b : Bool). not b && list_any (bars_by (gfid_key g true) call n) es) t)
+    ∙ ap (λ (b : Bool). b || (not together && list_any (bars_by (gfid_key g true) together call n) es)) (ap (λ (t : Key). list_any (bars_by t together call n) es) (sym is) ∙ sym h)
+    ∙ ap (λ (b : Bool). not b && list_any (bars_by (gfid_key g true) together call n) es) t)
 
-pub barred_shared : (g : Gfid) (together : Bool) (call n : ℕ) (b : Bool) (k l : Key) (es : List (ℕ × Request)) → k ≡ gfid_key g false → l ≡ gfid_key g true → false ≡ list_any (bars_by k call n) es → together ≡ false → b ≡ list_any (bars_by l call n) es → b ≡ list_any (λ e. is_on g together e.1 && bars call n e.0 e.1) es
+pub barred_shared : (g : Gfid) (together : Bool) (call n : ℕ) (b : Bool) (k l : Key) (es : List (ℕ × Request)) → k ≡ gfid_key g false → l ≡ gfid_key g true → false ≡ list_any (bars_by k together call n) es → together ≡ false → b ≡ list_any (bars_by l together call n) es → b ≡ list_any (λ e. is_on g together e.1 && bars together call n e.0 e.1) es
 barred_shared g together call n b k l es is js h t e =
-    e ∙ ap (λ (t : Key). list_any (bars_by t call n) es) js ∙
+    e ∙ ap (λ (t : Key). list_any (bars_by t together call n) es) js ∙
     sym (any_on g together call n es
-    ∙ ap (λ (b : Bool). b || (not together && list_any (bars_by (gfid_key g true) call n) es)) (ap (λ (t : Key). list_any (bars_by t call n) es) (sym is) ∙ sym h)
-    ∙ ap (λ (b : Bool). not b && list_any (bars_by (gfid_key g true) call n) es) t)
+    ∙ ap (λ (b : Bool). b || (not together && list_any (bars_by (gfid_key g true) together call n) es)) (ap (λ (t : Key). list_any (bars_by t together call n) es) (sym is) ∙ sym h)
+    ∙ ap (λ (b : Bool). not b && list_any (bars_by (gfid_key g true) together call n) es) t)
 
 -- ---- on several gfids
 bools : (c h s t x : Bool) → s ≡ t → ((h && not s) && (not c && x)) ≡ ((not c && (not t && h)) && x)
@@ -116,16 +116,16 @@ bools false true false false x e = refl
 bools false false s true x e = refl
 bools false false s false x e = refl
 
-one_blocks : (call : ℕ) (gs : List Gfid) (together : Bool) (n : ℕ) (e : ℕ × Request) → list_any (λ g. is_on g together e.1 && bars call n e.0 e.1) gs ≡ blocks n (request_of call gs together) e
-one_blocks call gs together n e =
-    any_and (λ g. is_on g together e.1) (bars call n e.0 e.1) gs
-    ∙ ap (λ (b : Bool). b && bars call n e.0 e.1) (any_and (names e.1.gfids) (not (together && e.1.shared)) gs)
-    ∙ bools (e.1.call == call) (shares e.1.gfids gs) (together && e.1.shared) (e.1.shared && together) (nat_lt e.0 n || e.1.granted) (and_flip together e.1.shared)
+one_keeps : (call : ℕ) (gs : List Gfid) (together : Bool) (n : ℕ) (e : ℕ × Request) → list_any (λ g. is_on g together e.1 && bars together call n e.0 e.1) gs ≡ keeps n (request_of call gs together) e
+one_keeps call gs together n e =
+    any_and (λ g. is_on g together e.1) (bars together call n e.0 e.1) gs
+    ∙ ap (λ (b : Bool). b && bars together call n e.0 e.1) (any_and (names e.1.gfids) (not (together && e.1.shared)) gs)
+    ∙ bools (e.1.call == call) (shares e.1.gfids gs) (together && e.1.shared) (e.1.shared && together) (nat_lt e.0 n || (not together && e.1.granted)) (and_flip together e.1.shared)
 
-pub any_blocks : (call : ℕ) (gs : List Gfid) (together : Bool) (n : ℕ) (es : List (ℕ × Request)) → list_any (λ g. list_any (λ e. is_on g together e.1 && bars call n e.0 e.1) es) gs ≡ is_blocked es n (request_of call gs together)
-any_blocks call gs together n es =
-    any_swap (λ g e. is_on g together e.1 && bars call n e.0 e.1) gs es
-    ∙ any_same (λ e. list_any (λ g. is_on g together e.1 && bars call n e.0 e.1) gs) (blocks n (request_of call gs together)) es (one_blocks call gs together n)
+pub any_keeps : (call : ℕ) (gs : List Gfid) (together : Bool) (n : ℕ) (es : List (ℕ × Request)) → list_any (λ g. list_any (λ e. is_on g together e.1 && bars together call n e.0 e.1) es) gs ≡ is_kept es n (request_of call gs together)
+any_keeps call gs together n es =
+    any_swap (λ g e. is_on g together e.1 && bars together call n e.0 e.1) gs es
+    ∙ any_same (λ e. list_any (λ g. is_on g together e.1 && bars together call n e.0 e.1) gs) (keeps n (request_of call gs together)) es (one_keeps call gs together n)
 
 -- ---- what conflicts meets
 meet_bools : (c n s : Bool) → (s && not n) ≡ false → (not c && (not n && s)) ≡ false

@@ -19,9 +19,10 @@ passes p n (Some r) = p n r
 abbrev pub is_at_number : (ℕ → Request → Bool) → List (ℕ × Request) → ℕ → Bool
 is_at_number p es n = passes p n (item_at n es)
 
--- whether s of number m is of another call, and stands before the number n or is granted
-abbrev pub bars : ℕ → ℕ → ℕ → Request → Bool
-bars call n m s = not (s.call == call) && (nat_lt m n || s.granted)
+-- whether s of number m is of another call, and stands before the number n or, where one alone asks, is
+-- granted
+abbrev pub bars : Bool → ℕ → ℕ → ℕ → Request → Bool
+bars together call n m s = not (s.call == call) && (nat_lt m n || (not together && s.granted))
 
 -- whether s names a gfid, and s or one that asks for it, together with others or alone, is alone
 abbrev pub is_on : Gfid → Bool → Request → Bool
@@ -39,14 +40,34 @@ blocks n r e = conflicts e.1 r && (nat_lt e.0 n || e.1.granted)
 abbrev pub is_blocked : List (ℕ × Request) → ℕ → Request → Bool
 is_blocked es n r = list_any (blocks n r) es
 
+-- the same of what is looked at: of what stands behind a shared request, nothing
+abbrev pub keeps : ℕ → Request → ℕ × Request → Bool
+keeps n r e = conflicts e.1 r && (nat_lt e.0 n || (not r.shared && e.1.granted))
+
+abbrev pub is_kept : List (ℕ × Request) → ℕ → Request → Bool
+is_kept es n r = list_any (keeps n r) es
+
+-- whether an entry conflicts with a request at a number, stands behind it and is granted
+abbrev pub passes_by : ℕ → Request → ℕ × Request → Bool
+passes_by n r e = conflicts e.1 r && (not (nat_lt e.0 n) && e.1.granted)
+
+abbrev pub is_passed : List (ℕ × Request) → ℕ → Request → Bool
+is_passed es n r = list_any (passes_by n r) es
+
+-- no shared request that waits is passed, since only an extension comes before others, and is alone
+abbrev pub AreUnpassed : List (ℕ × Request) → Type 0
+AreUnpassed es = (n : ℕ) (r : Request) → item_at n es ≡ Some r → r.granted ≡ false → r.shared ≡ true → is_passed es n r ≡ false
+
 -- each request that waits is blocked
 abbrev pub AreBlocked : List (ℕ × Request) → Type 0
 AreBlocked es = (n : ℕ) (r : Request) → item_at n es ≡ Some r → r.granted ≡ false → is_blocked es n r ≡ true
 
--- what the queue keeps: no two holds conflict, and none waits that could be granted
+-- what the queue keeps: no two holds conflict, none waits that could be granted, and no shared one that
+-- waits is passed
 pub record IsSettled (es : List (ℕ × Request)) : Type 0 where
   pub apart : AreApart (held (items es))
   pub blocked : AreBlocked es
+  pub unpassed : AreUnpassed es
 
 -- a request is due where it waits and nothing blocks it
 abbrev pub is_due : List (ℕ × Request) → ℕ → Request → Bool

@@ -128,6 +128,7 @@ impl MountLocks {
         if self.queue.has_waiting() {
             return false;
         }
+        self.queue.numbers_rise();
         forget(&mut self.queue, call_key(call));
         true
     }

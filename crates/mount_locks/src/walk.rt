@@ -6,7 +6,7 @@ ghost use Rattle.std.specs.Vec.{vec_capacity};
 ghost use Rattle.queue_index.specs.Queue.{touches};
 ghost use Rattle.mount_locks.specs.Rule.{request_of, answer};
 ghost use Rattle.mount_locks.specs.Keys.{keys_of};
-ghost use Rattle.mount_locks.specs.Walks.{bars, is_on, is_at_number, is_blocked, is_due, turn_at, call_at, turns, calls_of};
+ghost use Rattle.mount_locks.specs.Walks.{bars, is_on, is_at_number, is_kept, AreUnpassed, is_due, turn_at, call_at, turns, calls_of};
 
 use crate::queue::RequestQueue;
 use crate::request::{Held, Request, gfid_key};
@@ -14,24 +14,40 @@ use fop_types::Gfid;
 use queue_index::{Key, KeyedQueue};
 use std::collections::BTreeSet;
 
-/// Whether a request is of another call than this one, and stands before a number or is granted.
-fn is_bar(queue: &KeyedQueue<Request>, other: u64, call: u32, number: u64) -> bool
-    ensures { result ≡ is_at_number (bars call number) queue.now other }
+/// Whether a request is of another call than this one, and stands before a number or, where one alone
+/// asks, is granted.
+fn is_bar(
+    queue: &KeyedQueue<Request>,
+    other: u64,
+    call: u32,
+    shared: bool,
+    number: u64,
+) -> bool
+    ensures { result ≡ is_at_number (bars shared call number) queue.now other }
 {
     let Some(request) = queue.get(other) else {
         return false;
     };
-    request.call != call && (other < number || request.granted)
+    request.call != call && (other < number || (!shared && request.granted))
 }
 
 /// The same of some request that has a key.
-fn is_barred(queue: &KeyedQueue<Request>, key: Key, call: u32, number: u64) -> bool
-    ensures { result ≡ list_any (λ e. touches keys_of key e.1 && bars call number e.0 e.1) queue.now }
+fn is_barred(
+    queue: &KeyedQueue<Request>,
+    key: Key,
+    call: u32,
+    shared: bool,
+    number: u64,
+) -> bool
+    ensures { result ≡ list_any (λ e. touches keys_of key e.1 && bars shared call number e.0 e.1) queue.now }
 {
     queue.numbers_rise();
     let mut from = 0;
     while let Some(other) = queue.next(key, from) {
-        if is_bar(queue, other, call, number) {
+        if shared && number <= other {
+            return false;
+        }
+        if is_bar(queue, other, call, shared, number) {
             return true;
         }
         from = other + 1;
@@ -47,26 +63,27 @@ fn is_barred_on(
     call: u32,
     number: u64,
 ) -> bool
-    ensures { result ≡ list_any (λ e. is_on gfid shared e.1 && bars call number e.0 e.1) queue.now }
+    ensures { result ≡ list_any (λ e. is_on gfid shared e.1 && bars shared call number e.0 e.1) queue.now }
 {
-    if is_barred(queue, gfid_key(gfid, false), call, number) {
+    if is_barred(queue, gfid_key(gfid, false), call, shared, number) {
         return true;
     }
     if shared {
         return false;
     }
-    is_barred(queue, gfid_key(gfid, true), call, number)
+    is_barred(queue, gfid_key(gfid, true), call, shared, number)
 }
 
-/// Whether a request at a number is blocked: one that conflicts with it stands before it or is granted.
-fn is_blocked(
+/// Whether a request at a number is kept from its turn: one that conflicts with it stands before it or,
+/// where it is alone, is granted.
+fn is_kept(
     queue: &KeyedQueue<Request>,
     number: u64,
     call: u32,
     gfids: &[Gfid],
     shared: bool,
 ) -> bool
-    ensures { result ≡ is_blocked queue.now number (request_of call gfids.now shared) }
+    ensures { result ≡ is_kept queue.now number (request_of call gfids.now shared) }
 {
     for gfid in gfids {
         if is_barred_on(queue, *gfid, shared, call, number) {
@@ -78,6 +95,7 @@ fn is_blocked(
 
 /// The call of the request of a number, where it is there, waits and is not blocked.
 fn due_call(queue: &KeyedQueue<Request>, number: u64) -> Option<u32>
+    requires { AreUnpassed queue.now }
     ensures { result ≡ call_at queue.now number }
 {
     let Some(request) = queue.get(number) else {
@@ -87,7 +105,7 @@ fn due_call(queue: &KeyedQueue<Request>, number: u64) -> Option<u32>
         return None;
     }
     let gfids = request.gfids.as_slice();
-    if is_blocked(queue, number, request.call, gfids, request.shared) {
+    if is_kept(queue, number, request.call, gfids, request.shared) {
         return None;
     }
     Some(request.call)
@@ -95,9 +113,12 @@ fn due_call(queue: &KeyedQueue<Request>, number: u64) -> Option<u32>
 
 /// Gives the request of a number its turn, and gives its call where it is granted.
 fn give_turn(queue: &mut RequestQueue, number: u64) -> Option<u32>
+    requires { AreUnpassed queue.old }
     ensures turned { queue.new ≡ turn_at queue.old number }
     ensures call { result ≡ call_at queue.old number }
+    ensures unpassed { AreUnpassed queue.new }
 {
+    queue.numbers_rise();
     let Some(call) = due_call(queue.requests(), number) else {
         return None;
     };
@@ -107,7 +128,9 @@ fn give_turn(queue: &mut RequestQueue, number: u64) -> Option<u32>
 
 /// Gives the request of a number its first turn.
 pub(crate) fn settle(queue: &mut RequestQueue, number: u64) -> Held
+    requires { AreUnpassed queue.old }
     ensures turned { queue.new ≡ turn_at queue.old number }
+    ensures unpassed { AreUnpassed queue.new }
     ensures held { result ≡ answer (is_at_number (is_due queue.old) queue.old number) }
 {
     let granted = give_turn(queue, number).is_some();
@@ -117,10 +140,12 @@ pub(crate) fn settle(queue: &mut RequestQueue, number: u64) -> Held
 /// Gives the requests of some numbers their turns, by rising number, and notes the calls that are granted.
 /// It takes no memory.
 pub(crate) fn grant(queue: &mut RequestQueue, mut numbers: BTreeSet<u64>, calls: &mut Vec<u32>)
+    requires unpassed { AreUnpassed queue.old }
     requires none { calls.old.items ≡ [] }
     requires room { length numbers.keys ≤ vec_capacity calls.old }
     ensures turned { queue.new ≡ turns queue.old numbers.keys }
     ensures calls { calls.new.items ≡ calls_of queue.old numbers.keys }
+    ensures unpassed { AreUnpassed queue.new }
 {
     while let Some(number) = numbers.pop_first() {
         let Some(call) = give_turn(queue, number) else {
