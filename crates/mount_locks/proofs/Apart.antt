@@ -1,6 +1,6 @@
 -- Holds stay apart: what is granted conflicts with none that is granted.
 use Rattle.std.proofs.Common.{◌≡◌, refl, sym, ap, ◌∙◌, ℕ, Bool, true, false, not, ◌&&◌, ◌||◌, ◌==◌, cond, List, [], ◌∷◌, ◌++◌, subst}
-use Rattle.std.specs.List.{list_any, filter}
+use Rattle.std.specs.List.{filter}
 use Rattle.std.specs.Cmp.{nat_eq_equiv}
 use Rattle.fop_types.specs.declared.cells.Gfid.{Gfid}
 use Rattle.mount_locks.specs.declared.request.Request.{Request}

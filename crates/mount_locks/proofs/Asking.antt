@@ -1,5 +1,5 @@
 -- A request that is put in at an end and has its first turn.
-use Rattle.std.proofs.Common.{◌≡◌, ℕ, Bool, true, false, not, ◌&&◌, ◌||◌, ◌==◌, cond, List, [], ◌∷◌, ◌++◌, Option, Some, None, refl, sym, ap, ◌∙◌, subst}
+use Rattle.std.proofs.Common.{◌≡◌, ℕ, Bool, true, false, ◌||◌, cond, List, [], ◌∷◌, ◌++◌, Some, refl, sym, ap, ◌∙◌, subst}
 use Rattle.std.specs.List.{list_any}
 use Rattle.std.specs.Ordering.{nat_cmp, is_eq}
 use Rattle.fop_types.specs.declared.cells.Gfid.{Gfid}
@@ -7,13 +7,13 @@ use Rattle.queue_index.specs.Queue.{item_at, items}
 use Rattle.mount_locks.specs.declared.request.Request.{Request}
 use Rattle.mount_locks.specs.declared.request.Held.{Held}
 use Rattle.mount_locks.specs.Rule.{held, waiting, granted_now, request_of, answer, Turned, turn, asked, extended, AreApart}
-use Rattle.mount_locks.specs.Walks.{turned_of, blocks, is_blocked, AreBlocked, AreUnpassed, IsSettled, is_due, is_at_number, turn_at}
+use Rattle.mount_locks.specs.Walks.{turned_of, blocks, AreBlocked, AreUnpassed, IsSettled, is_due, is_at_number, turn_at}
 use Rattle.mount_locks.proofs.Lists.{any-append, or_false, or_true, nil_end}
 use Rattle.mount_locks.proofs.Apart.{apart_turn, apart_waiting}
 use Rattle.mount_locks.proofs.Numbered.{Rise, all_below}
-use Rattle.mount_locks.proofs.Turns.{queue_here, due_at, items_middle}
+use Rattle.mount_locks.proofs.Turns.{queue_here, due_at}
 use Rattle.mount_locks.proofs.Blocked.{AreBlockedBut, is_among, ends}
-use Rattle.mount_locks.proofs.Passed.{at_end, end_unpassed, front_unpassed}
+use Rattle.mount_locks.proofs.Passed.{at_end, end_unpassed}
 
 -- what the request makes of the queue: what is asked, and what it is told
 pub record IsIn (queue : List Request) (granted : Bool) (gs : List (ℕ × Request)) (told : Held) : Type 0 where

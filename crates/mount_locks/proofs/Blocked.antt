@@ -34,6 +34,7 @@ unchanged m n r (e ∷ es) is waits = at_one (m == e.0) refl is (λ h. unchanged
     at_two : (b : Bool) → is_eq (nat_cmp n e.0) ≡ b → (m == e.0) ≡ false → cond b (Some e.1) (item_at n (changed_at marked m es)) ≡ Some r → (item_at n (changed_at marked m es) ≡ Some r → (item_at n es ≡ Some r) × (is_eq (nat_cmp n m) ≡ false)) → (cond b (Some e.1) (item_at n es) ≡ Some r) × (is_eq (nat_cmp n m) ≡ false)
     at_two true t apart h on = (h, other_number n m e.0 t apart)
     at_two false t apart h on = on h
+
     at_one : (a : Bool) → (m == e.0) ≡ a → item_at n (cond {A = ℕ × Request} a (e.0, marked e.1) e ∷ changed_at marked m es) ≡ Some r → (item_at n (changed_at marked m es) ≡ Some r → (item_at n es ≡ Some r) × (is_eq (nat_cmp n m) ≡ false)) → (item_at n (e ∷ es) ≡ Some r) × (is_eq (nat_cmp n m) ≡ false)
     at_one true t h on =
         let off = not_granted (is_eq (nat_cmp n e.0)) e.1 r (item_at n (changed_at marked m es)) h waits in
@@ -67,6 +68,7 @@ turn_keeps but m es h = at_one (item_at m es)
     at_two : (b : Bool) → AreBlockedBut but (cond b (changed_at marked m es) es)
     at_two true = marked_keeps but m es h
     at_two false = h
+
     at_one : (o : Option Request) → AreBlockedBut but (turn_of es m o)
     at_one None = h
     at_one (Some x) = at_two (is_due es m x)
@@ -99,9 +101,10 @@ skip (n ∷ ns) but es h = at_one (but n) refl (λ fs t. skip ns but fs t)
         (rest.0, ap (λ (l : List ℕ). with_call (call_at es n) l) rest.1)
     at_one false t on =
         let still = idle but n es h t in
-        let rest = on es h in
-        (ap (λ (l : List (ℕ × Request)). turns l ns) still.0 ∙ rest.0,
-        ap (λ (l : List (ℕ × Request)). with_call (call_at es n) (calls_of l ns)) still.0 ∙ ap (λ (o : Option ℕ). with_call o (calls_of es ns)) still.1 ∙ rest.1)
+        let rest = on es h in (
+          ap (λ (l : List (ℕ × Request)). turns l ns) still.0 ∙ rest.0,
+          ap (λ (l : List (ℕ × Request)). with_call (call_at es n) (calls_of l ns)) still.0 ∙ ap (λ (o : Option ℕ). with_call o (calls_of es ns)) still.1 ∙ rest.1,
+        )
 
 -- ---- after the turns of those that were not, all are blocked
 was_due : (g b : Bool) → g ≡ false → (not g && not b) ≡ false → b ≡ true
@@ -120,17 +123,21 @@ next m ns es h = at_one (item_at m es) refl
   where
     here : (n : ℕ) (r : Request) → item_at n es ≡ Some r → is_eq (nat_cmp n m) ≡ true → item_at m es ≡ Some r
     here n r is t = subst (λ (j : ℕ). item_at j es ≡ Some r) (number_is n m t) is
+
     outside : (n : ℕ) → is_eq (nat_cmp n m) ≡ false → is_among ns n ≡ false → is_among (m ∷ ns) n ≡ false
     outside n apart out = ap (λ (b : Bool). b || is_among ns n) apart ∙ out
+
     at_three : (x : Request) → item_at m es ≡ Some x → is_due es m x ≡ false → (n : ℕ) (r : Request) → item_at n es ≡ Some r → r.granted ≡ false → is_among ns n ≡ false → (b : Bool) → is_eq (nat_cmp n m) ≡ b → is_blocked es n r ≡ true
     at_three x t off n r is waits out true u =
         let same : x ≡ r = some_is x r (item_at m es) t (here n r is u) in
         let blocked : is_blocked es m r ≡ true = was_due r.granted (is_blocked es m r) waits (subst (λ (y : Request). is_due es m y ≡ false) same off) in
         subst (λ (j : ℕ). is_blocked es j r ≡ true) (sym (number_is n m u)) blocked
     at_three x t off n r is waits out false u = h n r is waits (outside n u out)
+
     at_two : (x : Request) → item_at m es ≡ Some x → (b : Bool) → is_due es m x ≡ b → AreBlockedBut (is_among ns) (cond b (changed_at marked m es) es)
     at_two x t true off = λ n r is waits out. let back = unchanged m n r es is waits in grown m n r es (h n r back.0 waits (outside n back.1 out))
     at_two x t false off = λ n r is waits out. at_three x t off n r is waits out (is_eq (nat_cmp n m)) refl
+
     at_one : (o : Option Request) → item_at m es ≡ o → AreBlockedBut (is_among ns) (turn_of es m o)
     at_one None t = λ n r is waits out. h n r is waits (outside n (decided (is_eq (nat_cmp n m)) (λ u. none_is r (item_at m es) t (here n r is u))) out)
     at_one (Some x) t = at_two x t (is_due es m x) refl

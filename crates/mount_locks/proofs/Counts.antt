@@ -1,5 +1,5 @@
 -- How many requests wait, where one is put in, granted or taken out.
-use Rattle.std.proofs.Common.{◌≡◌, ℕ, ◌+◌, ◌<◌, ◌≤◌, suc, Bool, true, false, not, ◌==◌, cond, List, [], ◌∷◌, ◌++◌, Option, Some, None, refl, sym, ap, ◌∙◌, arith, subst, length}
+use Rattle.std.proofs.Common.{◌≡◌, ℕ, ◌+◌, ◌<◌, ◌≤◌, suc, Bool, true, false, not, cond, List, [], ◌∷◌, ◌++◌, Some, refl, sym, ap, ◌∙◌, arith, subst, length}
 use Rattle.std.specs.List.{AllByRecursion}
 use Rattle.std.specs.Ordering.{nat_cmp, is_eq}
 use Rattle.queue_index.specs.Queue.{item_at, items, without, changed_at}
@@ -17,13 +17,6 @@ more false x k us vs i = i
 one_more : (b : Bool) (x : Request) (us : List Request) → length (cond b (x ∷ us) us) ≡ length us + cond b 1 0
 one_more true x us = omega arith
 one_more false x us = omega arith
-
-pub count_last : (es : List (ℕ × Request)) (n : ℕ) (r : Request) → r.granted ≡ false → length (waiting (items (es ++ (n, r) ∷ []))) ≡ length (waiting (items es)) + 1
-count_last [] n r waits = ap (λ (b : Bool). length (cond (not b) (r ∷ []) [])) waits
-count_last (e ∷ es) n r waits = more (not e.1.granted) e.1 1 (waiting (items (es ++ (n, r) ∷ []))) (waiting (items es)) (count_last es n r waits)
-
-pub count_first : (es : List (ℕ × Request)) (n : ℕ) (r : Request) → r.granted ≡ false → length (waiting (items ((n, r) ∷ es))) ≡ length (waiting (items es)) + 1
-count_first es n r waits = one_more (not r.granted) r (waiting (items es)) ∙ ap (λ (b : Bool). length (waiting (items es)) + cond (not b) 1 0) waits
 
 few_more : (b : Bool) (x : Request) (us : List Request) (k : ℕ) → length us ≤ k → length (cond b (x ∷ us) us) ≤ suc k
 few_more true x us k i = omega (arith, i)

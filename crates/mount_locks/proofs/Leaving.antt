@@ -1,5 +1,5 @@
 -- Where the requests of a call leave: only those that conflict with one of them can be granted.
-use Rattle.std.proofs.Common.{◌≡◌, ℕ, Bool, true, false, not, ◌&&◌, ◌||◌, ◌==◌, nat_lt, cond, List, [], ◌∷◌, Option, Some, None, refl, sym, ap, ◌∙◌, subst, map, length, arith}
+use Rattle.std.proofs.Common.{◌≡◌, ℕ, Bool, true, false, not, ◌&&◌, ◌||◌, ◌==◌, nat_lt, cond, List, [], ◌∷◌, Option, Some, None, refl, sym, ap, ◌∙◌, subst, length, arith}
 use Rattle.std.specs.List.{list_any, filter, AllByRecursion}
 use Rattle.std.specs.Ordering.{nat_cmp, is_eq}
 use Rattle.std.specs.BTreeSet as sorted
@@ -9,15 +9,15 @@ use Rattle.queue_index.specs.Queue.{item_at, items, numbers, touches, touching}
 use Rattle.queue_index.proofs.Entries.{founds, found_in}
 use Rattle.mount_locks.specs.declared.request.Request.{Request}
 use Rattle.mount_locks.specs.Keys.{call_key, keys_of}
-use Rattle.mount_locks.specs.Rule.{held, waiting, conflicts, without, Turned, grant_in_order, released, AreApart}
-use Rattle.mount_locks.specs.Walks.{turned_of, passes, is_at_number, meets, blocks, is_blocked, AreBlocked, AreUnpassed, IsSettled, turns, calls_of, meets_number, meets_at, is_rival}
+use Rattle.mount_locks.specs.Rule.{held, waiting, without, Turned, grant_in_order, released, AreApart}
+use Rattle.mount_locks.specs.Walks.{turned_of, passes, is_at_number, meets, blocks, AreBlocked, AreUnpassed, IsSettled, turns, calls_of, meets_number, meets_at, is_rival}
 use Rattle.mount_locks.proofs.Lists.{any_rest, none, or_false, filter_map_is, all_filter, all_pass}
 use Rattle.mount_locks.proofs.Apart.{apart_fewer, apart_released}
 use Rattle.mount_locks.proofs.Touches.{touches_call, no_conflict}
 use Rattle.mount_locks.proofs.Numbered.{Rise, was_there, filter_numbers, number_in, fewer_rise, set_is}
 use Rattle.mount_locks.proofs.Counts.{all_granted}
 use Rattle.mount_locks.proofs.Turns.{walked}
-use Rattle.mount_locks.proofs.Blocked.{AreBlockedBut, is_among, skip, ends}
+use Rattle.mount_locks.proofs.Blocked.{AreBlockedBut, skip, ends}
 use Rattle.mount_locks.proofs.Passed.{left_unpassed}
 
 -- ---- the rivals that are found

@@ -1,7 +1,6 @@
 -- Requests by their numbers: what a walk over the numbers finds is what a test of each entry finds.
-use Rattle.std.proofs.Common.{◌≡◌, ℕ, ◌+◌, ◌<◌, suc, Bool, true, false, not, ◌&&◌, ◌||◌, ◌==◌, nat_lt, cond, List, [], ◌∷◌, ◌++◌, Option, Some, None, refl, sym, ap, ◌∙◌, arith, subst, length, lt-ltb, le-ltb}
+use Rattle.std.proofs.Common.{◌≡◌, ℕ, ◌<◌, suc, Bool, true, false, not, ◌&&◌, ◌||◌, ◌==◌, cond, List, [], ◌∷◌, ◌++◌, Option, Some, refl, sym, ap, ◌∙◌, arith, subst, length}
 use Rattle.std.specs.List.{list_any, filter, AllByRecursion}
-use Rattle.std.specs.declared.cmp.Ordering.{Ordering}
 use Rattle.std.specs.declared.cmp.Ordering.TheVariants.{Less}
 use Rattle.std.specs.Ordering.{nat_cmp, is_eq}
 use Rattle.std.specs.Map.{keys_of as keys_in}
@@ -12,14 +11,13 @@ use Rattle.std.specs.Cmp.{nat_cmp_total}
 use Rattle.std.proofs.lemmas.Map.Keys.{sorted_head, sorted_tail}
 use Rattle.std.proofs.lemmas.Map.Lookups.{btree_set_from_contains, exact_unsigned}
 use Rattle.queue_index.specs.declared.key.Key.{Key}
-use Rattle.queue_index.specs.Queue.{item_at, items, numbers, without, changed_at, touches, touching_from}
+use Rattle.queue_index.specs.Queue.{item_at, numbers, without, changed_at, touches, touching_from}
 use Rattle.queue_index.proofs.Entries.{founds, each, found_in, at_is}
 use Rattle.queue_index.proofs.Touching.{numbers_start}
 use Rattle.mount_locks.specs.declared.request.Request.{Request}
 use Rattle.mount_locks.specs.Keys.{keys_of, marked}
 use Rattle.mount_locks.specs.Walks.{passes, is_at_number}
 use Rattle.mount_locks.proofs.Lists.{all_middle, all_filter, filter_filter, filter_members, fewer}
-use Rattle.mount_locks.proofs.Apart.{eq_flip}
 
 -- the numbers rise
 abbrev pub Rise : List (ℕ × Request) → Type 0

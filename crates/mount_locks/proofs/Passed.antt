@@ -2,17 +2,17 @@
 use Rattle.std.proofs.Common.{◌≡◌, ℕ, ◌<◌, ◌≤◌, Bool, true, false, not, ◌&&◌, ◌||◌, ◌==◌, nat_lt, nat_le, ◌+◌, cond, List, [], ◌∷◌, ◌++◌, Option, Some, None, refl, sym, ap, ◌∙◌, arith, subst, lt-ltb, le-ltb}
 use Rattle.std.specs.List.{list_any, filter, AllByRecursion}
 use Rattle.std.specs.Ordering.{nat_cmp, is_eq}
-use Rattle.std.proofs.lemmas.Bool.{and_parts, leb-true, ltb-false}
+use Rattle.std.proofs.lemmas.Bool.{and_parts, leb-true}
 use Rattle.queue_index.specs.declared.key.Key.{Key}
 use Rattle.queue_index.specs.Queue.{item_at, numbers, changed_at, touches, touching_from}
-use Rattle.queue_index.proofs.Entries.{founds, each, at_is}
+use Rattle.queue_index.proofs.Entries.{founds, each}
 use Rattle.mount_locks.specs.declared.request.Request.{Request}
 use Rattle.mount_locks.specs.Keys.{keys_of, marked}
 use Rattle.mount_locks.specs.Rule.{conflicts}
 use Rattle.mount_locks.specs.Walks.{bars, passes, is_at_number, blocks, is_blocked, keeps, is_kept, passes_by, is_passed, AreUnpassed, is_due, turn_of, turn_at}
-use Rattle.mount_locks.proofs.Lists.{any-append, any_same, any_or, any_left, or_false, or_true, decided}
+use Rattle.mount_locks.proofs.Lists.{any-append, any_same, any_or, any_left, or_false, or_true}
 use Rattle.mount_locks.proofs.Apart.{conflicts_flip}
-use Rattle.mount_locks.proofs.Numbered.{Rise, number_is, same_number, below_apart, was_there}
+use Rattle.mount_locks.proofs.Numbered.{Rise, number_is, same_number, was_there}
 use Rattle.mount_locks.proofs.Blocked.{unchanged}
 
 -- ---- what is looked at is all that blocks
@@ -110,10 +110,11 @@ turn_unpassed es fs m s h is = subst (λ (l : List (ℕ × Request)). AreUnpasse
         let free : is_blocked es m y ≡ false = due_free y.granted (is_blocked es m y) due in
         passed_on m n r es
         (each (λ k x. IsFree m n r k x) es es (founds es s) (λ k x found same.
-            let number : m ≡ k = same_number m k same in
-            let item : y ≡ x = same_item x y (item_at m es) (subst (λ (j : ℕ). item_at j es ≡ Some x) (sym number) found) t in
-            subst (λ (j : ℕ). (conflicts x r && (not (nat_lt j n) && true)) ≡ false) number (subst (λ (z : Request). (conflicts z r && (not (nat_lt m n) && true)) ≡ false) item (granted_passes es n m r y back.0 free back.1))))
+        let number : m ≡ k = same_number m k same in
+        let item : y ≡ x = same_item x y (item_at m es) (subst (λ (j : ℕ). item_at j es ≡ Some x) (sym number) found) t in
+        subst (λ (j : ℕ). (conflicts x r && (not (nat_lt j n) && true)) ≡ false) number (subst (λ (z : Request). (conflicts z r && (not (nat_lt m n) && true)) ≡ false) item (granted_passes es n m r y back.0 free back.1))))
         (h n r back.0 waits shared)
+
     at_one : (o : Option Request) → item_at m es ≡ o → AreUnpassed (turn_of es m o)
     at_one None t = h
     at_one (Some y) t = at_two y t (is_due es m y) refl
@@ -152,15 +153,6 @@ end_unpassed es fs n x waiting is low h = subst (λ (l : List (ℕ × Request)).
     at_one : (m : ℕ) (r : Request) → r.granted ≡ false → r.shared ≡ true → item_at m (es ++ (n, x) ∷ []) ≡ Some r → (b : Bool) → is_eq (nat_cmp m n) ≡ b → is_passed es m r ≡ false
     at_one m r waits shared at true t = none_late m r es (subst (λ (j : ℕ). AllByRecursion (λ e. e.0 < j) es) (sym (number_is m n t)) low)
     at_one m r waits shared at false t = h m r (sym (at_end m n x es t) ∙ at) waits shared
-
-pub front_unpassed : (es fs : List (ℕ × Request)) (n : ℕ) (x : Request) → x.granted ≡ false → x.shared ≡ false → fs ≡ (n, x) ∷ es → AreUnpassed es → AreUnpassed fs
-front_unpassed es fs n x waiting alone is h = subst (λ (l : List (ℕ × Request)). AreUnpassed l) (sym is) (λ m r at waits shared.
-    ap (λ (b : Bool). b || is_passed es m r) (waits_bools (conflicts x r) (nat_lt n m) x.granted waiting)
-    ∙ h m r (at_one m r shared (is_eq (nat_cmp m n)) at) waits shared)
-  where
-    at_one : (m : ℕ) (r : Request) → r.shared ≡ true → (b : Bool) → cond b (Some x) (item_at m es) ≡ Some r → item_at m es ≡ Some r
-    at_one m r shared true at = absurd (let v : x ≡ r = cc in let t : true ≡ false = sym shared ∙ sym (ap (λ (y : Request). y.shared) v) ∙ alone in cc)
-    at_one m r shared false at = at
 
 -- ---- where a walk for a shared one may stop
 no_bar : (call n m : ℕ) (o : Option Request) → nat_lt m n ≡ false → passes (bars true call n) m o ≡ false

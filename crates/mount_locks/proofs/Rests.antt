@@ -1,5 +1,5 @@
 -- One step of a walk over the rest of a list, and what becomes of a turn.
-use Rattle.std.proofs.Common.{◌≡◌, ℕ, ◌+◌, ◌<◌, Bool, true, false, not, ◌&&◌, ◌||◌, cond, List, [], ◌∷◌, Option, Some, None, refl, sym, ap, ◌∙◌, arith, drop, length, get_or, is_some}
+use Rattle.std.proofs.Common.{◌≡◌, ℕ, ◌+◌, ◌<◌, Bool, true, false, not, ◌&&◌, ◌||◌, cond, List, Option, Some, None, refl, sym, ap, ◌∙◌, arith, drop, length, get_or}
 use Rattle.std.proofs.lemmas.List.{drop_more}
 use Rattle.std.specs.List.{list_any}
 use Rattle.std.specs.Ordering.{nat_cmp, is_eq}
@@ -9,7 +9,7 @@ use Rattle.queue_index.specs.Queue.{item_at, numbers, changed_at, touches, touch
 use Rattle.queue_index.proofs.Entries.{founds}
 use Rattle.queue_index.proofs.Touching.{numbers_start}
 use Rattle.mount_locks.specs.declared.request.Request.{Request}
-use Rattle.mount_locks.specs.Rule.{request_of, answer}
+use Rattle.mount_locks.specs.Rule.{request_of}
 use Rattle.mount_locks.specs.Keys.{gfid_key, keys_of, marked}
 use Rattle.mount_locks.specs.Walks.{bars, is_on, meets, passes, is_at_number, is_blocked, is_kept, AreUnpassed, is_due, turn_of, call_of}
 use Rattle.mount_locks.proofs.Lists.{none}
@@ -78,22 +78,9 @@ both_put g together q o k l f h i a b is js t puts at again bt =
 pub bars_start : (k : Key) (together : Bool) (call n : ℕ) (es : List (ℕ × Request)) → Rise es → list_any (is_at_number (bars together call n) es) (numbers (touching_from keys_of k 0 es)) ≡ list_any (bars_by k together call n) es
 bars_start k together call n es s = ap (list_any (is_at_number (bars together call n) es)) (numbers_start keys_of k es) ∙ any_numbers (bars together call n) (λ e. touches keys_of k e.1) es es (founds es s)
 
-pub bar_hit : (p : ℕ → Bool) (ms ns : List ℕ) (m : ℕ) (w : Bool) → ms ≡ m ∷ ns → p m ≡ true → list_any p ms ≡ w → true ≡ w
-bar_hit p ms ns m w is hit so_far = sym (ap (list_any p) is ∙ ap (λ (b : Bool). b || list_any p ns) hit) ∙ so_far
-
-pub bar_miss : (p : ℕ → Bool) (ms ns : List ℕ) (m : ℕ) (w : Bool) → ms ≡ m ∷ ns → p m ≡ false → list_any p ms ≡ w → list_any p ns ≡ w
-bar_miss p ms ns m w is off so_far = sym (ap (list_any p) is ∙ ap (λ (b : Bool). b || list_any p ns) off) ∙ so_far
-
-pub bar_none : (p : ℕ → Bool) (ms : List ℕ) (w : Bool) → ms ≡ [] → list_any p ms ≡ w → false ≡ w
-bar_none p ms w is so_far = sym (ap (list_any p) is) ∙ so_far
-
 -- ---- a turn
 pub kept_on : (b : Bool) (l : List Gfid) (r : Request) (n : ℕ) (es : List (ℕ × Request)) → AreUnpassed es → Some r ≡ item_at n es → r.granted ≡ false → l ≡ r.gfids → b ≡ is_kept es n (request_of r.call l r.shared) → b ≡ is_blocked es n r
 kept_on b l r n es unpassed is waits same e = e ∙ ap (λ (x : List Gfid). is_kept es n (request_of r.call x r.shared)) same ∙ kept_is es n r unpassed (sym is) waits
-
-off_if : (g b : Bool) → g ≡ true → (not g && not b) ≡ false
-off_if true b h = refl
-off_if false b h = absurd cc
 
 off_too : (g b : Bool) → b ≡ true → (not g && not b) ≡ false
 off_too true b h = refl
@@ -108,22 +95,11 @@ on_if false false g h = refl
 call_off : (es : List (ℕ × Request)) (n : ℕ) (o : Option Request) (r : Request) → Some r ≡ o → is_due es n r ≡ false → None ≡ call_of es n o
 call_off es n o r is off = sym (ap (λ (x : Option Request). call_of es n x) (sym is) ∙ ap (λ (b : Bool). cond b (Some r.call) None) off)
 
-pub call_granted : (es : List (ℕ × Request)) (n : ℕ) (o : Option Request) (r : Request) → Some r ≡ o → r.granted ≡ true → None ≡ call_of es n o
-call_granted es n o r is on = call_off es n o r is (off_if r.granted (is_blocked es n r) on)
-
 pub call_blocked : (es : List (ℕ × Request)) (n : ℕ) (o : Option Request) (r : Request) → Some r ≡ o → is_blocked es n r ≡ true → None ≡ call_of es n o
 call_blocked es n o r is on = call_off es n o r is (off_too r.granted (is_blocked es n r) on)
 
 pub call_due : (es : List (ℕ × Request)) (n : ℕ) (o : Option Request) (r : Request) → Some r ≡ o → r.granted ≡ false → is_blocked es n r ≡ false → Some r.call ≡ call_of es n o
 call_due es n o r is waits free = sym (ap (λ (x : Option Request). call_of es n x) (sym is) ∙ ap (λ (b : Bool). cond b (Some r.call) None) (on_if r.granted (is_blocked es n r) waits free))
-
-pub none_turn : (es : List (ℕ × Request)) (n : ℕ) (o : Option Request) → None ≡ call_of es n o → es ≡ turn_of es n o
-none_turn es n None h = refl
-none_turn es n (Some r) h = at_one (is_due es n r) h
-  where
-    at_one : (b : Bool) → None ≡ cond b (Some r.call) None → es ≡ cond b (changed_at marked n es) es
-    at_one true h = absurd cc
-    at_one false h = refl
 
 pub some_turn : (es : List (ℕ × Request)) (n call : ℕ) (o : Option Request) → Some call ≡ call_of es n o → changed_at marked n es ≡ turn_of es n o
 some_turn es n call None h = absurd cc
@@ -132,19 +108,3 @@ some_turn es n call (Some r) h = at_one (is_due es n r) h
     at_one : (b : Bool) → Some call ≡ cond b (Some r.call) None → changed_at marked n es ≡ cond b (changed_at marked n es) es
     at_one true h = refl
     at_one false h = absurd cc
-
-pub some_waits : (es : List (ℕ × Request)) (n call : ℕ) (o : Option Request) → Some call ≡ call_of es n o → passes (λ _ r. not r.granted) n o ≡ true
-some_waits es n call None h = absurd cc
-some_waits es n call (Some r) h = at_one r.granted (is_blocked es n r) h
-  where
-    at_one : (g b : Bool) → Some call ≡ cond (not g && not b) (Some r.call) None → not g ≡ true
-    at_one true b h = absurd cc
-    at_one false b h = refl
-
-pub some_due : (es : List (ℕ × Request)) (n : ℕ) (o : Option Request) → is_some (call_of es n o) ≡ passes (is_due es) n o
-some_due es n None = refl
-some_due es n (Some r) = at_one (is_due es n r)
-  where
-    at_one : (b : Bool) → is_some (cond {A = Option ℕ} b (Some r.call) None) ≡ b
-    at_one true = refl
-    at_one false = refl

@@ -1,25 +1,16 @@
 -- What a request has: its call's key, and those of its gfids.
-use Rattle.std.proofs.Common.{◌≡◌, ℕ, zero, suc, ◌<◌, Bool, true, false, not, ◌&&◌, ◌||◌, ◌==◌, nat_lt, cond, List, [], ◌∷◌, refl, sym, ap, ◌∙◌, arith, map, length, get_or}
-use Rattle.std.specs.List.{list_any, filter}
+use Rattle.std.proofs.Common.{◌≡◌, ℕ, Bool, true, false, not, ◌&&◌, ◌||◌, ◌==◌, nat_lt, List, [], ◌∷◌, refl, sym, ap, ◌∙◌, map}
+use Rattle.std.specs.List.{list_any}
 use Rattle.fop_types.specs.declared.cells.Gfid.{Gfid}
 use Rattle.queue_index.specs.declared.key.Key.{Key}
 use Rattle.queue_index.specs.Places.{is_key, has_key}
 use Rattle.queue_index.specs.Queue.{touches}
 use Rattle.mount_locks.specs.declared.request.Request.{Request}
-use Rattle.mount_locks.specs.Rule.{is_gfid, names, shares, conflicts, request_of, without}
+use Rattle.mount_locks.specs.Rule.{is_gfid, names, shares, conflicts, request_of}
 use Rattle.mount_locks.specs.Keys.{call_key, gfid_key, mode_of, keys_of}
 use Rattle.mount_locks.specs.Walks.{bars, is_on, meets, keeps, is_kept}
-use Rattle.mount_locks.proofs.Lists.{any_same, any_or, any_and, any_when, any_swap, any_map, and_flip, and_true, or_false}
+use Rattle.mount_locks.proofs.Lists.{any_same, any_or, any_and, any_when, any_swap, any_map, and_flip, and_true}
 use Rattle.mount_locks.proofs.Apart.{eq_flip, gfid_flip, shares_flip}
-
--- ---- the key at a place
-get_map : {A B : Type 0} (f : A → B) (xs : List A) (j : ℕ) (d : A) (r : B) → j < length (map f xs) → r ≡ f (get_or xs j d) → r ≡ get_or (map f xs) j r
-get_map f [] j d r low is = absurd (omega (arith, low))
-get_map f (x ∷ xs) zero d r low is = is
-get_map f (x ∷ xs) (suc j) d r low is = get_map f xs j d r (omega (arith, low)) is
-
-pub key_at : (f : Gfid → Key) (xs ys : List Gfid) (a j : ℕ) (o : Key) (d : Gfid) (r : Key) → a ≡ suc j → a < length (o ∷ map f xs) → ys ≡ xs → r ≡ f (get_or ys j d) → r ≡ get_or (o ∷ map f xs) a r
-key_at f xs ys a j o d r at low same is = get_map f xs j d r (omega (arith, at, low)) (is ∙ ap (λ (l : List Gfid). f (get_or l j d)) same) ∙ ap (λ (n : ℕ). get_or (o ∷ map f xs) n r) (sym at)
 
 -- ---- the two sorts of keys never meet
 or_nothing : (a : Bool) → (a || false) ≡ a

@@ -1,8 +1,7 @@
 -- The turns of all requests, by their numbers, are those that are given in queue order.
-use Rattle.std.proofs.Common.{◌≡◌, ℕ, ◌<◌, Bool, true, false, not, ◌&&◌, ◌||◌, ◌==◌, nat_lt, cond, List, [], ◌∷◌, ◌++◌, Option, Some, None, refl, sym, ap, ◌∙◌, arith, subst, append_assoc, lt-ltb, le-ltb}
-use Rattle.std.specs.List.{list_any, filter, AllByRecursion}
+use Rattle.std.proofs.Common.{◌≡◌, ℕ, ◌<◌, Bool, true, false, not, ◌&&◌, ◌||◌, nat_lt, cond, List, [], ◌∷◌, ◌++◌, Option, Some, None, refl, sym, ap, ◌∙◌, arith, subst, append_assoc, lt-ltb, le-ltb}
+use Rattle.std.specs.List.{AllByRecursion}
 use Rattle.std.specs.Ordering.{nat_cmp}
-use Rattle.std.specs.Map.{keys_of as keys_in}
 use Rattle.std.specs.List.Sorted.{IsStrictlySortedBy}
 use Rattle.queue_index.specs.Queue.{item_at, items, numbers, changed_at}
 use Rattle.queue_index.proofs.Entries.{founds}

@@ -12,15 +12,26 @@
 //! The granted ones are the holds, and no two holds ever conflict. A request is granted when no granted
 //! and no earlier waiting request conflicts with it, so no later request overtakes one that it conflicts
 //! with. The hub asks before a file operation starts, and releases when its call is answered.
+//!
+//! The queue finds its requests by call and by gfid, those alone apart from the shared ones, and counts
+//! those that wait. So a call costs time by the requests that name its own gfids, however many others
+//! hold and wait. Where n requests stand in all:
+//!
+//! - `ask` looks, on each of its gfids, at the first request of another call: of the order log n a gfid.
+//! - `extend` looks at the requests on its gfid up to the first hold, each of the order log n.
+//! - `release` finds the requests that conflict with those that leave, and gives each its turn, each of the
+//!   order log n a gfid; on a gfid where one alone is the first, its turn looks at those behind it too. No
+//!   other can be granted, since each that waits is blocked at all times, by a hold or by one before it.
+//! - `release_done` takes the requests of its call out, of the order log n for each gfid that they name.
 #![tactic(auto)]
 
 mod locks;
 mod queue;
 mod request;
 mod rivals;
-mod walk;
 #[cfg(test)]
 mod tests;
+mod walk;
 
 pub use locks::MountLocks;
 pub use request::{Held, Request};

@@ -49,7 +49,10 @@ fn extension_before_waiting(rt: HostRuntime) -> Result<(), Fail> {
 fn grants_in_queue_order(rt: HostRuntime) -> Result<(), Fail> {
     let alloc = rt.alloc();
     let mut locks = MountLocks::new(alloc);
-    assert_eq!(rt; locks.ask(alloc, 1, &[ROOT, DIR, FILE], false), Ok(Held::Granted));
+    assert_eq!(rt;
+        locks.ask(alloc, 1, &[ROOT, DIR, FILE], false),
+        Ok(Held::Granted)
+    );
     assert_eq!(rt; locks.ask(alloc, 2, &[ROOT], true), Ok(Held::Waiting));
     assert_eq!(rt; locks.ask(alloc, 3, &[DIR, FILE], false), Ok(Held::Waiting));
     assert_eq!(rt; locks.ask(alloc, 4, &[ROOT, DIR], true), Ok(Held::Waiting));

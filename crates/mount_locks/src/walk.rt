@@ -16,13 +16,7 @@ use std::collections::BTreeSet;
 
 /// Whether a request is of another call than this one, and stands before a number or, where one alone
 /// asks, is granted.
-fn is_bar(
-    queue: &KeyedQueue<Request>,
-    other: u64,
-    call: u32,
-    shared: bool,
-    number: u64,
-) -> bool
+fn is_bar(queue: &KeyedQueue<Request>, other: u64, call: u32, shared: bool, number: u64) -> bool
     ensures { result ≡ is_at_number (bars shared call number) queue.now other }
 {
     let Some(request) = queue.get(other) else {
@@ -32,13 +26,7 @@ fn is_bar(
 }
 
 /// The same of some request that has a key.
-fn is_barred(
-    queue: &KeyedQueue<Request>,
-    key: Key,
-    call: u32,
-    shared: bool,
-    number: u64,
-) -> bool
+fn is_barred(queue: &KeyedQueue<Request>, key: Key, call: u32, shared: bool, number: u64) -> bool
     ensures { result ≡ list_any (λ e. touches keys_of key e.1 && bars shared call number e.0 e.1) queue.now }
 {
     queue.numbers_rise();

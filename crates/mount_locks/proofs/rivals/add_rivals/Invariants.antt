@@ -1,6 +1,6 @@
 use Rattle.std.proofs.Common.{◌≡◌, ◌||◌, drop, ℕ}
-use Rattle.std.specs.List.{list_any, filter}
-use Rattle.std.specs.Ordering.{nat_cmp, is_eq}
+use Rattle.std.specs.List.{list_any}
+use Rattle.std.specs.Ordering.{nat_cmp}
 use Rattle.std.specs.BTreeSet as sorted
 use Rattle.mount_locks.specs.Walks.{is_on, meets, is_at_number}
 use Rattle.mount_locks.proofs.rivals.add_rivals.Given as goal

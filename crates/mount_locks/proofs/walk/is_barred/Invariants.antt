@@ -1,4 +1,4 @@
-use Rattle.std.proofs.Common.{◌≡◌, ◌-◌, ◌&&◌, ℕ}
+use Rattle.std.proofs.Common.{◌≡◌, ◌-◌, ◌&&◌}
 use Rattle.std.specs.List.{list_any}
 use Rattle.queue_index.specs.Queue.{numbers, touches, touching_from}
 use Rattle.mount_locks.specs.Keys.{keys_of}
