@@ -3,7 +3,6 @@ ghost use Rattle.std.specs.Prelude.{◌≡◌, ℕ, ◌||◌, OnOk, IfOk};
 ghost use Rattle.std.specs.List.{list_any};
 ghost use Rattle.std.specs.Ordering.{nat_cmp, is_eq};
 ghost use Rattle.std.specs.BTreeSet as sorted;
-ghost use Rattle.queue_index.specs.declared.key.Key.{Key};
 ghost use Rattle.mount_locks.specs.Walks.{is_on, meets, meets_at, is_at_number, is_rival};
 
 use crate::request::{Request, gfid_key};

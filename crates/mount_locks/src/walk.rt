@@ -1,7 +1,6 @@
 //! Which requests are blocked, found by the requests of their own gfids, and whose turn comes.
 ghost use Rattle.std.specs.Prelude.{◌≡◌, ◌≤◌, ◌&&◌, [], length, not};
 ghost use Rattle.std.specs.List.{list_any, filter};
-ghost use Rattle.std.specs.BTreeSet as sorted;
 ghost use Rattle.std.specs.Vec.{vec_capacity};
 ghost use Rattle.queue_index.specs.Queue.{touches};
 ghost use Rattle.mount_locks.specs.Rule.{request_of, answer};
