@@ -1,9 +1,7 @@
+use crate::timing::ROUNDS;
 use fop_types::Gfid;
 use mount_locks::MountLocks;
 use std::alloc::{AllocError, Global};
-
-/// How often the calls are made while they are timed: a release looks at all that wait.
-pub const ROUNDS: u32 = 3;
 
 /// Holds of which so many are granted and so many wait, each pair on a gfid of its own.
 pub fn filled(alloc: Global, entries: u32) -> Result<MountLocks, AllocError> {

@@ -38,7 +38,7 @@ fn report_holds<R: Runtime>(rt: &R, alloc: Global, entries: u32) -> io::Result<(
     let mut table = holds::filled(alloc, entries)?;
     let start = Instant::now(rt)?;
     holds::ask_and_release(alloc, &mut table, entries)?;
-    let alone = nanoseconds_of(start.elapsed(rt)?) / u64::from(holds::ROUNDS);
+    let alone = each(start.elapsed(rt)?);
     eprintln!(rt; "  holds of the mount: ask and release {alone}")
 }
 
