@@ -7,8 +7,9 @@
 //!
 //! A [`Source`] may tell the bytes that are left, a [`Sink`] the bytes that it took, and both count
 //! their faults. Contracts of callers speak of these alone, so they hold over every source and sink:
-//! [`StdSource`] and [`StdSink`] at the real ends, which tell no content, and [`MemSource`] and
-//! [`MemSink`] in memory, which tell all of theirs and fail at the calls that they were told.
+//! [`StdSource`] and [`StdSink`] over a reader and a writer of std, which tell what these tell (standard
+//! input and output nothing), and [`MemSource`] and [`MemSink`] in memory, which tell all of theirs and
+//! fail at the calls that they were told.
 //!
 //! `main` makes the real ends; the top calls read by [`read_all`] and write by [`write_all`]; parsers
 //! read numbers and data by [`decimal`] and [`hex`].

@@ -4,20 +4,21 @@ use std::io::Write;
 use std::marker::Model;
 
 /// A sink over a writer of std. It counts as a fault each error of the writer, and each write that took
-/// nothing of a piece that is not empty; it tells no content: what the writer does is trusted.
+/// nothing of a piece that is not empty. It tells the bytes that it took where the writer tells them, as
+/// one into a vector does; standard output tells none.
 #[derive(Debug, Drop)]
 pub struct StdSink<W> {
     inner: W,
     faults: u64,
 }
 
-// Contracts see the count of faults alone.
+// Contracts see the writer and the count of faults.
 impl<W> Model for StdSink<W> {
     ghost use Rattle.std.specs.Prelude.{ℕ};
 
-    ghost Value = { ℕ };
+    ghost Value = { W × ℕ };
 
-    ghost view = { λ s. s.faults };
+    ghost view = { λ s. (s.inner, s.faults) };
 }
 
 impl<W: Write> StdSink<W> {
@@ -25,18 +26,16 @@ impl<W: Write> StdSink<W> {
 
     /// A sink that hands its bytes to the writer, with no fault so far.
     pub fn new(inner: W) -> StdSink<W>
-        ensures { result ≡ 0 }
+        ensures { result ≡ (inner, 0) }
     {
         StdSink { inner, faults: 0 }
     }
 }
 
 impl<W: Write> Sink for StdSink<W> {
-    ghost use Rattle.std.specs.Prelude.{None};
+    ghost taken = { λ s. W.contents s.0 };
 
-    ghost taken = { λ _. None };
-
-    ghost faults = { λ count. count };
+    ghost faults = { λ s. s.1 };
 
     /// One write of the writer.
     ///

@@ -3,21 +3,21 @@ use crate::sources::Source;
 use std::io::Read;
 use std::marker::Model;
 
-/// A source over a reader of std. It counts each error of the reader as a fault and tells no content:
-/// what the reader gives is trusted.
+/// A source over a reader of std. It counts each error of the reader as a fault, and tells the bytes that
+/// are left where the reader tells them, as one over bytes in memory does; standard input tells none.
 #[derive(Debug, Drop)]
 pub struct StdSource<R> {
     inner: R,
     faults: u64,
 }
 
-// Contracts see the count of faults alone.
+// Contracts see the reader and the count of faults.
 impl<R> Model for StdSource<R> {
     ghost use Rattle.std.specs.Prelude.{ℕ};
 
-    ghost Value = { ℕ };
+    ghost Value = { R × ℕ };
 
-    ghost view = { λ s. s.faults };
+    ghost view = { λ s. (s.inner, s.faults) };
 }
 
 impl<R: Read> StdSource<R> {
@@ -25,18 +25,16 @@ impl<R: Read> StdSource<R> {
 
     /// A source of what the reader gives, with no fault so far.
     pub fn new(inner: R) -> StdSource<R>
-        ensures { result ≡ 0 }
+        ensures { result ≡ (inner, 0) }
     {
         StdSource { inner, faults: 0 }
     }
 }
 
 impl<R: Read> Source for StdSource<R> {
-    ghost use Rattle.std.specs.Prelude.{None};
+    ghost left = { λ s. R.remaining s.0 };
 
-    ghost left = { λ _. None };
-
-    ghost faults = { λ count. count };
+    ghost faults = { λ s. s.1 };
 
     /// One read of the reader.
     ///

@@ -37,6 +37,18 @@ fn first_failure_ends(rt: HostRuntime) -> Result<(), Fail> {
     Ok(())
 }
 
+// Over a reader and a writer in memory of std, all is read and all is written.
+#[test]
+fn std_ends(rt: HostRuntime) -> Result<(), Fail> {
+    let alloc = rt.alloc();
+    let mut source = StdSource::new(b"abc".as_slice());
+    let all = read_all(alloc, &mut source, 3)?;
+    assert_eq!(rt; all.as_slice(), b"abc".as_slice());
+    let mut sink = StdSink::new(Vec::new(alloc));
+    assert!(rt; write_all(&mut sink, all.as_slice()).is_ok());
+    Ok(())
+}
+
 #[test]
 fn decimal_words(rt: HostRuntime) {
     assert_eq!(rt; decimal(b"0"), Some(0));
