@@ -1,0 +1,10 @@
+pub mod Answered
+pub mod Changed
+pub mod Contents
+pub mod Counted
+pub mod Made
+pub mod Named
+pub mod Names
+pub mod Sizes
+pub mod Starts
+pub mod Stays
