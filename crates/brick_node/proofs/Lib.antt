@@ -1,1 +1,4 @@
+pub mod Names
 pub mod Pushes
+pub mod Stored
+pub mod Wrong

@@ -1,2 +1,4 @@
+pub mod Laws
 pub mod Machine
 pub mod Runs
+pub mod Stored

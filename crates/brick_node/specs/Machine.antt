@@ -1,7 +1,9 @@
--- A brick as a function on lists: its outputs are a function of its inputs. Each request gets one
--- output, which carries the number of inputs up to it.
-use Rattle.std.specs.Prelude.{ℕ, List, [], ◌∷◌, ◌++◌, Option, Some, None, ◌+◌, ◌==◌, if◌then◌else◌}
+-- A brick as a function on lists: its outputs are a function of its inputs, both in bytes. Each request
+-- gets one output, which carries the number of inputs up to it; bytes that are no input are answered with
+-- the place at which they stop being one, and change nothing.
+use Rattle.std.specs.Prelude.{ℕ, List, [], ◌∷◌, ◌++◌, map, length, nat_le, Bool, true, Option, Some, None, ◌+◌, ◌==◌, if◌then◌else◌}
 use Rattle.fop_types.specs.declared.contents.Content.{Content}
+use Rattle.fop_types.specs.declared.contents.Content.TheVariants.{Bytes, Meta, Names}
 use Rattle.fop_types.specs.declared.messages.BrickReq.{BrickReq}
 use Rattle.fop_types.specs.declared.messages.BrickReq.TheVariants.{Lock, Unlock, Mark, Op, Post, Fetch, Replace, Clear, Settle, Index, Open, Release}
 use Rattle.fop_types.specs.declared.messages.DoneArm.TheVariants as done
@@ -9,8 +11,12 @@ use Rattle.fop_types.specs.declared.messages.BrickRep.{BrickRep}
 use Rattle.fop_types.specs.declared.messages.BrickRep.TheVariants.{Done, Unfit, BadFd}
 use Rattle.fop_types.specs.declared.messages.Input.{Input}
 use Rattle.fop_types.specs.declared.messages.Input.TheVariants.{Request, Down, Up, Connect, Disconnect, FaultAt}
-use Rattle.fop_types.specs.declared.messages.OutKind.TheVariants.{Reply}
+use Rattle.fop_types.specs.declared.messages.OutKind.TheVariants.{Reply, Malformed}
 use Rattle.fop_types.specs.declared.messages.Output.{Output}
+use Rattle.wire_xdr.specs.WireText.{output_text}
+use Rattle.wire_messages.specs.Messages.{input_in}
+use Rattle.wire_messages.specs.declared.messages.Message.{Message}
+use Rattle.wire_messages.specs.declared.messages.Message.TheVariants.{Whole, Wrong}
 use Rattle.brick_store.specs.Cells.{Cells, root_alone, kept_at, copy_of, marked, posted, applied}
 
 -- the store after a request, and its reply
@@ -18,9 +24,16 @@ pub record Served : Type 0 where
   pub cells : Cells
   pub reply : BrickRep
 
+-- a list of at most 65,536 items has a spelling; file bytes are never more
+abbrev pub is_sendable : Content → Bool
+is_sendable (Bytes bytes) = true
+is_sendable (Meta mode attrs span) = nat_le (length attrs) 65536
+is_sendable (Names removed items) = nat_le (length items) 65536
+
+-- a fetch of a cell that is not present is unfit, and so is one whose list is too long to be sent
 abbrev pub fetch_reply : Option (Content × ℕ) → BrickRep
 fetch_reply None = Unfit
-fetch_reply (Some copy) = Done (done.Content copy.0 copy.1)
+fetch_reply (Some copy) = if is_sendable copy.0 then Done (done.Content copy.0 copy.1) else Unfit
 
 abbrev pub op_served : Cells → Option Cells → Served
 op_served cells None = record { cells = cells; reply = Unfit }
@@ -65,18 +78,27 @@ outputs_one cells taken (Connect graph version) = []
 outputs_one cells taken (Disconnect graph) = []
 outputs_one cells taken (FaultAt proc number) = []
 
-abbrev pub cells_from : Cells → List Input → Cells
-cells_from cells [] = cells
-cells_from cells (input ∷ inputs) = cells_from (cells_one cells input) inputs
+-- the store and the outputs after bytes that are an input, or stop being one at a place
+abbrev pub cells_for : Cells → Message Input → Cells
+cells_for cells (Whole input) = cells_one cells input
+cells_for cells (Wrong place) = cells
 
-abbrev pub outputs_from : Cells → ℕ → List Input → List Output
+abbrev pub outputs_for : Cells → ℕ → Message Input → List Output
+outputs_for cells taken (Whole input) = outputs_one cells taken input
+outputs_for cells taken (Wrong place) = record { taken = taken; kind = Malformed place } ∷ []
+
+abbrev pub cells_from : Cells → List (List ℕ) → Cells
+cells_from cells [] = cells
+cells_from cells (bytes ∷ inputs) = cells_from (cells_for cells (input_in bytes)) inputs
+
+abbrev pub outputs_from : Cells → ℕ → List (List ℕ) → List (List ℕ)
 outputs_from cells before [] = []
-outputs_from cells before (input ∷ inputs) =
-    outputs_one cells (before + 1) input ++ outputs_from (cells_one cells input) (before + 1) inputs
+outputs_from cells before (bytes ∷ inputs) =
+    map output_text (outputs_for cells (before + 1) (input_in bytes)) ++ outputs_from (cells_for cells (input_in bytes)) (before + 1) inputs
 
 -- a brick begins with the root alone
-abbrev pub cells_of : List Input → Cells
+abbrev pub cells_of : List (List ℕ) → Cells
 cells_of inputs = cells_from root_alone inputs
 
-abbrev pub outputs_of : List Input → List Output
+abbrev pub outputs_of : List (List ℕ) → List (List ℕ)
 outputs_of inputs = outputs_from root_alone 0 inputs

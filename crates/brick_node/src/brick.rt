@@ -1,27 +1,30 @@
 ghost use Rattle.std.specs.Prelude.{◌≡◌, List, [], ◌∷◌, ◌++◌, IfOk, OnOk, OnErr};
-ghost use Rattle.brick_node.specs.Machine.{cells_of, outputs_of, serve_request};
+ghost use Rattle.wire_xdr.specs.WireText.{input_text, IsInputOf};
+ghost use Rattle.wire_messages.specs.Messages.{input_in, IsSaid};
+ghost use Rattle.brick_node.specs.Machine.{cells_of, outputs_of};
 
+use crate::serving::output_due;
 use brick_store::Store;
-use fop_types::{BrickRep, BrickReq, DoneArm, Input, OutKind, Output};
+use fop_types::Seq;
 use std::alloc::{AllocError, Global};
 use std::marker::Model;
+use wire_messages::input_of;
 
-/// A brick: its store, the inputs that came, and the outputs that they caused.
+/// A brick: its store, the inputs that came, and the outputs that they caused, both in bytes.
 ///
 /// Contracts see it as its journal, the list of its inputs.
 #[derive(Drop)]
 pub struct Brick {
     cells: Store,
-    came: Vec<Input>,
-    made: Vec<Output>,
+    came: Vec<Seq<u8>>,
+    made: Vec<Seq<u8>>,
 }
 
 impl Model for Brick {
-    ghost use Rattle.std.specs.Prelude.{◌≡◌, List};
-    ghost use Rattle.fop_types.specs.declared.messages.Input.{Input};
+    ghost use Rattle.std.specs.Prelude.{◌≡◌, ℕ, List};
     ghost use Rattle.brick_node.specs.Machine.{cells_of, outputs_of};
 
-    ghost Value = { List Input };
+    ghost Value = { List (List ℕ) };
 
     ghost view = { λ b. b.came.items };
 
@@ -44,47 +47,29 @@ impl Brick {
         })
     }
 
-    /// Serves an input: it goes to the end of the journal, and what it causes to the end of the outputs.
-    /// The input is copied, so that the sender keeps its own.
+    /// Serves an input: its bytes go to the end of the journal, and what they cause to the end of the
+    /// outputs. Bytes that are no input cause a `Malformed` with the place at which they stop being one,
+    /// and change no cell. The bytes are copied, so that the sender keeps its own.
     ///
     /// # Errors
     /// Want of memory, with nothing changed.
-    #[tactic(auto, using(crate::proofs::Pushes::cells_of_push, crate::proofs::Pushes::outputs_of_push))]
-    pub fn serve(&mut self, alloc: Global, input: &Input) -> Result<(), AllocError>
+    pub fn serve(&mut self, alloc: Global, input: &[u8]) -> Result<(), AllocError>
         ensures ok { OnOk result (self.new ≡ self.old ++ input.now ∷ []) }
+        ensures said { OnOk result (IsSaid IsInputOf input_text input.now (input_in input.now)) }
         ensures err { OnErr result (self.new ≡ self.old) }
     {
-        let entry = input.copy(alloc)?;
+        let entry = Seq::from_bytes(alloc, input)?;
+        let message = input_of(alloc, input)?;
         self.made.reserve(1)?;
         self.came.reserve(1)?;
         let taken = self.came.len() as u64 + 1;
-        match input {
-            Input::Request { wind, req, .. } => {
-                let rep = reply(&mut self.cells, alloc, req)?;
-                self.made.push_reserved(Output {
-                    taken,
-                    kind: OutKind::Reply { wind: *wind, rep },
-                });
+        match output_due(&mut self.cells, alloc, taken, message)? {
+            Some(output) => {
+                self.made.push_reserved(output);
                 self.came.push_reserved(entry);
                 Ok(())
             }
-            Input::Down { .. } => {
-                self.came.push_reserved(entry);
-                Ok(())
-            }
-            Input::Up => {
-                self.came.push_reserved(entry);
-                Ok(())
-            }
-            Input::Connect { .. } => {
-                self.came.push_reserved(entry);
-                Ok(())
-            }
-            Input::Disconnect { .. } => {
-                self.came.push_reserved(entry);
-                Ok(())
-            }
-            Input::FaultAt { .. } => {
+            None => {
                 self.came.push_reserved(entry);
                 Ok(())
             }
@@ -92,14 +77,14 @@ impl Brick {
     }
 
     /// The inputs that came, in order.
-    pub fn journal(&self) -> &[Input]
+    pub fn journal(&self) -> &[Seq<u8>]
         ensures { result.now ≡ self.now }
     {
         self.came.as_slice()
     }
 
     /// The outputs that the inputs caused, in order.
-    pub fn outputs(&self) -> &[Output]
+    pub fn outputs(&self) -> &[Seq<u8>]
         ensures { result.now ≡ outputs_of self.now }
     {
         self.made.as_slice()
@@ -111,53 +96,5 @@ impl Brick {
     {
         let _journal = &self.came;
         &self.cells
-    }
-}
-
-/// Serves a request: changes the store and gives the reply.
-///
-/// # Errors
-/// Want of memory, with nothing changed.
-fn reply(store: &mut Store, alloc: Global, req: &BrickReq) -> Result<BrickRep, AllocError>
-    ensures rep { IfOk result (λ rep. rep ≡ (serve_request store.old req.now).reply) }
-    ensures cells { OnOk result (store.new ≡ (serve_request store.old req.now).cells) }
-    ensures err { OnErr result (store.new ≡ store.old) }
-{
-    match req {
-        BrickReq::Fetch { fd, cell } => {
-            if *fd != 0 {
-                return Ok(BrickRep::BadFd);
-            }
-            match store.fetch(alloc, cell)? {
-                Some((content, last)) => Ok(BrickRep::Done(DoneArm::Content(content, last))),
-                None => Ok(BrickRep::Unfit),
-            }
-        }
-        BrickReq::Mark { cells, .. } => {
-            store.mark(cells.as_slice())?;
-            Ok(BrickRep::Done(DoneArm::Nothing))
-        }
-        BrickReq::Op { change, fd, op } => {
-            if *fd != 0 {
-                return Ok(BrickRep::BadFd);
-            }
-            if store.apply(alloc, *change, op)? {
-                Ok(BrickRep::Done(DoneArm::Nothing))
-            } else {
-                Ok(BrickRep::Unfit)
-            }
-        }
-        BrickReq::Post { cells, .. } => {
-            store.post(cells.as_slice())?;
-            Ok(BrickRep::Done(DoneArm::Nothing))
-        }
-        BrickReq::Lock { .. } => Ok(BrickRep::Unfit),
-        BrickReq::Unlock { .. } => Ok(BrickRep::Unfit),
-        BrickReq::Replace { .. } => Ok(BrickRep::Unfit),
-        BrickReq::Clear { .. } => Ok(BrickRep::Unfit),
-        BrickReq::Settle { .. } => Ok(BrickRep::Unfit),
-        BrickReq::Index => Ok(BrickRep::Unfit),
-        BrickReq::Open { .. } => Ok(BrickRep::Unfit),
-        BrickReq::Release { .. } => Ok(BrickRep::Unfit),
     }
 }

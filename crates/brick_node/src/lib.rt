@@ -1,23 +1,31 @@
-//! One brick: a machine that takes requests and controls one after the other and answers each request.
+//! One brick: a machine over bytes that takes requests and controls one after the other and answers each
+//! request.
 //!
 //! ```text
-//!   journal   input 1      input 2      input 3          what came, in order
-//!                |            |            |
+//!   journal   bytes 1      bytes 2      bytes 3          what came, in order
+//!                |            |            |             read as an input, or wrong at a place
 //!   store     root alone -> cells ->    cells            what the inputs made of the cells
 //!                |            |            |
-//!   outputs   output       output       output           each with the number of inputs up to it
+//!   outputs   bytes        bytes        bytes            each with the number of inputs up to it
 //! ```
 //!
-//! A brick is wholly a function of its inputs: its outputs and its store are `outputs_of` and
+//! A brick is wholly a function of the bytes that came: its outputs and its store are `outputs_of` and
 //! `cells_of` its journal, by its type. So what a brick answers is known from what was sent to it, and
-//! its first outputs don't change as more inputs come.
+//! its first outputs don't change as more inputs come. Bytes that are no input change no cell, and are
+//! answered `Malformed` with the place at which they stop being one.
+//!
+//! All that a brick keeps came in inputs that have a spelling. So each output has one, too: a directory
+//! of more than 65,536 names, which has none, is not sent, and its fetch is answered `Unfit`.
 //!
 //! The world of one thread serves a brick in place; with threads each brick has an owner of its own.
 #![tactic(auto)]
 
 mod brick;
+mod laws;
+mod serving;
 
 pub use brick::Brick;
+pub use laws::malformed_bytes_change_nothing;
 
 #[cfg(test)]
 mod tests;

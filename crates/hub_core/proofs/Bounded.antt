@@ -4,7 +4,6 @@ use Rattle.std.proofs.lemmas.Option.{slice_get_within}
 use Rattle.fop_types.specs.declared.calls.RootCall.{RootCall}
 use Rattle.fop_types.specs.declared.calls.RootCall.TheVariants as call
 use Rattle.fop_types.specs.declared.messages.DoneArm.{DoneArm}
-use Rattle.fop_types.specs.declared.messages.Output.{Output}
 use Rattle.fop_types.specs.History.{makes}
 use Rattle.fop_types.specs.declared.calls.RootLine.{RootLine}
 use Rattle.hub_core.specs.declared.logs.SentLine.{SentLine}
@@ -55,9 +54,9 @@ bounded_at_submit s line b idle there =
       work = (refl, last_turn s.log.sent _, sent_room s.log.sent _ (requests_left (first_stage line.call)) (4 * (s.submitted + 1)) (omega arith), omega arith);
     }
 
-pub bounded_at_next : (s : HubState) (output : Output) → IsBounded s → (w : Working) (line : RootLine) (follows : Next) →
-    s.working ≡ Some w → Lowers (requests_left w.stage) (Some follows) → IsBounded (carried_out s output w line follows)
-bounded_at_next s output b w line (next.Ask request stage places) at lower =
+pub bounded_at_next : (s : HubState) (bytes : List ℕ) → IsBounded s → (w : Working) (line : RootLine) (follows : Next) →
+    s.working ≡ Some w → Lowers (requests_left w.stage) (Some follows) → IsBounded (carried_out s bytes w line follows)
+bounded_at_next s bytes b w line (next.Ask request stage places) at lower =
     let work = subst (λ (v : Option Working). WorkIsBounded s.submitted (length s.log.sent) (length s.log.history) v) at b.work in
     let sent_few : length s.log.sent + requests_left w.stage ≤ 4 * s.submitted = work.2 in
     let less : requests_left stage + 1 ≤ requests_left w.stage = lower in
@@ -66,22 +65,22 @@ bounded_at_next s output b w line (next.Ask request stage places) at lower =
       made = b.made;
       work = (work.0, last_turn s.log.sent _, sent_room s.log.sent _ (requests_left stage) (4 * s.submitted) (omega arith), work.3);
     }
-bounded_at_next s output b w line (next.Reply places answer false) at lower =
+bounded_at_next s bytes b w line (next.Reply places answer false) at lower =
     let work = subst (λ (v : Option Working). WorkIsBounded s.submitted (length s.log.sent) (length s.log.history) v) at b.work in
     let sent_few : length s.log.sent + requests_left w.stage ≤ 4 * s.submitted = work.2 in
     let entered_few : length s.log.history + 1 ≤ s.submitted = work.3 in
     record { submitted = b.submitted; made = b.made; work = (omega arith, omega arith) }
-bounded_at_next s output b w line (next.Reply places answer true) at lower =
+bounded_at_next s bytes b w line (next.Reply places answer true) at lower =
     let work = subst (λ (v : Option Working). WorkIsBounded s.submitted (length s.log.sent) (length s.log.history) v) at b.work in
     let sent_few : length s.log.sent + requests_left w.stage ≤ 4 * s.submitted = work.2 in
     let entered_few : length s.log.history + 1 ≤ s.submitted = work.3 in
     record { submitted = b.submitted; made = b.made; work = (omega arith, entry_room s.log.history _ s.submitted entered_few) }
 
-pub bounded_at_arrive : (s : HubState) (output : Output) → IsBounded s → IsBounded (arrived s output)
-bounded_at_arrive s output b =
-    arrived_by IsBounded s output (record { submitted = b.submitted; made = b.made; work = b.work })
+pub bounded_at_arrive : (s : HubState) (bytes : List ℕ) → IsBounded s → IsBounded (arrived s bytes)
+bounded_at_arrive s bytes b =
+    arrived_by IsBounded s bytes (record { submitted = b.submitted; made = b.made; work = b.work })
     (λ (w : Working) (line : RootLine) (follows : Next) (arm : DoneArm) at there is.
-    bounded_at_next s output b w line follows at
+    bounded_at_next s bytes b w line follows at
     (subst (λ (f : Option Next). Lowers (requests_left w.stage) f) is
     (next_lowers w.stage line.call w.drawn w.places (length s.log.history) arm)))
 

@@ -9,6 +9,9 @@ use Rattle.fop_types.specs.declared.messages.OutKind.TheVariants as out
 use Rattle.fop_types.specs.declared.messages.Output.{Output}
 use Rattle.fop_types.specs.History.{makes}
 use Rattle.fop_types.specs.declared.calls.RootLine.{RootLine}
+use Rattle.wire_messages.specs.Messages.{output_in}
+use Rattle.wire_messages.specs.declared.messages.Message.{Message}
+use Rattle.wire_messages.specs.declared.messages.Message.TheVariants.{Whole, Wrong}
 use Rattle.hub_core.specs.declared.logs.HubEvent.TheVariants.{Submit, Arrive}
 use Rattle.hub_core.specs.declared.logs.Log.{Log}
 use Rattle.hub_core.specs.declared.stages.Stage.{Stage}
@@ -16,7 +19,7 @@ use Rattle.hub_core.specs.declared.stages.Working.{Working}
 use Rattle.hub_core.specs.declared.stages.Next.{Next}
 use Rattle.hub_core.specs.Turns.{HubState, IsReached, empty_log, start_of, submit_call, arrived, with_event, with_request, log_next, working_next, ask_names, first_stage, wire_number}
 use Rattle.hub_core.specs.Turns.IsReached.{Begun, Submitted, Arrived}
-use Rattle.hub_core.specs.Follows.{follow_of, follow_output, follow_line, submit_due}
+use Rattle.hub_core.specs.Follows.{follow_of, follow_message, follow_output, follow_line, submit_due}
 use Rattle.hub_core.proofs.Cases.{arrived_is, by_next, by_working, by_line}
 
 pub reached_new : (calls : List RootLine) (log : Log) → log ≡ empty_log →
@@ -43,23 +46,23 @@ pub due_is : (s t : HubState) (line : RootLine) → slice_get s.calls s.submitte
 due_is s t line there is = rw there is
 
 -- the state after an arrival that nothing follows
-pub ignored_is : (s : HubState) (output : Output) (log : Log) → follow_of s output.kind ≡ None →
-    log ≡ with_event s.log (Arrive 0 output) →
-    ◌≡◌ {A = HubState} (record { calls = s.calls; log = log; submitted = s.submitted; made = s.made; working = s.working }) (arrived s output)
-ignored_is s output log none log_is =
-    rw log_is (sym (arrived_is s output ∙ ap (λ (f : Option Next). by_next s output f) none))
+pub ignored_is : (s : HubState) (bytes : List ℕ) (log : Log) → follow_of s (output_in bytes) ≡ None →
+    log ≡ with_event s.log (Arrive 0 bytes) →
+    ◌≡◌ {A = HubState} (record { calls = s.calls; log = log; submitted = s.submitted; made = s.made; working = s.working }) (arrived s bytes)
+ignored_is s bytes log none log_is =
+    rw log_is (sym (arrived_is s bytes ∙ ap (λ (f : Option Next). by_next s bytes f) none))
 
 -- the state after an arrival that something follows
-pub carried_is : (s : HubState) (output : Output) (follows : Next) (w : Working) (line : RootLine) (log : Log) (working : Option Working) →
-    follow_of s output.kind ≡ Some follows → s.working ≡ Some w → Some line ≡ slice_get s.calls (w.call - 1) →
-    log ≡ log_next (with_event s.log (Arrive 0 output)) (length s.log.events + 1) w line follows →
+pub carried_is : (s : HubState) (bytes : List ℕ) (follows : Next) (w : Working) (line : RootLine) (log : Log) (working : Option Working) →
+    follow_of s (output_in bytes) ≡ Some follows → s.working ≡ Some w → Some line ≡ slice_get s.calls (w.call - 1) →
+    log ≡ log_next (with_event s.log (Arrive 0 bytes)) (length s.log.events + 1) w line follows →
     working ≡ working_next s.log w follows →
-    ◌≡◌ {A = HubState} (record { calls = s.calls; log = log; submitted = s.submitted; made = s.made; working = working }) (arrived s output)
-carried_is s output follows w line log working follow at there log_is working_is =
+    ◌≡◌ {A = HubState} (record { calls = s.calls; log = log; submitted = s.submitted; made = s.made; working = working }) (arrived s bytes)
+carried_is s bytes follows w line log working follow at there log_is working_is =
     rw log_is (rw working_is
-    (sym (arrived_is s output ∙ ap (λ (f : Option Next). by_next s output f) follow ∙
-    ap (λ (v : Option Working). by_working s output follows v) at ∙
-    ap (λ (l : Option RootLine). by_line s output follows w l) (sym there))))
+    (sym (arrived_is s bytes ∙ ap (λ (f : Option Next). by_next s bytes f) follow ∙
+    ap (λ (v : Option Working). by_working s bytes follows v) at ∙
+    ap (λ (l : Option RootLine). by_line s bytes follows w l) (sym there))))
 
 -- nothing follows where the call at work has no line
 pub if_none : {A : Type 0} (test : Bool) → ◌≡◌ {A = Option A} (if test then None else None) None
@@ -77,11 +80,15 @@ no_line s w out.Opened there = refl
 no_line s w (out.Connected graph version) there = refl
 no_line s w (out.Malformed place) there = refl
 
-pub line_there : (s : HubState) (w : Working) (kind : OutKind) (follows : Next) → s.working ≡ Some w →
-    follow_of s kind ≡ Some follows → None ≡ slice_get s.calls (w.call - 1) → ⊥
-line_there s w kind follows at follow there =
-    let none = no_line s w kind (sym there) in
-    let same : follow_of s kind ≡ follow_output s w kind = rw at refl in
+no_message : (s : HubState) (w : Working) (message : Message Output) → slice_get s.calls (w.call - 1) ≡ None → follow_message s w message ≡ None
+no_message s w (Whole output) there = no_line s w output.kind there
+no_message s w (Wrong place) there = refl
+
+pub line_there : (s : HubState) (w : Working) (message : Message Output) (follows : Next) → s.working ≡ Some w →
+    follow_of s message ≡ Some follows → None ≡ slice_get s.calls (w.call - 1) → ⊥
+line_there s w message follows at follow there =
+    let none = no_message s w message (sym there) in
+    let same : follow_of s message ≡ follow_message s w message = rw at refl in
     absurd cc
 
 -- ---- at the code
@@ -102,32 +109,32 @@ reached_submit {s = s} now line log turn made stage places req reached is idle t
     Submitted s _ line reached idle_there (sym there)
     (submitted_is s line log turn made stage places req log_is req_is turn_is made_is places_is stage_is)
 
-pub reached_ignore : {s : HubState} (now : HubState) (output : Output) (log : Log) → IsReached s → s ≡ now →
-    follow_of now output.kind ≡ None → log ≡ with_event s.log (Arrive 0 output) →
+pub reached_ignore : {s : HubState} (now : HubState) (bytes : List ℕ) (log : Log) → IsReached s → s ≡ now →
+    follow_of now (output_in bytes) ≡ None → log ≡ with_event s.log (Arrive 0 bytes) →
     IsReached (record { calls = s.calls; log = log; submitted = s.submitted; made = s.made; working = s.working })
-reached_ignore {s = s} now output log reached is none log_is =
-    Arrived s _ output reached
-    (ignored_is s output log (ap (λ (v : HubState). follow_of v output.kind) is ∙ none) log_is)
+reached_ignore {s = s} now bytes log reached is none log_is =
+    Arrived s _ bytes reached
+    (ignored_is s bytes log (ap (λ (v : HubState). follow_of v (output_in bytes)) is ∙ none) log_is)
 
-pub carried_at : {s : HubState} (now : HubState) (output : Output) (follows : Next) (w : Working) (line : RootLine) (log : Log) (working : Option Working) →
-    IsReached s → s ≡ now → follow_of now output.kind ≡ Some follows → s.working ≡ Some w → Some line ≡ slice_get s.calls (w.call - 1) →
-    log ≡ log_next (with_event s.log (Arrive 0 output)) (length s.log.events + 1) w line follows →
+pub carried_at : {s : HubState} (now : HubState) (bytes : List ℕ) (follows : Next) (w : Working) (line : RootLine) (log : Log) (working : Option Working) →
+    IsReached s → s ≡ now → follow_of now (output_in bytes) ≡ Some follows → s.working ≡ Some w → Some line ≡ slice_get s.calls (w.call - 1) →
+    log ≡ log_next (with_event s.log (Arrive 0 bytes)) (length s.log.events + 1) w line follows →
     working ≡ working_next s.log w follows →
-    ◌≡◌ {A = HubState} (record { calls = s.calls; log = log; submitted = s.submitted; made = s.made; working = working }) (arrived now output)
-carried_at {s = s} now output follows w line log working reached is follow at there log_is working_is =
-    carried_is s output follows w line log working (ap (λ (v : HubState). follow_of v output.kind) is ∙ follow) at there log_is working_is
-    ∙ ap (λ (v : HubState). arrived v output) is
+    ◌≡◌ {A = HubState} (record { calls = s.calls; log = log; submitted = s.submitted; made = s.made; working = working }) (arrived now bytes)
+carried_at {s = s} now bytes follows w line log working reached is follow at there log_is working_is =
+    carried_is s bytes follows w line log working (ap (λ (v : HubState). follow_of v (output_in bytes)) is ∙ follow) at there log_is working_is
+    ∙ ap (λ (v : HubState). arrived v bytes) is
 
-pub reached_carry : {s : HubState} (now : HubState) (output : Output) (follows : Next) (w : Working) (line : RootLine) (log : Log) (working : Option Working) →
-    IsReached s → s ≡ now → follow_of now output.kind ≡ Some follows → s.working ≡ Some w → Some line ≡ slice_get s.calls (w.call - 1) →
-    log ≡ log_next (with_event s.log (Arrive 0 output)) (length s.log.events + 1) w line follows →
+pub reached_carry : {s : HubState} (now : HubState) (bytes : List ℕ) (follows : Next) (w : Working) (line : RootLine) (log : Log) (working : Option Working) →
+    IsReached s → s ≡ now → follow_of now (output_in bytes) ≡ Some follows → s.working ≡ Some w → Some line ≡ slice_get s.calls (w.call - 1) →
+    log ≡ log_next (with_event s.log (Arrive 0 bytes)) (length s.log.events + 1) w line follows →
     working ≡ working_next s.log w follows →
     IsReached (record { calls = s.calls; log = log; submitted = s.submitted; made = s.made; working = working })
-reached_carry {s = s} now output follows w line log working reached is follow at there log_is working_is =
-    Arrived s _ output reached
-    (carried_is s output follows w line log working (ap (λ (v : HubState). follow_of v output.kind) is ∙ follow) at there log_is working_is)
+reached_carry {s = s} now bytes follows w line log working reached is follow at there log_is working_is =
+    Arrived s _ bytes reached
+    (carried_is s bytes follows w line log working (ap (λ (v : HubState). follow_of v (output_in bytes)) is ∙ follow) at there log_is working_is)
 
-pub never_lost : {s : HubState} (now : HubState) (output : Output) (follows : Next) (w : Working) → IsReached s → s ≡ now →
-    follow_of now output.kind ≡ Some follows → s.working ≡ Some w → None ≡ slice_get s.calls (w.call - 1) → now ≡ arrived now output
-never_lost {s = s} now output follows w reached is follow at there =
-    absurd (line_there s w output.kind follows at (ap (λ (v : HubState). follow_of v output.kind) is ∙ follow) there)
+pub never_lost : {s : HubState} (now : HubState) (bytes : List ℕ) (follows : Next) (w : Working) → IsReached s → s ≡ now →
+    follow_of now (output_in bytes) ≡ Some follows → s.working ≡ Some w → None ≡ slice_get s.calls (w.call - 1) → now ≡ arrived now bytes
+never_lost {s = s} now bytes follows w reached is follow at there =
+    absurd (line_there s w (output_in bytes) follows at (ap (λ (v : HubState). follow_of v (output_in bytes)) is ∙ follow) there)

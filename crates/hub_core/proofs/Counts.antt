@@ -5,7 +5,6 @@ use Rattle.std.proofs.lemmas.List.{length_push, append-nil}
 use Rattle.fop_types.specs.declared.answers.Answer.{Answer}
 use Rattle.fop_types.specs.declared.cells.Gfid.{Gfid}
 use Rattle.fop_types.specs.declared.history.Entry.{Entry}
-use Rattle.fop_types.specs.declared.messages.Output.{Output}
 use Rattle.fop_types.specs.declared.messages.DoneArm.{DoneArm}
 use Rattle.fop_types.specs.declared.messages.BrickReq.{BrickReq}
 use Rattle.fop_types.specs.History.{objects_made, makes, drawn_by, AreBetween}
@@ -72,13 +71,13 @@ counted_submit s line c idle there =
       };
     }
 
-abbrev work_event : (s : HubState) (output : Output) (v : Option Working) → Type 0
-work_event s output v = WhereWorking (WorkIsCounted s) v → WhereWorking (WorkIsCounted (ignored s output)) v
+abbrev work_event : (s : HubState) (bytes : List ℕ) (v : Option Working) → Type 0
+work_event s bytes v = WhereWorking (WorkIsCounted s) v → WhereWorking (WorkIsCounted (ignored s bytes)) v
 
-pub counted_ignore : (s : HubState) (output : Output) → IsCounted s → IsCounted (ignored s output)
-counted_ignore s output c =
-    let more : length (s.log.events ++ Arrive 0 output ∷ []) ≡ length s.log.events + 1 = length_push _ _ in
-    let none : submits_of (s.log.events ++ Arrive 0 output ∷ []) ≡ submits_of s.log.events = submits_push s.log.events (Arrive 0 output ∷ []) ∙ append-nil (submits_of s.log.events) in
+pub counted_ignore : (s : HubState) (bytes : List ℕ) → IsCounted s → IsCounted (ignored s bytes)
+counted_ignore s bytes c =
+    let more : length (s.log.events ++ Arrive 0 bytes ∷ []) ≡ length s.log.events + 1 = length_push _ _ in
+    let none : submits_of (s.log.events ++ Arrive 0 bytes ∷ []) ≡ submits_of s.log.events = submits_push s.log.events (Arrive 0 bytes ∷ []) ∙ append-nil (submits_of s.log.events) in
     record {
       submits = none ∙ c.submits;
       within = c.within;
@@ -86,11 +85,11 @@ counted_ignore s output c =
       entered = AreBelow-more s.log.entered (length s.log.events + 1) _ c.entered (omega arith);
       as_many = c.as_many;
       entries = c.entries;
-      replies = λ k reply h. own_later s (ignored s output) reply refl (omega arith) (omega arith) (c.replies k reply h);
+      replies = λ k reply h. own_later s (ignored s bytes) reply refl (omega arith) (omega arith) (c.replies k reply h);
       work = kept s.working c.work;
     }
   where
-    kept : (v : Option Working) → work_event s output v
+    kept : (v : Option Working) → work_event s bytes v
     kept None h = tt
     kept (Some w) h = record { number = h.number; some = h.some; drawn = h.drawn; no_entry = h.no_entry; no_reply = h.no_reply }
 
@@ -108,10 +107,10 @@ own_new s t w line reply work there calls submitted past call session own_line =
     record { from_one = omega arith; submitted = omega arith; own_line = rw (calls, call, session, own_line) place; past = past }
 
 -- the call at work goes on: a request, a reply, or a reply with an entry
-pub counted_take : (s : HubState) (output : Output) (w : Working) (line : RootLine) (follows : Next) → IsCounted s → s.working ≡ Some w →
-    slice_get s.calls (w.call - 1) ≡ Some line → IsCounted (taken_up s output w line (Some follows))
-counted_take s output w line (next.Ask request stage places) c at_work there =
-    let base : IsCounted (ignored s output) = counted_ignore s output c in
+pub counted_take : (s : HubState) (bytes : List ℕ) (w : Working) (line : RootLine) (follows : Next) → IsCounted s → s.working ≡ Some w →
+    slice_get s.calls (w.call - 1) ≡ Some line → IsCounted (taken_up s bytes w line (Some follows))
+counted_take s bytes w line (next.Ask request stage places) c at_work there =
+    let base : IsCounted (ignored s bytes) = counted_ignore s bytes c in
     let work : WorkIsCounted s w = subst (WhereWorking (WorkIsCounted s)) at_work c.work in
     record {
       submits = base.submits;
@@ -120,14 +119,14 @@ counted_take s output w line (next.Ask request stage places) c at_work there =
       entered = base.entered;
       as_many = c.as_many;
       entries = c.entries;
-      replies = λ k reply h. own_later (ignored s output) (taken_up s output w line (Some (next.Ask request stage places))) reply refl (omega arith) (omega arith) (base.replies k reply h);
+      replies = λ k reply h. own_later (ignored s bytes) (taken_up s bytes w line (Some (next.Ask request stage places))) reply refl (omega arith) (omega arith) (base.replies k reply h);
       work = record { number = work.number; some = work.some; drawn = work.drawn; no_entry = work.no_entry; no_reply = work.no_reply };
     }
-counted_take s output w line (next.Reply places answer false) c at_work there =
-    let t : HubState = taken_up s output w line (Some (next.Reply places answer false)) in
-    let base : IsCounted (ignored s output) = counted_ignore s output c in
+counted_take s bytes w line (next.Reply places answer false) c at_work there =
+    let t : HubState = taken_up s bytes w line (Some (next.Reply places answer false)) in
+    let base : IsCounted (ignored s bytes) = counted_ignore s bytes c in
     let work : WorkIsCounted s w = subst (WhereWorking (WorkIsCounted s)) at_work c.work in
-    let more : length (s.log.events ++ Arrive 0 output ∷ []) ≡ length s.log.events + 1 = length_push _ _ in
+    let more : length (s.log.events ++ Arrive 0 bytes ∷ []) ≡ length s.log.events + 1 = length_push _ _ in
     record {
       submits = base.submits;
       within = c.within;
@@ -136,15 +135,15 @@ counted_take s output w line (next.Reply places answer false) c at_work there =
       as_many = c.as_many;
       entries = c.entries;
       replies = each_pushed (IsOwnReply t) s.log.replies _
-          (λ k reply h. own_later (ignored s output) t reply refl (omega arith) (omega arith) (base.replies k reply h))
+          (λ k reply h. own_later (ignored s bytes) t reply refl (omega arith) (omega arith) (base.replies k reply h))
           (own_new s t w line _ work there refl refl (omega arith) refl refl refl);
       work = tt;
     }
-counted_take s output w line (next.Reply places answer true) c at_work there =
-    let t : HubState = taken_up s output w line (Some (next.Reply places answer true)) in
-    let base : IsCounted (ignored s output) = counted_ignore s output c in
+counted_take s bytes w line (next.Reply places answer true) c at_work there =
+    let t : HubState = taken_up s bytes w line (Some (next.Reply places answer true)) in
+    let base : IsCounted (ignored s bytes) = counted_ignore s bytes c in
     let work : WorkIsCounted s w = subst (WhereWorking (WorkIsCounted s)) at_work c.work in
-    let more : length (s.log.events ++ Arrive 0 output ∷ []) ≡ length s.log.events + 1 = length_push _ _ in
+    let more : length (s.log.events ++ Arrive 0 bytes ∷ []) ≡ length s.log.events + 1 = length_push _ _ in
     let entry : Entry = record { call = w.call; part = 1 } in
     let as_many : length (s.log.entered ++ (length s.log.events + 1) ∷ []) ≡ length (s.log.history ++ entry ∷ []) =
     omega (arith, length_push s.log.entered (length s.log.events + 1), length_push s.log.history entry, c.as_many) in
@@ -156,7 +155,7 @@ counted_take s output w line (next.Reply places answer true) c at_work there =
       as_many = as_many;
       entries = each_pushed (λ (e : Entry). e.call ≤ s.submitted) s.log.history entry c.entries (omega (arith, work.number));
       replies = each_pushed (IsOwnReply t) s.log.replies _
-          (λ k reply h. own_later (ignored s output) t reply refl (omega arith) (omega arith) (base.replies k reply h))
+          (λ k reply h. own_later (ignored s bytes) t reply refl (omega arith) (omega arith) (base.replies k reply h))
           (own_new s t w line _ work there refl refl (omega arith) refl refl refl);
       work = tt;
     }

@@ -30,18 +30,18 @@ use Rattle.fop_types.specs.declared.messages.BrickRep.{BrickRep}
 use Rattle.fop_types.specs.declared.messages.BrickRep.TheVariants as rep
 use Rattle.fop_types.specs.declared.messages.DoneArm.{DoneArm}
 use Rattle.fop_types.specs.declared.messages.DoneArm.TheVariants as done
-use Rattle.fop_types.specs.declared.messages.Input.{Input}
 use Rattle.fop_types.specs.declared.messages.Input.TheVariants.{Request}
-use Rattle.fop_types.specs.declared.messages.OutKind.{OutKind}
 use Rattle.fop_types.specs.declared.messages.OutKind.TheVariants as out
-use Rattle.fop_types.specs.declared.messages.Output.{Output}
 use Rattle.fop_types.specs.Orders.{gfid_cmp}
 use Rattle.fop_types.specs.Flat.{found_answer, absent_answer}
 use Rattle.fop_types.specs.History.{after_op}
 use Rattle.fop_types.specs.Flat.{Files, object_at, flat_answer, flat_after, empty_root, root, item_named, directory_item}
 use Rattle.fop_types.specs.History.{call_numbered, drawn_by, last_part, files_after, fs_after, entry_op, IsLegalEntry, HasNoEntry}
 use Rattle.fop_types.specs.declared.calls.RootLine.{RootLine}
+use Rattle.wire_xdr.specs.WireText.{input_text, output_text, IsOutKind}
+use Rattle.wire_xdr.specs.MessageText.{IsDoneArm}
 use Rattle.brick_node.specs.Machine.{fetch_reply}
+use Rattle.brick_node.specs.Runs.{cells_of_request}
 use Rattle.brick_store.specs.Cells.{Cells, kept_at, copy_with, names_cell, meta_cell, name_added}
 use Rattle.brick_node.specs.Machine.{Served, serve_request, cells_of, outputs_of}
 use Rattle.hub_core.specs.declared.logs.HubEvent.{HubEvent}
@@ -53,36 +53,49 @@ use Rattle.hub_core.specs.declared.stages.Working.{Working}
 use Rattle.hub_core.specs.declared.stages.Next.{Next}
 use Rattle.hub_core.specs.declared.stages.Next.TheVariants as next
 use Rattle.hub_core.specs.Journal.{inputs_of, arrivals_of, calls_of, count_below, length_at_reply, HasHonestArrivals, IsBackedByBrick, IsBacked, IsDoneRequest, whole_span}
-use Rattle.hub_core.specs.Kept.{IsCounted, WorkIsCounted, IsTimed, IsOneName}
+use Rattle.hub_core.specs.Kept.{IsCounted, WorkIsCounted, IsTimed, WhereWorking}
 use Rattle.hub_core.specs.Turns.{HubState, taken_up, arrived, next_of, wire_number, ask_names, name_of, find_next, check_next}
 use Rattle.hub_core.proofs.Lists.{get_push_old, get_push_last, get_take, get_below}
 use Rattle.hub_core.proofs.Places.{arrivals_push, get_call}
 use Rattle.hub_core.proofs.Counts.{each_pushed}
-use Rattle.hub_core.proofs.Served.{AreRequests, outputs_next, outputs_as_many, output_for, cells_next}
-use Rattle.hub_core.proofs.Honesty.{IsSentWell, inputs_push, length-inputs_of, SendsMore, arrived_sends, arrived_events, outputs_more}
+use Rattle.hub_core.proofs.Sendable.{IsNamed, NextFits, WorkFits, next_fits, sendable_at}
+use Rattle.hub_core.proofs.Served.{output_for}
+use Rattle.hub_core.proofs.Honesty.{IsSentWell, SendsMore, arrived_sends, arrived_events, outputs_more}
 use Rattle.hub_core.proofs.Lawful.{files_push, files_now, files_before, IsAnsweredCall, answered_call_later, legal_later, AreAtMost, between_at_most}
 use Rattle.hub_core.proofs.Shown.{Shows, IsShown, IsShownDirectory, shows_mark, shows_post}
-use Rattle.hub_core.proofs.Grown.{IsGood, IsDirectoryAt, IsFreshAbove, lo_apart, lookup_root, mkdir_root, found_in_root, grown, after_mkdir, good_grown, shows_grown, grown_other}
-use Rattle.hub_core.proofs.Onward.{root_names, names_reply, HasMeta, meta_reply, op_reply, due, arrived_taken, after_ask, after_reply, after_entry}
+use Rattle.hub_core.proofs.Grown.{IsGood, IsDirectoryAt, IsFreshAbove, lo_apart, lookup_root, mkdir_root, found_in_root, grown, after_mkdir, good_grown, shows_grown, grown_other, few_grown}
+use Rattle.hub_core.proofs.Onward.{root_names, names_reply, HasMeta, meta_reply, op_reply, due, due_legal, due_read, arrived_taken, after_ask, after_reply, after_entry}
 use Rattle.hub_core.proofs.Honest.{IsHonestSoFar, IsIdle, IsStat, IsMkdir, IsFinding, IsReading, IsChecking, IsFree, IsMarking, IsChanging, IsPosting, StageIs, IsAtWork, HonestFor, op_of, empty_post, backed_later, request_later}
 
-module _ (s : HubState) (o : Output) (w : Working) (h : IsAtWork s w) (at_work : s.working ≡ Some w) (well : IsSentWell s) (counted : WorkIsCounted s w)
+module _ (s : HubState) (o : List ℕ) (w : Working) (h : IsAtWork s w) (at_work : s.working ≡ Some w) (well : IsSentWell s) (counted : WorkIsCounted s w)
     (old : (k : ℕ) (reply : ReplyLine) → slice_get s.log.replies k ≡ Some reply → (reply.call < w.call) × AreAtMost reply.places (length s.log.history))
     (honest : HasHonestArrivals (arrived s o).log) where
   abbrev Goal : Type 0
   Goal = HonestFor (arrived s o) (arrived s o).working
 
+  -- what follows a Done of the due reply has a spelling
+  fits_after : (arm : DoneArm) (follows : Next) → (serve_request (cells_of h.answered) h.request).reply ≡ rep.Done arm →
+      next_of w.stage h.line.call w.drawn w.places (length s.log.history) arm ≡ Some follows → NextFits (Some follows)
+  fits_after arm follows replies next_is =
+      let work : WorkFits w = subst (WhereWorking WorkFits) at_work well.fitting.work in
+      let legal : IsDoneArm true arm = (subst (IsOutKind true) (ap (out.Reply (wire_number w.turn)) replies) (due_legal s o w h well honest).1).1 in
+      subst NextFits next_is
+      (next_fits w.stage h.line.call w.drawn w.places (length s.log.history) arm (sendable_at s.calls (w.call - 1) h.line well.fit.sendable h.line_is) work.drawn work.stage
+      (omega (arith, well.entered)) legal)
+
   -- the due reply is Done with this arm, and what follows it keeps the facts
   goes_on : (arm : DoneArm) (follows : Next) → (serve_request (cells_of h.answered) h.request).reply ≡ rep.Done arm →
       next_of w.stage h.line.call w.drawn w.places (length s.log.history) arm ≡ Some follows →
-      HonestFor (taken_up s o w h.line (Some follows)) (taken_up s o w h.line (Some follows)).working → HonestFor (arrived s o) (arrived s o).working
+      (NextFits (Some follows) → HonestFor (taken_up s o w h.line (Some follows)) (taken_up s o w h.line (Some follows)).working) →
+      HonestFor (arrived s o) (arrived s o).working
   goes_on arm follows replies next_is kept =
-      let kind_is : o.kind ≡ out.Reply (wire_number w.turn) (rep.Done arm) =
-      ap (λ (x : Output). x.kind) (due s o w h well honest) ∙ ap (out.Reply (wire_number w.turn)) replies in
-      subst (λ (x : HubState). HonestFor x x.working) (sym (arrived_taken s o w h.line arm follows at_work kind_is h.line_is next_is)) kept
+      subst (λ (x : HubState). HonestFor x x.working)
+      (sym (arrived_taken s o w h.line arm follows (output_for h.answered (wire_number w.turn) h.request) at_work (due_read s o w h well honest)
+      (ap (out.Reply (wire_number w.turn)) replies) h.line_is next_is))
+      (kept (fits_after arm follows replies next_is))
 
   served : cells_of (inputs_of s.log.sent) ≡ (serve_request (cells_of h.answered) h.request).cells
-  served = ap cells_of h.sent ∙ cells_next h.answered (Request (wire_number w.turn) 1 h.request)
+  served = ap cells_of h.sent ∙ cells_of_request h.answered (wire_number w.turn) 1 h.request h.legal
 
   now_files : fs_after (calls_of s.calls) s.log.history (length s.log.history) ≡ h.files
   now_files = files_now (calls_of s.calls) s.log.history ∙ h.so_far.files_are
@@ -96,12 +109,15 @@ module _ (s : HubState) (o : Output) (w : Working) (h : IsAtWork s w) (at_work :
   abbrev names : List Item
   names = h.so_far.good.root_is.names
 
+  few_names : length h.so_far.good.root_is.names ≤ 4096
+  few_names = omega (arith, h.so_far.few, well.entered)
+
   -- ---- a lookup
 
   lookup_now : (name : List ℕ) → length name ≤ 255 → flat_answer (fs_after (calls_of s.calls) s.log.history (length s.log.history)) (Lookup root name) ≡ found_answer (item_named names name)
   lookup_now name short = rw now_files (lookup_root h.files h.so_far.good name short)
 
-  not_found : (path : Path) (one : IsOneName path) → h.line.call ≡ call.Stat path → item_named names one.name ≡ None →
+  not_found : (path : Path) (one : IsNamed path) → h.line.call ≡ call.Stat path → item_named names one.name ≡ None →
       IsAnsweredCall (calls_of s.calls) s.log.history w.call (length s.log.history ∷ []) (answer.App Enoent)
   not_found path one call_is none = record {
     call = call.Stat path;
@@ -113,16 +129,16 @@ module _ (s : HubState) (o : Output) (w : Working) (h : IsAtWork s w) (at_work :
   finding f stage None none =
       let shows : Shows h.files (cells_of (inputs_of s.log.sent)) = rw (served, f.asks) f.shows in
       goes_on _ (next.Reply (length s.log.history ∷ []) (answer.App Enoent) false)
-      (ap (λ (r : BrickReq). (serve_request (cells_of h.answered) r).reply) f.asks ∙ names_reply h.files (cells_of h.answered) h.so_far.good f.shows)
+      (ap (λ (r : BrickReq). (serve_request (cells_of h.answered) r).reply) f.asks ∙ names_reply h.files (cells_of h.answered) h.so_far.good few_names f.shows)
       (rw (stage, f.stat.call_is, f.stat.one.parts, none, f.places) refl)
-      (after_reply s o w h well h.line (length s.log.history ∷ []) (answer.App Enoent) shows (not_found f.stat.path f.stat.one f.stat.call_is none))
+      (λ fits. after_reply s o w h well h.line (length s.log.history ∷ []) (answer.App Enoent) shows (not_found f.stat.path f.stat.one f.stat.call_is none))
   finding f stage (Some item) found =
       let shows : Shows h.files (cells_of (inputs_of s.log.sent)) = rw (served, f.asks) f.shows in
       let there = found_in_root h.files h.so_far.good f.stat.one.name f.stat.one.short item found in
       goes_on _ (next.Ask (req.Fetch 0 (meta_cell item.gfid)) (Reading item.kind) (length s.log.history ∷ []))
-      (ap (λ (r : BrickReq). (serve_request (cells_of h.answered) r).reply) f.asks ∙ names_reply h.files (cells_of h.answered) h.so_far.good f.shows)
+      (ap (λ (r : BrickReq). (serve_request (cells_of h.answered) r).reply) f.asks ∙ names_reply h.files (cells_of h.answered) h.so_far.good few_names f.shows)
       (rw (stage, f.stat.call_is, f.stat.one.parts, found, f.places) refl)
-      (after_ask s o w h well h.line (req.Fetch 0 (meta_cell item.gfid)) (Reading item.kind) (length s.log.history ∷ []) h.line_is
+      (λ fits. after_ask s o w h well h.line (req.Fetch 0 (meta_cell item.gfid)) (Reading item.kind) (length s.log.history ∷ []) fits.0 h.line_is
       (record {
         stat = f.stat;
         places = refl;
@@ -144,7 +160,7 @@ module _ (s : HubState) (o : Output) (w : Working) (h : IsAtWork s w) (at_work :
       goes_on (done.Content (Meta f.directory.mode [] m.span) m.last) (next.Reply (n ∷ n ∷ []) (answer.Stat kind.Dir f.directory.mode 0) false)
       (ap (λ (r : BrickReq). (serve_request (cells_of h.answered) r).reply) f.asks ∙ m.replies)
       (rw (stage, f.places, f.kind_is) refl)
-      (after_reply s o w h well h.line (n ∷ n ∷ []) (answer.Stat kind.Dir f.directory.mode 0) shows
+      (λ fits. after_reply s o w h well h.line (n ∷ n ∷ []) (answer.Stat kind.Dir f.directory.mode 0) shows
       (record {
         call = call.Stat f.stat.path;
         asked = asked (call.Stat f.stat.path) f.stat.call_is;
@@ -157,9 +173,9 @@ module _ (s : HubState) (o : Output) (w : Working) (h : IsAtWork s w) (at_work :
   checking f stage (Some item) found =
       let shows : Shows h.files (cells_of (inputs_of s.log.sent)) = rw (served, f.asks) f.shows in
       goes_on _ (next.Reply (length s.log.history ∷ []) (answer.App Eexist) false)
-      (ap (λ (r : BrickReq). (serve_request (cells_of h.answered) r).reply) f.asks ∙ names_reply h.files (cells_of h.answered) h.so_far.good f.shows)
+      (ap (λ (r : BrickReq). (serve_request (cells_of h.answered) r).reply) f.asks ∙ names_reply h.files (cells_of h.answered) h.so_far.good few_names f.shows)
       (rw (stage, f.mkdir.call_is, f.mkdir.one.parts, found, f.mkdir.places) refl)
-      (after_reply s o w h well h.line (length s.log.history ∷ []) (answer.App Eexist) shows
+      (λ fits. after_reply s o w h well h.line (length s.log.history ∷ []) (answer.App Eexist) shows
       (record {
         call = call.Mkdir f.mkdir.path f.mkdir.mode;
         asked = asked (call.Mkdir f.mkdir.path f.mkdir.mode) f.mkdir.call_is;
@@ -173,9 +189,9 @@ module _ (s : HubState) (o : Output) (w : Working) (h : IsAtWork s w) (at_work :
       let n : ℕ = length s.log.history in
       let m : IsMkdir s h.files w h.line.call = f.mkdir in
       goes_on _ (next.Ask (req.Mark (n + 1) (names_cell root ∷ [])) (Marking (n + 1)) [])
-      (ap (λ (r : BrickReq). (serve_request (cells_of h.answered) r).reply) f.asks ∙ names_reply h.files (cells_of h.answered) h.so_far.good f.shows)
+      (ap (λ (r : BrickReq). (serve_request (cells_of h.answered) r).reply) f.asks ∙ names_reply h.files (cells_of h.answered) h.so_far.good few_names f.shows)
       (rw (stage, f.mkdir.call_is, f.mkdir.one.parts, free, f.mkdir.places) refl)
-      (after_ask s o w h well h.line (req.Mark (n + 1) (names_cell root ∷ [])) (Marking (n + 1)) [] h.line_is
+      (λ fits. after_ask s o w h well h.line (req.Mark (n + 1) (names_cell root ∷ [])) (Marking (n + 1)) [] fits.0 h.line_is
       (record {
         change_is = record {
           mkdir = record { path = m.path; mode = m.mode; call_is = m.call_is; one = m.one; places = refl; drawn = m.drawn; absent = m.absent; above_root = m.above_root };
@@ -205,28 +221,27 @@ module _ (s : HubState) (o : Output) (w : Working) (h : IsAtWork s w) (at_work :
       goes_on done.Nothing (next.Ask (req.Op change 0 (op_of m.one.name m.mode w.drawn)) (Changing change) [])
       (ap (λ (r : BrickReq). (serve_request (cells_of h.answered) r).reply) f.asks)
       (rw (stage, m.call_is, m.one.parts, m.places) refl)
-      (after_ask s o w h well h.line (req.Op change 0 (op_of m.one.name m.mode w.drawn)) (Changing change) [] h.line_is
-      (record { change_is = free_later change _ _ [] refl f.change_is; asks = refl; shows = shows }))
+      (λ fits. after_ask s o w h well h.line (req.Op change 0 (op_of m.one.name m.mode w.drawn)) (Changing change) [] fits.0 h.line_is
+      (record {
+        change_is = free_later change (req.Op change 0 (op_of m.one.name m.mode w.drawn)) (Changing change) [] refl f.change_is;
+        asks = refl;
+        shows = shows;
+      }))
 
   new_one : (m : IsMkdir s h.files w h.line.call) → is_eq (gfid_cmp w.drawn root) ≡ false
   new_one m = rw m.drawn (lo_apart (1 + s.made) 1 (λ e. omega (arith, m.above_root)))
 
   -- the request that was answered is the last that was sent
-  done_now : (request : BrickReq) → h.request ≡ request → o.kind ≡ out.Reply (wire_number w.turn) (rep.Done done.Nothing) →
+  done_now : (request : BrickReq) → h.request ≡ request → (serve_request (cells_of h.answered) h.request).reply ≡ rep.Done done.Nothing →
       IsDoneRequest (inputs_of s.log.sent) (arrivals_of s.log.events ++ o ∷ []) (length h.answered) request
-  done_now request is kind_is = record {
+  done_now request is replies = record {
     wind = wire_number w.turn;
     answer_at = length (arrivals_of s.log.events);
-    taken = o.taken;
-    stands = rw (h.sent, is) (get_push_last h.answered (Request (wire_number w.turn) 1 request));
-    answered = get_push_last (arrivals_of s.log.events) o ∙ ap Some (whole o _ kind_is);
+    taken = length h.answered + 1;
+    stands = rw (h.sent, is) (get_push_last h.answered (input_text (Request (wire_number w.turn) 1 request)));
+    answered = get_push_last (arrivals_of s.log.events) o
+        ∙ ap Some (due s o w h well honest ∙ ap (λ (r : BrickRep). output_text (record { taken = length h.answered + 1; kind = out.Reply (wire_number w.turn) r })) replies);
   }
-    where
-      whole : (x : Output) (k : OutKind) → x.kind ≡ k → x ≡ (let y : Output = record { taken = x.taken; kind = k } in y)
-      whole x k e = ap (λ (z : OutKind). let y : Output = record { taken = x.taken; kind = z } in y) e
-
-  nothing_kind : (serve_request (cells_of h.answered) h.request).reply ≡ rep.Done done.Nothing → o.kind ≡ out.Reply (wire_number w.turn) (rep.Done done.Nothing)
-  nothing_kind replies = ap (λ (x : Output). x.kind) (due s o w h well honest) ∙ ap (out.Reply (wire_number w.turn)) replies
 
   changing : (change : ℕ) (f : IsChanging s h.files h.so_far.good (cells_of h.answered) w h.line.call h.request change) → w.stage ≡ Changing change → Goal
   unfolding free_later
@@ -242,13 +257,13 @@ module _ (s : HubState) (o : Output) (w : Working) (h : IsAtWork s w) (at_work :
       goes_on done.Nothing (next.Ask (empty_post change) (Posting change) [])
       replies
       (rw (stage, m.places) refl)
-      (after_ask s o w h well h.line (empty_post change) (Posting change) [] h.line_is
+      (λ fits. after_ask s o w h well h.line (empty_post change) (Posting change) [] fits.0 h.line_is
       (record {
-        change_is = free_later change _ _ [] refl f.change_is;
+        change_is = free_later change (empty_post change) (Posting change) [] refl f.change_is;
         asks = refl;
         shows = shows;
         op_place = length h.answered;
-        op_done = rw (arrivals_push s.log.events (Arrive 0 o ∷ [])) (done_now _ f.asks (nothing_kind replies));
+        op_done = rw (arrivals_push s.log.events (Arrive 0 o ∷ [])) (done_now _ f.asks replies);
       }))
 
   posting : (change : ℕ) (f : IsPosting s h.files h.so_far.good h.answered w h.line.call h.request change) → w.stage ≡ Posting change → Goal
@@ -269,9 +284,10 @@ module _ (s : HubState) (o : Output) (w : Working) (h : IsAtWork s w) (at_work :
       goes_on done.Nothing (next.Reply ((n + 1) ∷ []) answer.Done true)
       replies
       (rw (stage, m.places) refl)
-      (after_entry s o w h well h.line ((n + 1) ∷ [])
+      (λ fits. after_entry s o w h well h.line ((n + 1) ∷ [])
       (grown h.files h.so_far.good m.one.name m.one.short m.mode w.drawn f.change_is.free m.absent (new_one m))
       (good_grown h.files h.so_far.good m.one.name m.one.short m.mode w.drawn f.change_is.free m.absent (new_one m))
+      (omega (arith, few_grown h.files h.so_far.good m.one.name m.one.short m.mode w.drawn f.change_is.free m.absent (new_one m), h.so_far.few))
       (λ lo above. (let g : Gfid = record { hi = 0; lo = lo } in
       grown_other h.files h.so_far.good m.one.name m.one.short m.mode w.drawn f.change_is.free m.absent (new_one m) g
       (rw m.drawn (lo_apart lo (1 + s.made) (λ e. omega arith))) (lo_apart lo 1 (λ e. omega arith)) ∙ h.so_far.fresh lo above))
@@ -295,8 +311,8 @@ module _ (s : HubState) (o : Output) (w : Working) (h : IsAtWork s w) (at_work :
         change = change;
         op_place = f.op_place;
         post_place = length h.answered;
-        op_done = rw h.sent (request_later h.answered (Request (wire_number w.turn) 1 h.request ∷ []) (arrivals_of s.log.events) (o ∷ []) f.op_place _ f.op_done);
-        post_done = done_now _ f.asks (nothing_kind replies);
+        op_done = rw h.sent (request_later h.answered (input_text (Request (wire_number w.turn) 1 h.request) ∷ []) (arrivals_of s.log.events) (o ∷ []) f.op_place _ f.op_done);
+        post_done = done_now _ f.asks replies;
         later = get_below h.answered f.op_place _ f.op_done.stands;
       }))
 

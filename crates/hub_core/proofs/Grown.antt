@@ -65,6 +65,10 @@ good_start = record { root_is = record { names = []; mode = 493; there = refl };
             subst (AreThere empty_root) none tt
         cases (inr off) = (let no : object_at empty_root g ≡ None = rw off refl in absurd cc)
 
+pub start_names : good_start.root_is.names ≡ []
+unfolding good_start
+start_names = refl
+
 pub lo_apart : (a b : ℕ) → (a ≡ b → ⊥) → is_eq (gfid_cmp (record { hi = 0; lo = a }) (record { hi = 0; lo = b })) ≡ false
 lo_apart a b differ = apart gfid_cmp gfid_exact (record { hi = 0; lo = a }) (record { hi = 0; lo = b }) (λ h. differ (ap (λ (g : Gfid). g.lo) h))
 
@@ -90,6 +94,16 @@ there_with_item files (i ∷ items) item there dir at =
       | Less ↦ (dir, at, there)
       | Equal ↦ (dir, at, there.2)
       | Greater ↦ (there.0, there.1, there_with_item files items item there.2 dir at)
+    ]
+
+few_with_item : (items : List Item) (item : Item) → length (with_item items item) ≤ length items + 1
+few_with_item [] item = omega arith
+few_with_item (i ∷ items) item =
+    let rest : length (with_item items item) ≤ length items + 1 = few_with_item items item in
+    elim (slice_cmp nat_cmp item.name i.name) as (λ o. length (match_ordering o (item ∷ i ∷ items) (item ∷ items) (i ∷ with_item items item)) ≤ length (i ∷ items) + 1) [
+      | Less ↦ omega arith
+      | Equal ↦ omega arith
+      | Greater ↦ omega arith
     ]
 
 short_name : (name : List ℕ) → length name ≤ 255 → nat_lt 255 (length name) ≡ false
@@ -166,6 +180,13 @@ module _ (files : Files) (good : IsGood files) (name : List ℕ) (short : length
             (there_with_item grown good.root_is.names (directory_item name drawn) (all_still good.root_is.names (good.items root _ _ _ _ good.root_is.there)) refl
             (record { names = []; mode = mode; there = grown_drawn }))
         each g names m attrs removed h (inr off) (inr other) = all_still names (good.items g names m attrs removed (sym (grown_other g off other) ∙ h))
+
+    grown_names : good_grown.root_is.names ≡ with_item good.root_is.names (directory_item name drawn)
+    unfolding good_grown
+    grown_names = refl
+
+    pub few_grown : length good_grown.root_is.names ≤ length good.root_is.names + 1
+    few_grown = rw grown_names (few_with_item good.root_is.names (directory_item name drawn))
 
     -- the brick's store after the op shows it
     pub shows_grown : (cells : Cells) (change : ℕ) (span : Option Span) → Shows files cells → Shows grown (name_added cells change root (directory_item name drawn) mode span)

@@ -14,6 +14,7 @@ pub mod Lists
 pub mod Onward
 pub mod Places
 pub mod Reached
+pub mod Sendable
 pub mod Served
 pub mod Shown
 pub mod Tied

@@ -3,6 +3,7 @@
 use Rattle.std.proofs.Common.{◌≡◌, ℕ, ◌+◌, ◌-◌, ◌<◌, ◌≤◌, List, [], ◌∷◌, ◌++◌, Option, Some, None, Bool, true, false, cond, length, take, refl, sym, ◌∙◌, ap, subst, arith, ◌⊎◌, inl, inr, zero-add}
 use Rattle.std.specs.Prelude.{slice_get, nat_lt, zero, suc}
 use Rattle.std.proofs.lemmas.Bool.Decides.{nat_tests}
+use Rattle.hub_core.specs.declared.logs.SentLine.{SentLine}
 use Rattle.hub_core.specs.declared.logs.HubEvent.{HubEvent}
 use Rattle.hub_core.specs.declared.logs.HubEvent.TheVariants.{Submit, Arrive}
 use Rattle.hub_core.specs.Kept.{AreBelow}
@@ -31,31 +32,39 @@ count_below_all bound (n ∷ numbers) h =
 
 pub events_before_push : (events more : List HubEvent) (others : ℕ) → others < length (submits_of events) → events_before (events ++ more) others ≡ events_before events others
 events_before_push [] more others h = absurd (omega arith)
-events_before_push (Arrive brick output ∷ events) more others h = ap (λ n. 1 + n) (events_before_push events more others h)
+events_before_push (Arrive brick bytes ∷ events) more others h = ap (λ n. 1 + n) (events_before_push events more others h)
 events_before_push (Submit session line ∷ events) more zero h = refl
 events_before_push (Submit session line ∷ events) more (suc others) h = ap (λ n. 1 + n) (events_before_push events more others (omega arith))
 
 -- the next submission comes after all events so far
 pub events_before_next : (events : List HubEvent) (session line : ℕ) → events_before (events ++ Submit session line ∷ []) (length (submits_of events)) ≡ length events
 events_before_next [] session line = refl
-events_before_next (Arrive brick output ∷ events) session line = let rest = events_before_next events session line in omega (arith, rest)
+events_before_next (Arrive brick bytes ∷ events) session line = let rest = events_before_next events session line in omega (arith, rest)
 events_before_next (Submit s l ∷ events) session line = let rest = events_before_next events session line in omega (arith, rest)
 
 pub events_before_within : (events : List HubEvent) (others : ℕ) → events_before events others ≤ length events
 events_before_within [] others = omega arith
-events_before_within (Arrive brick output ∷ events) others = let rest : events_before events others ≤ length events = events_before_within events others in omega arith
+events_before_within (Arrive brick bytes ∷ events) others = let rest : events_before events others ≤ length events = events_before_within events others in omega arith
 events_before_within (Submit session line ∷ events) zero = omega arith
 events_before_within (Submit session line ∷ events) (suc others) = let rest : events_before events others ≤ length events = events_before_within events others in omega arith
 
 pub submits_push : (events more : List HubEvent) → submits_of (events ++ more) ≡ submits_of events ++ submits_of more
 submits_push [] more = refl
-submits_push (Arrive brick output ∷ events) more = submits_push events more
+submits_push (Arrive brick bytes ∷ events) more = submits_push events more
 submits_push (Submit session line ∷ events) more = ap (λ t. (session, line) ∷ t) (submits_push events more)
 
 pub arrivals_push : (events more : List HubEvent) → arrivals_of (events ++ more) ≡ arrivals_of events ++ arrivals_of more
 arrivals_push [] more = refl
-arrivals_push (Arrive brick output ∷ events) more = ap (λ t. output ∷ t) (arrivals_push events more)
+arrivals_push (Arrive brick bytes ∷ events) more = ap (λ t. bytes ∷ t) (arrivals_push events more)
 arrivals_push (Submit session line ∷ events) more = arrivals_push events more
+
+pub inputs_push : (lines : List SentLine) (line : SentLine) → inputs_of (lines ++ line ∷ []) ≡ inputs_of lines ++ line.bytes ∷ []
+inputs_push [] line = refl
+inputs_push (l ∷ lines) line = ap (λ (t : List (List ℕ)). l.bytes ∷ t) (inputs_push lines line)
+
+pub length-inputs_of : (lines : List SentLine) → length (inputs_of lines) ≡ length lines
+length-inputs_of [] = refl
+length-inputs_of (l ∷ lines) = ap suc (length-inputs_of lines)
 
 pub get_place : (lines : List RootLine) (k : ℕ) (line : RootLine) → slice_get lines k ≡ Some line → slice_get (places_of lines) k ≡ Some (line.session, line.line)
 get_place [] k line h = absurd cc

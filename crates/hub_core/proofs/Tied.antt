@@ -10,6 +10,9 @@ use Rattle.fop_types.specs.declared.messages.DoneArm.{DoneArm}
 use Rattle.fop_types.specs.declared.messages.Input.TheVariants.{Request}
 use Rattle.fop_types.specs.declared.messages.Output.{Output}
 use Rattle.fop_types.specs.declared.messages.OutKind.TheVariants as out
+use Rattle.wire_xdr.specs.WireText.{input_text}
+use Rattle.wire_messages.specs.Messages.{output_in}
+use Rattle.wire_messages.specs.declared.messages.Message.TheVariants.{Whole}
 use Rattle.hub_core.specs.declared.logs.HubEvent.{HubEvent}
 use Rattle.hub_core.specs.declared.logs.HubEvent.TheVariants.{Submit, Arrive}
 use Rattle.hub_core.specs.declared.logs.SentLine.{SentLine}
@@ -21,7 +24,7 @@ use Rattle.hub_core.specs.declared.stages.Next.{Next}
 use Rattle.hub_core.specs.declared.stages.Next.TheVariants as next
 use Rattle.hub_core.specs.Journal.{places_of}
 use Rattle.hub_core.specs.Kept.{IsCounted, WorkIsCounted, WhereWorking}
-use Rattle.hub_core.specs.Turns.{HubState, IsReached, start_of, submit_call, ignored, taken_up, arrived, wind_line, wire_number, with_event, with_request, with_end, with_entry, with_reply}
+use Rattle.hub_core.specs.Turns.{HubState, IsReached, start_of, submit_call, ignored, taken_up, arrived, wind_line, wire_number, ask_names, with_event, with_request, with_end, with_entry, with_reply}
 use Rattle.hub_core.specs.Ties.{wire_of, openings, IsEvent, IsSentWith, AreSentWith, EndsIn, IsOpenedIn, IsEndedBy, IsRepliedIn, IsTied, LogsAreTied}
 use Rattle.hub_core.specs.Ties.IsOpenedIn.{AtSubmit, AtEnd}
 use Rattle.hub_core.proofs.Lists.{get_push_old, get_push_last, get_push_cases, get_below}
@@ -75,7 +78,7 @@ ends_last winds event call turn = record {
 }
 
 ended_later : (events : List HubEvent) (event : HubEvent) (line : WindLine) → IsEndedBy events line → IsEndedBy (events ++ event ∷ []) line
-ended_later events event line h = record { output = h.output; arm = h.arm; arrives = event_later events event line.event _ h.arrives; reply = h.reply }
+ended_later events event line h = record { bytes = h.bytes; output = h.output; read = h.read; arm = h.arm; arrives = event_later events event line.event _ h.arrives; reply = h.reply }
 
 replied_later : (replies : List ReplyLine) (reply : ReplyLine) (call event : ℕ) → IsRepliedIn replies call event → IsRepliedIn (replies ++ reply ∷ []) call event
 replied_later replies reply call event h = record {
@@ -140,7 +143,7 @@ module _ (calls : List RootLine) (log : Log) (t : IsTied calls log) where
   tied_request event number turn request by = record {
     sent = subst (λ (x : List WindLine). AreSentWith x (log.sent ++ sent ∷ [])) (sym (openings_push log.winds new))
         (sent_push (openings log.winds) log.sent new sent t.sent
-        (record { request = request; event = refl; input = (let same : wire_of new.wind ≡ wire_number turn = omega arith in rw same refl) }));
+        (record { request = request; event = refl; bytes = (let same : wire_of new.wind ≡ wire_number turn = omega arith in rw same refl) }));
     opened = λ k line there is. opened k line is (get_push_cases log.winds new k line there);
     ended = λ k line there is. ended k line is (get_push_cases log.winds new k line there);
     replied = λ k reply there. ends_later log.winds new reply.call reply.event (t.replied k reply there);
@@ -151,7 +154,7 @@ module _ (calls : List RootLine) (log : Log) (t : IsTied calls log) where
       new = wind_line event number turn true
 
       sent : SentLine
-      sent = record { event = event; brick = 0; input = Request (wire_number turn) 1 request }
+      sent = record { event = event; brick = 0; bytes = input_text (Request (wire_number turn) 1 request) }
 
       opened : (k : ℕ) (line : WindLine) → line.opened ≡ true → (slice_get log.winds k ≡ Some line) ⊎ ((k ≡ length log.winds) × (wind_line event number turn true ≡ line)) →
           IsOpenedIn calls (with_request log event number turn request) line
@@ -225,35 +228,37 @@ tied_submit s line t there =
     let event : HubEvent = Submit line.session line.line in
     let place : slice_get (places_of s.calls) (s.submitted + 1 - 1) ≡ Some (line.session, line.line) =
     (let same : s.submitted + 1 - 1 ≡ s.submitted = omega arith in rw same (get_place s.calls s.submitted line there)) in
-    tied_request s.calls (with_event s.log event) (tied_event s.calls s.log t event) (length s.log.events + 1) (s.submitted + 1) (length s.log.sent) _
+    tied_request s.calls (with_event s.log event) (tied_event s.calls s.log t event) (length s.log.events + 1) (s.submitted + 1) (length s.log.sent) ask_names
     (AtSubmit line.session line.line (event_last s.log.events event) place)
 
-pub tied_take : (s : HubState) (output : Output) (w : Working) (line : RootLine) (follows : Next) (arm : DoneArm) → IsTied s.calls s.log →
-    length s.log.entered ≡ length s.log.history → output.kind ≡ out.Reply (wire_number w.turn) (Done arm) → IsTied s.calls (taken_up s output w line (Some follows)).log
-tied_take s output w line follows arm t as_many is = by_next follows
+pub tied_take : (s : HubState) (bytes : List ℕ) (w : Working) (line : RootLine) (follows : Next) (arm : DoneArm) (output : Output) → IsTied s.calls s.log →
+    length s.log.entered ≡ length s.log.history → output_in bytes ≡ Whole output → output.kind ≡ out.Reply (wire_number w.turn) (Done arm) → IsTied s.calls (taken_up s bytes w line (Some follows)).log
+tied_take s bytes w line follows arm output t as_many read is = by_next follows
   where
     e : ℕ
     e = length s.log.events + 1
 
-    after : IsTied s.calls (with_event s.log (Arrive 0 output))
-    after = tied_event s.calls s.log t (Arrive 0 output)
+    after : IsTied s.calls (with_event s.log (Arrive 0 bytes))
+    after = tied_event s.calls s.log t (Arrive 0 bytes)
 
-    by : IsEndedBy (s.log.events ++ Arrive 0 output ∷ []) (wind_line e w.call w.turn false)
+    by : IsEndedBy (s.log.events ++ Arrive 0 bytes ∷ []) (wind_line e w.call w.turn false)
     by = record {
+      bytes = bytes;
       output = output;
+      read = read;
       arm = arm;
-      arrives = event_last s.log.events (Arrive 0 output);
+      arrives = event_last s.log.events (Arrive 0 bytes);
       reply = (let same : wire_of (wind_line e w.call w.turn false).wind ≡ wire_number w.turn = omega arith in rw same is);
     }
 
-    ended : IsTied s.calls (with_end (with_event s.log (Arrive 0 output)) e w.call w.turn)
-    ended = tied_end s.calls (with_event s.log (Arrive 0 output)) after e w.call w.turn by
+    ended : IsTied s.calls (with_end (with_event s.log (Arrive 0 bytes)) e w.call w.turn)
+    ended = tied_end s.calls (with_event s.log (Arrive 0 bytes)) after e w.call w.turn by
 
-    by_next : (n : Next) → IsTied s.calls (taken_up s output w line (Some n)).log
+    by_next : (n : Next) → IsTied s.calls (taken_up s bytes w line (Some n)).log
     by_next (next.Ask request stage places) =
-        tied_request s.calls (with_end (with_event s.log (Arrive 0 output)) e w.call w.turn) ended e w.call (length s.log.sent) request
+        tied_request s.calls (with_end (with_event s.log (Arrive 0 bytes)) e w.call w.turn) ended e w.call (length s.log.sent) request
         (AtEnd (ends_last s.log.winds e w.call w.turn))
     by_next (next.Reply places answer false) =
-        tied_reply s.calls (with_end (with_event s.log (Arrive 0 output)) e w.call w.turn) ended _ (ends_last s.log.winds e w.call w.turn)
+        tied_reply s.calls (with_end (with_event s.log (Arrive 0 bytes)) e w.call w.turn) ended _ (ends_last s.log.winds e w.call w.turn)
     by_next (next.Reply places answer true) =
-        tied_entry s.calls (with_end (with_event s.log (Arrive 0 output)) e w.call w.turn) ended e w.call _ as_many refl refl (ends_last s.log.winds e w.call w.turn)
+        tied_entry s.calls (with_end (with_event s.log (Arrive 0 bytes)) e w.call w.turn) ended e w.call _ as_many refl refl (ends_last s.log.winds e w.call w.turn)

@@ -4,7 +4,6 @@ use Rattle.std.specs.Prelude.{slice_get}
 use Rattle.std.proofs.lemmas.List.{length_push, length-take-le}
 use Rattle.fop_types.specs.declared.answers.Answer.{Answer}
 use Rattle.fop_types.specs.declared.history.Entry.{Entry}
-use Rattle.fop_types.specs.declared.messages.Output.{Output}
 use Rattle.fop_types.specs.declared.messages.BrickReq.{BrickReq}
 use Rattle.fop_types.specs.declared.messages.DoneArm.{DoneArm}
 use Rattle.fop_types.specs.declared.calls.RootCall.{RootCall}
@@ -73,17 +72,17 @@ timed_submit s line c t =
       };
     }
 
-pub timed_ignore : (s : HubState) (output : Output) → IsCounted s → IsTimed s → IsTimed (ignored s output)
-timed_ignore s output c t = record {
+pub timed_ignore : (s : HubState) (bytes : List ℕ) → IsCounted s → IsTimed s → IsTimed (ignored s bytes)
+timed_ignore s bytes c t = record {
   replies = λ k reply h. (let own : IsOwnReply s reply = c.replies k reply h in
-      rw (since_event s (Arrive 0 output) reply.call c own.from_one own.submitted) (t.replies k reply h));
+      rw (since_event s (Arrive 0 bytes) reply.call c own.from_one own.submitted) (t.replies k reply h));
   work = kept s.working c.work t.work;
 }
   where
-    kept : (v : Option Working) → WhereWorking (WorkIsCounted s) v → WhereWorking (WorkIsTimed s) v → WhereWorking (WorkIsTimed (ignored s output)) v
+    kept : (v : Option Working) → WhereWorking (WorkIsCounted s) v → WhereWorking (WorkIsTimed s) v → WhereWorking (WorkIsTimed (ignored s bytes)) v
     kept None n h = tt
     kept (Some w) n h = record {
-      since = since_event s (Arrive 0 output) w.call c (omega (arith, n.number, n.some)) (omega (arith, n.number)) ∙ h.since;
+      since = since_event s (Arrive 0 bytes) w.call c (omega (arith, n.number, n.some)) (omega (arith, n.number)) ∙ h.since;
       places = h.places;
     }
 
@@ -91,36 +90,36 @@ between_at : (places more : List ℕ) (place : ℕ) → AreBetween places place 
 between_at places more place h (inl is) = rw is h
 between_at places more place h (inr is) = rw is (AreBetween-push places place place place (omega arith) h (omega arith))
 
-pub timed_take : (s : HubState) (output : Output) (w : Working) (line : RootLine) (follows : Next) → IsCounted s → IsTimed s → s.working ≡ Some w →
-    PlacesFollow w.places (length s.log.history) follows → IsTimed (taken_up s output w line (Some follows))
-timed_take s output w line (next.Ask request stage places) c t at_work follow =
-    let base : IsTimed (ignored s output) = timed_ignore s output c t in
+pub timed_take : (s : HubState) (bytes : List ℕ) (w : Working) (line : RootLine) (follows : Next) → IsCounted s → IsTimed s → s.working ≡ Some w →
+    PlacesFollow w.places (length s.log.history) follows → IsTimed (taken_up s bytes w line (Some follows))
+timed_take s bytes w line (next.Ask request stage places) c t at_work follow =
+    let base : IsTimed (ignored s bytes) = timed_ignore s bytes c t in
     let count : WorkIsCounted s w = subst (WhereWorking (WorkIsCounted s)) at_work c.work in
     let work : WorkIsTimed s w = subst (WhereWorking (WorkIsTimed s)) at_work t.work in
     record {
       replies = base.replies;
       work = record {
-        since = since_event s (Arrive 0 output) w.call c (omega (arith, count.number, count.some)) (omega (arith, count.number)) ∙ work.since;
+        since = since_event s (Arrive 0 bytes) w.call c (omega (arith, count.number, count.some)) (omega (arith, count.number)) ∙ work.since;
         places = between_at w.places places (length s.log.history) work.places follow;
       };
     }
-timed_take s output w line (next.Reply places answer false) c t at_work follow =
-    let base : IsTimed (ignored s output) = timed_ignore s output c t in
+timed_take s bytes w line (next.Reply places answer false) c t at_work follow =
+    let base : IsTimed (ignored s bytes) = timed_ignore s bytes c t in
     let count : WorkIsCounted s w = subst (WhereWorking (WorkIsCounted s)) at_work c.work in
     let work : WorkIsTimed s w = subst (WhereWorking (WorkIsTimed s)) at_work t.work in
-    let after : Log = (taken_up s output w line (Some (next.Reply places answer false))).log in
+    let after : Log = (taken_up s bytes w line (Some (next.Reply places answer false))).log in
     record {
       replies = each_pushed (λ (r : ReplyLine). AreBetween r.places (length_at_submit after r.call) (length_at_reply after r.event)) s.log.replies _ base.replies
-          (rw (since_event s (Arrive 0 output) w.call c (omega (arith, count.number, count.some)) (omega (arith, count.number)) ∙ work.since, until_now s c)
+          (rw (since_event s (Arrive 0 bytes) w.call c (omega (arith, count.number, count.some)) (omega (arith, count.number)) ∙ work.since, until_now s c)
           (between_at w.places places (length s.log.history) work.places (inr follow)));
       work = tt;
     }
-timed_take s output w line (next.Reply places answer true) c t at_work follow =
+timed_take s bytes w line (next.Reply places answer true) c t at_work follow =
     let count : WorkIsCounted s w = subst (WhereWorking (WorkIsCounted s)) at_work c.work in
     let work : WorkIsTimed s w = subst (WhereWorking (WorkIsTimed s)) at_work t.work in
-    let after : Log = (taken_up s output w line (Some (next.Reply places answer true))).log in
+    let after : Log = (taken_up s bytes w line (Some (next.Reply places answer true))).log in
     let since : length_at_submit after w.call ≡ length s.log.history =
-    since_entry s (Arrive 0 output) w.call c (omega (arith, count.number, count.some)) (omega (arith, count.number)) ∙ work.since in
+    since_entry s (Arrive 0 bytes) w.call c (omega (arith, count.number, count.some)) (omega (arith, count.number)) ∙ work.since in
     let event : ℕ = length s.log.events + 1 in
     let all : AreBelow (s.log.entered ++ event ∷ []) (event + 1) =
     AreBelow-push s.log.entered event (event + 1) (AreBelow-more s.log.entered event (event + 1) c.entered (omega arith)) (omega arith) in
@@ -129,7 +128,7 @@ timed_take s output w line (next.Reply places answer true) c t at_work follow =
     record {
       replies = each_pushed (λ (r : ReplyLine). AreBetween r.places (length_at_submit after r.call) (length_at_reply after r.event)) s.log.replies _
           (λ k reply h. (let own : IsOwnReply s reply = c.replies k reply h in
-          rw (since_entry s (Arrive 0 output) reply.call c own.from_one own.submitted, until_entry s reply own) (t.replies k reply h)))
+          rw (since_entry s (Arrive 0 bytes) reply.call c own.from_one own.submitted, until_entry s reply own) (t.replies k reply h)))
           (rw (since, until, follow) (AreBetween-push w.places (length s.log.history) (length s.log.history) (length s.log.history + 1) (omega arith) work.places (omega arith)));
       work = tt;
     }

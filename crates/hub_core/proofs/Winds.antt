@@ -5,7 +5,6 @@ use Rattle.std.proofs.lemmas.List.{length_push}
 use Rattle.std.proofs.lemmas.Bool.{eqb-true}
 use Rattle.std.proofs.lemmas.Bool.Decides.{nat_tests}
 use Rattle.fop_types.specs.declared.answers.Answer.{Answer}
-use Rattle.fop_types.specs.declared.messages.Output.{Output}
 use Rattle.fop_types.specs.declared.messages.BrickReq.{BrickReq}
 use Rattle.fop_types.specs.declared.calls.RootLine.{RootLine}
 use Rattle.hub_core.specs.declared.logs.WindLine.{WindLine}
@@ -153,16 +152,16 @@ wound_submit s line h idle =
     subst (λ (n : ℕ). LastOpen (submit_call s line).log.winds n (s.submitted + 1) (length s.log.sent)) (sym (length_push s.log.sent _))
     (open_wind s.log.winds (length s.log.sent) (length s.log.events + 1) (s.submitted + 1) ended)
 
-pub wound_take : (s : HubState) (output : Output) (w : Working) (line : RootLine) (follows : Next) → IsWound s → s.working ≡ Some w → IsWound (taken_up s output w line (Some follows))
-wound_take s output w line (next.Ask request stage places) h at_work =
+pub wound_take : (s : HubState) (bytes : List ℕ) (w : Working) (line : RootLine) (follows : Next) → IsWound s → s.working ≡ Some w → IsWound (taken_up s bytes w line (Some follows))
+wound_take s bytes w line (next.Ask request stage places) h at_work =
     let open_now : LastOpen s.log.winds (length s.log.sent) w.call w.turn = subst (WindsKept s.log.winds (length s.log.sent)) at_work h in
     let ended : AllEnded (s.log.winds ++ wind_line (length s.log.events + 1) w.call w.turn false ∷ []) (length s.log.sent) =
     end_wind s.log.winds (length s.log.sent) (length s.log.events + 1) w.call w.turn open_now in
-    subst (λ (n : ℕ). LastOpen (taken_up s output w line (Some (next.Ask request stage places))).log.winds n w.call (length s.log.sent)) (sym (length_push s.log.sent _))
+    subst (λ (n : ℕ). LastOpen (taken_up s bytes w line (Some (next.Ask request stage places))).log.winds n w.call (length s.log.sent)) (sym (length_push s.log.sent _))
     (open_wind (s.log.winds ++ wind_line (length s.log.events + 1) w.call w.turn false ∷ []) (length s.log.sent) (length s.log.events + 1) w.call ended)
-wound_take s output w line (next.Reply places answer false) h at_work =
+wound_take s bytes w line (next.Reply places answer false) h at_work =
     let open_now : LastOpen s.log.winds (length s.log.sent) w.call w.turn = subst (WindsKept s.log.winds (length s.log.sent)) at_work h in
     end_wind s.log.winds (length s.log.sent) (length s.log.events + 1) w.call w.turn open_now
-wound_take s output w line (next.Reply places answer true) h at_work =
+wound_take s bytes w line (next.Reply places answer true) h at_work =
     let open_now : LastOpen s.log.winds (length s.log.sent) w.call w.turn = subst (WindsKept s.log.winds (length s.log.sent)) at_work h in
     end_wind s.log.winds (length s.log.sent) (length s.log.events + 1) w.call w.turn open_now

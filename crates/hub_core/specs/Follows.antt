@@ -20,8 +20,6 @@ use Rattle.fop_types.specs.declared.messages.DoneArm.{DoneArm}
 use Rattle.fop_types.specs.declared.messages.DoneArm.TheVariants as done
 use Rattle.fop_types.specs.declared.messages.BrickRep.{BrickRep}
 use Rattle.fop_types.specs.declared.messages.BrickRep.TheVariants as rep
-use Rattle.fop_types.specs.declared.messages.Input.{Input}
-use Rattle.fop_types.specs.declared.messages.Input.TheVariants.{Request}
 use Rattle.fop_types.specs.declared.messages.OutKind.{OutKind}
 use Rattle.fop_types.specs.declared.messages.OutKind.TheVariants as out
 use Rattle.fop_types.specs.declared.messages.Output.{Output}
@@ -30,6 +28,8 @@ use Rattle.fop_types.specs.declared.store_ops.StoreOp.TheVariants.{AddName}
 use Rattle.fop_types.specs.Flat.{root, item_named, directory_item}
 use Rattle.fop_types.specs.History.{last_part, makes}
 use Rattle.fop_types.specs.declared.calls.RootLine.{RootLine}
+use Rattle.wire_messages.specs.declared.messages.Message.{Message}
+use Rattle.wire_messages.specs.declared.messages.Message.TheVariants.{Whole, Wrong}
 use Rattle.brick_store.specs.Cells.{names_cell, meta_cell}
 use Rattle.hub_core.specs.declared.logs.HubEvent.{HubEvent}
 use Rattle.hub_core.specs.declared.logs.HubEvent.TheVariants.{Submit, Arrive}
@@ -119,17 +119,21 @@ follow_output s w out.Opened = None
 follow_output s w (out.Connected graph version) = None
 follow_output s w (out.Malformed place) = None
 
-abbrev pub follow_working : HubState → OutKind → Option Working → Option Next
-follow_working s kind None = None
-follow_working s kind (Some w) = follow_output s w kind
+abbrev pub follow_message : HubState → Working → Message Output → Option Next
+follow_message s w (Whole output) = follow_output s w output.kind
+follow_message s w (Wrong place) = None
 
--- what follows an output: `None` where it is not the Done that the call at work waits for
-abbrev pub follow_of : HubState → OutKind → Option Next
-follow_of s kind = follow_working s kind s.working
+abbrev pub follow_working : HubState → Message Output → Option Working → Option Next
+follow_working s message None = None
+follow_working s message (Some w) = follow_message s w message
+
+-- what follows bytes that are this message: `None` where it is not the Done that the call at work waits for
+abbrev pub follow_of : HubState → Message Output → Option Next
+follow_of s message = follow_working s message s.working
 
 -- the state after what follows has been carried out for this call at work, of this line
-abbrev pub carried_out : HubState → Output → Working → RootLine → Next → HubState
-carried_out s output w line follows = record s {
-  log = log_next (with_event s.log (Arrive 0 output)) (length s.log.events + 1) w line follows;
+abbrev pub carried_out : HubState → List ℕ → Working → RootLine → Next → HubState
+carried_out s bytes w line follows = record s {
+  log = log_next (with_event s.log (Arrive 0 bytes)) (length s.log.events + 1) w line follows;
   working = working_next s.log w follows;
 }

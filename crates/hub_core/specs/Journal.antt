@@ -13,9 +13,7 @@ use Rattle.fop_types.specs.declared.messages.DoneArm.{DoneArm}
 use Rattle.fop_types.specs.declared.messages.DoneArm.TheVariants.{Nothing}
 use Rattle.fop_types.specs.declared.messages.BrickRep.{BrickRep}
 use Rattle.fop_types.specs.declared.messages.BrickRep.TheVariants.{Done}
-use Rattle.fop_types.specs.declared.messages.Input.{Input}
 use Rattle.fop_types.specs.declared.messages.Input.TheVariants.{Request}
-use Rattle.fop_types.specs.declared.messages.OutKind.{OutKind}
 use Rattle.fop_types.specs.declared.messages.OutKind.TheVariants.{Reply}
 use Rattle.fop_types.specs.declared.messages.Output.{Output}
 use Rattle.fop_types.specs.declared.contents.Mask.{Mask}
@@ -25,6 +23,9 @@ use Rattle.fop_types.specs.Flat.{root, directory_item}
 use Rattle.fop_types.specs.History.{IsLawfulReply, IsLegalHistory, call_numbered, drawn_by, last_part}
 use Rattle.fop_types.specs.declared.calls.RootLine.{RootLine}
 use Rattle.brick_store.specs.Cells.{names_cell}
+use Rattle.wire_xdr.specs.WireText.{input_text, output_text}
+use Rattle.wire_messages.specs.Messages.{output_in}
+use Rattle.wire_messages.specs.declared.messages.Message.TheVariants.{Whole}
 use Rattle.brick_node.specs.Machine.{outputs_of}
 use Rattle.hub_core.specs.declared.logs.HubEvent.{HubEvent}
 use Rattle.hub_core.specs.declared.logs.HubEvent.TheVariants.{Submit, Arrive}
@@ -36,22 +37,22 @@ use Rattle.hub_core.specs.declared.logs.Log.{Log}
 
 -- ---- what a log holds
 
--- the inputs that were sent to the brick, in order
-abbrev pub inputs_of : List SentLine → List Input
+-- what was sent to the brick, in order, each as its bytes
+abbrev pub inputs_of : List SentLine → List (List ℕ)
 inputs_of [] = []
-inputs_of (line ∷ lines) = line.input ∷ inputs_of lines
+inputs_of (line ∷ lines) = line.bytes ∷ inputs_of lines
 
--- the outputs that arrived from the brick, in order
-abbrev pub arrivals_of : List HubEvent → List Output
+-- what arrived from the brick, in order, each as its bytes
+abbrev pub arrivals_of : List HubEvent → List (List ℕ)
 arrivals_of [] = []
 arrivals_of (Submit session line ∷ events) = arrivals_of events
-arrivals_of (Arrive brick output ∷ events) = output ∷ arrivals_of events
+arrivals_of (Arrive brick bytes ∷ events) = bytes ∷ arrivals_of events
 
 -- the calls that were submitted, in order, by session and line
 abbrev pub submits_of : List HubEvent → List (ℕ × ℕ)
 submits_of [] = []
 submits_of (Submit session line ∷ events) = (session, line) ∷ submits_of events
-submits_of (Arrive brick output ∷ events) = submits_of events
+submits_of (Arrive brick bytes ∷ events) = submits_of events
 
 abbrev pub places_of : List RootLine → List (ℕ × ℕ)
 places_of [] = []
@@ -74,7 +75,7 @@ count_below bound (n ∷ numbers) = (if nat_lt n bound then 1 else 0) + count_be
 -- the events before the submission of the call that comes after this many others
 abbrev pub events_before : List HubEvent → ℕ → ℕ
 events_before [] others = 0
-events_before (Arrive brick output ∷ events) others = 1 + events_before events others
+events_before (Arrive brick bytes ∷ events) others = 1 + events_before events others
 events_before (Submit session line ∷ events) zero = 0
 events_before (Submit session line ∷ events) (suc others) = 1 + events_before events others
 
@@ -91,13 +92,13 @@ length_at_reply log event = count_below (event + 1) log.entered
 pub record FollowsScript (calls : List RootLine) (log : Log) : Type 0 where
   pub submitted : submits_of log.events ≡ take (length (submits_of log.events)) (places_of calls)
 
--- what arrived is a front of what the brick makes of what was sent to it, and each output came only after
--- the inputs that it counts were sent
+-- what arrived is a front of what the brick makes of what was sent to it, byte for byte, and each output
+-- came only after the inputs that it counts were sent
 pub record HasHonestArrivals (log : Log) : Type 0 where
   pub front : arrivals_of log.events ≡ take (length (arrivals_of log.events)) (outputs_of (inputs_of log.sent))
   pub timely :
-      (k : ℕ) (brick : ℕ) (output : Output) → slice_get log.events k ≡ Some (Arrive brick output) →
-      output.taken ≤ sent_before (k + 1) log.sent
+      (k : ℕ) (brick : ℕ) (bytes : List ℕ) (output : Output) → slice_get log.events k ≡ Some (Arrive brick bytes) →
+      output_in bytes ≡ Whole output → output.taken ≤ sent_before (k + 1) log.sent
 
 abbrev pub replies_to : ℕ → List ReplyLine → ℕ
 replies_to number [] = 0
@@ -172,16 +173,16 @@ store_op_with (Some (call.Stat path)) drawn = None
 abbrev pub store_op_of : List RootLine → Entry → Option StoreOp
 store_op_of calls entry = store_op_with (call_numbered (calls_of calls) entry.call) (drawn_by (calls_of calls) entry.call)
 
--- a request of graph 1 stands at this place in the journal, and an output answers it Done
-pub record IsDoneRequest (journal : List Input) (outputs : List Output) (place : ℕ) (req : BrickReq) : Type 0 where
+-- a request of graph 1 stands at this place in the journal, and an output answers it Done, each as its bytes
+pub record IsDoneRequest (journal outputs : List (List ℕ)) (place : ℕ) (req : BrickReq) : Type 0 where
   pub wind : ℕ
   pub answer_at : ℕ
   pub taken : ℕ
-  pub stands : slice_get journal place ≡ Some (Request wind 1 req)
-  pub answered : slice_get outputs answer_at ≡ Some (record { taken = taken; kind = Reply wind (Done Nothing) })
+  pub stands : slice_get journal place ≡ Some (input_text (Request wind 1 req))
+  pub answered : slice_get outputs answer_at ≡ Some (output_text (record { taken = taken; kind = Reply wind (Done Nothing) }))
 
 -- the entry's op and then its post, under one change number, are in the journal, each answered Done
-pub record IsBacked (calls : List RootLine) (journal : List Input) (outputs : List Output) (entry : Entry) : Type 0 where
+pub record IsBacked (calls : List RootLine) (journal outputs : List (List ℕ)) (entry : Entry) : Type 0 where
   pub op : StoreOp
   pub op_is : store_op_of calls entry ≡ Some op
   pub change : ℕ
@@ -191,6 +192,6 @@ pub record IsBacked (calls : List RootLine) (journal : List Input) (outputs : Li
   pub post_done : IsDoneRequest journal outputs post_place (Post change (names_cell root ∷ []) (record { 0 = 0 }))
   pub later : op_place < post_place
 
-abbrev pub IsBackedByBrick : List RootLine → List Entry → List Input → List Output → Type 0
+abbrev pub IsBackedByBrick : List RootLine → List Entry → List (List ℕ) → List (List ℕ) → Type 0
 IsBackedByBrick calls history journal outputs =
     (k : ℕ) (entry : Entry) → slice_get history k ≡ Some entry → IsBacked calls journal outputs entry

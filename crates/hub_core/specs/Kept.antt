@@ -1,10 +1,6 @@
 -- What the hub's turns keep, whatever arrives: the counts of calls, objects and entries, and the places of
 -- the call at work.
 use Rattle.std.specs.Prelude.{◌≡◌, ℕ, ◌+◌, ◌-◌, ◌<◌, ◌≤◌, List, [], ◌∷◌, Option, Some, None, Bool, true, false, length, take, slice_get, if◌then◌else◌}
-use Rattle.fop_types.specs.declared.calls.Path.{Path}
-use Rattle.fop_types.specs.declared.calls.RootCall.{RootCall}
-use Rattle.fop_types.specs.declared.calls.RootCall.TheVariants as call
-use Rattle.fop_types.specs.declared.calls.RootLine.{RootLine}
 use Rattle.fop_types.specs.declared.history.Entry.{Entry}
 use Rattle.fop_types.specs.History.{objects_made, drawn_by, AreBetween}
 use Rattle.hub_core.specs.declared.logs.ReplyLine.{ReplyLine}
@@ -93,16 +89,3 @@ WindsKept lines turns (Some w) = LastOpen lines turns w.call w.turn
 
 abbrev pub IsWound : HubState → Type 0
 IsWound s = WindsKept s.log.winds (length s.log.sent) s.working
-
--- ---- the calls of this form of script: each path has one component, of at most 255 bytes
-pub record IsOneName (path : Path) : Type 0 where
-  pub name : List ℕ
-  pub parts : path.parts ≡ name ∷ []
-  pub short : length name ≤ 255
-
-abbrev pub HasOneName : RootCall → Type 0
-HasOneName (call.Mkdir path mode) = IsOneName path
-HasOneName (call.Stat path) = IsOneName path
-
-abbrev pub HaveOneName : List RootLine → Type 0
-HaveOneName calls = (k : ℕ) (line : RootLine) → slice_get calls k ≡ Some line → HasOneName line.call

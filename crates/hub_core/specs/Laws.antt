@@ -4,7 +4,7 @@ use Rattle.fop_types.specs.History.{IsLegalHistory}
 use Rattle.fop_types.specs.declared.calls.RootLine.{RootLine}
 use Rattle.hub_core.specs.declared.logs.Log.{Log}
 use Rattle.hub_core.specs.Journal.{FollowsScript, IsFinished, HasHonestArrivals, WindsAreOnce, WindsAreBalanced, AreLawful, IsBackedByBrick, calls_of, inputs_of, arrivals_of}
-use Rattle.hub_core.specs.Kept.{HaveOneName}
+use Rattle.hub_core.specs.Bounds.{AreFit}
 use Rattle.hub_core.specs.Turns.{HubState, IsReached}
 
 -- the log follows the script; its history is legal and its replies are lawful; winds are opened and ended
@@ -21,12 +21,13 @@ pub record IsWholeLog (calls : List RootLine) (log : Log) : Type 0 where
   pub finished : IsFinished calls log
   pub balanced : WindsAreBalanced log.winds
 
--- every log that can be reached, of calls with one name each, is lawful if its arrivals are honest
+-- every log that can be reached, of at most 4,096 calls that can be sent, is lawful if its arrivals are
+-- honest
 abbrev pub HonestLogsAreLawful : Type 0
-HonestLogsAreLawful = (s : HubState) → IsReached s → HaveOneName s.calls → HasHonestArrivals s.log → IsLawfulLog s.calls s.log
+HonestLogsAreLawful = (s : HubState) → IsReached s → AreFit s.calls → HasHonestArrivals s.log → IsLawfulLog s.calls s.log
 
 -- and whole, where all that was sent has been answered, and no call is left while none is at work
 abbrev pub EndedLogsAreWhole : Type 0
 EndedLogsAreWhole =
-    (s : HubState) → IsReached s → HaveOneName s.calls → HasHonestArrivals s.log → length s.log.sent ≤ length (arrivals_of s.log.events) →
+    (s : HubState) → IsReached s → AreFit s.calls → HasHonestArrivals s.log → length s.log.sent ≤ length (arrivals_of s.log.events) →
     (s.working ≡ None → length s.calls ≤ s.submitted) → IsWholeLog s.calls s.log

@@ -9,6 +9,9 @@ use Rattle.fop_types.specs.declared.messages.DoneArm.{DoneArm}
 use Rattle.fop_types.specs.declared.messages.Input.TheVariants.{Request}
 use Rattle.fop_types.specs.declared.messages.Output.{Output}
 use Rattle.fop_types.specs.declared.messages.OutKind.TheVariants.{Reply}
+use Rattle.wire_xdr.specs.WireText.{input_text}
+use Rattle.wire_messages.specs.Messages.{output_in}
+use Rattle.wire_messages.specs.declared.messages.Message.TheVariants.{Whole}
 use Rattle.hub_core.specs.declared.logs.HubEvent.{HubEvent}
 use Rattle.hub_core.specs.declared.logs.HubEvent.TheVariants.{Submit, Arrive}
 use Rattle.hub_core.specs.declared.logs.SentLine.{SentLine}
@@ -33,11 +36,11 @@ pub record IsEvent (events : List HubEvent) (number : ℕ) (event : HubEvent) : 
   pub from_one : 0 < number
   pub stands : slice_get events (number - 1) ≡ Some event
 
--- a request was sent with the wind of this line, and in its event
+-- the bytes of a request were sent with the wind of this line, and in its event
 pub record IsSentWith (line : WindLine) (sent : SentLine) : Type 0 where
   pub request : BrickReq
   pub event : sent.event ≡ line.event
-  pub input : sent.input ≡ Request (wire_of line.wind) line.graph request
+  pub bytes : sent.bytes ≡ input_text (Request (wire_of line.wind) line.graph request)
 
 -- each line that was sent has its own opening, in order
 abbrev pub AreSentWith : List WindLine → List SentLine → Type 0
@@ -61,11 +64,13 @@ pub data IsOpenedIn (calls : List RootLine) (log : Log) (line : WindLine) : Type
       slice_get (places_of calls) (line.call - 1) ≡ Some (session, number) → IsOpenedIn calls log line
   AtEnd : EndsIn log.winds line.call line.event → IsOpenedIn calls log line
 
--- a wind ends in the event in which the reply with its number arrives
+-- a wind ends in the event in which the bytes of the reply with its number arrive
 pub record IsEndedBy (events : List HubEvent) (line : WindLine) : Type 0 where
+  pub bytes : List ℕ
   pub output : Output
   pub arm : DoneArm
-  pub arrives : IsEvent events line.event (Arrive 0 output)
+  pub arrives : IsEvent events line.event (Arrive 0 bytes)
+  pub read : output_in bytes ≡ Whole output
   pub reply : output.kind ≡ Reply (wire_of line.wind) (Done arm)
 
 -- the call is replied to in the event

@@ -20,7 +20,6 @@ use Rattle.fop_types.specs.declared.messages.DoneArm.{DoneArm}
 use Rattle.fop_types.specs.declared.messages.DoneArm.TheVariants as done
 use Rattle.fop_types.specs.declared.messages.BrickRep.{BrickRep}
 use Rattle.fop_types.specs.declared.messages.BrickRep.TheVariants as rep
-use Rattle.fop_types.specs.declared.messages.Input.{Input}
 use Rattle.fop_types.specs.declared.messages.Input.TheVariants.{Request}
 use Rattle.fop_types.specs.declared.messages.OutKind.{OutKind}
 use Rattle.fop_types.specs.declared.messages.OutKind.TheVariants as out
@@ -30,6 +29,10 @@ use Rattle.fop_types.specs.declared.store_ops.StoreOp.TheVariants.{AddName}
 use Rattle.fop_types.specs.Flat.{root, item_named, directory_item}
 use Rattle.fop_types.specs.History.{last_part, makes}
 use Rattle.fop_types.specs.declared.calls.RootLine.{RootLine}
+use Rattle.wire_xdr.specs.WireText.{input_text}
+use Rattle.wire_messages.specs.Messages.{output_in}
+use Rattle.wire_messages.specs.declared.messages.Message.{Message}
+use Rattle.wire_messages.specs.declared.messages.Message.TheVariants.{Whole, Wrong}
 use Rattle.brick_store.specs.Cells.{names_cell, meta_cell}
 use Rattle.hub_core.specs.declared.logs.HubEvent.{HubEvent}
 use Rattle.hub_core.specs.declared.logs.HubEvent.TheVariants.{Submit, Arrive}
@@ -73,7 +76,7 @@ wire_number turn = turn * 4294967296
 
 abbrev pub with_request : Log → ℕ → ℕ → ℕ → BrickReq → Log
 with_request log event number turn request = record log {
-  sent = log.sent ++ (record { event = event; brick = 0; input = Request (wire_number turn) 1 request }) ∷ [];
+  sent = log.sent ++ (record { event = event; brick = 0; bytes = input_text (Request (wire_number turn) 1 request) }) ∷ [];
   winds = log.winds ++ wind_line event number turn true ∷ [];
 }
 
@@ -193,42 +196,47 @@ working_next log w (next.Ask request stage places) =
 working_next log w (next.Reply places answer enters) = None
 
 -- an output that arrived: a late or strange one leaves the call at work as it is
-abbrev pub ignored : HubState → Output → HubState
-ignored s output = record s { log = with_event s.log (Arrive 0 output) }
+abbrev pub ignored : HubState → List ℕ → HubState
+ignored s bytes = record s { log = with_event s.log (Arrive 0 bytes) }
 
-abbrev pub taken_up : HubState → Output → Working → RootLine → Option Next → HubState
-taken_up s output w line None = ignored s output
-taken_up s output w line (Some follows) = record s {
-  log = log_next (with_event s.log (Arrive 0 output)) (length s.log.events + 1) w line follows;
+abbrev pub taken_up : HubState → List ℕ → Working → RootLine → Option Next → HubState
+taken_up s bytes w line None = ignored s bytes
+taken_up s bytes w line (Some follows) = record s {
+  log = log_next (with_event s.log (Arrive 0 bytes)) (length s.log.events + 1) w line follows;
   working = working_next s.log w follows;
 }
 
-abbrev pub done_for : HubState → Output → Working → Option RootLine → DoneArm → HubState
-done_for s output w None arm = ignored s output
-done_for s output w (Some line) arm =
-    taken_up s output w line (next_of w.stage line.call w.drawn w.places (length s.log.history) arm)
+abbrev pub done_for : HubState → List ℕ → Working → Option RootLine → DoneArm → HubState
+done_for s bytes w None arm = ignored s bytes
+done_for s bytes w (Some line) arm =
+    taken_up s bytes w line (next_of w.stage line.call w.drawn w.places (length s.log.history) arm)
 
-abbrev pub reply_for : HubState → Output → Working → ℕ → BrickRep → HubState
-reply_for s output w wind (rep.Done arm) =
-    if wind == wire_number w.turn then done_for s output w (slice_get s.calls (w.call - 1)) arm else ignored s output
-reply_for s output w wind rep.Gone = ignored s output
-reply_for s output w wind rep.Fault = ignored s output
-reply_for s output w wind rep.Unfit = ignored s output
-reply_for s output w wind rep.BadFd = ignored s output
+abbrev pub reply_for : HubState → List ℕ → Working → ℕ → BrickRep → HubState
+reply_for s bytes w wind (rep.Done arm) =
+    if wind == wire_number w.turn then done_for s bytes w (slice_get s.calls (w.call - 1)) arm else ignored s bytes
+reply_for s bytes w wind rep.Gone = ignored s bytes
+reply_for s bytes w wind rep.Fault = ignored s bytes
+reply_for s bytes w wind rep.Unfit = ignored s bytes
+reply_for s bytes w wind rep.BadFd = ignored s bytes
 
-abbrev pub output_for : HubState → Output → Working → OutKind → HubState
-output_for s output w (out.Reply wind reply) = reply_for s output w wind reply
-output_for s output w out.Closed = ignored s output
-output_for s output w out.Opened = ignored s output
-output_for s output w (out.Connected graph version) = ignored s output
-output_for s output w (out.Malformed place) = ignored s output
+abbrev pub output_for : HubState → List ℕ → Working → OutKind → HubState
+output_for s bytes w (out.Reply wind reply) = reply_for s bytes w wind reply
+output_for s bytes w out.Closed = ignored s bytes
+output_for s bytes w out.Opened = ignored s bytes
+output_for s bytes w (out.Connected graph version) = ignored s bytes
+output_for s bytes w (out.Malformed place) = ignored s bytes
 
-abbrev pub arrive_for : HubState → Output → Option Working → HubState
-arrive_for s output None = ignored s output
-arrive_for s output (Some w) = output_for s output w output.kind
+-- bytes that are no output leave it as it is too
+abbrev pub message_for : HubState → List ℕ → Working → Message Output → HubState
+message_for s bytes w (Whole output) = output_for s bytes w output.kind
+message_for s bytes w (Wrong place) = ignored s bytes
 
-abbrev pub arrived : HubState → Output → HubState
-arrived s output = arrive_for s output s.working
+abbrev pub arrive_for : HubState → List ℕ → Option Working → HubState
+arrive_for s bytes None = ignored s bytes
+arrive_for s bytes (Some w) = message_for s bytes w (output_in bytes)
+
+abbrev pub arrived : HubState → List ℕ → HubState
+arrived s bytes = arrive_for s bytes s.working
 
 -- ---- what can be reached
 
@@ -240,4 +248,4 @@ pub data IsReached : HubState → Type 0 where
   Begun : (s : HubState) → s ≡ start_of s.calls → IsReached s
   Submitted : (s t : HubState) → (line : RootLine) → IsReached s → s.working ≡ None →
       slice_get s.calls s.submitted ≡ Some line → t ≡ submit_call s line → IsReached t
-  Arrived : (s t : HubState) → (output : Output) → IsReached s → t ≡ arrived s output → IsReached t
+  Arrived : (s t : HubState) → (bytes : List ℕ) → IsReached s → t ≡ arrived s bytes → IsReached t

@@ -1,7 +1,9 @@
 ghost use Rattle.std.specs.Prelude.{◌≡◌, ◌≤◌, ◌-◌, Option, Some, None, length, is_some, is_none, slice_get, OnOk, OnErr, IfOk};
 ghost use Rattle.std.specs.Option.{option_copied};
+ghost use Rattle.wire_messages.specs.Messages.{output_in};
+ghost use Rattle.hub_core.specs.Bounds.{AreFit};
 ghost use Rattle.hub_core.specs.Turns.{start_of, arrived};
-ghost use Rattle.hub_core.specs.Follows.{call_if_idle, call_due, submit_due, follow_line, follow_reply, follow_output, follow_of};
+ghost use Rattle.hub_core.specs.Follows.{call_if_idle, call_due, submit_due, follow_line, follow_reply, follow_output, follow_message, follow_of};
 
 use crate::log_lists::LogLists;
 use crate::logs::{Log, SentLine};
@@ -10,6 +12,7 @@ use crate::turns::{after_done, ask_for_names, stage_at_first};
 use fop_types::{BrickRep, DoneArm, Gfid, OutKind, Output, RootLine, RootScript, Seq};
 use std::alloc::{AllocError, Global};
 use std::marker::Model;
+use wire_messages::{Message, output_of};
 
 /// The hub: it submits the calls of a script one after another, sends each call's requests to the brick,
 /// takes the brick's outputs, and writes the log. A method that wants memory and gets none has changed
@@ -24,14 +27,14 @@ pub struct Hub {
 }
 
 impl Model for Hub {
-    ghost use Rattle.std.specs.Prelude.{◌≤◌, length};
+    ghost use Rattle.hub_core.specs.Bounds.{AreFit};
     ghost use Rattle.hub_core.specs.Turns.{HubState, IsReached};
 
     ghost Value = { HubState };
 
     ghost view = { λ h. record { calls = h.script.calls; log = h.lists; submitted = h.submitted; made = h.made; working = h.working } };
 
-    ghost invariant = { λ h. IsReached (record { calls = h.script.calls; log = h.lists; submitted = h.submitted; made = h.made; working = h.working }) × (length h.script.calls ≤ 4096) };
+    ghost invariant = { λ h. IsReached (record { calls = h.script.calls; log = h.lists; submitted = h.submitted; made = h.made; working = h.working }) × AreFit h.script.calls };
 }
 
 /// The line at an index.
@@ -49,12 +52,13 @@ fn line_at_work<'a>(calls: &'a Seq<RootLine>, w: &Working) -> Option<&'a RootLin
 }
 
 impl Hub {
-    /// The hub at the start of a script, of which it keeps a copy.
+    /// The hub at the start of a script, of which it keeps a copy. The script has at most 4,096 calls, each
+    /// with a name and a mode that a message can carry.
     ///
     /// # Errors
     /// Want of memory.
     pub fn new(alloc: Global, script: &RootScript) -> Result<Hub, AllocError>
-        requires { length script.now.calls ≤ 4096 }
+        requires { AreFit script.now.calls }
         ensures { IfOk result (λ hub. hub ≡ start_of script.now.calls) }
     {
         let script = script.copy(alloc)?;
@@ -111,7 +115,7 @@ impl Hub {
                 let stage = stage_at_first(&line.call);
                 let turn = self
                     .lists
-                    .submit(line.session, line.line, call, ask_for_names())?;
+                    .submit(alloc, line.session, line.line, call, ask_for_names())?;
                 self.working = Some(Working {
                     call,
                     drawn: Gfid {
@@ -211,30 +215,46 @@ impl Hub {
         }
     }
 
-    /// What follows an output of the brick.
-    fn follows(&self, alloc: Global, output: &Output) -> Result<Option<Next>, AllocError>
-        ensures { IfOk result (λ next. next ≡ follow_of self.now output.now.kind) }
+    /// What follows a message of the brick, for the call at work.
+    fn after_message(
+        &self,
+        alloc: Global,
+        w: &Working,
+        message: &Message<Output>,
+    ) -> Result<Option<Next>, AllocError>
+        requires { self.now.working ≡ Some w.now }
+        ensures { IfOk result (λ next. next ≡ follow_message self.now w.now message.now) }
+    {
+        match message {
+            Message::Whole(output) => self.after_output(alloc, w, &output.kind),
+            Message::Wrong { place: _ } => Ok(None),
+        }
+    }
+
+    /// What follows a message of the brick.
+    fn follows(&self, alloc: Global, message: &Message<Output>) -> Result<Option<Next>, AllocError>
+        ensures { IfOk result (λ next. next ≡ follow_of self.now message.now) }
     {
         match &self.working {
             None => Ok(None),
-            Some(w) => self.after_output(alloc, w, &output.kind),
+            Some(w) => self.after_message(alloc, w, message),
         }
     }
 
     /// Writes an arrival that nothing follows.
-    fn ignore(&mut self, output: Output) -> Result<(), AllocError>
-        requires { follow_of self.old output.kind ≡ None }
-        ensures ok { OnOk result (self.new ≡ arrived self.old output) }
+    fn ignore(&mut self, bytes: Seq<u8>) -> Result<(), AllocError>
+        requires { follow_of self.old (output_in bytes) ≡ None }
+        ensures ok { OnOk result (self.new ≡ arrived self.old bytes) }
         ensures err { OnErr result (self.new ≡ self.old) }
     {
-        self.lists.arrive(output)?;
+        self.lists.arrive(bytes)?;
         Ok(())
     }
 
     /// Writes an arrival with what follows it.
-    fn carry_out(&mut self, output: Output, follows: Next) -> Result<(), AllocError>
-        requires { follow_of self.old output.kind ≡ Some follows }
-        ensures ok { OnOk result (self.new ≡ arrived self.old output) }
+    fn carry_out(&mut self, alloc: Global, bytes: Seq<u8>, follows: Next) -> Result<(), AllocError>
+        requires { follow_of self.old (output_in bytes) ≡ Some follows }
+        ensures ok { OnOk result (self.new ≡ arrived self.old bytes) }
         ensures err { OnErr result (self.new ≡ self.old) }
     {
         match &self.working {
@@ -242,7 +262,7 @@ impl Hub {
             Some(w) => match line_at_work(&self.script.calls, w) {
                 None => Ok(()),
                 Some(line) => {
-                    let working = self.lists.carry_out(output, w, line, follows)?;
+                    let working = self.lists.carry_out(alloc, bytes, w, line, follows)?;
                     self.working = working;
                     Ok(())
                 }
@@ -250,18 +270,20 @@ impl Hub {
         }
     }
 
-    /// Takes an output of the brick: the reply that the call at work waits for leads to the call's next
-    /// request or to its answer, and any other output is written to the log alone.
+    /// Takes the bytes of an output of the brick: the reply that the call at work waits for leads to the
+    /// call's next request or to its answer. Any other output, and bytes that are none, are written to the
+    /// log alone.
     ///
     /// # Errors
     /// Want of memory, with nothing changed.
-    pub fn arrive(&mut self, alloc: Global, output: Output) -> Result<(), AllocError>
-        ensures ok { OnOk result (self.new ≡ arrived self.old output) }
+    pub fn arrive(&mut self, alloc: Global, bytes: Seq<u8>) -> Result<(), AllocError>
+        ensures ok { OnOk result (self.new ≡ arrived self.old bytes) }
         ensures err { OnErr result (self.new ≡ self.old) }
     {
-        match self.follows(alloc, &output)? {
-            None => self.ignore(output),
-            Some(follows) => self.carry_out(output, follows),
+        let message = output_of(alloc, bytes.as_slice())?;
+        match self.follows(alloc, &message)? {
+            None => self.ignore(bytes),
+            Some(follows) => self.carry_out(alloc, bytes, follows),
         }
     }
 

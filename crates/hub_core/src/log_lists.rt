@@ -1,13 +1,17 @@
 ghost use Rattle.std.specs.Prelude.{◌≡◌, ◌+◌, ◌<◌, ◌^◌, ◌*◌, List, [], ◌∷◌, ◌++◌, length, true, false, OnOk, OnErr, IfOk};
 ghost use Rattle.fop_types.specs.declared.messages.Input.TheVariants.{Request};
+ghost use Rattle.wire_xdr.specs.MessageText.{IsReq};
+ghost use Rattle.wire_xdr.specs.WireText.{input_text};
+ghost use Rattle.hub_core.specs.Bounds.{IsSendableNext};
 ghost use Rattle.hub_core.specs.declared.logs.HubEvent.TheVariants.{Submit, Arrive};
 ghost use Rattle.hub_core.specs.Turns.{empty_log, with_event, with_request, with_end, with_entry, with_reply, wind_line, wire_number, log_next, working_next};
 
 use crate::logs::{HubEvent, Log, ReplyLine, SentLine, WindLine, WindNo};
 use crate::stages::{Next, Working};
-use fop_types::{Answer, BrickReq, Entry, Input, Output, RootLine, Seq};
+use fop_types::{Answer, BrickReq, Entry, Input, RootLine, Seq};
 use std::alloc::{AllocError, Global};
 use std::marker::Model;
+use wire_xdr::encode_req;
 
 /// The log as it grows. Each method adds the lines of one event: it reserves room in every list first, so
 /// after want of memory nothing was added.
@@ -42,19 +46,23 @@ fn wind_of(event: u64, call: u32, turn: u32, opened: bool) -> WindLine
     }
 }
 
-/// A request on the wire of the wind of this turn.
-fn line_of(event: u64, turn: u32, req: BrickReq) -> SentLine
-    ensures { result ≡ record { event = event; brick = 0; input = Request (wire_number turn) 1 req } }
+/// A request on the wire of the wind of this turn, as its bytes.
+///
+/// # Errors
+/// Want of memory.
+fn line_of(alloc: Global, event: u64, turn: u32, req: BrickReq) -> Result<SentLine, AllocError>
+    requires { IsReq true req }
+    ensures { IfOk result (λ line. line ≡ record { event = event; brick = 0; bytes = input_text (Request (wire_number turn) 1 req) }) }
 {
-    SentLine {
+    let wind = turn as u64 * 4294967296;
+    let graph = 1;
+    let request = Input::Request { wind, graph, req };
+    let bytes = encode_req(alloc, &request)?;
+    Ok(SentLine {
         event,
         brick: 0,
-        input: Input::Request {
-            wind: turn as u64 * 4294967296,
-            graph: 1,
-            req,
-        },
-    }
+        bytes: Seq::from_vec(bytes),
+    })
 }
 
 impl LogLists {
@@ -106,12 +114,14 @@ impl LogLists {
     /// Want of memory, with nothing added.
     pub fn submit(
         &mut self,
+        alloc: Global,
         session: u8,
         line: u32,
         call: u32,
         req: BrickReq,
     ) -> Result<u32, AllocError>
-        requires { length self.old.sent < 2 ^ 32 }
+        requires few { length self.old.sent < 2 ^ 32 }
+        requires legal { IsReq true req }
         ensures ok { OnOk result (self.new ≡ with_request (with_event self.old (Submit session line)) (length self.old.events + 1) call (length self.old.sent) req) }
         ensures turn { IfOk result (λ turn. turn ≡ length self.old.sent) }
         ensures err { OnErr result (self.new ≡ self.old) }
@@ -121,9 +131,10 @@ impl LogLists {
         self.winds.reserve(1)?;
         let event = self.events.len() as u64 + 1;
         let turn = self.sent.len() as u32;
+        let request = line_of(alloc, event, turn, req)?;
         self.events
             .push_reserved(HubEvent::Submit { session, line });
-        self.sent.push_reserved(line_of(event, turn, req));
+        self.sent.push_reserved(request);
         self.winds.push_reserved(wind_of(event, call, turn, true));
         Ok(turn)
     }
@@ -132,11 +143,11 @@ impl LogLists {
     ///
     /// # Errors
     /// Want of memory, with nothing added.
-    pub fn arrive(&mut self, output: Output) -> Result<(), AllocError>
-        ensures ok { OnOk result (self.new ≡ with_event self.old (Arrive 0 output)) }
+    pub fn arrive(&mut self, bytes: Seq<u8>) -> Result<(), AllocError>
+        ensures ok { OnOk result (self.new ≡ with_event self.old (Arrive 0 bytes)) }
         ensures err { OnErr result (self.new ≡ self.old) }
     {
-        self.events.push(HubEvent::Arrive { brick: 0, output })?;
+        self.events.push(HubEvent::Arrive { brick: 0, bytes })?;
         Ok(())
     }
 
@@ -147,13 +158,15 @@ impl LogLists {
     /// Want of memory, with nothing added.
     pub fn ask(
         &mut self,
-        output: Output,
+        alloc: Global,
+        bytes: Seq<u8>,
         call: u32,
         ended: u32,
         req: BrickReq,
     ) -> Result<u32, AllocError>
-        requires { length self.old.sent < 2 ^ 32 }
-        ensures ok { OnOk result (self.new ≡ with_request (with_end (with_event self.old (Arrive 0 output)) (length self.old.events + 1) call ended) (length self.old.events + 1) call (length self.old.sent) req) }
+        requires few { length self.old.sent < 2 ^ 32 }
+        requires legal { IsReq true req }
+        ensures ok { OnOk result (self.new ≡ with_request (with_end (with_event self.old (Arrive 0 bytes)) (length self.old.events + 1) call ended) (length self.old.events + 1) call (length self.old.sent) req) }
         ensures turn { IfOk result (λ turn. turn ≡ length self.old.sent) }
         ensures err { OnErr result (self.new ≡ self.old) }
     {
@@ -162,10 +175,11 @@ impl LogLists {
         self.winds.reserve(2)?;
         let event = self.events.len() as u64 + 1;
         let turn = self.sent.len() as u32;
+        let request = line_of(alloc, event, turn, req)?;
         self.events
-            .push_reserved(HubEvent::Arrive { brick: 0, output });
+            .push_reserved(HubEvent::Arrive { brick: 0, bytes });
         self.winds.push_reserved(wind_of(event, call, ended, false));
-        self.sent.push_reserved(line_of(event, turn, req));
+        self.sent.push_reserved(request);
         self.winds.push_reserved(wind_of(event, call, turn, true));
         Ok(turn)
     }
@@ -176,7 +190,7 @@ impl LogLists {
     /// Want of memory, with nothing added.
     pub fn reply(
         &mut self,
-        output: Output,
+        bytes: Seq<u8>,
         call: u32,
         ended: u32,
         session: u8,
@@ -184,7 +198,7 @@ impl LogLists {
         places: Seq<u32>,
         answer: Answer,
     ) -> Result<(), AllocError>
-        ensures ok { OnOk result (self.new ≡ with_reply (with_end (with_event self.old (Arrive 0 output)) (length self.old.events + 1) call ended) (record { event = length self.old.events + 1; call = call; session = session; line = line; places = places; answer = answer })) }
+        ensures ok { OnOk result (self.new ≡ with_reply (with_end (with_event self.old (Arrive 0 bytes)) (length self.old.events + 1) call ended) (record { event = length self.old.events + 1; call = call; session = session; line = line; places = places; answer = answer })) }
         ensures err { OnErr result (self.new ≡ self.old) }
     {
         self.events.reserve(1)?;
@@ -192,7 +206,7 @@ impl LogLists {
         self.replies.reserve(1)?;
         let event = self.events.len() as u64 + 1;
         self.events
-            .push_reserved(HubEvent::Arrive { brick: 0, output });
+            .push_reserved(HubEvent::Arrive { brick: 0, bytes });
         self.winds.push_reserved(wind_of(event, call, ended, false));
         self.replies.push_reserved(ReplyLine {
             event,
@@ -211,7 +225,7 @@ impl LogLists {
     /// Want of memory, with nothing added.
     pub fn enter(
         &mut self,
-        output: Output,
+        bytes: Seq<u8>,
         call: u32,
         ended: u32,
         session: u8,
@@ -219,7 +233,7 @@ impl LogLists {
         places: Seq<u32>,
         answer: Answer,
     ) -> Result<(), AllocError>
-        ensures ok { OnOk result (self.new ≡ with_reply (with_entry (with_end (with_event self.old (Arrive 0 output)) (length self.old.events + 1) call ended) (length self.old.events + 1) call) (record { event = length self.old.events + 1; call = call; session = session; line = line; places = places; answer = answer })) }
+        ensures ok { OnOk result (self.new ≡ with_reply (with_entry (with_end (with_event self.old (Arrive 0 bytes)) (length self.old.events + 1) call ended) (length self.old.events + 1) call) (record { event = length self.old.events + 1; call = call; session = session; line = line; places = places; answer = answer })) }
         ensures err { OnErr result (self.new ≡ self.old) }
     {
         self.events.reserve(1)?;
@@ -229,7 +243,7 @@ impl LogLists {
         self.entered.reserve(1)?;
         let event = self.events.len() as u64 + 1;
         self.events
-            .push_reserved(HubEvent::Arrive { brick: 0, output });
+            .push_reserved(HubEvent::Arrive { brick: 0, bytes });
         self.winds.push_reserved(wind_of(event, call, ended, false));
         self.history.push_reserved(Entry { call, part: 1 });
         self.entered.push_reserved(event);
@@ -251,19 +265,21 @@ impl LogLists {
     /// Want of memory, with nothing added.
     pub fn carry_out(
         &mut self,
-        output: Output,
+        alloc: Global,
+        bytes: Seq<u8>,
         w: &Working,
         line: &RootLine,
         follows: Next,
     ) -> Result<Option<Working>, AllocError>
-        requires { length self.old.sent < 2 ^ 32 }
-        ensures ok { OnOk result (self.new ≡ log_next (with_event self.old (Arrive 0 output)) (length self.old.events + 1) w.now line.now follows) }
+        requires few { length self.old.sent < 2 ^ 32 }
+        requires legal { IsSendableNext follows }
+        ensures ok { OnOk result (self.new ≡ log_next (with_event self.old (Arrive 0 bytes)) (length self.old.events + 1) w.now line.now follows) }
         ensures working { IfOk result (λ working. working ≡ working_next self.old w.now follows) }
         ensures err { OnErr result (self.new ≡ self.old) }
     {
         match follows {
             Next::Ask { req, stage, places } => {
-                let turn = self.ask(output, w.call, w.turn, req)?;
+                let turn = self.ask(alloc, bytes, w.call, w.turn, req)?;
                 Ok(Some(Working {
                     call: w.call,
                     drawn: w.drawn,
@@ -279,7 +295,7 @@ impl LogLists {
             } => {
                 if enters {
                     self.enter(
-                        output,
+                        bytes,
                         w.call,
                         w.turn,
                         line.session,
@@ -290,7 +306,7 @@ impl LogLists {
                     Ok(None)
                 } else {
                     self.reply(
-                        output,
+                        bytes,
                         w.call,
                         w.turn,
                         line.session,

@@ -1,4 +1,4 @@
-use fop_types::{Answer, Entry, Input, Output, Seq};
+use fop_types::{Answer, Entry, Seq};
 
 /// The number of a wind: a slot of the frame table with the turn of the slot. No two winds have the same.
 #[derive(Debug, Clone, Copy, PartialEq, Eq)]
@@ -7,20 +7,20 @@ pub struct WindNo {
     pub turn: u32,
 }
 
-/// One event of the hub: a session's next call is submitted, with the call's line in the script; or an
-/// output of a brick has arrived. Events are numbered from 1.
+/// One event of the hub: a session's next call is submitted, with the call's line in the script; or the
+/// bytes of an output of a brick have arrived. Events are numbered from 1.
 #[derive(Debug, Drop, PartialEq, Eq)]
 pub enum HubEvent {
     Submit { session: u8, line: u32 },
-    Arrive { brick: u8, output: Output },
+    Arrive { brick: u8, bytes: Seq<u8> },
 }
 
-/// One input that was sent to a brick, with the number of the event that sent it.
+/// The bytes of one input that was sent to a brick, with the number of the event that sent it.
 #[derive(Debug, Drop, PartialEq, Eq)]
 pub struct SentLine {
     pub event: u64,
     pub brick: u8,
-    pub input: Input,
+    pub bytes: Seq<u8>,
 }
 
 /// The reply to a call, with the number of the event that gave it. `places` has a place in the history

@@ -35,7 +35,8 @@ use Rattle.std.proofs.lemmas.Bool.{leb-false}
 use Rattle.script_lang.specs.declared.scripts.NamedVolfile.{NamedVolfile}
 use Rattle.script_lang.specs.declared.scripts.BrickLine.{BrickLine}
 use Rattle.std.specs.List.{All}
-use Rattle.mount_run.specs.Limits.{IsSmall, AreSmall, IsWithinLimits}
+use Rattle.mount_run.specs.Limits.{IsSmall, AreSmall, IsSpoken, AreSpoken, ArePhasesSpoken, IsWithinLimits}
+use Rattle.mount_run.proofs.Spoken.{CallFits, call_fits, spoken_push, phases_push}
 use Rattle.mount_run.specs.Checks.{calls_in}
 
 -- ---- volumes
@@ -61,6 +62,8 @@ pub record IsFew (d : Draft) : Type 0 where
   pub few : d.call_count ≤ 4096
   pub bricks : length d.bricks ≤ 60
   pub volumes : AreSmall d.volfiles
+  pub spoken : AreSpoken d.calls
+  pub phases : ArePhasesSpoken d.phases
 
 abbrev IsFewReading : Reading → Type 0
 IsFewReading (InScript d) = IsFew d
@@ -95,9 +98,16 @@ few_phases part.Phases d h =
     let push : calls_in (d.phases ++ phase ∷ []) ≡ calls_in d.phases + length d.calls = calls_push d.phases phase in
     omega (arith, h.counted, push)
 
+spoken_phases : (p : Part) (d : Draft) → IsFew d → ArePhasesSpoken (StatementText.phases_with p d.phases d.calls d.controls)
+spoken_phases part.Bricks d h = h.phases
+spoken_phases part.Volfiles d h = h.phases
+spoken_phases part.Start d h = h.phases
+spoken_phases part.Phases d h = phases_push d.phases (record { calls = d.calls; controls = d.controls }) h.phases h.spoken
+
 -- ---- statements
 same_but : (d e : Draft) → IsFew d → e.phases ≡ d.phases → e.calls ≡ d.calls → e.call_count ≡ d.call_count → e.bricks ≡ d.bricks → e.volfiles ≡ d.volfiles → IsFew e
-same_but d e h phases calls count bricks volfiles = rw (phases, calls, count, bricks, volfiles) (record { counted = h.counted; few = h.few; bricks = h.bricks; volumes = h.volumes })
+same_but d e h phases calls count bricks volfiles =
+    rw (phases, calls, count, bricks, volfiles) (record { counted = h.counted; few = h.few; bricks = h.bricks; volumes = h.volumes; spoken = h.spoken; phases = h.phases })
 
 room_if : (bound n : ℕ) (b : Bool) (e : ScriptKind) (x : Result Reading ScriptKind) → nat_le bound n ≡ b → (n < bound → FewIfOk x) → FewIfOk (if b then Err e else x)
 room_if bound n true e x is more = err e
@@ -111,7 +121,7 @@ room_or bound n false false e x is more = more (leb-false bound n is)
 few_brick_added : (d : Draft) (brick : BrickLine) → IsFew d → length d.bricks < 60 → IsFew (record d { bricks = d.bricks ++ brick ∷ [] })
 few_brick_added d brick h less =
     let push : length (d.bricks ++ brick ∷ []) ≡ length d.bricks + 1 = length_push d.bricks brick in
-    record { counted = h.counted; few = h.few; bricks = omega (arith, push, less); volumes = h.volumes }
+    record { counted = h.counted; few = h.few; bricks = omega (arith, push, less); volumes = h.volumes; spoken = h.spoken; phases = h.phases }
 
 few_brick_named : (d : Draft) (name host path : List ℕ) → IsFew d → FewIfOk (StatementText.brick_added d name host path)
 unfolding StatementText.brick_added
@@ -147,29 +157,36 @@ few_start d (name ∷ more ∷ rest) h = err _
 few_phase : (d : Draft) (words : List (List ℕ)) → IsFew d → FewIfOk (StatementText.phase_begun d words)
 few_phase d [] h =
     few_if _ _ _ (err _)
-    (said _ (record { counted = (let all : calls_in (StatementText.phases_read d) ≤ d.call_count = few_phases d.part d h in omega (arith, all)); few = h.few; bricks = h.bricks; volumes = h.volumes }))
+    (said _ (record { counted = (let all : calls_in (StatementText.phases_read d) ≤ d.call_count = few_phases d.part d h in omega (arith, all)); few = h.few; bricks = h.bricks; volumes = h.volumes; spoken = tt; phases = spoken_phases d.part d h }))
 few_phase d (more ∷ rest) h = err _
 
-few_with_call : (d : Draft) (number session : ℕ) (call : Call) → IsFew d → d.call_count < 4096 → IsFew (StatementText.with_call d number session call)
-few_with_call d number session call h less =
+few_with_call : (d : Draft) (number session : ℕ) (call : Call) → IsFew d → IsSpoken call → d.call_count < 4096 → IsFew (StatementText.with_call d number session call)
+few_with_call d number session call h spoken less =
     let line : CallLine = record { line = number; session = session; call = call } in
     let push : length (d.calls ++ line ∷ []) ≡ length d.calls + 1 = length_push d.calls line in
-    record { counted = omega (arith, h.counted, push); few = omega (arith, less); bricks = h.bricks; volumes = h.volumes }
+    record {
+      counted = omega (arith, h.counted, push);
+      few = omega (arith, less);
+      bricks = h.bricks;
+      volumes = h.volumes;
+      spoken = spoken_push d.calls line h.spoken spoken;
+      phases = h.phases;
+    }
 
-few_added : (d : Draft) (number : ℕ) (name : List ℕ) (at : Option ℕ) (call : Call) → IsFew d → FewIfOk (StatementText.call_added d number name at call)
-few_added d number name (Some session) call h = room_if 4096 d.call_count _ _ _ refl (λ less. said _ (few_with_call d number session call h less))
-few_added d number name None call h =
+few_added : (d : Draft) (number : ℕ) (name : List ℕ) (at : Option ℕ) (call : Call) → IsFew d → IsSpoken call → FewIfOk (StatementText.call_added d number name at call)
+few_added d number name (Some session) call h spoken = room_if 4096 d.call_count _ _ _ refl (λ less. said _ (few_with_call d number session call h spoken less))
+few_added d number name None call h spoken =
     room_or 4096 d.call_count _ _ _ _ refl
-    (λ less. said _ (few_with_call (record d { sessions = d.sessions ++ name ∷ [] }) number (length d.sessions) call (same_but d _ h refl refl refl refl refl) less))
+    (λ less. said _ (few_with_call (record d { sessions = d.sessions ++ name ∷ [] }) number (length d.sessions) call (same_but d _ h refl refl refl refl refl) spoken less))
 
-few_said : (d : Draft) (number : ℕ) (name : List ℕ) (call : Result Call ScriptKind) → IsFew d → FewIfOk (StatementText.call_said d number name call)
-few_said d number name (Err kind) h = err _
-few_said d number name (Ok call) h = few_if _ _ _ (few_added d number name _ call h) (err _)
+few_said : (d : Draft) (number : ℕ) (name : List ℕ) (call : Result Call ScriptKind) → IsFew d → CallFits call → FewIfOk (StatementText.call_said d number name call)
+few_said d number name (Err kind) h spoken = err _
+few_said d number name (Ok call) h spoken = few_if _ _ _ (few_added d number name _ call h spoken.holds) (err _)
 
 few_call : (d : Draft) (number : ℕ) (words : List (List ℕ)) → IsFew d → FewIfOk (StatementText.call_read d number words)
 few_call d number [] h = err _
 few_call d number (session ∷ []) h = err _
-few_call d number (session ∷ word ∷ rest) h = few_said d number session (call_at word rest) h
+few_call d number (session ∷ word ∷ rest) h = few_said d number session (call_at word rest) h (call_fits word rest)
 
 few_control : (d : Draft) (number : ℕ) (said : Result (When × Action) ScriptKind) → IsFew d → FewIfOk (StatementText.control_added d number said)
 few_control d number (Err kind) h = err _
@@ -215,6 +232,8 @@ few_ended d name None (v ∷ vs) h all = said _ (record {
   few = h.few;
   bricks = h.bricks;
   volumes = small_push d.volfiles _ h.volumes (let few : length {A = Volume} [] + length (v ∷ vs) ≤ 256 = few_behind (v ∷ vs) [] (omega arith) all in omega (arith, few));
+  spoken = h.spoken;
+  phases = h.phases;
 })
 
 few_end : (d : Draft) (name : List ℕ) (r : VolReading) (words : List (List ℕ)) → IsFew d → IsRead r → FewIfOk (ScriptText.end_read d name r words)
@@ -241,6 +260,7 @@ few_text (InScript d) number h = by_start (ScriptText.has_start d.part)
       bricks = h.bricks;
       volumes = h.volumes;
       calls = (let all : calls_in (StatementText.phases_read d) ≤ d.call_count = few_phases d.part d h in omega (arith, all, h.few));
+      spoken = spoken_phases d.part d h;
     }
     by_start false = tt
 
@@ -255,7 +275,7 @@ few_lines (line ∷ lines) r number h = read (ScriptText.line_read r (number + 1
     read (Err kind) k more = tt
 
 few_parsed : (text : List ℕ) → IfOk (ScriptText.parsed text) IsWithinLimits
-few_parsed text = few_lines (lines_of text) ScriptText.nothing_said 0 (record { counted = omega arith; few = omega arith; bricks = omega arith; volumes = tt })
+few_parsed text = few_lines (lines_of text) ScriptText.nothing_said 0 (record { counted = omega arith; few = omega arith; bricks = omega arith; volumes = tt; spoken = tt; phases = tt })
 
 pub parsed_limits : (text : List ℕ) (script : Script) → ScriptText.parsed text ≡ Ok script → IsWithinLimits script
 parsed_limits text script is = subst (λ (x : Result Script ScriptError). IfOk x IsWithinLimits) is (few_parsed text)

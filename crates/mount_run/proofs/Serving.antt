@@ -1,9 +1,10 @@
--- The calls that are run have one name each, and are no more than the script's.
-use Rattle.std.proofs.Common.{◌≡◌, ℕ, ◌+◌, ◌≤◌, List, [], ◌∷◌, ◌++◌, Option, Some, None, Bool, true, false, length, refl, sym, ◌∙◌, ap, subst, arith, ◌⊎◌, inl, inr}
-use Rattle.std.specs.Prelude.{slice_get, nat_le, if◌then◌else◌, zero, suc}
+-- The calls that are run can be sent, and are no more than the script's.
+use Rattle.std.proofs.Common.{◌≡◌, ℕ, ◌+◌, ◌≤◌, List, [], ◌∷◌, ◌++◌, Option, Some, None, Bool, true, false, length, refl, sym, ◌∙◌, ap, subst, arith}
+use Rattle.std.specs.List.{list_all}
+use Rattle.std.specs.Prelude.{nat_le, ◌&&◌, not, codes, if◌then◌else◌}
+use Rattle.volfile.specs.TextLines.{is_text}
 use Rattle.std.proofs.lemmas.List.{length_push}
 use Rattle.std.proofs.lemmas.Bool.Decides.{nat_tests}
-use Rattle.fop_types.specs.declared.calls.Path.{Path}
 use Rattle.fop_types.specs.declared.calls.Call.{Call}
 use Rattle.fop_types.specs.declared.calls.Call.TheVariants.{Mkdir, Rmdir, Create, Unlink, Rename, Open, Stat, List as ListOf, Chmod, Truncate, SetAttr, GetAttr, DelAttr, Read, Write, Seek, Close}
 use Rattle.fop_types.specs.declared.calls.RootCall.{RootCall}
@@ -12,64 +13,77 @@ use Rattle.fop_types.specs.declared.calls.RootLine.{RootLine}
 use Rattle.script_lang.specs.declared.scripts.Script.{Script}
 use Rattle.script_lang.specs.declared.scripts.Phase.{Phase}
 use Rattle.script_lang.specs.declared.scripts.CallLine.{CallLine}
-use Rattle.hub_core.specs.Kept.{HaveOneName, HasOneName, IsOneName}
-use Rattle.hub_core.proofs.Lists.{get_push_cases}
+use Rattle.script_lang.specs.WordForms.{is_component, is_component_byte}
+use Rattle.hub_core.specs.Bounds.{IsOneName, IsSendable, AreSendable, AreFit}
+use Rattle.mount_run.specs.Limits.{IsSpoken, AreSpoken, ArePhasesSpoken, IsWithinLimits}
 use Rattle.mount_run.specs.Checks.{calls_in}
 use Rattle.mount_run.specs.Served.{is_one_name, root_call, with_root_call, root_lines, root_phases, calls_to_run}
 
 short : (n : ℕ) → nat_le n 255 ≡ true → n ≤ 255
 short n h = grind (arith, nat_tests)
 
-name_in : (parts : List (List ℕ)) (path : Path) → path.parts ≡ parts → is_one_name parts ≡ true → IsOneName path
-name_in [] path is h = absurd cc
-name_in (name ∷ []) path is h = record { name = name; parts = is; short = short (length name) h }
-name_in (name ∷ other ∷ parts) path is h = absurd cc
+least : (n : ℕ) → nat_le 1 n ≡ true → 1 ≤ n
+least n h = grind (arith, nat_tests)
+
+-- a component has a byte, and visible bytes without `/`
+component_is : (a b c d : Bool) → (a && b && c && d) ≡ true → (a ≡ true) × (b ≡ true)
+component_is true true c d h = (refl, refl)
+component_is true false c d h = absurd cc
+component_is false b c d h = absurd cc
+
+first_of : (b c : Bool) → (b && c) ≡ true → b ≡ true
+first_of true c h = refl
+first_of false c h = absurd cc
+
+-- one component, of at most 255 bytes, is a name that a message can carry
+name_in : (parts : List (List ℕ)) → is_one_name parts ≡ true → list_all is_component parts ≡ true → IsOneName parts
+name_in [] h spoken = absurd cc
+name_in (name ∷ []) h spoken =
+    let part : is_component name ≡ true = first_of (is_component name) (list_all is_component []) spoken in
+    let both = component_is (nat_le 1 (length name)) (list_all is_component_byte name) (not (is_text name (codes "."))) (not (is_text name (codes ".."))) part in
+    (least (length name) both.0, short (length name) h, both.1)
+name_in (name ∷ other ∷ parts) h spoken = absurd cc
 
 -- a call that is made only where the test holds
 chosen : (b : Bool) (c r : RootCall) → (if b then Some c else None) ≡ Some r → (b ≡ true) × (c ≡ r)
 chosen true c r h = (refl, cc)
 chosen false c r h = absurd cc
 
-root_name : (c : Call) (r : RootCall) → root_call c ≡ Some r → HasOneName r
-root_name (Mkdir path mode) r h = (let x = chosen (is_one_name path.parts) (root.Mkdir path mode) r h in subst HasOneName x.1 (name_in path.parts path refl x.0))
-root_name (Stat path) r h = (let x = chosen (is_one_name path.parts) (root.Stat path) r h in subst HasOneName x.1 (name_in path.parts path refl x.0))
-root_name (Rmdir path) r h = absurd cc
-root_name (Create fd path mode) r h = absurd cc
-root_name (Unlink path) r h = absurd cc
-root_name (Rename path target) r h = absurd cc
-root_name (Open fd path) r h = absurd cc
-root_name (ListOf path) r h = absurd cc
-root_name (Chmod path mode) r h = absurd cc
-root_name (Truncate path size) r h = absurd cc
-root_name (SetAttr path attr) r h = absurd cc
-root_name (GetAttr path name) r h = absurd cc
-root_name (DelAttr path name) r h = absurd cc
-root_name (Read fd count) r h = absurd cc
-root_name (Write fd bytes) r h = absurd cc
-root_name (Seek fd offset) r h = absurd cc
-root_name (Close fd) r h = absurd cc
+root_name : (c : Call) (r : RootCall) → IsSpoken c → root_call c ≡ Some r → IsSendable r
+root_name (Mkdir path mode) r spoken h = (let x = chosen (is_one_name path.parts) (root.Mkdir path mode) r h in subst IsSendable x.1 (name_in path.parts x.0 spoken.0, spoken.1))
+root_name (Stat path) r spoken h = (let x = chosen (is_one_name path.parts) (root.Stat path) r h in subst IsSendable x.1 (name_in path.parts x.0 spoken))
+root_name (Rmdir path) r spoken h = absurd cc
+root_name (Create fd path mode) r spoken h = absurd cc
+root_name (Unlink path) r spoken h = absurd cc
+root_name (Rename path target) r spoken h = absurd cc
+root_name (Open fd path) r spoken h = absurd cc
+root_name (ListOf path) r spoken h = absurd cc
+root_name (Chmod path mode) r spoken h = absurd cc
+root_name (Truncate path size) r spoken h = absurd cc
+root_name (SetAttr path attr) r spoken h = absurd cc
+root_name (GetAttr path name) r spoken h = absurd cc
+root_name (DelAttr path name) r spoken h = absurd cc
+root_name (Read fd count) r spoken h = absurd cc
+root_name (Write fd bytes) r spoken h = absurd cc
+root_name (Seek fd offset) r spoken h = absurd cc
+root_name (Close fd) r spoken h = absurd cc
 
-names_push : (done : List RootLine) (line : RootLine) → HaveOneName done → HasOneName line.call → HaveOneName (done ++ line ∷ [])
-names_push done line all one k other there = by_case (get_push_cases done line k other there)
-  where
-    by_case : (slice_get done k ≡ Some other) ⊎ ((k ≡ length done) × (line ≡ other)) → HasOneName other.call
-    by_case (inl old) = all k other old
-    by_case (inr last) = subst (λ (x : RootLine). HasOneName x.call) last.1 one
+sendable_push : (done : List RootLine) (line : RootLine) → AreSendable done → IsSendable line.call → AreSendable (done ++ line ∷ [])
+sendable_push [] line all one = (one, tt)
+sendable_push (l ∷ done) line all one = (all.0, sendable_push done line all.1 one)
 
-names_with : (done : List RootLine) (line : CallLine) (o : Option RootCall) → HaveOneName done → ((r : RootCall) → o ≡ Some r → HasOneName r) → HaveOneName (with_root_call done line o)
-names_with done line None all one = all
-names_with done line (Some r) all one = names_push done _ all (one r refl)
+sendable_with : (done : List RootLine) (line : CallLine) (o : Option RootCall) → AreSendable done → ((r : RootCall) → o ≡ Some r → IsSendable r) → AreSendable (with_root_call done line o)
+sendable_with done line None all one = all
+sendable_with done line (Some r) all one = sendable_push done _ all (one r refl)
 
-names_lines : (done : List RootLine) (lines : List CallLine) → HaveOneName done → HaveOneName (root_lines done lines)
-names_lines done [] all = all
-names_lines done (line ∷ lines) all = names_lines (with_root_call done line (root_call line.call)) lines (names_with done line (root_call line.call) all (root_name line.call))
+sendable_lines : (done : List RootLine) (lines : List CallLine) → AreSpoken lines → AreSendable done → AreSendable (root_lines done lines)
+sendable_lines done [] spoken all = all
+sendable_lines done (line ∷ lines) spoken all =
+    sendable_lines (with_root_call done line (root_call line.call)) lines spoken.1 (sendable_with done line (root_call line.call) all (λ r. root_name line.call r spoken.0))
 
-names_phases : (done : List RootLine) (phases : List Phase) → HaveOneName done → HaveOneName (root_phases done phases)
-names_phases done [] all = all
-names_phases done (p ∷ phases) all = names_phases (root_lines done p.calls) phases (names_lines done p.calls all)
-
-pub run_names : (script : Script) → HaveOneName (calls_to_run script)
-run_names script = names_phases [] script.phases (λ k line there. absurd cc)
+sendable_phases : (done : List RootLine) (phases : List Phase) → ArePhasesSpoken phases → AreSendable done → AreSendable (root_phases done phases)
+sendable_phases done [] spoken all = all
+sendable_phases done (p ∷ phases) spoken all = sendable_phases (root_lines done p.calls) phases spoken.1 (sendable_lines done p.calls spoken.0 all)
 
 few_with : (done : List RootLine) (line : CallLine) (o : Option RootCall) → length (with_root_call done line o) ≤ length done + 1
 few_with done line None = omega arith
@@ -89,5 +103,9 @@ few_phases done (p ∷ phases) =
     let rest : length (root_phases (root_lines done p.calls) phases) ≤ length (root_lines done p.calls) + calls_in phases = few_phases (root_lines done p.calls) phases in
     omega (arith, one, rest)
 
-pub run_few : (script : Script) → calls_in script.phases ≤ 4096 → length (calls_to_run script) ≤ 4096
+run_few : (script : Script) → calls_in script.phases ≤ 4096 → length (calls_to_run script) ≤ 4096
 run_few script few = (let all : length (calls_to_run script) ≤ 0 + calls_in script.phases = few_phases [] script.phases in omega (arith, all, few))
+
+-- the calls of a script that was read are those that a hub takes
+pub run_fit : (script : Script) → IsWithinLimits script → AreFit (calls_to_run script)
+run_fit script limits = record { few = run_few script limits.calls; sendable = sendable_phases [] script.phases limits.spoken tt }

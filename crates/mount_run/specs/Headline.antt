@@ -2,7 +2,6 @@
 -- places of one written history that holds each acknowledged change once, and every wind is ended once.
 use Rattle.std.specs.Prelude.{◌≡◌, ℕ, List, [], ◌∷◌, Ok, length, take}
 use Rattle.fop_types.specs.History.{IsLegalHistory}
-use Rattle.fop_types.specs.declared.messages.Input.{Input}
 use Rattle.fop_types.specs.declared.calls.RootLine.{RootLine}
 use Rattle.brick_node.specs.Machine.{outputs_of}
 use Rattle.hub_core.specs.Journal.{FollowsScript, IsFinished, HasHonestArrivals, WindsAreBalanced, AreLawful, IsBackedByBrick, calls_of, inputs_of}
@@ -21,8 +20,8 @@ pub record IsLawfulRun (calls : List RootLine) (names : Names) (report : List �
   pub follows : FollowsScript calls rack.log
   pub finished : IsFinished calls rack.log
   pub honest : HasHonestArrivals rack.log
-  -- there is one brick; its journal is a front of what the log sent to it
-  pub journal : List Input
+  -- there is one brick; its journal is a front of the bytes that the log sent to it
+  pub journal : List (List ℕ)
   pub bricks : rack.bricks ≡ journal ∷ []
   pub front : journal ≡ take (length journal) (inputs_of rack.log.sent)
   -- the bytes are the report of the log

@@ -1,6 +1,6 @@
-ghost use Rattle.std.specs.Prelude.{◌≤◌, IfOk};
-ghost use Rattle.mount_run.specs.Checks.{calls_in};
+ghost use Rattle.std.specs.Prelude.{IfOk};
 ghost use Rattle.mount_run.specs.Headline.{IsLawfulRun};
+ghost use Rattle.mount_run.specs.Limits.{IsWithinLimits};
 ghost use Rattle.mount_run.specs.Reports.{names_of};
 ghost use Rattle.mount_run.specs.Served.{calls_to_run};
 
@@ -18,7 +18,7 @@ use world_core::World;
 /// # Errors
 /// Want of memory.
 pub fn run_script(alloc: Global, script: &Script, rack: &mut Rack) -> Result<Vec<u8>, AllocError>
-    requires { calls_in script.now.phases ≤ 4096 }
+    requires { IsWithinLimits script.now }
     ensures { IfOk result (λ report. IsLawfulRun (calls_to_run script.now) (names_of script.now) report.items rack.new) }
 {
     let calls = calls(alloc, script)?;

@@ -3,6 +3,7 @@ ghost use Rattle.std.specs.String.{string_bytes};
 ghost use Rattle.std.specs.Io.KnownBytes.{Appends};
 ghost use Rattle.xl_base.specs.Writes.{WrotePrefix};
 ghost use Rattle.mount_run.specs.Checks.{calls_in, check_text};
+ghost use Rattle.mount_run.specs.Limits.{IsWithinLimits};
 ghost use Rattle.mount_run.specs.Commands.{command_of};
 ghost use Rattle.mount_run.specs.Refusals.{fault_text};
 ghost use Rattle.mount_run.specs.Outcomes.{empty_rack, IsWritten, IsCutShort, Succeeded, RefusedBy, Unwritten};
@@ -123,7 +124,7 @@ fn check_read<K: Sink>(alloc: Global, script: &Script, sink: &mut K) -> u8
 // Runs a script and writes its report.
 fn run_read<K: Sink>(alloc: Global, script: &Script, sink: &mut K, rack: &mut Rack) -> u8
     requires sink { K.faults sink.old < 2 ^ 64 - 1 }
-    requires few { calls_in script.now.phases ≤ 4096 }
+    requires limits { IsWithinLimits script.now }
     ensures statuses { (result ≡ 0) ⊎ ((result ≡ 4) ⊎ (result ≡ 5)) }
     ensures ran { result ≡ 0 → IsWritten script.now (K.taken sink.old) (K.taken sink.new) rack.new }
     ensures write_fault { result ≡ 4 → (K.faults sink.old < K.faults sink.new) × IsCutShort script.now (K.taken sink.old) (K.taken sink.new) rack.new }

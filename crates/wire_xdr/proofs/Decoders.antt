@@ -7,6 +7,9 @@ use Rattle.wire_xdr.specs.declared.faults.Fault.TheVariants.{Wrong, Short, Memor
 use Rattle.wire_xdr.specs.Xdr.{IsWhole}
 use Rattle.wire_xdr.specs.Reading.{Reading, Gives}
 use Rattle.wire_xdr.specs.Places.{Starts, StopsAt, EndsAt}
+use Rattle.wire_xdr.specs.declared.decoded.Decoded.{Decoded}
+use Rattle.wire_xdr.specs.declared.decoded.Decoded.TheVariants.{Front, Bad}
+use Rattle.wire_xdr.specs.Decoding.{decoded_by}
 use Rattle.wire_xdr.specs.WireText.{input_text, IsInputOf, output_text, IsOutputOf, IsFront, IsBad}
 use Rattle.wire_xdr.specs.MessageReading.{input_at, output_at}
 use Rattle.wire_xdr.proofs.Lists.{heads}
@@ -89,6 +92,16 @@ gives_wrong A f reading left h e = subst (λ (g : Fault). Gives {X = A × Bor (L
 pub gives_short : (A : Type 0) (f : Fault) (reading : Result (A × List ℕ) Fault) → Gives {X = A × Bor (List ℕ)} {A = A} (λ (x : A × Bor (List ℕ)). (x.0, x.1.now)) (Err f) reading
     → f ≡ Short → reading ≡ Err Short
 gives_short A f reading h e = subst (λ (g : Fault). Gives {X = A × Bor (List ℕ)} {A = A} (λ (x : A × Bor (List ℕ)). (x.0, x.1.now)) (Err g) reading) e h
+
+-- the answer as a function of the reading
+pub decoded_front : {A : Type 0} (whole : ℕ) (x : A) (rest : List ℕ) (n : ℕ) (reading : Result (A × List ℕ) Fault) → reading ≡ Ok (x, rest) → n ≡ min (whole - length rest) 4294967295 → Front x n ≡ decoded_by whole reading
+decoded_front whole x rest n reading e size = ap (λ (k : ℕ). Front x k) size ∙ sym (ap (λ (r : Result (_ × List ℕ) Fault). decoded_by whole r) e)
+
+pub decoded_wrong : (A : Type 0) (whole left n : ℕ) (reading : Result (A × List ℕ) Fault) → reading ≡ Err (Wrong left) → n ≡ min (whole - left) 4294967295 → ◌≡◌ {A = Decoded A} (Bad (record { place = n })) (decoded_by whole reading)
+decoded_wrong A whole left n reading e size = ap (λ (k : ℕ). Bad (record { place = k })) size ∙ sym (ap (λ (r : Result (A × List ℕ) Fault). decoded_by whole r) e)
+
+pub decoded_short : (A : Type 0) (whole n : ℕ) (reading : Result (A × List ℕ) Fault) → reading ≡ Err Short → n ≡ min (whole - 0) 4294967295 → ◌≡◌ {A = Decoded A} (Bad (record { place = n })) (decoded_by whole reading)
+decoded_short A whole n reading e size = ap (λ (k : ℕ). Bad (record { place = k })) size ∙ sym (ap (λ (r : Result (A × List ℕ) Fault). decoded_by whole r) e)
 
 -- the two kinds of message
 pub input_front : (bytes rest : List ℕ) (x : Input) (n : ℕ) → input_at bytes ≡ Ok (x, rest) → n ≡ min (length bytes - length rest) 4294967295 → IsFront (IsInputOf true) input_text bytes x n

@@ -1,4 +1,5 @@
 pub mod Classes
+pub mod Decoding
 pub mod Loops
 pub mod MessageReading
 pub mod MessageText

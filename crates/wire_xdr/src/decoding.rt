@@ -1,4 +1,6 @@
-ghost use Rattle.std.specs.Prelude.{◌≡◌, ◌-◌, min, IfOk};
+ghost use Rattle.std.specs.Prelude.{◌≡◌, ◌-◌, min, length, IfOk};
+ghost use Rattle.wire_xdr.specs.Decoding.{decoded_by};
+ghost use Rattle.wire_xdr.specs.MessageReading.{input_at, output_at};
 ghost use Rattle.wire_xdr.specs.WireText.{input_text, IsInputOf, output_text, IsOutputOf, IsDecoded};
 
 use crate::decoded::{DecodeError, Decoded};
@@ -26,7 +28,8 @@ fn before(whole: usize, left: usize) -> u32
 /// # Errors
 /// Want of memory.
 pub fn decode_req(alloc: Global, bytes: &[u8]) -> Result<Decoded<Input>, AllocError>
-    ensures { IfOk result (IsDecoded IsInputOf input_text bytes.now) }
+    ensures said { IfOk result (IsDecoded IsInputOf input_text bytes.now) }
+    ensures read { IfOk result (λ d. d ≡ decoded_by (length bytes.now) (input_at bytes.now)) }
 {
     match input(alloc, bytes) {
         Ok((value, rest)) => {
@@ -51,7 +54,8 @@ pub fn decode_req(alloc: Global, bytes: &[u8]) -> Result<Decoded<Input>, AllocEr
 /// # Errors
 /// Want of memory.
 pub fn decode_rep(alloc: Global, bytes: &[u8]) -> Result<Decoded<Output>, AllocError>
-    ensures { IfOk result (IsDecoded IsOutputOf output_text bytes.now) }
+    ensures said { IfOk result (IsDecoded IsOutputOf output_text bytes.now) }
+    ensures read { IfOk result (λ d. d ≡ decoded_by (length bytes.now) (output_at bytes.now)) }
 {
     match output(alloc, bytes) {
         Ok((value, rest)) => {

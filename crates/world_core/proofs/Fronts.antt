@@ -1,13 +1,20 @@
 -- Fronts of lists, and how the lists of a log grow.
 use Rattle.std.proofs.Common.{◌≡◌, ℕ, ◌+◌, ◌-◌, ◌*◌, ◌<◌, ◌≤◌, ◌==◌, Bool, true, false, List, [], ◌∷◌, ◌++◌, Option, Some, None, length, take, slice_get, if◌then◌else◌, refl, sym, ◌∙◌, ap, subst, arith, append_assoc}
-use Rattle.std.specs.Prelude.{nat_lt, zero, suc}
+use Rattle.std.specs.Prelude.{nat_lt, zero, suc, map}
 use Rattle.std.proofs.lemmas.Bool.Decides.{nat_tests}
 use Rattle.fop_types.specs.declared.messages.Input.{Input}
-use Rattle.fop_types.specs.declared.messages.Input.TheVariants.{Request, Down, Up, Connect, Disconnect, FaultAt}
 use Rattle.fop_types.specs.declared.messages.Output.{Output}
-use Rattle.brick_store.specs.Cells.{Cells, root_alone}
+use Rattle.std.proofs.lemmas.List.{length_push}
+use Rattle.brick_store.specs.Cells.{Cells}
 use Rattle.fop_types.specs.declared.messages.OutKind.TheVariants.{Reply}
-use Rattle.brick_node.specs.Machine.{outputs_of, outputs_from, outputs_one, cells_one, serve_request}
+use Rattle.wire_xdr.specs.WireText.{output_text}
+use Rattle.wire_messages.specs.Messages.{input_in, output_in}
+use Rattle.wire_messages.specs.declared.messages.Message.{Message}
+use Rattle.wire_messages.specs.declared.messages.Message.TheVariants.{Whole}
+use Rattle.wire_messages.proofs.ReadBack.{output_read_back}
+use Rattle.brick_node.specs.Machine.{outputs_of, outputs_from, outputs_for, cells_of, cells_for, serve_request}
+use Rattle.brick_node.specs.Runs.{IsRequest, AreRequests, request_is_read, cells_of_push}
+use Rattle.brick_node.proofs.Stored.{reply_is_spelled}
 use Rattle.hub_core.specs.declared.logs.HubEvent.{HubEvent}
 use Rattle.hub_core.specs.declared.logs.HubEvent.TheVariants.{Submit, Arrive}
 use Rattle.hub_core.specs.declared.logs.SentLine.{SentLine}
@@ -59,21 +66,21 @@ front_next {xs = xs} x front there =
 
 pub inputs_push : (lines more : List SentLine) → inputs_of (lines ++ more) ≡ inputs_of lines ++ inputs_of more
 inputs_push [] more = refl
-inputs_push (line ∷ lines) more = ap (λ (l : List Input). line.input ∷ l) (inputs_push lines more)
+inputs_push (line ∷ lines) more = ap (λ (l : List (List ℕ)). line.bytes ∷ l) (inputs_push lines more)
 
 pub inputs_many : (lines : List SentLine) → length (inputs_of lines) ≡ length lines
 inputs_many [] = refl
 inputs_many (line ∷ lines) = let many = inputs_many lines in omega arith
 
-pub input_at : (lines : List SentLine) (k : ℕ) (line : SentLine) → slice_get lines k ≡ Some line → slice_get (inputs_of lines) k ≡ Some line.input
+pub input_at : (lines : List SentLine) (k : ℕ) (line : SentLine) → slice_get lines k ≡ Some line → slice_get (inputs_of lines) k ≡ Some line.bytes
 input_at [] k line there = absurd cc
-input_at (other ∷ lines) zero line there = let same : other ≡ line = cc in ap (λ (l : SentLine). Some l.input) same
+input_at (other ∷ lines) zero line there = let same : other ≡ line = cc in ap (λ (l : SentLine). Some l.bytes) same
 input_at (other ∷ lines) (suc k) line there = input_at lines k line there
 
 pub arrivals_push : (events more : List HubEvent) → arrivals_of (events ++ more) ≡ arrivals_of events ++ arrivals_of more
 arrivals_push [] more = refl
 arrivals_push (Submit session line ∷ events) more = arrivals_push events more
-arrivals_push (Arrive brick output ∷ events) more = ap (λ (l : List Output). output ∷ l) (arrivals_push events more)
+arrivals_push (Arrive brick bytes ∷ events) more = ap (λ (l : List (List ℕ)). bytes ∷ l) (arrivals_push events more)
 
 -- ---- lines of events up to a number
 
@@ -104,29 +111,60 @@ before_push event (line ∷ lines) more = let others = before_push event lines m
 
 -- ---- an output counts no more inputs than were served
 
-some_same : (x y : Output) → Some x ≡ Some y → x ≡ y
+some_same : {A : Type 0} (x y : A) → Some x ≡ Some y → x ≡ y
 some_same x y same = cc
 
-pub taken_from : (cells : Cells) (before : ℕ) (xs : List Input) (k : ℕ) (output : Output) →
-    slice_get (outputs_from cells before xs) k ≡ Some output → output.taken ≤ before + length xs
-taken_from cells before [] k output there = absurd cc
-taken_from cells before (Request wind graph req ∷ xs) zero output there =
-    let taken : before + 1 ≡ output.taken =
-    ap (λ (o : Output). o.taken)
-    (some_same (record { taken = before + 1; kind = Reply wind (serve_request cells req).reply }) output there) in
-    omega arith
-taken_from cells before (Request wind graph req ∷ xs) (suc k) output there =
-    let few = taken_from (cells_one cells (Request wind graph req)) (before + 1) xs k output there in omega arith
-taken_from cells before (Down serve ∷ xs) k output there =
-    let few = taken_from (cells_one cells (Down serve)) (before + 1) xs k output there in omega arith
-taken_from cells before (Up ∷ xs) k output there =
-    let few = taken_from (cells_one cells Up) (before + 1) xs k output there in omega arith
-taken_from cells before (Connect graph version ∷ xs) k output there =
-    let few = taken_from (cells_one cells (Connect graph version)) (before + 1) xs k output there in omega arith
-taken_from cells before (Disconnect graph ∷ xs) k output there =
-    let few = taken_from (cells_one cells (Disconnect graph)) (before + 1) xs k output there in omega arith
-taken_from cells before (FaultAt proc number ∷ xs) k output there =
-    let few = taken_from (cells_one cells (FaultAt proc number)) (before + 1) xs k output there in omega arith
+whole_same : (x y : Output) → Whole x ≡ Whole y → x ≡ y
+whole_same x y same = cc
 
-pub taken_few : (inputs : List Input) (k : ℕ) (output : Output) → slice_get (outputs_of inputs) k ≡ Some output → output.taken ≤ length inputs
-taken_few inputs k output there = let few = taken_from root_alone 0 inputs k output there in omega arith
+-- the output of a request is read as itself
+expected_read : (before : List (List ℕ)) (bytes : List ℕ) (r : IsRequest bytes) → length before + 1 < 18446744073709551616 →
+    output_in (output_text (record { taken = length before + 1; kind = Reply r.wind (serve_request (cells_of before) r.req).reply }))
+    ≡ Whole (record { taken = length before + 1; kind = Reply r.wind (serve_request (cells_of before) r.req).reply })
+expected_read before bytes r small = output_read_back _ (reply_is_spelled before r.wind r.graph r.req r.legal small)
+
+outputs_first : (cells : Cells) (before : ℕ) (x : List ℕ) (xs : List (List ℕ)) (r : IsRequest x) →
+    outputs_from cells before (x ∷ xs)
+    ≡ output_text (record { taken = before + 1; kind = Reply r.wind (serve_request cells r.req).reply }) ∷ outputs_from (cells_for cells (input_in x)) (before + 1) xs
+outputs_first cells before x xs r =
+    ap (λ (m : Message Input). map output_text (outputs_for cells (before + 1) m) ++ outputs_from (cells_for cells (input_in x)) (before + 1) xs) (request_is_read x r)
+
+-- an output of a request and of those after it, where the others count no more than there are
+taken_at : (before : List (List ℕ)) (x : List ℕ) (xs : List (List ℕ)) (r : IsRequest x) (bytes : List ℕ) (output : Output) →
+    length before + length (x ∷ xs) < 18446744073709551616 → output_in bytes ≡ Whole output →
+    ((n : ℕ) → slice_get (outputs_from (cells_of (before ++ x ∷ [])) (length (before ++ x ∷ [])) xs) n ≡ Some bytes → output.taken ≤ length (before ++ x ∷ []) + length xs) →
+    (k : ℕ) →
+    slice_get (output_text (record { taken = length before + 1; kind = Reply r.wind (serve_request (cells_of before) r.req).reply }) ∷ outputs_from (cells_for (cells_of before) (input_in x)) (length before + 1) xs) k ≡ Some bytes →
+    output.taken ≤ length before + length (x ∷ xs)
+taken_at before x xs r bytes output small read others zero h =
+    let same : output_text (record { taken = length before + 1; kind = Reply r.wind (serve_request (cells_of before) r.req).reply }) ≡ bytes = some_same _ bytes h in
+    let mine = expected_read before x r (omega (arith, small)) in
+    let one = whole_same _ output (sym mine ∙ ap output_in same ∙ read) in
+    let taken : length before + 1 ≡ output.taken = ap (λ (o : Output). o.taken) one in
+    omega arith
+taken_at before x xs r bytes output small read others (suc n) h =
+    let one_more : length (before ++ x ∷ []) ≡ length before + 1 = length_push before x in
+    let later : outputs_from (cells_for (cells_of before) (input_in x)) (length before + 1) xs ≡ outputs_from (cells_of (before ++ x ∷ [])) (length (before ++ x ∷ [])) xs =
+    rw (cells_of_push before x, one_more) refl in
+    let few = others n (subst (λ (l : List (List ℕ)). slice_get l n ≡ Some bytes) later h) in
+    omega (arith, few, one_more)
+
+-- the outputs that requests add to those of an earlier journal
+taken_from : (before xs : List (List ℕ)) (k : ℕ) (bytes : List ℕ) (output : Output) → AreRequests xs →
+    length before + length xs < 18446744073709551616 → slice_get (outputs_from (cells_of before) (length before) xs) k ≡ Some bytes → output_in bytes ≡ Whole output →
+    output.taken ≤ length before + length xs
+taken_from before [] k bytes output all small there read = absurd cc
+taken_from before (x ∷ xs) k bytes output all small there read =
+    taken_at before x xs all.0 bytes output small read
+    (λ n h. taken_from (before ++ x ∷ []) xs n bytes output all.1 (omega (arith, small, length_push before x)) h read)
+    k (subst (λ (l : List (List ℕ)). slice_get l k ≡ Some bytes) (outputs_first (cells_of before) (length before) x xs all.0) there)
+
+-- each output of requests counts no more inputs than there are
+pub taken_few : (inputs : List (List ℕ)) (k : ℕ) (bytes : List ℕ) (output : Output) → AreRequests inputs → length inputs < 18446744073709551616 →
+    slice_get (outputs_of inputs) k ≡ Some bytes → output_in bytes ≡ Whole output → output.taken ≤ length inputs
+taken_few inputs k bytes output all small there read = (let few = taken_from [] inputs k bytes output all (omega (arith, small)) there read in omega arith)
+
+-- the front of requests is requests
+pub front_requests : (xs rest : List (List ℕ)) → AreRequests (xs ++ rest) → AreRequests xs
+front_requests [] rest all = tt
+front_requests (x ∷ xs) rest all = (all.0, front_requests xs rest all.1)

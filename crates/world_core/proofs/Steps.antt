@@ -1,23 +1,22 @@
 -- What the code does to the hub and the brick is an event of the world.
-use Rattle.std.proofs.Common.{◌≡◌, ℕ, ◌+◌, ◌<◌, ◌==◌, Bool, true, false, List, [], ◌∷◌, ◌++◌, Option, Some, None, length, slice_get, is_some, refl, sym, ◌∙◌, ap, subst}
-use Rattle.fop_types.specs.declared.messages.Input.{Input}
-use Rattle.fop_types.specs.declared.messages.Output.{Output}
+use Rattle.std.proofs.Common.{◌≡◌, ℕ, ◌+◌, ◌<◌, Bool, true, false, List, [], ◌∷◌, ◌++◌, Option, Some, None, length, slice_get, is_some, refl, sym, ◌∙◌, ap, subst}
 use Rattle.fop_types.specs.declared.calls.RootLine.{RootLine}
 use Rattle.brick_node.specs.Machine.{outputs_of}
 use Rattle.hub_core.specs.declared.logs.HubEvent.{HubEvent}
 use Rattle.hub_core.specs.declared.logs.SentLine.{SentLine}
+use Rattle.hub_core.specs.Bounds.{AreFit}
 use Rattle.hub_core.specs.Journal.{arrivals_of}
-use Rattle.hub_core.specs.Turns.{HubState, submit_call, arrived, start_of}
+use Rattle.hub_core.specs.Turns.{HubState, arrived, start_of}
 use Rattle.hub_core.specs.Follows.{call_due, submit_due}
 use Rattle.world_core.specs.declared.events.Event.{Event}
 use Rattle.world_core.specs.declared.events.Event.TheVariants.{Submit, Arrive, Serve}
 use Rattle.world_core.specs.Worlds.{WorldState, IsWorldReached, world_start, moved, moved_or_same, submit_moved, arrive_moved, serve_moved, next_output, next_input, IsEnabled, work_left}
 use Rattle.world_core.specs.Worlds.IsWorldReached.{Begun, Moved}
-use Rattle.world_core.proofs.Grows.{Grows, arrive_grows, submit_grows}
-use Rattle.world_core.proofs.Links.{some_is, if_some}
+use Rattle.world_core.proofs.Grows.{arrive_grows}
+use Rattle.world_core.proofs.Links.{calls_moved}
 use Rattle.world_core.proofs.Work.{arrivals_same, arrivals_more, submit_enabled, less_if}
 
-pub reached_start : (hub : HubState) (journal : List Input) (calls : List RootLine) → hub ≡ start_of calls → journal ≡ [] →
+pub reached_start : (hub : HubState) (journal : List (List ℕ)) (calls : List RootLine) → hub ≡ start_of calls → journal ≡ [] →
     IsWorldReached (record { hub = hub; journal = journal })
 reached_start hub journal calls hub_is journal_is = rw hub_is (rw journal_is (Begun (world_start calls) refl))
 
@@ -65,75 +64,82 @@ pub arrived_same : (h hub : HubState) (session count : ℕ) → hub ≡ submit_d
 arrived_same h hub session count hub_is counted =
     counted ∙ same_arrivals h (call_due h session) ∙ ap (λ (v : HubState). length (arrivals_of v.log.events)) (sym hub_is)
 
+due_calls : (h : HubState) (o : Option RootLine) → (submit_due h o).calls ≡ h.calls
+due_calls h None = refl
+due_calls h (Some line) = refl
+
+pub fit_submit : (h hub : HubState) (session : ℕ) → hub ≡ submit_due h (call_due h session) → AreFit h.calls → AreFit hub.calls
+fit_submit h hub session is fit = subst AreFit (sym (ap (λ (v : HubState). v.calls) is ∙ due_calls h (call_due h session))) fit
+
 -- ---- an arrival
 
-pub output_due : {s : WorldState} (count : ℕ) (output : Option Output) → IsWorldReached s → count ≡ length (arrivals_of s.hub.log.events) →
-    output ≡ slice_get (outputs_of s.journal) count → next_output s ≡ output
-output_due {s = s} count output reached counted there =
+pub output_due : {s : WorldState} (count : ℕ) (bytes : Option (List ℕ)) → IsWorldReached s → count ≡ length (arrivals_of s.hub.log.events) →
+    bytes ≡ slice_get (outputs_of s.journal) count → next_output s ≡ bytes
+output_due {s = s} count bytes reached counted there =
     ap (λ (n : ℕ). slice_get (outputs_of s.journal) n) (sym counted) ∙ sym there
 
-pub arrive_at : {s : WorldState} (now : WorldState) (output : Output) (hub : HubState) → s ≡ now → next_output s ≡ Some output →
-    hub ≡ arrived s.hub output →
+pub arrive_at : {s : WorldState} (now : WorldState) (bytes : List ℕ) (hub : HubState) → s ≡ now → next_output s ≡ Some bytes →
+    hub ≡ arrived s.hub bytes →
     ◌≡◌ {A = WorldState} (record { hub = hub; journal = s.journal }) (moved_or_same now (arrive_moved now (next_output now)))
-arrive_at {s = s} now output hub is there hub_is =
-    let first : ◌≡◌ {A = WorldState} (record { hub = hub; journal = s.journal }) (record { hub = arrived s.hub output; journal = s.journal }) =
+arrive_at {s = s} now bytes hub is there hub_is =
+    let first : ◌≡◌ {A = WorldState} (record { hub = hub; journal = s.journal }) (record { hub = arrived s.hub bytes; journal = s.journal }) =
     rw hub_is refl in
-    let second : ◌≡◌ {A = WorldState} (record { hub = arrived s.hub output; journal = s.journal }) (moved_or_same s (arrive_moved s (next_output s))) =
-    sym (ap (λ (o : Option Output). moved_or_same s (arrive_moved s o)) there) in
+    let second : ◌≡◌ {A = WorldState} (record { hub = arrived s.hub bytes; journal = s.journal }) (moved_or_same s (arrive_moved s (next_output s))) =
+    sym (ap (λ (o : Option (List ℕ)). moved_or_same s (arrive_moved s o)) there) in
     let third : ◌≡◌ {A = WorldState} (moved_or_same s (arrive_moved s (next_output s))) (moved_or_same now (arrive_moved now (next_output now))) =
     ap (λ (v : WorldState). moved_or_same v (arrive_moved v (next_output v))) is in
     first ∙ second ∙ third
 
-pub reached_arrive : {s : WorldState} (output : Output) (hub : HubState) → IsWorldReached s → next_output s ≡ Some output →
-    hub ≡ arrived s.hub output → IsWorldReached (record { hub = hub; journal = s.journal })
-reached_arrive {s = s} output hub reached there hub_is =
-    subst IsWorldReached (sym (arrive_at s output hub refl there hub_is))
+pub reached_arrive : {s : WorldState} (bytes : List ℕ) (hub : HubState) → IsWorldReached s → next_output s ≡ Some bytes →
+    hub ≡ arrived s.hub bytes → IsWorldReached (record { hub = hub; journal = s.journal })
+reached_arrive {s = s} bytes hub reached there hub_is =
+    subst IsWorldReached (sym (arrive_at s bytes hub refl there hub_is))
     (reached_moved s (Arrive 0) (arrive_moved s (next_output s)) reached refl)
 
-pub arrived_more : (h hub : HubState) (output : Output) (count : ℕ) → hub ≡ arrived h output → count ≡ length (arrivals_of h.log.events) →
+pub arrived_more : (h hub : HubState) (bytes : List ℕ) (count : ℕ) → hub ≡ arrived h bytes → count ≡ length (arrivals_of h.log.events) →
     count + 1 ≡ length (arrivals_of hub.log.events)
-arrived_more h hub output count hub_is counted =
-    let grows = arrive_grows h output in
-    ap (λ (n : ℕ). n + 1) counted ∙ sym (arrivals_more h.log.events output)
+arrived_more h hub bytes count hub_is counted =
+    let grows = arrive_grows h bytes in
+    ap (λ (n : ℕ). n + 1) counted ∙ sym (arrivals_more h.log.events bytes)
     ∙ ap (λ (l : List HubEvent). length (arrivals_of l)) (sym grows.events)
     ∙ ap (λ (v : HubState). length (arrivals_of v.log.events)) (sym hub_is)
 
-pub did_arrive : {s : WorldState} (now : WorldState) (output : Option Output) → s ≡ now → next_output s ≡ output →
-    is_some output ≡ is_some (arrive_moved now (next_output now))
+pub did_arrive : {s : WorldState} (now : WorldState) (bytes : Option (List ℕ)) → s ≡ now → next_output s ≡ bytes →
+    is_some bytes ≡ is_some (arrive_moved now (next_output now))
 did_arrive {s = s} now None is there =
     let none : next_output now ≡ None = ap (λ (v : WorldState). next_output v) (sym is) ∙ there in
-    sym (ap (λ (o : Option Output). is_some (arrive_moved now o)) none)
-did_arrive {s = s} now (Some output) is there =
-    let some : next_output now ≡ Some output = ap (λ (v : WorldState). next_output v) (sym is) ∙ there in
-    sym (ap (λ (o : Option Output). is_some (arrive_moved now o)) some)
+    sym (ap (λ (o : Option (List ℕ)). is_some (arrive_moved now o)) none)
+did_arrive {s = s} now (Some bytes) is there =
+    let some : next_output now ≡ Some bytes = ap (λ (v : WorldState). next_output v) (sym is) ∙ there in
+    sym (ap (λ (o : Option (List ℕ)). is_some (arrive_moved now o)) some)
 
 pub none_arrives : {s : WorldState} (now : WorldState) → s ≡ now → next_output s ≡ None → now ≡ moved_or_same now (arrive_moved now (next_output now))
 none_arrives {s = s} now is there =
     let none : next_output now ≡ None = ap (λ (v : WorldState). next_output v) (sym is) ∙ there in
-    sym (ap (λ (o : Option Output). moved_or_same now (arrive_moved now o)) none)
+    sym (ap (λ (o : Option (List ℕ)). moved_or_same now (arrive_moved now o)) none)
 
--- the output due, from the code's own copy of it
-pub copy_due : {s : WorldState} (count : ℕ) (output copy : Output) → IsWorldReached s → count ≡ length (arrivals_of s.hub.log.events) →
-    Some output ≡ slice_get (outputs_of s.journal) count → copy ≡ output → next_output s ≡ Some copy
-copy_due {s = s} count output copy reached counted there same =
-    output_due {s = s} count (Some output) reached counted there ∙ ap (λ (o : Output). Some o) (sym same)
+-- the bytes due, from the code's own copy of it
+pub copy_due : {s : WorldState} (count : ℕ) (bytes copy : List ℕ) → IsWorldReached s → count ≡ length (arrivals_of s.hub.log.events) →
+    Some bytes ≡ slice_get (outputs_of s.journal) count → copy ≡ bytes → next_output s ≡ Some copy
+copy_due {s = s} count bytes copy reached counted there same =
+    output_due {s = s} count (Some bytes) reached counted there ∙ ap (λ (o : List ℕ). Some o) (sym same)
 
 -- ---- a service
 
-pub serve_at : {s : WorldState} (now : WorldState) (line : SentLine) (journal : List Input) → s ≡ now → next_input s ≡ Some line →
-    journal ≡ s.journal ++ line.input ∷ [] →
+pub serve_at : {s : WorldState} (now : WorldState) (line : SentLine) (journal : List (List ℕ)) → s ≡ now → next_input s ≡ Some line →
+    journal ≡ s.journal ++ line.bytes ∷ [] →
     ◌≡◌ {A = WorldState} (record { hub = s.hub; journal = journal }) (moved_or_same now (serve_moved now (next_input now)))
 serve_at {s = s} now line journal is there journal_is =
-    let first : ◌≡◌ {A = WorldState} (record { hub = s.hub; journal = journal }) (record { hub = s.hub; journal = s.journal ++ line.input ∷ [] }) =
+    let first : ◌≡◌ {A = WorldState} (record { hub = s.hub; journal = journal }) (record { hub = s.hub; journal = s.journal ++ line.bytes ∷ [] }) =
     rw journal_is refl in
-    let second : ◌≡◌ {A = WorldState} (record { hub = s.hub; journal = s.journal ++ line.input ∷ [] }) (moved_or_same s (serve_moved s (next_input s))) =
+    let second : ◌≡◌ {A = WorldState} (record { hub = s.hub; journal = s.journal ++ line.bytes ∷ [] }) (moved_or_same s (serve_moved s (next_input s))) =
     sym (ap (λ (o : Option SentLine). moved_or_same s (serve_moved s o)) there) in
     let third : ◌≡◌ {A = WorldState} (moved_or_same s (serve_moved s (next_input s))) (moved_or_same now (serve_moved now (next_input now))) =
     ap (λ (v : WorldState). moved_or_same v (serve_moved v (next_input v))) is in
     first ∙ second ∙ third
 
-pub reached_serve : {s : WorldState} (line : SentLine) (journal : List Input) → IsWorldReached s → next_input s ≡ Some line →
-    journal ≡ s.journal ++ line.input ∷ [] → IsWorldReached (record { hub = s.hub; journal = journal })
+pub reached_serve : {s : WorldState} (line : SentLine) (journal : List (List ℕ)) → IsWorldReached s → next_input s ≡ Some line →
+    journal ≡ s.journal ++ line.bytes ∷ [] → IsWorldReached (record { hub = s.hub; journal = journal })
 reached_serve {s = s} line journal reached there journal_is =
     subst IsWorldReached (sym (serve_at s line journal refl there journal_is))
     (reached_moved s (Serve 0) (serve_moved s (next_input s)) reached refl)
@@ -156,29 +162,6 @@ none_serves {s = s} now is there =
 
 pub less_step : (s t : WorldState) (e : Event) → IsEnabled s e → t ≡ moved_or_same s (moved s e) → work_left t < work_left s
 less_step s t e enabled is = rw is (less_if s e (moved s e) refl enabled)
-
-calls_submit : (s t : WorldState) (o : Option RootLine) → submit_moved s o ≡ Some t → t.hub.calls ≡ s.hub.calls
-calls_submit s t None is = absurd cc
-calls_submit s t (Some line) is =
-    ap (λ (v : WorldState). v.hub.calls) (sym (some_is (record { hub = submit_call s.hub line; journal = s.journal }) t is))
-
-calls_arrive : (s t : WorldState) (o : Option Output) → arrive_moved s o ≡ Some t → t.hub.calls ≡ s.hub.calls
-calls_arrive s t None is = absurd cc
-calls_arrive s t (Some output) is =
-    let grows = arrive_grows s.hub output in
-    let first : t.hub.calls ≡ (arrived s.hub output).calls =
-    ap (λ (v : WorldState). v.hub.calls) (sym (some_is (record { hub = arrived s.hub output; journal = s.journal }) t is)) in
-    first ∙ grows.calls
-
-calls_serve : (s t : WorldState) (o : Option SentLine) → serve_moved s o ≡ Some t → t.hub.calls ≡ s.hub.calls
-calls_serve s t None is = absurd cc
-calls_serve s t (Some line) is =
-    ap (λ (v : WorldState). v.hub.calls) (sym (some_is (record { hub = s.hub; journal = s.journal ++ line.input ∷ [] }) t is))
-
-calls_moved : (s t : WorldState) (e : Event) → moved s e ≡ Some t → t.hub.calls ≡ s.hub.calls
-calls_moved s t (Submit session) is = calls_submit s t (call_due s.hub session) is
-calls_moved s t (Arrive brick) is = calls_arrive s t (next_output s) (if_some (brick == 0) (arrive_moved s (next_output s)) t is)
-calls_moved s t (Serve brick) is = calls_serve s t (next_input s) (if_some (brick == 0) (serve_moved s (next_input s)) t is)
 
 same_calls : (s : WorldState) (e : Event) (o : Option WorldState) → moved s e ≡ o → (moved_or_same s o).hub.calls ≡ s.hub.calls
 same_calls s e None is = refl

@@ -3,10 +3,12 @@ use Rattle.std.proofs.Common.{◌≡◌, ℕ, ◌+◌, ◌-◌, ◌*◌, ◌<◌
 use Rattle.std.proofs.lemmas.Option.{slice_get_within}
 use Rattle.fop_types.specs.declared.messages.Input.{Input}
 use Rattle.fop_types.specs.declared.messages.Input.TheVariants.{Request, Down, Up, Connect, Disconnect, FaultAt}
-use Rattle.fop_types.specs.declared.messages.Output.{Output}
 use Rattle.fop_types.specs.declared.calls.RootLine.{RootLine}
 use Rattle.brick_node.specs.Machine.{outputs_of}
-use Rattle.brick_node.specs.Runs.{outputs_due_one, requests_among, length-outputs_of}
+use Rattle.wire_messages.specs.Messages.{input_in}
+use Rattle.wire_messages.specs.declared.messages.Message.{Message}
+use Rattle.wire_messages.specs.declared.messages.Message.TheVariants.{Whole, Wrong}
+use Rattle.brick_node.specs.Runs.{outputs_due_one, outputs_due_for, outputs_due_among, length-outputs_of}
 use Rattle.hub_core.specs.declared.logs.HubEvent.{HubEvent}
 use Rattle.hub_core.specs.declared.logs.HubEvent.TheVariants as happened
 use Rattle.hub_core.specs.declared.logs.SentLine.{SentLine}
@@ -40,7 +42,7 @@ arrived_less s t calls lightens more within =
     let submitted : t.submitted ≡ s.hub.submitted = lightens.submitted in
     rw many (rw submitted (rw more less))
 
-pub due_one : (x : Input) → outputs_due_one x ≤ 1
+due_one : (x : Input) → outputs_due_one x ≤ 1
 due_one (Request wind graph req) = omega arith
 due_one (Down serve) = omega arith
 due_one Up = omega arith
@@ -48,26 +50,30 @@ due_one (Connect graph version) = omega arith
 due_one (Disconnect graph) = omega arith
 due_one (FaultAt proc number) = omega arith
 
-pub requests_push : (xs : List Input) (x : Input) → requests_among (xs ++ x ∷ []) ≤ requests_among xs + 1
-requests_push [] x = let one = due_one x in omega arith
-requests_push (y ∷ xs) x = let more = requests_push xs x in omega arith
+due_for : (m : Message Input) → outputs_due_for m ≤ 1
+due_for (Whole x) = due_one x
+due_for (Wrong place) = omega arith
 
-pub outputs_push : (xs : List Input) (x : Input) → length (outputs_of (xs ++ x ∷ [])) ≤ length (outputs_of xs) + 1
+due_push : (xs : List (List ℕ)) (x : List ℕ) → outputs_due_among (xs ++ x ∷ []) ≤ outputs_due_among xs + 1
+due_push [] x = let one = due_for (input_in x) in omega arith
+due_push (y ∷ xs) x = let more = due_push xs x in omega arith
+
+pub outputs_push : (xs : List (List ℕ)) (x : List ℕ) → length (outputs_of (xs ++ x ∷ [])) ≤ length (outputs_of xs) + 1
 outputs_push xs x =
     let before = length-outputs_of xs in
     let after = length-outputs_of (xs ++ x ∷ []) in
-    let more = requests_push xs x in
+    let more = due_push xs x in
     omega arith
 
 pub arrivals_same : (events : List HubEvent) (session line : ℕ) → length (arrivals_of (events ++ happened.Submit session line ∷ [])) ≡ length (arrivals_of events)
 arrivals_same events session line =
     let same : arrivals_of (events ++ happened.Submit session line ∷ []) ≡ arrivals_of events ++ [] = arrivals_push events (happened.Submit session line ∷ []) in
-    ap (λ (l : List Output). length l) (same ∙ sym (none_more (arrivals_of events)))
+    ap (λ (l : List (List ℕ)). length l) (same ∙ sym (none_more (arrivals_of events)))
 
-pub arrivals_more : (events : List HubEvent) (output : Output) → length (arrivals_of (events ++ happened.Arrive 0 output ∷ [])) ≡ length (arrivals_of events) + 1
-arrivals_more events output =
-    let more : arrivals_of (events ++ happened.Arrive 0 output ∷ []) ≡ arrivals_of events ++ output ∷ [] = arrivals_push events (happened.Arrive 0 output ∷ []) in
-    ap (λ (l : List Output). length l) more ∙ one_longer (arrivals_of events) output
+pub arrivals_more : (events : List HubEvent) (bytes : List ℕ) → length (arrivals_of (events ++ happened.Arrive 0 bytes ∷ [])) ≡ length (arrivals_of events) + 1
+arrivals_more events bytes =
+    let more : arrivals_of (events ++ happened.Arrive 0 bytes ∷ []) ≡ arrivals_of events ++ bytes ∷ [] = arrivals_push events (happened.Arrive 0 bytes ∷ []) in
+    ap (λ (l : List (List ℕ)). length l) more ∙ one_longer (arrivals_of events) bytes
 
 pub less_submit : (s t : WorldState) (session : ℕ) (o : Option RootLine) → call_due s.hub session ≡ o → submit_moved s o ≡ Some t →
     work_left t < work_left s
@@ -82,25 +88,25 @@ less_submit s t session (Some line) due is =
     let less : work_left (record { hub = submit_call s.hub line; journal = s.journal }) < work_left s = omega arith in
     subst (λ (v : WorldState). work_left v < work_left s) (some_is (record { hub = submit_call s.hub line; journal = s.journal }) t is) less
 
-pub less_arrive : (s t : WorldState) (o : Option Output) → next_output s ≡ o → arrive_moved s o ≡ Some t → work_left t < work_left s
+pub less_arrive : (s t : WorldState) (o : Option (List ℕ)) → next_output s ≡ o → arrive_moved s o ≡ Some t → work_left t < work_left s
 less_arrive s t None there is = absurd cc
-less_arrive s t (Some output) there is =
+less_arrive s t (Some bytes) there is =
     let within : length (arrivals_of s.hub.log.events) < length (outputs_of s.journal) =
-    slice_get_within (outputs_of s.journal) (length (arrivals_of s.hub.log.events)) output there in
-    let grows = arrive_grows s.hub output in
-    let lightens = arrive_lightens s.hub output in
-    let less = arrived_less s (arrived s.hub output) grows.calls lightens
-    (ap (λ (l : List HubEvent). length (arrivals_of l)) grows.events ∙ arrivals_more s.hub.log.events output) within in
-    subst (λ (v : WorldState). work_left v < work_left s) (some_is (record { hub = arrived s.hub output; journal = s.journal }) t is) less
+    slice_get_within (outputs_of s.journal) (length (arrivals_of s.hub.log.events)) bytes there in
+    let grows = arrive_grows s.hub bytes in
+    let lightens = arrive_lightens s.hub bytes in
+    let less = arrived_less s (arrived s.hub bytes) grows.calls lightens
+    (ap (λ (l : List HubEvent). length (arrivals_of l)) grows.events ∙ arrivals_more s.hub.log.events bytes) within in
+    subst (λ (v : WorldState). work_left v < work_left s) (some_is (record { hub = arrived s.hub bytes; journal = s.journal }) t is) less
 
 pub less_serve : (s t : WorldState) (o : Option SentLine) → next_input s ≡ o → serve_moved s o ≡ Some t → work_left t < work_left s
 less_serve s t None there is = absurd cc
 less_serve s t (Some line) there is =
     let within : length s.journal < length s.hub.log.sent = slice_get_within s.hub.log.sent (length s.journal) line there in
-    let longer = one_longer s.journal line.input in
-    let outputs = outputs_push s.journal line.input in
-    let less : work_left (record { hub = s.hub; journal = s.journal ++ line.input ∷ [] }) < work_left s = omega arith in
-    subst (λ (v : WorldState). work_left v < work_left s) (some_is (record { hub = s.hub; journal = s.journal ++ line.input ∷ [] }) t is) less
+    let longer = one_longer s.journal line.bytes in
+    let outputs = outputs_push s.journal line.bytes in
+    let less : work_left (record { hub = s.hub; journal = s.journal ++ line.bytes ∷ [] }) < work_left s = omega arith in
+    subst (λ (v : WorldState). work_left v < work_left s) (some_is (record { hub = s.hub; journal = s.journal ++ line.bytes ∷ [] }) t is) less
 
 pub less_moved : (s t : WorldState) (e : Event) → moved s e ≡ Some t → work_left t < work_left s
 less_moved s t (Submit session) is = less_submit s t session (call_due s.hub session) refl is
@@ -125,9 +131,9 @@ pub submit_enabled : (s : WorldState) (o : Option RootLine) → is_some (submit_
 submit_enabled s None = refl
 submit_enabled s (Some line) = refl
 
-pub arrive_enabled : (s : WorldState) (o : Option Output) → is_some (arrive_moved s o) ≡ is_some o
+pub arrive_enabled : (s : WorldState) (o : Option (List ℕ)) → is_some (arrive_moved s o) ≡ is_some o
 arrive_enabled s None = refl
-arrive_enabled s (Some output) = refl
+arrive_enabled s (Some bytes) = refl
 
 pub serve_enabled : (s : WorldState) (o : Option SentLine) → is_some (serve_moved s o) ≡ is_some o
 serve_enabled s None = refl
@@ -154,10 +160,10 @@ pub none_due : (s : WorldState) → call_due s.hub 0 ≡ None → (session : ℕ
 none_due s none session = if_none (session == 0) (call_if_idle s.hub.working (slice_get s.hub.calls s.hub.submitted)) none
 
 pub quiet_of : (s : WorldState) → call_due s.hub 0 ≡ None → next_output s ≡ None → next_input s ≡ None → IsQuiet s
-quiet_of s due output input (Submit session) = ap (λ (o : Option RootLine). submit_moved s o) (none_due s due session)
-quiet_of s due output input (Arrive brick) =
-    if_none (brick == 0) (arrive_moved s (next_output s)) (ap (λ (o : Option Output). arrive_moved s o) output)
-quiet_of s due output input (Serve brick) =
+quiet_of s due bytes input (Submit session) = ap (λ (o : Option RootLine). submit_moved s o) (none_due s due session)
+quiet_of s due bytes input (Arrive brick) =
+    if_none (brick == 0) (arrive_moved s (next_output s)) (ap (λ (o : Option (List ℕ)). arrive_moved s o) bytes)
+quiet_of s due bytes input (Serve brick) =
     if_none (brick == 0) (serve_moved s (next_input s)) (ap (λ (o : Option SentLine). serve_moved s o) input)
 
 pub first_none_of : (s : WorldState) (a b c : Bool) → is_some (call_due s.hub 0) ≡ a → is_some (next_output s) ≡ b → is_some (next_input s) ≡ c →

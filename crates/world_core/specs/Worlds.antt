@@ -1,8 +1,6 @@
 -- The world of one brick as a machine over events, what may be said of each state that a run reaches, and
 -- how much work a state has left.
 use Rattle.std.specs.Prelude.{◌≡◌, ℕ, ◌+◌, ◌-◌, ◌*◌, ◌≤◌, ◌==◌, Bool, true, false, List, [], ◌∷◌, ◌++◌, Option, Some, None, length, take, slice_get, is_some, if◌then◌else◌}
-use Rattle.fop_types.specs.declared.messages.Input.{Input}
-use Rattle.fop_types.specs.declared.messages.Output.{Output}
 use Rattle.fop_types.specs.declared.calls.RootLine.{RootLine}
 use Rattle.brick_node.specs.Machine.{outputs_of}
 use Rattle.hub_core.specs.declared.logs.SentLine.{SentLine}
@@ -15,10 +13,10 @@ use Rattle.hub_core.specs.Bounds.{requests_left}
 use Rattle.world_core.specs.declared.events.Event.{Event}
 use Rattle.world_core.specs.declared.events.Event.TheVariants.{Submit, Arrive, Serve}
 
--- the hub, and the inputs that the brick has served
+-- the hub, and what the brick has served, each input as its bytes
 pub record WorldState : Type 0 where
   pub hub : HubState
-  pub journal : List Input
+  pub journal : List (List ℕ)
 
 abbrev pub world_start : List RootLine → WorldState
 world_start calls = record { hub = start_of calls; journal = [] }
@@ -26,7 +24,7 @@ world_start calls = record { hub = start_of calls; journal = [] }
 -- ---- events
 
 -- the brick's first output that has not arrived, and the first input that it has not served
-abbrev pub next_output : WorldState → Option Output
+abbrev pub next_output : WorldState → Option (List ℕ)
 next_output s = slice_get (outputs_of s.journal) (length (arrivals_of s.hub.log.events))
 
 abbrev pub next_input : WorldState → Option SentLine
@@ -36,13 +34,13 @@ abbrev pub submit_moved : WorldState → Option RootLine → Option WorldState
 submit_moved s None = None
 submit_moved s (Some line) = Some (record s { hub = submit_call s.hub line })
 
-abbrev pub arrive_moved : WorldState → Option Output → Option WorldState
+abbrev pub arrive_moved : WorldState → Option (List ℕ) → Option WorldState
 arrive_moved s None = None
-arrive_moved s (Some output) = Some (record s { hub = arrived s.hub output })
+arrive_moved s (Some bytes) = Some (record s { hub = arrived s.hub bytes })
 
 abbrev pub serve_moved : WorldState → Option SentLine → Option WorldState
 serve_moved s None = None
-serve_moved s (Some line) = Some (record s { journal = s.journal ++ line.input ∷ [] })
+serve_moved s (Some line) = Some (record s { journal = s.journal ++ line.bytes ∷ [] })
 
 -- the state after an event, `None` where it is not enabled: a session's call, where one is due; an output
 -- of brick 0, or an input for it, where one is left

@@ -13,8 +13,10 @@
 //! run comes to its end: it carries out the first enabled event until there is none.
 //!
 //! By its type every world is in a state that events lead to. So the arrivals in its log are honest: they
-//! are a front of what the brick makes of what was sent to it, and each came only after the inputs that it
-//! counts were sent. The program's top call makes a world of a script, runs it, and takes the rack.
+//! are a front of what the brick makes of what was sent to it, byte for byte, and each came only after the
+//! inputs that it counts were sent. The brick serves copies of the bytes that the hub sent, and the hub is
+//! handed copies of the bytes that the brick made: neither sees a value of the other. The program's top
+//! call makes a world of a script, runs it, and takes the rack.
 #![tactic(auto)]
 
 mod events;

@@ -1,4 +1,5 @@
-ghost use Rattle.std.specs.Prelude.{◌≤◌, length, IfOk};
+ghost use Rattle.std.specs.Prelude.{IfOk};
+ghost use Rattle.hub_core.specs.Bounds.{AreFit};
 
 use crate::{Event, World};
 use fop_types::{Answer, Path, RootCall, RootLine, RootScript, Seq};
@@ -6,7 +7,7 @@ use std::alloc::{AllocError, Global};
 use std::test::Fail;
 
 fn script(alloc: Global) -> Result<RootScript, AllocError>
-    ensures { IfOk result (λ script. length script.calls ≤ 4096) }
+    ensures { IfOk result (λ script. AreFit script.calls) }
 {
     let mut parts = Seq::new(alloc);
     parts.push(Seq::from_bytes(alloc, b"a")?)?;

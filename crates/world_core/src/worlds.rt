@@ -1,12 +1,13 @@
 ghost use Rattle.std.specs.Prelude.{◌≡◌, ◌≤◌, ◌<◌, ◌+◌, ◌^◌, Option, Some, None, true, length, is_some, slice_get, OnOk, OnErr, IfOk, IfSome, IfNone};
 ghost use Rattle.std.specs.Option.{option_copied};
 ghost use Rattle.brick_node.specs.Machine.{outputs_of};
+ghost use Rattle.hub_core.specs.Bounds.{AreFit};
 ghost use Rattle.hub_core.specs.Follows.{call_due};
 ghost use Rattle.world_core.specs.Worlds.{world_start, moved, moved_or_same, submit_moved, arrive_moved, serve_moved, next_output, next_input, first_enabled, work_left, IsEnabled, IsQuiet, IsRun, IsRackOf};
 
 use crate::events::Event;
 use brick_node::Brick;
-use fop_types::{Output, RootScript, Seq};
+use fop_types::{RootScript, Seq};
 use hub_core::{Hub, Rack, SentLine};
 use std::alloc::{AllocError, Global};
 use std::marker::Model;
@@ -24,6 +25,7 @@ pub struct World {
 impl Model for World {
     ghost use Rattle.std.specs.Prelude.{◌≡◌, ◌<◌, [], length};
     ghost use Rattle.std.specs.Vec.{vec_len, vec_capacity};
+    ghost use Rattle.hub_core.specs.Bounds.{AreFit};
     ghost use Rattle.hub_core.specs.Journal.{arrivals_of};
     ghost use Rattle.world_core.specs.Worlds.{WorldState, IsWorldReached};
 
@@ -31,11 +33,11 @@ impl Model for World {
 
     ghost view = { λ w. record { hub = w.hub; journal = w.brick } };
 
-    ghost invariant = { λ w. IsWorldReached (record { hub = w.hub; journal = w.brick }) × (w.arrived ≡ length (arrivals_of w.hub.log.events)) × (w.room.items ≡ []) × (vec_len w.room < vec_capacity w.room) };
+    ghost invariant = { λ w. IsWorldReached (record { hub = w.hub; journal = w.brick }) × (w.arrived ≡ length (arrivals_of w.hub.log.events)) × (w.room.items ≡ []) × (vec_len w.room < vec_capacity w.room) × AreFit w.hub.calls };
 }
 
 /// The output at an index.
-fn output_at(brick: &Brick, index: usize) -> Option<&Output>
+fn output_at(brick: &Brick, index: usize) -> Option<&Seq<u8>>
     ensures item { option_copied result ≡ slice_get (outputs_of brick.now) index }
     ensures low { IfSome result (λ output. index + 1 < 2 ^ 64) }
 {
@@ -51,12 +53,13 @@ fn line_to_serve<'a>(hub: &'a Hub, brick: &Brick) -> Option<&'a SentLine>
 
 impl World {
     /// The world at the start of a script, of which it keeps a copy: no call is submitted, and the brick
-    /// has the root alone.
+    /// has the root alone. The script has at most 4,096 calls, each with a name and a mode that a message
+    /// can carry.
     ///
     /// # Errors
     /// Want of memory.
     pub fn new(alloc: Global, script: &RootScript) -> Result<World, AllocError>
-        requires { length script.now.calls ≤ 4096 }
+        requires { AreFit script.now.calls }
         ensures { IfOk result (λ world. world ≡ world_start script.now.calls) }
     {
         let hub = Hub::new(alloc, script)?;
@@ -89,7 +92,7 @@ impl World {
         match output_at(&self.brick, self.arrived) {
             None => Ok(false),
             Some(output) => {
-                let copy = output.copy(alloc)?;
+                let copy = Seq::from_bytes(alloc, output.as_slice())?;
                 self.hub.arrive(alloc, copy)?;
                 self.arrived += 1;
                 Ok(true)
@@ -106,7 +109,7 @@ impl World {
         match line_to_serve(&self.hub, &self.brick) {
             None => Ok(false),
             Some(line) => {
-                self.brick.serve(alloc, &line.input)?;
+                self.brick.serve(alloc, line.bytes.as_slice())?;
                 Ok(true)
             }
         }

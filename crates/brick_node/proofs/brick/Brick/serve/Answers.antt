@@ -1,29 +1,23 @@
-use Rattle.std.proofs.Common.{ap}
-use Rattle.brick_node.specs.Runs.{outputs_due_one}
-use Rattle.brick_node.proofs.Pushes.{control_kept}
+use Rattle.std.proofs.Common.{◌∙◌, sym, subst}
+use Rattle.brick_store.specs.Cells.{Cells}
+use Rattle.brick_node.specs.Stored.{AreKept}
+use Rattle.brick_node.proofs.Stored.{cells_of_kept}
+use Rattle.brick_node.proofs.Pushes.{served, put_due, none_due, counted}
 use Rattle.brick_node.proofs.brick.Brick.serve.Goals as goal
 
-pub invariant_of-self-in-Down : goal.invariant_of-self-in-Down
-invariant_of-self-in-Down c =
-    control_kept c.self.inside.came.items _ _ c.args.input.now _ _ c.self.inside.made.items _ c.reserve-2.ensures.items c.push_reserved-in-Down.ensures.items c.in_ok-entry.ensures
-    (ap outputs_due_one c.in-Down.is) c.reserve.ensures.items c.self.invariant
+pub output_due-requires-clause-kept : goal.output_due-requires-clause-kept
+output_due-requires-clause-kept c = subst (λ (l : Cells). AreKept l) (sym c.self.invariant.0) (cells_of_kept c.self.inside.came.items)
 
-pub invariant_of-self-in-Up : goal.invariant_of-self-in-Up
-invariant_of-self-in-Up c =
-    control_kept c.self.inside.came.items _ _ c.args.input.now _ _ c.self.inside.made.items _ c.reserve-2.ensures.items c.push_reserved-in-Up.ensures.items c.in_ok-entry.ensures
-    (ap outputs_due_one c.in-Up.is) c.reserve.ensures.items c.self.invariant
+pub invariant_of-self-in-Some : goal.invariant_of-self-in-Some
+invariant_of-self-in-Some c =
+    served c.self.inside.came.items c.args.input.now c.self.inside.cells c.self.inside.made.items c.in_ok-message.message c.self.invariant c.in_ok-message.ensures.read
+    _ _ _ _ _ _ c.in_ok-output.field-0 c.reserve-2.ensures.items c.push_reserved-in-Some.ensures.items c.in_ok-entry.ensures c.reserve.ensures.items
+    (put_due _ _ _ c.in_ok-output.field-0 c.push_reserved.ensures.items c.in-Some.is)
+    c.in_ok-output.ensures.cells (counted _ _ c.self.inside.cells c.in_ok-message.message _ (c.len.ensures ∙ c.reserve-2.new.self.ok.0) c.in_ok-output.ensures.output)
 
-pub invariant_of-self-in-Connect : goal.invariant_of-self-in-Connect
-invariant_of-self-in-Connect c =
-    control_kept c.self.inside.came.items _ _ c.args.input.now _ _ c.self.inside.made.items _ c.reserve-2.ensures.items c.push_reserved-in-Connect.ensures.items c.in_ok-entry.ensures
-    (ap outputs_due_one c.in-Connect.is) c.reserve.ensures.items c.self.invariant
-
-pub invariant_of-self-in-Disconnect : goal.invariant_of-self-in-Disconnect
-invariant_of-self-in-Disconnect c =
-    control_kept c.self.inside.came.items _ _ c.args.input.now _ _ c.self.inside.made.items _ c.reserve-2.ensures.items c.push_reserved-in-Disconnect.ensures.items c.in_ok-entry.ensures
-    (ap outputs_due_one c.in-Disconnect.is) c.reserve.ensures.items c.self.invariant
-
-pub invariant_of-self-in-FaultAt : goal.invariant_of-self-in-FaultAt
-invariant_of-self-in-FaultAt c =
-    control_kept c.self.inside.came.items _ _ c.args.input.now _ _ c.self.inside.made.items _ c.reserve-2.ensures.items c.push_reserved-in-FaultAt.ensures.items c.in_ok-entry.ensures
-    (ap outputs_due_one c.in-FaultAt.is) c.reserve.ensures.items c.self.invariant
+pub invariant_of-self-in-None : goal.invariant_of-self-in-None
+invariant_of-self-in-None c =
+    served c.self.inside.came.items c.args.input.now c.self.inside.cells c.self.inside.made.items c.in_ok-message.message c.self.invariant c.in_ok-message.ensures.read
+    _ _ _ _ _ _ c.in_ok-output.field-0 c.reserve-2.ensures.items c.push_reserved-in-None.ensures.items c.in_ok-entry.ensures c.reserve.ensures.items
+    (none_due _ c.in_ok-output.field-0 c.in-None.is)
+    c.in_ok-output.ensures.cells (counted _ _ c.self.inside.cells c.in_ok-message.message _ (c.len.ensures ∙ c.reserve-2.new.self.ok.0) c.in_ok-output.ensures.output)

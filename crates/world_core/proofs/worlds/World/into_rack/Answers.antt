@@ -4,4 +4,4 @@ use Rattle.world_core.proofs.Links.{run_of}
 use Rattle.world_core.proofs.worlds.World.into_rack.Goals as goal
 
 pub returns-clause-run : goal.returns-clause-run
-returns-clause-run c = subst IsRun c.self.view_is (run_of _ c.self.invariant.0)
+returns-clause-run c = subst IsRun c.self.view_is (run_of _ c.self.invariant.0 c.self.invariant.4)

@@ -1,4 +1,6 @@
-use Rattle.std.proofs.Common.{arith}
+use Rattle.std.proofs.Common.{arith, sym, ap, subst}
+use Rattle.hub_core.specs.Bounds.{AreFit}
+use Rattle.hub_core.specs.Turns.{HubState}
 use Rattle.world_core.proofs.Steps.{reached_start, none_arrived}
 use Rattle.world_core.proofs.worlds.World.new.Goals as goal
 
@@ -8,4 +10,5 @@ invariant_of-result c = (
   none_arrived c.in_ok-hub.hub c.args.script.now.calls c.in_ok-hub.ensures,
   c.in_ok-room.ensures.items,
   omega (arith, c.in_ok-room.ensures.len, c.in_ok-room.ensures.capacity),
+  subst AreFit (sym (ap (λ (h : HubState). h.calls) c.in_ok-hub.ensures)) c.requires,
 )

@@ -4,10 +4,11 @@ use Rattle.world_core.proofs.worlds.World.serve.Goals as goal
 
 pub invariant_of-self-in-Some : goal.invariant_of-self-in-Some
 invariant_of-self-in-Some c = (
-  reached_serve c.in-Some.line.now c.serve.new.self c.self.invariant.0 (sym c.in-Some.ensures) c.in_ok-serve-in-Some.ensures.ok,
+  reached_serve c.in-Some.line.now c.serve.new.self c.self.invariant.0 (sym c.in-Some.ensures) (rw c.as_slice.ensures at c.in_ok-serve-in-Some.ensures.ok),
   c.self.invariant.1,
   c.self.invariant.2,
   c.self.invariant.3,
+  c.self.invariant.4,
 )
 
 pub returns-in-None-clause-did : goal.returns-in-None-clause-did
@@ -21,4 +22,4 @@ returns-in_ok-serve-in-Some-clause-did c = did_serve c.args.self.now (Some c.in-
 
 pub returns-in_ok-serve-in-Some-clause-ok : goal.returns-in_ok-serve-in-Some-clause-ok
 returns-in_ok-serve-in-Some-clause-ok c =
-    serve_at c.args.self.now c.in-Some.line.now c.serve.new.self c.self.view_is (sym c.in-Some.ensures) c.in_ok-serve-in-Some.ensures.ok
+    serve_at c.args.self.now c.in-Some.line.now c.serve.new.self c.self.view_is (sym c.in-Some.ensures) (rw c.as_slice.ensures at c.in_ok-serve-in-Some.ensures.ok)
