@@ -109,6 +109,7 @@ impl<L> FrameStack<L> {
         ensures wound { IfOk result (λ w. IsWound self.old self.new frame slot w) }
         ensures leads { IfOk result (λ w. Leads self.old self.new (opening w (opener_at self.old frame slot) ∷ []) []) }
         ensures awaits { OnOk result (AwaitsMore self.old self.new frame slot) }
+        ensures pending { IfOk result (λ w. word_at self.new w.slot ≡ pending w) }
         ensures winds { IsErrOf result Stop.Winds ↔ (self.old.opened ≡ 4294967295) }
         ensures err { OnErr result (self.new ≡ self.old) }
     {
@@ -159,6 +160,13 @@ impl<L> FrameStack<L> {
         }
         self.words[w.slot as usize] = word + 1;
         Settled::Won
+    }
+
+    /// The word of a slot, 0 where the slot was never opened.
+    pub fn word(&self, slot: u32) -> u64
+        ensures { result ≡ word_at self.now slot }
+    {
+        word_in(&self.words, slot)
     }
 
     /// Ends a settled wind, and gives the frame and slot that opened it. `None` comes exactly where the
@@ -264,10 +272,10 @@ impl<L> FrameStack<L> {
     }
 }
 
-#[cfg(test)]
 impl<L> FrameStack<L> {
-    // An empty stack that counts this many winds as opened.
-    pub(crate) fn after_winds(alloc: Global, opened: u32) -> FrameStack<L>
+    /// An empty stack that counts this many winds as opened, for tests of what comes when no further wind
+    /// can be opened. It takes no memory.
+    pub fn after_winds(alloc: Global, opened: u32) -> FrameStack<L>
         ensures { result ≡ record empty_stack { opened = opened } }
     {
         FrameStack {

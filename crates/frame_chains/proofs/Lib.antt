@@ -1,0 +1,5 @@
+pub mod Touches
+pub mod Counts
+pub mod Turns
+pub mod Moves
+pub mod Views

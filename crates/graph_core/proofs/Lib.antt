@@ -1,0 +1,10 @@
+pub mod Laws
+pub mod Ways
+pub mod PathLemmas
+pub mod Replies
+pub mod Starts
+pub mod Flights
+pub mod Counted
+pub mod Places
+pub mod Bounded
+pub mod Asking
