@@ -7,6 +7,7 @@ use Rattle.fop_types.specs.declared.cells.Kind.{Kind}
 use Rattle.fop_types.specs.declared.answers.Answer.{Answer}
 use Rattle.fop_types.specs.declared.answers.Answer.TheVariants.{Done, Stat as StatOf, App, Count, Bytes, List as ListOf, Io}
 use Rattle.fop_types.specs.declared.answers.AppError.{AppError}
+use Rattle.fop_types.specs.declared.answers.AppError.TheVariants.{Eexist}
 use Rattle.fop_types.specs.declared.calls.RootCall.{RootCall}
 use Rattle.fop_types.specs.declared.calls.RootCall.TheVariants as call
 use Rattle.fop_types.specs.declared.flat.FlatOp.{FlatOp}
@@ -54,40 +55,36 @@ last_op (call.Stat path) found drawn = Stat found
 
 -- ---- history
 
--- the operation of an entry. Each path has one component so far, so its directory is the root
-abbrev pub op_with : Option RootCall → Gfid → Option FlatOp
-op_with None drawn = None
-op_with (Some c) drawn = Some (last_op c root drawn)
+-- The history is told by its entries and, beside them, by their operations: one for each entry, in order.
 
-abbrev pub entry_op : List RootCall → Entry → Option FlatOp
-entry_op calls entry = op_with (call_numbered calls entry.call) (drawn_by calls entry.call)
+-- the files after these operations, one after another
+abbrev pub files_after : Files → List FlatOp → Files
+files_after files [] = files
+files_after files (op ∷ ops) = files_after (flat_after files op) ops
 
-abbrev pub after_op : Files → Option FlatOp → Files
-after_op files None = files
-after_op files (Some op) = flat_after files op
-
-abbrev pub files_after : List RootCall → Files → List Entry → Files
-files_after calls files [] = files
-files_after calls files (entry ∷ entries) = files_after calls (after_op files (entry_op calls entry)) entries
-
--- the files after the first `place` entries of a history, from the empty root
-abbrev pub fs_after : List RootCall → List Entry → ℕ → Files
-fs_after calls history place = files_after calls empty_root (take place history)
+-- the files after the first `place` operations of a history, from the empty root
+abbrev pub files_at : List FlatOp → ℕ → Files
+files_at ops place = files_after empty_root (take place ops)
 
 abbrev pub IsAccepted : FlatAnswer → Type 0
 IsAccepted answer = answer ≡ flat.Call Done
 
--- an entry's operation is accepted by the flat file system as the entries before it leave it
-pub record IsLegalEntry (calls : List RootCall) (history : List Entry) (place : ℕ) (entry : Entry) : Type 0 where
-  pub op : FlatOp
-  pub op_is : entry_op calls entry ≡ Some op
-  pub accepted : IsAccepted (flat_answer (fs_after calls history place) op)
+-- an entry's operation is the last one of its call, on what the call's lookups led to, and is accepted by
+-- the flat file system as the entries before it leave it
+pub record IsLegalEntry (calls : List RootCall) (ops : List FlatOp) (place : ℕ) (entry : Entry) : Type 0 where
+  pub call : RootCall
+  pub numbered : 0 < entry.call
+  pub asked : call_numbered calls entry.call ≡ Some call
+  pub found : Gfid
+  pub stands : slice_get ops place ≡ Some (last_op call found (drawn_by calls entry.call))
+  pub accepted : IsAccepted (flat_answer (files_at ops place) (last_op call found (drawn_by calls entry.call)))
   pub first_part : entry.part ≡ 1
 
--- no entry is repeated, and each is legal at its place
-pub record IsLegalHistory (calls : List RootCall) (history : List Entry) : Type 0 where
+-- each entry has its operation, no entry is repeated, and each is legal at its place
+pub record IsLegalHistory (calls : List RootCall) (ops : List FlatOp) (history : List Entry) : Type 0 where
+  pub as_many : length ops ≡ length history
   pub distinct : (i j : ℕ) (entry : Entry) → slice_get history i ≡ Some entry → slice_get history j ≡ Some entry → i ≡ j
-  pub legal : (place : ℕ) (entry : Entry) → slice_get history place ≡ Some entry → IsLegalEntry calls history place entry
+  pub legal : (place : ℕ) (entry : Entry) → slice_get history place ≡ Some entry → IsLegalEntry calls ops place entry
 
 -- ---- lawful replies
 
@@ -132,40 +129,59 @@ is_done (ListOf items) = false
 is_done (App error) = false
 is_done (Io error) = false
 
--- a change that is done has its entry at its place, and the answer is that of the files before it
-pub record IsDoneAt (files : ℕ → Files) (history : List Entry) (number : ℕ) (op : FlatOp) (place : ℕ) (answer : Answer) : Type 0 where
+-- a change that is done has its entry, with its operation, at its place, and the answer is that of the
+-- files before it
+pub record IsDoneAt (ops : List FlatOp) (history : List Entry) (number : ℕ) (op : FlatOp) (place : ℕ) (answer : Answer) : Type 0 where
   pub from_one : 0 < place
   pub entered : slice_get history (place - 1) ≡ Some (record { call = number; part = 1 })
-  pub answered : flat_answer (files (place - 1)) op ≡ flat.Call answer
+  pub carried : slice_get ops (place - 1) ≡ Some op
+  pub answered : flat_answer (files_at ops (place - 1)) op ≡ flat.Call answer
 
 -- any other answer is that of the files at its place, and the call has no entry
-pub record IsReadAt (files : ℕ → Files) (history : List Entry) (number : ℕ) (op : FlatOp) (place : ℕ) (answer : Answer) : Type 0 where
-  pub answered : flat_answer (files place) op ≡ flat.Call answer
+pub record IsReadAt (ops : List FlatOp) (history : List Entry) (number : ℕ) (op : FlatOp) (place : ℕ) (answer : Answer) : Type 0 where
+  pub answered : flat_answer (files_at ops place) op ≡ flat.Call answer
   pub no_entry : HasNoEntry history number
 
-abbrev pub IsAnswerAt : (ℕ → Files) → List Entry → ℕ → FlatOp → ℕ → Answer → Type 0
-IsAnswerAt files history number op place answer =
-    MatchBool (is_change op && is_done answer) (IsDoneAt files history number op place answer) (IsReadAt files history number op place answer)
+abbrev pub IsAnswerAt : List FlatOp → List Entry → ℕ → FlatOp → ℕ → Answer → Type 0
+IsAnswerAt ops history number op place answer =
+    MatchBool (is_change op && is_done answer) (IsDoneAt ops history number op place answer) (IsReadAt ops history number op place answer)
 
 -- a lookup that fails is the call's answer, and has its last place; else the last operation has it
-abbrev pub IsAnswered : Walk → (ℕ → Files) → List Entry → ℕ → (Gfid → FlatOp) → Answer → Type 0
-IsAnswered (Reached gfid []) files history number op answer = ⊥
-IsAnswered (Reached gfid (place ∷ [])) files history number op answer = IsAnswerAt files history number (op gfid) place answer
-IsAnswered (Reached gfid (place ∷ other ∷ places)) files history number op answer = ⊥
-IsAnswered (Stopped error []) files history number op answer = (answer ≡ App error) × HasNoEntry history number
-IsAnswered (Stopped error (place ∷ places)) files history number op answer = ⊥
-IsAnswered TooShort files history number op answer = ⊥
+abbrev pub IsAnswered : Walk → List FlatOp → List Entry → ℕ → (Gfid → FlatOp) → Answer → Type 0
+IsAnswered (Reached gfid []) ops history number op answer = ⊥
+IsAnswered (Reached gfid (place ∷ [])) ops history number op answer = IsAnswerAt ops history number (op gfid) place answer
+IsAnswered (Reached gfid (place ∷ other ∷ places)) ops history number op answer = ⊥
+IsAnswered (Stopped error []) ops history number op answer = (answer ≡ App error) × HasNoEntry history number
+IsAnswered (Stopped error (place ∷ places)) ops history number op answer = ⊥
+IsAnswered TooShort ops history number op answer = ⊥
 
 -- places never fall, and stand between these bounds
 abbrev pub AreBetween : List ℕ → ℕ → ℕ → Type 0
 AreBetween [] low high = Unit {0}
 AreBetween (place ∷ places) low high = (low ≤ place) × (place ≤ high) × AreBetween places place high
 
-pub record IsLawfulReply (calls : List RootCall) (history : List Entry) (since until number : ℕ) (places : List ℕ) (answer : Answer) : Type 0 where
+-- what a call answers at once, with no place: a mkdir of the path `/`
+abbrev pub mkdir_at_once : List (List ℕ) → Option AppError
+mkdir_at_once [] = Some Eexist
+mkdir_at_once (part ∷ parts) = None
+
+abbrev pub at_once : RootCall → Option AppError
+at_once (call.Mkdir path mode) = mkdir_at_once path.parts
+at_once (call.Stat path) = None
+
+pub record IsAnsweredAtOnce (history : List Entry) (number : ℕ) (places : List ℕ) (answer : Answer) (error : AppError) : Type 0 where
+  pub no_place : places ≡ []
+  pub answered : answer ≡ App error
+  pub no_entry : HasNoEntry history number
+
+abbrev pub IsLawfulAnswer : Option AppError → List RootCall → List FlatOp → List Entry → ℕ → RootCall → List ℕ → Answer → Type 0
+IsLawfulAnswer (Some error) calls ops history number c places answer = IsAnsweredAtOnce history number places answer error
+IsLawfulAnswer None calls ops history number c places answer =
+    IsAnswered (walk (looked_up c) (files_at ops) root places) ops history number (λ found. last_op c found (drawn_by calls number)) answer
+
+pub record IsLawfulReply (calls : List RootCall) (ops : List FlatOp) (history : List Entry) (since until number : ℕ) (places : List ℕ) (answer : Answer) : Type 0 where
   pub call : RootCall
   pub numbered : 0 < number
   pub asked : call_numbered calls number ≡ Some call
   pub between : AreBetween places since until
-  pub answered :
-      IsAnswered (walk (looked_up call) (fs_after calls history) root places) (fs_after calls history) history number
-      (λ found. last_op call found (drawn_by calls number)) answer
+  pub answered : IsLawfulAnswer (at_once call) calls ops history number call places answer

@@ -86,8 +86,8 @@ pub enum DoneArm {
 
 /// The answer of a brick to a request. `Gone`: the request's graph was not connected, or its lock was
 /// dropped with the connection. `Fault`: the brick was told to fail this request. `Unfit`: the op does
-/// not fit the store, or the cell is not present. `BadFd`: the descriptor was not opened on this
-/// connection.
+/// not fit the store, the cell is not present, or the answer would hold a list that is too long to be
+/// sent. `BadFd`: the descriptor was not opened on this connection.
 #[derive(Debug, Drop, PartialEq, Eq)]
 pub enum BrickRep {
     Done(DoneArm),

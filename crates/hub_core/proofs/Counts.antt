@@ -1,28 +1,35 @@
 -- The counts are kept by every turn.
-use Rattle.std.proofs.Common.{◌≡◌, ℕ, ◌+◌, ◌-◌, ◌<◌, ◌≤◌, List, [], ◌∷◌, ◌++◌, Option, Some, None, Bool, true, false, length, take, refl, sym, ◌∙◌, ap, subst, arith, ◌⊎◌, inl, inr}
+use Rattle.std.proofs.Common.{◌≡◌, ℕ, ◌+◌, ◌-◌, ◌<◌, ◌≤◌, List, [], ◌∷◌, ◌++◌, Option, Some, None, length, take, refl, sym, ◌∙◌, ap, subst, arith, inl, inr}
 use Rattle.std.specs.Prelude.{slice_get}
 use Rattle.std.proofs.lemmas.List.{length_push, append-nil}
 use Rattle.fop_types.specs.declared.answers.Answer.{Answer}
+use Rattle.fop_types.specs.declared.calls.RootLine.{RootLine}
 use Rattle.fop_types.specs.declared.cells.Gfid.{Gfid}
 use Rattle.fop_types.specs.declared.history.Entry.{Entry}
-use Rattle.fop_types.specs.declared.messages.DoneArm.{DoneArm}
-use Rattle.fop_types.specs.declared.messages.BrickReq.{BrickReq}
-use Rattle.fop_types.specs.History.{objects_made, makes, drawn_by, AreBetween}
-use Rattle.fop_types.specs.declared.calls.RootLine.{RootLine}
-use Rattle.hub_core.specs.declared.logs.HubEvent.{HubEvent}
+use Rattle.fop_types.specs.History.{objects_made, makes, drawn_by}
 use Rattle.hub_core.specs.declared.logs.HubEvent.TheVariants.{Submit, Arrive}
 use Rattle.hub_core.specs.declared.logs.ReplyLine.{ReplyLine}
-use Rattle.hub_core.specs.declared.stages.Working.{Working}
-use Rattle.hub_core.specs.declared.stages.Stage.{Stage}
-use Rattle.hub_core.specs.declared.stages.Next.{Next}
-use Rattle.hub_core.specs.declared.stages.Next.TheVariants as next
 use Rattle.hub_core.specs.Journal.{submits_of, places_of, calls_of}
-use Rattle.hub_core.specs.Kept.{AreBelow, IsCounted, WorkIsCounted, WhereWorking, IsOwnReply}
-use Rattle.hub_core.specs.Turns.{HubState, start_of, submit_call, ignored, taken_up}
-use Rattle.hub_core.proofs.Lists.{get_push_old, get_push_last, get_push_cases, take_next, get_below}
-use Rattle.hub_core.proofs.Places.{AreBelow-push, AreBelow-more, submits_push, get_place, get_call, length-places_of, objects_made_push}
+use Rattle.hub_core.specs.Kept.{IsCounted, WorkIsCounted, WhereWorking, IsOwnReply}
+use Rattle.hub_core.specs.Turns.{HubState, Working, Turning, IsReached, start_of, submit_call, ignored, arrived_with, arrived_turning, turning_of}
+use Rattle.hub_core.proofs.Lists.{get_push_cases, take_next, get_below}
+use Rattle.hub_core.proofs.Places.{AreBelow-push, AreBelow-more, submits_push, get_place, get_call, objects_made_push}
+use Rattle.hub_core.proofs.Reached.{by_turns}
+use Rattle.hub_core.proofs.Steps.{Step, begun, sends, replies, enters, reply_line, entry_of, step_submit, step_take}
+use Rattle.hub_core.proofs.Steps.Step.{Sends, Replies, Enters}
+use Rattle.hub_core.proofs.Suits.{turn_well}
 
-pub counted_start : (calls : List RootLine) → IsCounted (start_of calls)
+-- the call of a turn is the last that was submitted, and has neither entry nor reply
+pub record TurnIsCounted (b : HubState) (t : Turning) : Type 0 where
+  pub number : t.number ≡ b.submitted
+  pub some : 0 < b.submitted
+  pub drawn : t.drawn ≡ drawn_by (calls_of b.calls) t.number
+  pub no_entry : (k : ℕ) (entry : Entry) → slice_get b.log.history k ≡ Some entry → entry.call < t.number
+  pub no_reply : (k : ℕ) (reply : ReplyLine) → slice_get b.log.replies k ≡ Some reply → reply.call < t.number
+  pub there : slice_get b.calls (t.number - 1) ≡ Some t.line
+  pub event : t.event ≡ length b.log.events
+
+counted_start : (calls : List RootLine) → IsCounted (start_of calls)
 counted_start calls = record {
   submits = refl;
   within = omega arith;
@@ -39,40 +46,47 @@ own_later : (s t : HubState) (reply : ReplyLine) → t.calls ≡ s.calls → s.s
     IsOwnReply s reply → IsOwnReply t reply
 own_later s t reply same more events own = record {
   from_one = own.from_one;
-  submitted = omega arith;
+  submitted = omega (arith, own.submitted, more);
   own_line = rw same own.own_line;
-  past = omega arith;
+  past = omega (arith, own.past, events);
 }
 
-pub counted_submit : (s : HubState) (line : RootLine) → IsCounted s → s.working ≡ None → slice_get s.calls s.submitted ≡ Some line → IsCounted (submit_call s line)
-counted_submit s line c idle there =
+-- ---- events
+
+made_more : (s : HubState) (line : RootLine) → IsCounted s → slice_get s.calls s.submitted ≡ Some line →
+    s.made + makes line.call ≡ objects_made (take (s.submitted + 1) (calls_of s.calls))
+made_more s line c there =
+    rw (take_next (calls_of s.calls) s.submitted line.call (get_call s.calls s.submitted line there), objects_made_push)
+    (ap (λ (n : ℕ). n + makes line.call) c.made)
+
+pub counted_begun : (s : HubState) (line : RootLine) → IsCounted s → slice_get s.calls s.submitted ≡ Some line → IsCounted (begun s line)
+counted_begun s line c there =
     let more : length (s.log.events ++ Submit line.session line.line ∷ []) ≡ length s.log.events + 1 = length_push _ _ in
     let below : s.submitted < length s.calls = get_below s.calls s.submitted line there in
-    let made : s.made + makes line.call ≡ objects_made (take (s.submitted + 1) (calls_of s.calls)) =
-    rw (take_next (calls_of s.calls) s.submitted line.call (get_call s.calls s.submitted line there), objects_made_push)
-    (ap (λ (n : ℕ). n + makes line.call) c.made) in
     record {
       submits =
           submits_push s.log.events (Submit line.session line.line ∷ [])
           ∙ ap (λ (t : List (ℕ × ℕ)). t ++ (line.session, line.line) ∷ []) c.submits
           ∙ sym (take_next (places_of s.calls) s.submitted (line.session, line.line) (get_place s.calls s.submitted line there));
       within = omega arith;
-      made = made;
+      made = made_more s line c there;
       entered = AreBelow-more s.log.entered (length s.log.events + 1) _ c.entered (omega arith);
       as_many = c.as_many;
       entries = λ k entry h. (let old : entry.call ≤ s.submitted = c.entries k entry h in omega arith);
-      replies = λ k reply h. own_later s (submit_call s line) reply refl (omega arith) (omega arith) (c.replies k reply h);
-      work = record {
-        number = refl;
-        some = omega arith;
-        drawn = ap (λ (n : ℕ). let g : Gfid = record { hi = 0; lo = 1 + n } in g) made;
-        no_entry = λ k entry h. (let old : entry.call ≤ s.submitted = c.entries k entry h in omega arith);
-        no_reply = λ k reply h. (let old : reply.call ≤ s.submitted = (c.replies k reply h).submitted in omega arith);
-      };
+      replies = λ k reply h. own_later s (begun s line) reply refl (omega arith) (omega arith) (c.replies k reply h);
+      work = tt;
     }
 
-abbrev work_event : (s : HubState) (bytes : List ℕ) (v : Option Working) → Type 0
-work_event s bytes v = WhereWorking (WorkIsCounted s) v → WhereWorking (WorkIsCounted (ignored s bytes)) v
+pub turn_begun : (s : HubState) (line : RootLine) → IsCounted s → slice_get s.calls s.submitted ≡ Some line → TurnIsCounted (begun s line) (turning_of s line)
+turn_begun s line c there = record {
+  number = refl;
+  some = omega arith;
+  drawn = ap (λ (n : ℕ). let g : Gfid = record { hi = 0; lo = 1 + n } in g) (made_more s line c there);
+  no_entry = λ k entry h. (let old : entry.call ≤ s.submitted = c.entries k entry h in omega arith);
+  no_reply = λ k reply h. (let old : reply.call ≤ s.submitted = (c.replies k reply h).submitted in omega arith);
+  there = (let back : s.submitted + 1 - 1 ≡ s.submitted = omega arith in rw back there);
+  event = sym (length_push s.log.events (Submit line.session line.line));
+}
 
 pub counted_ignore : (s : HubState) (bytes : List ℕ) → IsCounted s → IsCounted (ignored s bytes)
 counted_ignore s bytes c =
@@ -89,73 +103,93 @@ counted_ignore s bytes c =
       work = kept s.working c.work;
     }
   where
-    kept : (v : Option Working) → work_event s bytes v
+    kept : (v : Option Working) → WhereWorking (WorkIsCounted s) v → WhereWorking (WorkIsCounted (ignored s bytes)) v
     kept None h = tt
     kept (Some w) h = record { number = h.number; some = h.some; drawn = h.drawn; no_entry = h.no_entry; no_reply = h.no_reply }
 
--- what holds of each reply of before, and of the new one, holds of each
+pub turn_arrived : (s : HubState) (bytes : List ℕ) (w : Working) (line : RootLine) → IsCounted s → s.working ≡ Some w → slice_get s.calls (w.call - 1) ≡ Some line →
+    TurnIsCounted (ignored s bytes) (arrived_turning s w line)
+turn_arrived s bytes w line c at_work there =
+    let work : WorkIsCounted s w = subst (WhereWorking (WorkIsCounted s)) at_work c.work in
+    record {
+      number = work.number;
+      some = work.some;
+      drawn = work.drawn;
+      no_entry = work.no_entry;
+      no_reply = work.no_reply;
+      there = there;
+      event = sym (length_push s.log.events (Arrive 0 bytes));
+    }
+
+-- ---- steps
+
+-- what holds of each element of before, and of the new one, holds of each
 pub each_pushed : {X : Type 0} (P : X → Type 0) (xs : List X) (y : X) →
     ((k : ℕ) (x : X) → slice_get xs k ≡ Some x → P x) → P y → (k : ℕ) (x : X) → slice_get (xs ++ y ∷ []) k ≡ Some x → P x
 each_pushed P xs y old new k x h = elim (get_push_cases xs y k x h) [ inl was ↦ old k x was | inr is ↦ subst P is.1 new ]
 
-own_new : (s t : HubState) (w : Working) (line : RootLine) (reply : ReplyLine) → WorkIsCounted s w → slice_get s.calls (w.call - 1) ≡ Some line →
-    t.calls ≡ s.calls → t.submitted ≡ s.submitted → reply.event ≤ length t.log.events → reply.call ≡ w.call → reply.session ≡ line.session → reply.line ≡ line.line → IsOwnReply t reply
-own_new s t w line reply work there calls submitted past call session own_line =
-    let number : w.call ≡ s.submitted = work.number in
-    let some : 0 < s.submitted = work.some in
-    let place : slice_get (places_of s.calls) (w.call - 1) ≡ Some (line.session, line.line) = get_place s.calls (w.call - 1) line there in
-    record { from_one = omega arith; submitted = omega arith; own_line = rw (calls, call, session, own_line) place; past = past }
+own_new : (b after : HubState) (t : Turning) (places : List ℕ) (a : Answer) → TurnIsCounted b t → after.calls ≡ b.calls → after.submitted ≡ b.submitted →
+    length after.log.events ≡ length b.log.events → IsOwnReply after (reply_line t places a)
+own_new b after t places a n calls submitted events =
+    let place : slice_get (places_of b.calls) (t.number - 1) ≡ Some (t.line.session, t.line.line) = get_place b.calls (t.number - 1) t.line n.there in
+    record {
+      from_one = omega (arith, n.number, n.some);
+      submitted = omega (arith, n.number, submitted);
+      own_line = rw calls place;
+      past = omega (arith, n.event, events);
+    }
 
--- the call at work goes on: a request, a reply, or a reply with an entry
-pub counted_take : (s : HubState) (bytes : List ℕ) (w : Working) (line : RootLine) (follows : Next) → IsCounted s → s.working ≡ Some w →
-    slice_get s.calls (w.call - 1) ≡ Some line → IsCounted (taken_up s bytes w line (Some follows))
-counted_take s bytes w line (next.Ask request stage places) c at_work there =
-    let base : IsCounted (ignored s bytes) = counted_ignore s bytes c in
-    let work : WorkIsCounted s w = subst (WhereWorking (WorkIsCounted s)) at_work c.work in
-    record {
-      submits = base.submits;
+pub counted_step : (b : HubState) (t : Turning) (places : List ℕ) (after : HubState) → IsCounted b → TurnIsCounted b t → Step b t places after → IsCounted after
+counted_step b t places after c n (Sends winds w call_is drawn_is follow is) = subst IsCounted (sym is) (record {
+  submits = c.submits;
+  within = c.within;
+  made = c.made;
+  entered = c.entered;
+  as_many = c.as_many;
+  entries = c.entries;
+  replies = λ k reply h. own_later b (sends b t winds w) reply refl (omega arith) (omega arith) (c.replies k reply h);
+  work = record {
+    number = call_is ∙ n.number;
+    some = n.some;
+    drawn = rw (drawn_is, call_is) n.drawn;
+    no_entry = rw call_is n.no_entry;
+    no_reply = rw call_is n.no_reply;
+  };
+})
+counted_step b t places after c n (Replies winds more a follow is) =
+    let u : HubState = replies b t winds more a in
+    subst IsCounted (sym is) (record {
+      submits = c.submits;
       within = c.within;
       made = c.made;
-      entered = base.entered;
+      entered = c.entered;
       as_many = c.as_many;
       entries = c.entries;
-      replies = λ k reply h. own_later (ignored s bytes) (taken_up s bytes w line (Some (next.Ask request stage places))) reply refl (omega arith) (omega arith) (base.replies k reply h);
-      work = record { number = work.number; some = work.some; drawn = work.drawn; no_entry = work.no_entry; no_reply = work.no_reply };
-    }
-counted_take s bytes w line (next.Reply places answer false) c at_work there =
-    let t : HubState = taken_up s bytes w line (Some (next.Reply places answer false)) in
-    let base : IsCounted (ignored s bytes) = counted_ignore s bytes c in
-    let work : WorkIsCounted s w = subst (WhereWorking (WorkIsCounted s)) at_work c.work in
-    let more : length (s.log.events ++ Arrive 0 bytes ∷ []) ≡ length s.log.events + 1 = length_push _ _ in
-    record {
-      submits = base.submits;
+      replies = each_pushed (IsOwnReply u) b.log.replies _
+          (λ k reply h. own_later b u reply refl (omega arith) (omega arith) (c.replies k reply h))
+          (own_new b u t more a n refl refl refl);
+      work = tt;
+    })
+counted_step b t places after c n (Enters winds more a op follow is) =
+    let u : HubState = enters b t winds more a op in
+    subst IsCounted (sym is) (record {
+      submits = c.submits;
       within = c.within;
       made = c.made;
-      entered = base.entered;
-      as_many = c.as_many;
-      entries = c.entries;
-      replies = each_pushed (IsOwnReply t) s.log.replies _
-          (λ k reply h. own_later (ignored s bytes) t reply refl (omega arith) (omega arith) (base.replies k reply h))
-          (own_new s t w line _ work there refl refl (omega arith) refl refl refl);
+      entered = AreBelow-push b.log.entered t.event _ c.entered (omega (arith, n.event));
+      as_many = omega (arith, length_push b.log.entered t.event, length_push b.log.history (entry_of t.number), c.as_many);
+      entries = each_pushed (λ (e : Entry). e.call ≤ b.submitted) b.log.history (entry_of t.number) c.entries (omega (arith, n.number));
+      replies = each_pushed (IsOwnReply u) b.log.replies _
+          (λ k reply h. own_later b u reply refl (omega arith) (omega arith) (c.replies k reply h))
+          (own_new b u t more a n refl refl refl);
       work = tt;
-    }
-counted_take s bytes w line (next.Reply places answer true) c at_work there =
-    let t : HubState = taken_up s bytes w line (Some (next.Reply places answer true)) in
-    let base : IsCounted (ignored s bytes) = counted_ignore s bytes c in
-    let work : WorkIsCounted s w = subst (WhereWorking (WorkIsCounted s)) at_work c.work in
-    let more : length (s.log.events ++ Arrive 0 bytes ∷ []) ≡ length s.log.events + 1 = length_push _ _ in
-    let entry : Entry = record { call = w.call; part = 1 } in
-    let as_many : length (s.log.entered ++ (length s.log.events + 1) ∷ []) ≡ length (s.log.history ++ entry ∷ []) =
-    omega (arith, length_push s.log.entered (length s.log.events + 1), length_push s.log.history entry, c.as_many) in
-    record {
-      submits = base.submits;
-      within = c.within;
-      made = c.made;
-      entered = AreBelow-push s.log.entered (length s.log.events + 1) _ base.entered (omega arith);
-      as_many = as_many;
-      entries = each_pushed (λ (e : Entry). e.call ≤ s.submitted) s.log.history entry c.entries (omega (arith, work.number));
-      replies = each_pushed (IsOwnReply t) s.log.replies _
-          (λ k reply h. own_later (ignored s bytes) t reply refl (omega arith) (omega arith) (base.replies k reply h))
-          (own_new s t w line _ work there refl refl (omega arith) refl refl refl);
-      work = tt;
-    }
+    })
+
+pub counted_of : (s : HubState) → IsReached s → IsCounted s
+counted_of = by_turns IsCounted counted_start
+    (λ s line new before c idle there fresh many.
+    counted_step (begun s line) (turning_of s line) [] (submit_call s line new) (counted_begun s line c there) (turn_begun s line c there) (step_submit s line new))
+    (λ s bytes before c. counted_ignore s bytes c)
+    (λ s bytes w line goes new before c taken.
+    counted_step (ignored s bytes) (arrived_turning s w line) w.places (arrived_with s bytes w line goes new) (counted_ignore s bytes c)
+    (turn_arrived s bytes w line c taken.at_work taken.there) (step_take s bytes w line goes new (turn_well s bytes w line goes new before taken) taken.many))

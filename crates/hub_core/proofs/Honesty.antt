@@ -1,14 +1,12 @@
 -- Honest arrivals were honest before each event, so the next output to arrive is the one that is due.
-use Rattle.std.proofs.Common.{◌≡◌, ◌≢◌, ℕ, ◌+◌, ◌-◌, ◌<◌, ◌≤◌, List, [], ◌∷◌, ◌++◌, Option, Some, None, Bool, true, false, cond, length, take, refl, sym, ◌∙◌, ap, subst, arith, ◌⊎◌, inl, inr, suc, zero, append_assoc}
+use Rattle.std.proofs.Common.{◌≡◌, ℕ, ◌+◌, ◌<◌, ◌≤◌, List, [], ◌∷◌, ◌++◌, Some, Bool, true, false, cond, length, take, refl, sym, ◌∙◌, ap, subst, arith, suc, zero}
 use Rattle.std.specs.Prelude.{slice_get, nat_lt, map}
 use Rattle.std.proofs.lemmas.Bool.Decides.{nat_tests}
 use Rattle.std.proofs.lemmas.Bool.{ltb-true}
-use Rattle.std.proofs.lemmas.List.{length_push, append-nil, take-append-le, length-take, length-append}
-use Rattle.std.proofs.Math.Seq.{take-length, take-append_seam}
-use Rattle.fop_types.specs.declared.messages.Output.{Output}
-use Rattle.fop_types.specs.declared.messages.DoneArm.{DoneArm}
-use Rattle.fop_types.specs.declared.answers.Answer.{Answer}
+use Rattle.std.proofs.lemmas.List.{append-nil, take-append-le, length-append}
+use Rattle.std.proofs.Math.Seq.{take-append_seam}
 use Rattle.fop_types.specs.declared.calls.RootLine.{RootLine}
+use Rattle.fop_types.specs.declared.messages.Output.{Output}
 use Rattle.wire_xdr.specs.WireText.{output_text}
 use Rattle.wire_messages.specs.Messages.{input_in, output_in}
 use Rattle.wire_messages.specs.declared.messages.Message.TheVariants.{Whole}
@@ -16,103 +14,75 @@ use Rattle.wire_messages.proofs.ReadBack.{output_read_back}
 use Rattle.brick_node.specs.Machine.{outputs_for, cells_of, outputs_of}
 use Rattle.brick_node.specs.Runs.{IsRequest, AreRequests, outputs_of_push, outputs_of_request, length_outputs_of_requests}
 use Rattle.brick_node.proofs.Stored.{reply_is_spelled}
+use Rattle.xlator_law.specs.declared.winds.WindNo.{WindNo}
 use Rattle.hub_core.specs.declared.logs.HubEvent.{HubEvent}
 use Rattle.hub_core.specs.declared.logs.HubEvent.TheVariants.{Submit, Arrive}
 use Rattle.hub_core.specs.declared.logs.SentLine.{SentLine}
-use Rattle.hub_core.specs.declared.logs.Log.{Log}
-use Rattle.hub_core.specs.declared.stages.Working.{Working}
-use Rattle.hub_core.specs.declared.stages.Stage.{Stage}
-use Rattle.hub_core.specs.declared.stages.Next.{Next}
-use Rattle.hub_core.specs.declared.stages.Next.TheVariants as next
+use Rattle.hub_core.specs.Bounds.{AreFit}
 use Rattle.hub_core.specs.Journal.{inputs_of, arrivals_of, sent_before, HasHonestArrivals}
-use Rattle.hub_core.specs.Turns.{HubState, submit_call, ignored, taken_up, arrived, wire_number}
+use Rattle.hub_core.specs.Turns.{HubState, Turning, IsReached, AreNew, submit_call, ignored, arrived, arrived_with, arrived_turning, turning_of, arrive_winds, line_of, after_bytes}
+use Rattle.hub_core.proofs.Bounded.{few_entered}
+use Rattle.hub_core.proofs.Fits.{IsFitting, fitting_of}
 use Rattle.hub_core.proofs.Lists.{get_push_old, get_push_last, get_take, get_below, HasElement, get_there, take_take}
 use Rattle.hub_core.proofs.Places.{arrivals_push, inputs_push, length-inputs_of}
-use Rattle.hub_core.proofs.Reached.{Turned, turned}
-use Rattle.hub_core.proofs.Reached.Turned.{Ignores, Takes}
-use Rattle.hub_core.specs.Bounds.{AreFit}
-use Rattle.hub_core.specs.Turns.{IsReached}
-use Rattle.hub_core.proofs.Bounded.{few_sent, few_entered}
-use Rattle.hub_core.proofs.Sendable.{IsFitting, fitting_of}
+use Rattle.hub_core.proofs.Reached.{by_arrival}
+use Rattle.hub_core.proofs.Sent.{few_sent}
 use Rattle.hub_core.proofs.Served.{last_request, output_for}
+use Rattle.hub_core.proofs.Steps.{Step, begun, request_line, step_submit, step_take}
+use Rattle.hub_core.proofs.Steps.Step.{Sends, Replies, Enters}
+use Rattle.hub_core.proofs.Suits.{turn_well}
 
--- ---- what is sent: requests that have a spelling, by events so far
-
-abbrev pub SentBy : List SentLine → ℕ → Type 0
-SentBy [] events = Unit {0}
-SentBy (line ∷ lines) events = (line.event ≤ events) × SentBy lines events
+-- ---- what is sent: requests that have a spelling, and not too many
 
 pub record IsSentWell (s : HubState) : Type 0 where
   pub fit : AreFit s.calls
   pub fitting : IsFitting s
-  pub few : length s.log.sent < 4294967296
+  pub few : length s.log.sent ≤ 9223372036854775808
   pub entered : length s.log.history ≤ 4096
 
 pub well_of : (s : HubState) → IsReached s → AreFit s.calls → IsSentWell s
-well_of s reached fit = record { fit = fit; fitting = fitting_of s reached fit; few = few_sent reached fit.few; entered = few_entered reached fit.few }
-
-sent_by_more : (lines : List SentLine) (events more : ℕ) → SentBy lines events → events ≤ more → SentBy lines more
-sent_by_more [] events more h le = tt
-sent_by_more (line ∷ lines) events more h le = (omega (arith, h.0), sent_by_more lines events more h.1 le)
-
-sent_by_push : (lines : List SentLine) (line : SentLine) (events more : ℕ) → SentBy lines events → events ≤ more → line.event ≤ more → SentBy (lines ++ line ∷ []) more
-sent_by_push [] line events more h le new = (new, tt)
-sent_by_push (l ∷ lines) line events more h le new = (omega (arith, h.0), sent_by_push lines line events more h.1 le new)
-
-abbrev pub IsSentBy : HubState → Type 0
-IsSentBy s = SentBy s.log.sent (length s.log.events)
-
--- one more event, and a request that it sends
-sent_more : (s t : HubState) (event : HubEvent) (bytes : List ℕ) → IsSentBy s → t.log.events ≡ s.log.events ++ event ∷ [] →
-    t.log.sent ≡ s.log.sent ++ (record { event = length s.log.events + 1; brick = 0; bytes = bytes }) ∷ [] → IsSentBy t
-sent_more s t event bytes h events sent =
-    let many : length t.log.events ≡ length s.log.events + 1 = ap length events ∙ length_push s.log.events event in
-    rw sent (sent_by_push s.log.sent _ (length s.log.events) (length t.log.events) h (omega arith) (omega arith))
-
-sent_same : (s t : HubState) (event : HubEvent) → IsSentBy s → t.log.events ≡ s.log.events ++ event ∷ [] → t.log.sent ≡ s.log.sent → IsSentBy t
-sent_same s t event h events sent =
-    let many : length t.log.events ≡ length s.log.events + 1 = ap length events ∙ length_push s.log.events event in
-    rw sent (sent_by_more s.log.sent (length s.log.events) (length t.log.events) h (omega arith))
-
-pub sent_submit : (s : HubState) (line : RootLine) → IsSentBy s → IsSentBy (submit_call s line)
-sent_submit s line h = sent_more s (submit_call s line) (Submit line.session line.line) _ h refl refl
-
-pub sent_ignore : (s : HubState) (bytes : List ℕ) → IsSentBy s → IsSentBy (ignored s bytes)
-sent_ignore s bytes h = sent_same s (ignored s bytes) (Arrive 0 bytes) h refl refl
-
-pub sent_take : (s : HubState) (bytes : List ℕ) (w : Working) (line : RootLine) (follows : Next) → IsSentBy s → IsSentBy (taken_up s bytes w line (Some follows))
-sent_take s bytes w line (next.Ask request stage places) h = sent_more s (taken_up s bytes w line (Some (next.Ask request stage places))) (Arrive 0 bytes) _ h refl refl
-sent_take s bytes w line (next.Reply places answer false) h = sent_same s (taken_up s bytes w line (Some (next.Reply places answer false))) (Arrive 0 bytes) h refl refl
-sent_take s bytes w line (next.Reply places answer true) h = sent_same s (taken_up s bytes w line (Some (next.Reply places answer true))) (Arrive 0 bytes) h refl refl
+well_of s reached fit = record { fit = fit; fitting = fitting_of s reached fit; few = few_sent s reached; entered = few_entered s reached fit.few }
 
 -- what a turn sends: nothing, or one request of its own event
 pub data SendsMore (s t : HubState) : Type 0 where
   Nothing_more : t.log.sent ≡ s.log.sent → SendsMore s t
   One_more : (bytes : List ℕ) → t.log.sent ≡ s.log.sent ++ (record { event = length s.log.events + 1; brick = 0; bytes = bytes }) ∷ [] → SendsMore s t
 
-sends_next : (s : HubState) (bytes : List ℕ) (w : Working) (line : RootLine) (follows : Next) → SendsMore s (taken_up s bytes w line (Some follows))
-sends_next s bytes w line (next.Ask request stage places) = One_more _ refl
-sends_next s bytes w line (next.Reply places answer false) = Nothing_more refl
-sends_next s bytes w line (next.Reply places answer true) = Nothing_more refl
+-- what a turn is, besides: its event, and the same calls
+pub record IsTurn (s : HubState) (event : HubEvent) (t : HubState) : Type 0 where
+  pub events : t.log.events ≡ s.log.events ++ event ∷ []
+  pub sends : SendsMore s t
+  pub calls : t.calls ≡ s.calls
 
-pub arrived_sends : (s : HubState) (bytes : List ℕ) → SendsMore s (arrived s bytes)
-arrived_sends s bytes = of (arrived s bytes) (turned s bytes)
-  where
-    of : (t : HubState) → Turned s bytes t → SendsMore s t
-    of t (Ignores _ is) = subst (SendsMore s) (sym is) (Nothing_more refl)
-    of t (Takes _ w line follows arm output read reply at_work there next is) = subst (SendsMore s) (sym is) (sends_next s bytes w line follows)
+turn_step : (s b : HubState) (t : Turning) (places : List ℕ) (event : HubEvent) (after : HubState) → b.log.events ≡ s.log.events ++ event ∷ [] → b.log.sent ≡ s.log.sent → b.calls ≡ s.calls →
+    t.event ≡ length s.log.events + 1 → Step b t places after → IsTurn s event after
+turn_step s b t places event after events sent calls number (Sends winds w call_is drawn_is follow is) = record {
+  events = ap (λ (x : HubState). x.log.events) is ∙ events;
+  sends = One_more (request_line t.event w).bytes (ap (λ (x : HubState). x.log.sent) is ∙ rw (sent, number) refl);
+  calls = ap (λ (x : HubState). x.calls) is ∙ calls;
+}
+turn_step s b t places event after events sent calls number (Replies winds more a follow is) = record {
+  events = ap (λ (x : HubState). x.log.events) is ∙ events;
+  sends = Nothing_more (ap (λ (x : HubState). x.log.sent) is ∙ sent);
+  calls = ap (λ (x : HubState). x.calls) is ∙ calls;
+}
+turn_step s b t places event after events sent calls number (Enters winds more a op follow is) = record {
+  events = ap (λ (x : HubState). x.log.events) is ∙ events;
+  sends = Nothing_more (ap (λ (x : HubState). x.log.sent) is ∙ sent);
+  calls = ap (λ (x : HubState). x.calls) is ∙ calls;
+}
 
-events_next : (s : HubState) (bytes : List ℕ) (w : Working) (line : RootLine) (follows : Next) → (taken_up s bytes w line (Some follows)).log.events ≡ s.log.events ++ Arrive 0 bytes ∷ []
-events_next s bytes w line (next.Ask request stage places) = refl
-events_next s bytes w line (next.Reply places answer false) = refl
-events_next s bytes w line (next.Reply places answer true) = refl
+pub submit_is_turn : (s : HubState) (line : RootLine) (new : List WindNo) → IsTurn s (Submit line.session line.line) (submit_call s line new)
+submit_is_turn s line new = turn_step s (begun s line) (turning_of s line) [] (Submit line.session line.line) (submit_call s line new) refl refl refl refl (step_submit s line new)
 
-pub arrived_events : (s : HubState) (bytes : List ℕ) → (arrived s bytes).log.events ≡ s.log.events ++ Arrive 0 bytes ∷ []
-arrived_events s bytes = of (arrived s bytes) (turned s bytes)
-  where
-    of : (t : HubState) → Turned s bytes t → t.log.events ≡ s.log.events ++ Arrive 0 bytes ∷ []
-    of t (Ignores _ is) = ap (λ (x : HubState). x.log.events) is
-    of t (Takes _ w line follows arm output read reply at_work there next is) = ap (λ (x : HubState). x.log.events) is ∙ events_next s bytes w line follows
+pub arrived_is_turn : (s : HubState) (bytes : List ℕ) (new : List WindNo) → IsReached s → AreNew new s.log.winds → length new ≡ arrive_winds s.working (line_of s s.working) (after_bytes s.working bytes) →
+    IsTurn s (Arrive 0 bytes) (arrived s bytes new)
+arrived_is_turn s bytes new reached fresh many =
+    by_arrival (IsTurn s (Arrive 0 bytes)) s bytes new fresh
+    (record { events = refl; sends = Nothing_more refl; calls = refl })
+    (λ w line goes taken. turn_step s (ignored s bytes) (arrived_turning s w line) w.places (Arrive 0 bytes) (arrived_with s bytes w line goes new) refl refl refl refl
+    (step_take s bytes w line goes new (turn_well s bytes w line goes new reached taken) taken.many))
+    many
 
 -- ---- counts of what was sent before an event
 

@@ -1,6 +1,6 @@
 -- The lengths of the history by event numbers: a count of the numbers below a bound stays when a number
 -- comes that is not below it.
-use Rattle.std.proofs.Common.{◌≡◌, ℕ, ◌+◌, ◌-◌, ◌<◌, ◌≤◌, List, [], ◌∷◌, ◌++◌, Option, Some, None, Bool, true, false, cond, length, take, refl, sym, ◌∙◌, ap, subst, arith, ◌⊎◌, inl, inr, zero-add}
+use Rattle.std.proofs.Common.{◌≡◌, ℕ, ◌+◌, ◌<◌, ◌≤◌, List, [], ◌∷◌, ◌++◌, Some, cond, length, refl, ap, arith}
 use Rattle.std.specs.Prelude.{slice_get, nat_lt, zero, suc}
 use Rattle.std.proofs.lemmas.Bool.Decides.{nat_tests}
 use Rattle.hub_core.specs.declared.logs.SentLine.{SentLine}
@@ -10,8 +10,7 @@ use Rattle.hub_core.specs.Kept.{AreBelow}
 use Rattle.fop_types.specs.History.{AreBetween, objects_made, makes}
 use Rattle.fop_types.specs.declared.calls.RootCall.{RootCall}
 use Rattle.fop_types.specs.declared.calls.RootLine.{RootLine}
-use Rattle.hub_core.proofs.Lists.{get_push_old}
-use Rattle.hub_core.specs.Journal.{places_of, calls_of, count_below, events_before, submits_of, arrivals_of, inputs_of, sent_before}
+use Rattle.hub_core.specs.Journal.{places_of, calls_of, count_below, events_before, submits_of, arrivals_of, inputs_of}
 
 pub count_below_push : (bound : ℕ) (numbers : List ℕ) (n : ℕ) → bound ≤ n → count_below bound (numbers ++ n ∷ []) ≡ count_below bound numbers
 count_below_push bound [] n h = grind (arith, nat_tests)

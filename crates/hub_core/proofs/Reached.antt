@@ -1,101 +1,114 @@
-use Rattle.std.proofs.Common.{◌≡◌, ℕ, ◌+◌, ◌-◌, ◌≤◌, cond, List, [], ◌∷◌, ◌++◌, Option, Some, None, length, refl, sym, ◌∙◌, ap, subst, arith, zero-add}
-use Rattle.std.specs.Prelude.{slice_get}
+-- Induction over the states that events lead to: by the start, by submissions, and by what an arrival does,
+-- which is nothing but its event, or the call at work goes on.
+use Rattle.std.proofs.Common.{◌≡◌, ℕ, ◌-◌, List, Option, Some, None, Bool, true, false, cond, length, refl, sym, ◌∙◌, ap, subst}
+use Rattle.std.specs.Prelude.{slice_get, ◌==◌}
+use Rattle.std.proofs.lemmas.Bool.{eqb-true}
 use Rattle.fop_types.specs.declared.calls.RootLine.{RootLine}
-use Rattle.std.specs.Prelude.{Bool, true, false, ◌==◌}
-use Rattle.fop_types.specs.declared.messages.Output.{Output}
-use Rattle.fop_types.specs.declared.messages.DoneArm.{DoneArm}
 use Rattle.fop_types.specs.declared.messages.BrickRep.{BrickRep}
-use Rattle.fop_types.specs.declared.messages.BrickRep.TheVariants as rep
 use Rattle.fop_types.specs.declared.messages.OutKind.{OutKind}
 use Rattle.fop_types.specs.declared.messages.OutKind.TheVariants as out
-use Rattle.std.proofs.lemmas.Bool.{eqb-true}
+use Rattle.fop_types.specs.declared.messages.Output.{Output}
 use Rattle.wire_messages.specs.Messages.{output_in}
 use Rattle.wire_messages.specs.declared.messages.Message.{Message}
 use Rattle.wire_messages.specs.declared.messages.Message.TheVariants.{Whole, Wrong}
-use Rattle.hub_core.specs.declared.stages.Working.{Working}
-use Rattle.hub_core.specs.declared.stages.Next.{Next}
-use Rattle.hub_core.specs.Turns.{HubState, IsReached, submit_call, arrived, start_of, ignored, taken_up, next_of, done_for, reply_for, output_for, message_for, arrive_for, wire_number}
+use Rattle.xlator_law.specs.declared.winds.WindNo.{WindNo}
+use Rattle.xlator_law.specs.Numbers.{wind_number}
+use Rattle.graph_core.specs.Fops.{Onward, onward as onward_of}
+use Rattle.hub_core.specs.Turns.{HubState, Working, IsReached, AreNew, start_of, submit_call, submit_winds, arrived, arrived_by, arrived_with, arrive_winds, onward_winds, after_bytes, after_message, after_output, after_reply, ignored, innermost, line_of}
 use Rattle.hub_core.specs.Turns.IsReached.{Begun, Submitted, Arrived}
+use Rattle.fop_types.specs.History.{at_once}
 
--- what holds at the start, and is kept by each event, holds of every state that is reached
+-- bytes that arrive are the reply that the call at work waits for, and it goes on
+pub record TakesUp (s : HubState) (bytes : List ℕ) (w : Working) (line : RootLine) (goes : Onward) (new : List WindNo) : Type 0 where
+  pub output : Output
+  pub replied : BrickRep
+  pub read : output_in bytes ≡ Whole output
+  pub reply : output.kind ≡ out.Reply (wind_number (innermost w.winds)) replied
+  pub at_work : s.working ≡ Some w
+  pub there : slice_get s.calls (w.call - 1) ≡ Some line
+  pub goes_on : onward_of w.fop w.stage replied ≡ goes
+  pub fresh : AreNew new s.log.winds
+  pub many : length new ≡ onward_winds line w goes
+
+-- the reply that the call at work waits for, in bytes
+pub record IsAwaited (bytes : List ℕ) (w : Working) (goes : Onward) : Type 0 where
+  pub output : Output
+  pub replied : BrickRep
+  pub read : output_in bytes ≡ Whole output
+  pub reply : output.kind ≡ out.Reply (wind_number (innermost w.winds)) replied
+  pub goes_on : onward_of w.fop w.stage replied ≡ goes
+
+module _ (bytes : List ℕ) (w : Working) (goes : Onward) (output : Output) (read : output_in bytes ≡ Whole output) where
+  awaited_test : (wind : ℕ) (r : BrickRep) → output.kind ≡ out.Reply wind r → (b : Bool) → (wind == wind_number (innermost w.winds)) ≡ b →
+      cond b (Some (onward_of w.fop w.stage r)) None ≡ Some goes → IsAwaited bytes w goes
+  awaited_test wind r kind_is true same is =
+      let wind_is : wind ≡ wind_number (innermost w.winds) = eqb-true wind (wind_number (innermost w.winds)) same in
+      record { output = output; replied = r; read = read; reply = kind_is ∙ ap (λ (n : ℕ). out.Reply n r) wind_is; goes_on = cc }
+  awaited_test wind r kind_is false same is = absurd cc
+
+  awaited_reply : (wind : ℕ) (r : BrickRep) → output.kind ≡ out.Reply wind r → after_reply w wind r ≡ Some goes → IsAwaited bytes w goes
+  awaited_reply wind r kind_is is = awaited_test wind r kind_is (wind == wind_number (innermost w.winds)) refl is
+
+  awaited_kind : (k : OutKind) → output.kind ≡ k → after_output w k ≡ Some goes → IsAwaited bytes w goes
+  awaited_kind (out.Reply wind r) kind_is is = awaited_reply wind r kind_is is
+  awaited_kind out.Closed kind_is is = absurd cc
+  awaited_kind out.Opened kind_is is = absurd cc
+  awaited_kind (out.Connected graph version) kind_is is = absurd cc
+  awaited_kind (out.Malformed place) kind_is is = absurd cc
+
+awaited_message : (bytes : List ℕ) (w : Working) (goes : Onward) (m : Message Output) → output_in bytes ≡ m → after_message w m ≡ Some goes → IsAwaited bytes w goes
+awaited_message bytes w goes (Whole output) read is = awaited_kind bytes w goes output read output.kind refl is
+awaited_message bytes w goes (Wrong place) read is = absurd cc
+
+pub awaited : (bytes : List ℕ) (w : Working) (goes : Onward) → after_bytes (Some w) bytes ≡ Some goes → IsAwaited bytes w goes
+awaited bytes w goes is = awaited_message bytes w goes (output_in bytes) refl is
+
+-- a property of what an arrival leads to
+module _ (P : HubState → Type 0) (s : HubState) (bytes : List ℕ) (new : List WindNo) (fresh : AreNew new s.log.winds) (same : P (ignored s bytes))
+    (taken : (w : Working) (line : RootLine) (goes : Onward) → TakesUp s bytes w line goes new → P (arrived_with s bytes w line goes new)) where
+  by_goes : (w : Working) (line : RootLine) (goes : Option Onward) → s.working ≡ Some w → slice_get s.calls (w.call - 1) ≡ Some line →
+      after_bytes (Some w) bytes ≡ goes → length new ≡ arrive_winds (Some w) (Some line) goes → P (arrived_by s bytes (Some w) (Some line) goes new)
+  by_goes w line None at_work there is many = same
+  by_goes w line (Some goes) at_work there is many =
+      let a : IsAwaited bytes w goes = awaited bytes w goes is in
+      taken w line goes (record { output = a.output; replied = a.replied; read = a.read; reply = a.reply; at_work = at_work; there = there; goes_on = a.goes_on; fresh = fresh; many = many })
+
+  by_line : (w : Working) (line : Option RootLine) → s.working ≡ Some w → slice_get s.calls (w.call - 1) ≡ line →
+      length new ≡ arrive_winds (Some w) line (after_bytes (Some w) bytes) → P (arrived_by s bytes (Some w) line (after_bytes (Some w) bytes) new)
+  by_line w None at_work there many = same
+  by_line w (Some line) at_work there many = by_goes w line (after_bytes (Some w) bytes) at_work there refl many
+
+  by_work : (v : Option Working) → s.working ≡ v → length new ≡ arrive_winds v (line_of s v) (after_bytes v bytes) →
+      P (arrived_by s bytes v (line_of s v) (after_bytes v bytes) new)
+  by_work None at_work many = same
+  by_work (Some w) at_work many = by_line w (slice_get s.calls (w.call - 1)) at_work refl many
+
+  pub by_arrival : length new ≡ arrive_winds s.working (line_of s s.working) (after_bytes s.working bytes) → P (arrived s bytes new)
+  by_arrival many = by_work s.working refl many
+
+-- what holds at the start and is kept by each submission and each arrival holds of every state that is reached
 pub by_events : (P : HubState → Type 0) →
     ((calls : List RootLine) → P (start_of calls)) →
-    ((s : HubState) (line : RootLine) → P s → s.working ≡ None → slice_get s.calls s.submitted ≡ Some line → P (submit_call s line)) →
-    ((s : HubState) (bytes : List ℕ) → P s → P (arrived s bytes)) →
+    ((s : HubState) (line : RootLine) (new : List WindNo) → IsReached s → P s → s.working ≡ None → slice_get s.calls s.submitted ≡ Some line →
+    AreNew new s.log.winds → length new ≡ submit_winds line (at_once line.call) → IsReached (submit_call s line new) → P (submit_call s line new)) →
+    ((s : HubState) (bytes : List ℕ) (new : List WindNo) → IsReached s → P s → AreNew new s.log.winds →
+    length new ≡ arrive_winds s.working (line_of s s.working) (after_bytes s.working bytes) → IsReached (arrived s bytes new) → P (arrived s bytes new)) →
     (s : HubState) → IsReached s → P s
 by_events P start submit arrive s (Begun _ is) = subst P (sym is) (start s.calls)
-by_events P start submit arrive t (Submitted s _ line before idle next is) =
-    subst P (sym is) (submit s line (by_events P start submit arrive s before) idle next)
-by_events P start submit arrive t (Arrived s _ bytes before is) =
-    subst P (sym is) (arrive s bytes (by_events P start submit arrive s before))
-
--- what an arrival does: nothing but its event, or the call at work goes on
-module _ (s : HubState) (bytes : List ℕ) where
-  pub data Turned : HubState → Type 0 where
-    Ignores : (t : HubState) → t ≡ ignored s bytes → Turned t
-    Takes : (t : HubState) → (w : Working) → (line : RootLine) → (follows : Next) → (arm : DoneArm) → (output : Output) →
-        output_in bytes ≡ Whole output → output.kind ≡ out.Reply (wire_number w.turn) (rep.Done arm) →
-        s.working ≡ Some w → slice_get s.calls (w.call - 1) ≡ Some line →
-        next_of w.stage line.call w.drawn w.places (length s.log.history) arm ≡ Some follows →
-        t ≡ taken_up s bytes w line (Some follows) → Turned t
-
-  turned_next : (w : Working) (line : RootLine) (arm : DoneArm) (output : Output) → output_in bytes ≡ Whole output → output.kind ≡ out.Reply (wire_number w.turn) (rep.Done arm) → s.working ≡ Some w → slice_get s.calls (w.call - 1) ≡ Some line →
-      (n : Option Next) → next_of w.stage line.call w.drawn w.places (length s.log.history) arm ≡ n → Turned (taken_up s bytes w line n)
-  turned_next w line arm output read reply at_work there None is = Ignores _ refl
-  turned_next w line arm output read reply at_work there (Some follows) is = Takes _ w line follows arm output read reply at_work there is refl
-
-  turned_line : (w : Working) (arm : DoneArm) (output : Output) → output_in bytes ≡ Whole output → output.kind ≡ out.Reply (wire_number w.turn) (rep.Done arm) → s.working ≡ Some w → (l : Option RootLine) → slice_get s.calls (w.call - 1) ≡ l → Turned (done_for s bytes w l arm)
-  turned_line w arm output read reply at_work None is = Ignores _ refl
-  turned_line w arm output read reply at_work (Some line) is = turned_next w line arm output read reply at_work is _ refl
-
-  turned_test : (w : Working) (wind : ℕ) (arm : DoneArm) (output : Output) → output_in bytes ≡ Whole output → output.kind ≡ out.Reply wind (rep.Done arm) → s.working ≡ Some w → (b : Bool) → (wind == wire_number w.turn) ≡ b →
-      Turned (cond b (done_for s bytes w (slice_get s.calls (w.call - 1)) arm) (ignored s bytes))
-  turned_test w wind arm output read reply at_work true is =
-      let same : wind ≡ wire_number w.turn = eqb-true wind (wire_number w.turn) is in
-      turned_line w arm output read (reply ∙ ap (λ (n : ℕ). out.Reply n (rep.Done arm)) same) at_work _ refl
-  turned_test w wind arm output read reply at_work false is = Ignores _ refl
-
-  turned_reply : (w : Working) (wind : ℕ) (output : Output) → output_in bytes ≡ Whole output → s.working ≡ Some w → (r : BrickRep) → output.kind ≡ out.Reply wind r → Turned (reply_for s bytes w wind r)
-  turned_reply w wind output read at_work (rep.Done arm) reply = turned_test w wind arm output read reply at_work _ refl
-  turned_reply w wind output read at_work rep.Gone reply = Ignores _ refl
-  turned_reply w wind output read at_work rep.Fault reply = Ignores _ refl
-  turned_reply w wind output read at_work rep.Unfit reply = Ignores _ refl
-  turned_reply w wind output read at_work rep.BadFd reply = Ignores _ refl
-
-  turned_kind : (w : Working) (output : Output) → output_in bytes ≡ Whole output → s.working ≡ Some w → (k : OutKind) → output.kind ≡ k → Turned (output_for s bytes w k)
-  turned_kind w output read at_work (out.Reply wind r) is = turned_reply w wind output read at_work r is
-  turned_kind w output read at_work out.Closed is = Ignores _ refl
-  turned_kind w output read at_work out.Opened is = Ignores _ refl
-  turned_kind w output read at_work (out.Connected graph version) is = Ignores _ refl
-  turned_kind w output read at_work (out.Malformed place) is = Ignores _ refl
-
-  turned_message : (w : Working) → s.working ≡ Some w → (m : Message Output) → output_in bytes ≡ m → Turned (message_for s bytes w m)
-  turned_message w at_work (Whole output) is = turned_kind w output is at_work output.kind refl
-  turned_message w at_work (Wrong place) is = Ignores _ refl
-
-  turned_work : (v : Option Working) → s.working ≡ v → Turned (arrive_for s bytes v)
-  turned_work None is = Ignores _ refl
-  turned_work (Some w) is = turned_message w is (output_in bytes) refl
-
-  pub turned : Turned (arrived s bytes)
-  turned = turned_work s.working refl
+by_events P start submit arrive t (Submitted s _ line new before idle there fresh many is) =
+    subst P (sym is) (submit s line new before (by_events P start submit arrive s before) idle there fresh many (Submitted s _ line new before idle there fresh many refl))
+by_events P start submit arrive t (Arrived s _ bytes new before fresh many is) =
+    subst P (sym is) (arrive s bytes new before (by_events P start submit arrive s before) fresh many (Arrived s _ bytes new before fresh many refl))
 
 -- the same induction, by what an arrival does
 pub by_turns : (P : HubState → Type 0) →
     ((calls : List RootLine) → P (start_of calls)) →
-    ((s : HubState) (line : RootLine) → P s → s.working ≡ None → slice_get s.calls s.submitted ≡ Some line → P (submit_call s line)) →
-    ((s : HubState) (bytes : List ℕ) → P s → P (ignored s bytes)) →
-    ((s : HubState) (bytes : List ℕ) (w : Working) (line : RootLine) (follows : Next) (arm : DoneArm) (output : Output) → P s →
-    output_in bytes ≡ Whole output → output.kind ≡ out.Reply (wire_number w.turn) (rep.Done arm) → s.working ≡ Some w →
-    slice_get s.calls (w.call - 1) ≡ Some line →
-    next_of w.stage line.call w.drawn w.places (length s.log.history) arm ≡ Some follows →
-    P (taken_up s bytes w line (Some follows))) →
+    ((s : HubState) (line : RootLine) (new : List WindNo) → IsReached s → P s → s.working ≡ None → slice_get s.calls s.submitted ≡ Some line →
+    AreNew new s.log.winds → length new ≡ submit_winds line (at_once line.call) → P (submit_call s line new)) →
+    ((s : HubState) (bytes : List ℕ) → IsReached s → P s → P (ignored s bytes)) →
+    ((s : HubState) (bytes : List ℕ) (w : Working) (line : RootLine) (goes : Onward) (new : List WindNo) → IsReached s → P s →
+    TakesUp s bytes w line goes new → P (arrived_with s bytes w line goes new)) →
     (s : HubState) → IsReached s → P s
-by_turns P start submit ignore take s reached = by_events P start submit arrive s reached
-  where
-    split : (s : HubState) (bytes : List ℕ) (t : HubState) → P s → Turned s bytes t → P t
-    split s bytes t p (Ignores _ is) = subst P (sym is) (ignore s bytes p)
-    split s bytes t p (Takes _ w line follows arm output read reply at_work there next is) = subst P (sym is) (take s bytes w line follows arm output p read reply at_work there next)
-
-    arrive : (s : HubState) (bytes : List ℕ) → P s → P (arrived s bytes)
-    arrive s bytes p = split s bytes (arrived s bytes) p (turned s bytes)
+by_turns P start submit ignore take = by_events P start
+    (λ s line new before p idle there fresh many after. submit s line new before p idle there fresh many)
+    (λ s bytes new before p fresh many after. by_arrival P s bytes new fresh (ignore s bytes before p) (λ w line goes taken. take s bytes w line goes new before p taken) many)

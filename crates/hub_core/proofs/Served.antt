@@ -1,5 +1,5 @@
 -- A brick that is asked one more request: one more output, of the store that the requests before it left.
-use Rattle.std.proofs.Common.{ℕ, ◌+◌, ◌<◌, ◌≤◌, List, [], ◌∷◌, ◌++◌, length, refl}
+use Rattle.std.proofs.Common.{ℕ, ◌+◌, List, [], ◌∷◌, ◌++◌, length, refl}
 use Rattle.fop_types.specs.declared.messages.BrickReq.{BrickReq}
 use Rattle.fop_types.specs.declared.messages.Input.TheVariants.{Request}
 use Rattle.fop_types.specs.declared.messages.OutKind.TheVariants.{Reply}

@@ -1,167 +1,193 @@
--- Every turn ends the wind whose reply it takes up, and opens at most one, of a turn that is new.
-use Rattle.std.proofs.Common.{◌≡◌, ◌≢◌, ℕ, ◌+◌, ◌-◌, ◌<◌, ◌≤◌, List, [], ◌∷◌, ◌++◌, Option, Some, None, Bool, true, false, cond, length, refl, sym, ◌∙◌, ap, subst, arith, ◌⊎◌, inl, inr}
-use Rattle.std.specs.Prelude.{slice_get, ◌==◌, ◌&&◌, not}
-use Rattle.std.proofs.lemmas.List.{length_push}
-use Rattle.std.proofs.lemmas.Bool.{eqb-true}
-use Rattle.std.proofs.lemmas.Bool.Decides.{nat_tests}
+-- Winds are opened once and ended once, after their opening.
+use Rattle.std.proofs.Common.{◌≡◌, ℕ, ◌+◌, ◌-◌, ◌<◌, List, [], ◌∷◌, ◌++◌, Option, Some, None, Bool, true, false, length, refl, sym, ◌∙◌, ap, subst, arith, ◌⊎◌, inl, inr}
+use Rattle.std.specs.Prelude.{slice_get, reverse, map}
+use Rattle.std.proofs.lemmas.List.{append-nil}
 use Rattle.fop_types.specs.declared.answers.Answer.{Answer}
-use Rattle.fop_types.specs.declared.messages.BrickReq.{BrickReq}
+use Rattle.fop_types.specs.declared.answers.AppError.{AppError}
 use Rattle.fop_types.specs.declared.calls.RootLine.{RootLine}
+use Rattle.fop_types.specs.declared.cells.Kind.TheVariants.{Dir}
+use Rattle.fop_types.specs.declared.flat.FlatAnswer.TheVariants as flat
+use Rattle.fop_types.specs.Flat.{root}
+use Rattle.fop_types.specs.History.{looked_up, at_once, is_done}
+use Rattle.xlator_law.specs.declared.winds.WindNo.{WindNo}
+use Rattle.graph_core.specs.declared.fops.Fop.{Fop}
+use Rattle.graph_core.specs.Fops.{Onward}
+use Rattle.graph_core.specs.Fops.{Onward as onward}
+use Rattle.graph_core.specs.Fops.{refused}
 use Rattle.hub_core.specs.declared.logs.WindLine.{WindLine}
-use Rattle.hub_core.specs.declared.logs.WindNo.{WindNo}
-use Rattle.hub_core.specs.declared.logs.SentLine.{SentLine}
-use Rattle.hub_core.specs.declared.stages.Working.{Working}
-use Rattle.hub_core.specs.declared.stages.Stage.{Stage}
-use Rattle.hub_core.specs.declared.stages.Next.{Next}
-use Rattle.hub_core.specs.declared.stages.Next.TheVariants as next
-use Rattle.hub_core.specs.Journal.{WindsAreOnce, WindsAreBalanced, IsEndOf, times_opened, times_ended, is_wind}
-use Rattle.hub_core.specs.Kept.{TurnsAreBelow, AllEnded, LastOpen, WindsKept, IsWound, slot_wind, one_if}
-use Rattle.hub_core.specs.Turns.{HubState, start_of, submit_call, ignored, taken_up, wind_line}
-use Rattle.hub_core.proofs.Lists.{get_push_old, get_push_last, get_push_cases, get_below}
+use Rattle.hub_core.specs.Journal.{WindsAreOnce, IsEndOf, times_opened, times_ended}
+use Rattle.hub_core.specs.Kept.{times_in, IsOpenFor, AreOpenFor, WindsKept, IsWound}
+use Rattle.hub_core.specs.Turns.{HubState, Working, Turning, IsReached, submit_turned, next_fop, rest_after, ignored, arrived_with, arrived_turning, turning_of, wind_line, ending, staying, places_after}
+use Rattle.hub_core.proofs.Lists.{get_push_old, get_below}
+use Rattle.hub_core.proofs.Reached.{by_turns}
+use Rattle.hub_core.proofs.Steps.{begun, sent_on, answered_on}
+use Rattle.hub_core.proofs.WindLists.{get_append_cases, get_append_later, take_drop, get_map, get_mapped, times_in_append, times_in_reverse, opened_append, ended_append, openings_open, openings_end_none, ends_end, ends_open_none, MayOpen, may_open, may_open_later, get_reverse}
 
-opened_push : (wind : WindNo) (lines : List WindLine) (line : WindLine) →
-    times_opened wind (lines ++ line ∷ []) ≡ times_opened wind lines + one_if (line.opened && is_wind wind line.wind)
-opened_push wind [] line = omega arith
-opened_push wind (l ∷ lines) line =
-    let rest : times_opened wind (lines ++ line ∷ []) ≡ times_opened wind lines + one_if (line.opened && is_wind wind line.wind) = opened_push wind lines line in omega arith
+-- ---- what is kept of the open winds of one call
 
-ended_push : (wind : WindNo) (lines : List WindLine) (line : WindLine) →
-    times_ended wind (lines ++ line ∷ []) ≡ times_ended wind lines + one_if (not line.opened && is_wind wind line.wind)
-ended_push wind [] line = omega arith
-ended_push wind (l ∷ lines) line =
-    let rest : times_ended wind (lines ++ line ∷ []) ≡ times_ended wind lines + one_if (not line.opened && is_wind wind line.wind) = ended_push wind lines line in omega arith
+pub record HasOpen (lines : List WindLine) (number : ℕ) (held : List WindNo) : Type 0 where
+  pub once : WindsAreOnce lines
+  pub still : AreOpenFor lines number held
+  pub ended : (wind : WindNo) → times_ended wind lines + times_in wind held ≡ times_opened wind lines
 
--- what two winds with the same numbers have in common
-same_turn : (a b : WindNo) → is_wind a b ≡ true → a.turn ≡ b.turn
-same_turn a b h = both (a.slot == b.slot) refl
-  where
-    both : (t : Bool) → (a.slot == b.slot) ≡ t → a.turn ≡ b.turn
-    both true is = eqb-true a.turn b.turn (let e : is_wind a b ≡ (a.turn == b.turn) = rw is refl in sym e ∙ h)
-    both false is = (let e : is_wind a b ≡ false = rw is refl in absurd cc)
-
-other_turn : (a b : WindNo) → b.turn < a.turn → is_wind a b ≡ false
-other_turn a b less = tested (is_wind a b) refl
-  where
-    tested : (t : Bool) → is_wind a b ≡ t → t ≡ false
-    tested true is = absurd (omega (arith, same_turn a b is))
-    tested false is = refl
-
-and_false : (b : Bool) → (b && false) ≡ false
-and_false true = refl
-and_false false = refl
-
--- a wind of a turn that is not below the bound was never opened
-never_opened : (wind : WindNo) (lines : List WindLine) (turns : ℕ) → TurnsAreBelow lines turns → turns ≤ wind.turn → times_opened wind lines ≡ 0
-never_opened wind [] turns below le = refl
-never_opened wind (line ∷ lines) turns below le =
-    let rest : times_opened wind lines ≡ 0 = never_opened wind lines turns below.1 le in
-    rw (other_turn wind line.wind (omega (arith, below.0)), and_false line.opened) (omega arith)
-
-below_push : (lines : List WindLine) (turns more : ℕ) (line : WindLine) → TurnsAreBelow lines turns → turns ≤ more → line.wind.turn < more → TurnsAreBelow (lines ++ line ∷ []) more
-below_push [] turns more line below le new = (new, tt)
-below_push (l ∷ lines) turns more line below le new = (omega (arith, below.0), below_push lines turns more line below.1 le new)
-
-end_later : (lines : List WindLine) (line : WindLine) (k : ℕ) (end : WindLine) → IsEndOf lines k end → IsEndOf (lines ++ line ∷ []) k end
-end_later lines line k end e = record {
+end_later : (lines more : List WindLine) (k : ℕ) (end : WindLine) → IsEndOf lines k end → IsEndOf (lines ++ more) k end
+end_later lines more k end e = record {
   opened_at = e.opened_at;
   opening = e.opening;
   earlier = e.earlier;
-  stands = get_push_old lines (line ∷ []) e.opened_at e.opening e.stands;
+  stands = get_push_old lines more e.opened_at e.opening e.stands;
   is_opening = e.is_opening;
   same_wind = e.same_wind;
   same_graph = e.same_graph;
   same_call = e.same_call;
 }
 
--- a new turn is opened
-pub open_wind : (lines : List WindLine) (turns event number : ℕ) → AllEnded lines turns → LastOpen (lines ++ wind_line event number turns true ∷ []) (turns + 1) number turns
-open_wind lines turns event number a =
-    let line : WindLine = wind_line event number turns true in
-    record {
-      once = record {
-        opened_once = λ wind. opened wind (is_wind wind (slot_wind turns)) refl;
-        ended_once = λ wind. (let o = opened_push wind lines line in let e = ended_push wind lines line in let was = a.ended wind in omega (arith, o, e, was));
-        ends = λ k l h closed. ends k l closed (get_push_cases lines line k l h);
-      };
-      below = below_push lines turns (turns + 1) line a.below (omega arith) (omega arith);
-      last = refl;
-      opened_at = length lines;
-      opening = line;
-      stands = get_push_last lines line;
-      is_opening = refl;
-      wind = refl;
-      graph = refl;
-      call = refl;
-      ended = λ wind. (let o = opened_push wind lines line in let e = ended_push wind lines line in let was = a.ended wind in omega (arith, o, e, was));
-    }
-  where
-    opened : (wind : WindNo) (t : Bool) → is_wind wind (slot_wind turns) ≡ t → times_opened wind (lines ++ wind_line event number turns true ∷ []) ≤ 1
-    opened wind true is =
-        let turn : wind.turn ≡ turns = same_turn wind (slot_wind turns) is in
-        let none : times_opened wind lines ≡ 0 = never_opened wind lines turns a.below (omega arith) in
-        let pushed : times_opened wind (lines ++ wind_line event number turns true ∷ []) ≡ times_opened wind lines + one_if true =
-        opened_push wind lines (wind_line event number turns true) ∙ ap (λ (b : Bool). times_opened wind lines + one_if b) is in
-        omega arith
-    opened wind false is =
-        let once : times_opened wind lines ≤ 1 = a.once.opened_once wind in
-        let pushed : times_opened wind (lines ++ wind_line event number turns true ∷ []) ≡ times_opened wind lines + one_if false =
-        opened_push wind lines (wind_line event number turns true) ∙ ap (λ (b : Bool). times_opened wind lines + one_if b) is in
-        omega arith
-
-    ends : (k : ℕ) (l : WindLine) → l.opened ≡ false → (slice_get lines k ≡ Some l) ⊎ ((k ≡ length lines) × (wind_line event number turns true ≡ l)) → IsEndOf (lines ++ wind_line event number turns true ∷ []) k l
-    ends k l closed (inl was) = end_later lines _ k l (a.once.ends k l was closed)
-    ends k l closed (inr is) = absurd (let e : true ≡ false = ap (λ (x : WindLine). x.opened) is.1 ∙ closed in cc)
-
--- the open wind is ended
-pub end_wind : (lines : List WindLine) (turns event number turn : ℕ) → LastOpen lines turns number turn → AllEnded (lines ++ wind_line event number turn false ∷ []) turns
-end_wind lines turns event number turn o =
-    let line : WindLine = wind_line event number turn false in
-    record {
-      once = record {
-        opened_once = λ wind. (let p = opened_push wind lines line in let was = o.once.opened_once wind in omega (arith, p, was));
-        ended_once = λ wind. (let p = opened_push wind lines line in let e = ended_push wind lines line in let was = o.ended wind in omega (arith, p, e, was));
-        ends = λ k l h closed. ends k l closed (get_push_cases lines line k l h);
-      };
-      below = below_push lines turns turns line o.below (omega arith) (omega (arith, o.last));
-      ended = λ wind. (let p = opened_push wind lines line in let e = ended_push wind lines line in let was = o.ended wind in omega (arith, p, e, was));
-    }
-  where
-    ends : (k : ℕ) (l : WindLine) → l.opened ≡ false → (slice_get lines k ≡ Some l) ⊎ ((k ≡ length lines) × (wind_line event number turn false ≡ l)) → IsEndOf (lines ++ wind_line event number turn false ∷ []) k l
-    ends k l closed (inl was) = end_later lines _ k l (o.once.ends k l was closed)
-    ends k l closed (inr is) = subst (IsEndOf (lines ++ wind_line event number turn false ∷ []) k) is.1 (record {
-      opened_at = o.opened_at;
-      opening = o.opening;
-      earlier = omega (arith, is.0, get_below lines o.opened_at o.opening o.stands);
-      stands = get_push_old lines _ o.opened_at o.opening o.stands;
-      is_opening = o.is_opening;
-      same_wind = o.wind;
-      same_graph = o.graph;
-      same_call = o.call;
-    })
-
-pub wound_start : (calls : List RootLine) → IsWound (start_of calls)
-wound_start calls = record {
-  once = record { opened_once = λ wind. omega arith; ended_once = λ wind. omega arith; ends = λ k line h closed. absurd cc };
-  below = tt;
-  ended = λ wind. refl;
+pub still_later : (lines more : List WindLine) (number : ℕ) (wind : WindNo) → IsOpenFor lines number wind → IsOpenFor (lines ++ more) number wind
+still_later lines more number wind h = record {
+  opened_at = h.opened_at;
+  opening = h.opening;
+  stands = get_push_old lines more h.opened_at h.opening h.stands;
+  is_opening = h.is_opening;
+  wind_is = h.wind_is;
+  graph = h.graph;
+  call = h.call;
 }
 
-pub wound_submit : (s : HubState) (line : RootLine) → IsWound s → s.working ≡ None → IsWound (submit_call s line)
-wound_submit s line h idle =
-    let ended : AllEnded s.log.winds (length s.log.sent) = subst (WindsKept s.log.winds (length s.log.sent)) idle h in
-    subst (λ (n : ℕ). LastOpen (submit_call s line).log.winds n (s.submitted + 1) (length s.log.sent)) (sym (length_push s.log.sent _))
-    (open_wind s.log.winds (length s.log.sent) (length s.log.events + 1) (s.submitted + 1) ended)
+module _ (lines : List WindLine) (number event : ℕ) where
+  -- new winds are opened, the innermost last
+  pub open_new : (held new : List WindNo) → HasOpen lines number held → MayOpen new lines → HasOpen (lines ++ map (wind_line event number true) new) number (reverse new ++ held)
+  open_new held new h may =
+      let more : List WindLine = map (wind_line event number true) new in
+      record {
+        once = record {
+          opened_once = λ wind. omega (arith, opened_append wind lines more, openings_open wind event number new, may wind);
+          ended_once = λ wind. omega (arith, opened_append wind lines more, openings_open wind event number new, ended_append wind lines more, openings_end_none wind event number new, h.ended wind);
+          ends = λ k line at closed. ends k line closed (get_append_cases lines more k line at);
+        };
+        still = λ k wind at. still k wind (get_append_cases (reverse new) held k wind at);
+        ended = λ wind. omega (arith, opened_append wind lines more, openings_open wind event number new, ended_append wind lines more, openings_end_none wind event number new, h.ended wind, times_in_append wind (reverse new) held, times_in_reverse wind new);
+      }
+    where
+      ends : (k : ℕ) (line : WindLine) → line.opened ≡ false →
+          (slice_get lines k ≡ Some line) ⊎ ((j : ℕ) × (k ≡ length lines + j) × (slice_get (map (wind_line event number true) new) j ≡ Some line)) →
+          IsEndOf (lines ++ map (wind_line event number true) new) k line
+      ends k line closed (inl old) = end_later lines _ k line (h.once.ends k line old closed)
+      ends k line closed (inr now) = (let m = get_map (wind_line event number true) new now.0 line now.2 in absurd (let e : true ≡ false = ap (λ (x : WindLine). x.opened) m.2 ∙ closed in cc))
 
-pub wound_take : (s : HubState) (bytes : List ℕ) (w : Working) (line : RootLine) (follows : Next) → IsWound s → s.working ≡ Some w → IsWound (taken_up s bytes w line (Some follows))
-wound_take s bytes w line (next.Ask request stage places) h at_work =
-    let open_now : LastOpen s.log.winds (length s.log.sent) w.call w.turn = subst (WindsKept s.log.winds (length s.log.sent)) at_work h in
-    let ended : AllEnded (s.log.winds ++ wind_line (length s.log.events + 1) w.call w.turn false ∷ []) (length s.log.sent) =
-    end_wind s.log.winds (length s.log.sent) (length s.log.events + 1) w.call w.turn open_now in
-    subst (λ (n : ℕ). LastOpen (taken_up s bytes w line (Some (next.Ask request stage places))).log.winds n w.call (length s.log.sent)) (sym (length_push s.log.sent _))
-    (open_wind (s.log.winds ++ wind_line (length s.log.events + 1) w.call w.turn false ∷ []) (length s.log.sent) (length s.log.events + 1) w.call ended)
-wound_take s bytes w line (next.Reply places answer false) h at_work =
-    let open_now : LastOpen s.log.winds (length s.log.sent) w.call w.turn = subst (WindsKept s.log.winds (length s.log.sent)) at_work h in
-    end_wind s.log.winds (length s.log.sent) (length s.log.events + 1) w.call w.turn open_now
-wound_take s bytes w line (next.Reply places answer true) h at_work =
-    let open_now : LastOpen s.log.winds (length s.log.sent) w.call w.turn = subst (WindsKept s.log.winds (length s.log.sent)) at_work h in
-    end_wind s.log.winds (length s.log.sent) (length s.log.events + 1) w.call w.turn open_now
+      still : (k : ℕ) (wind : WindNo) → (slice_get (reverse new) k ≡ Some wind) ⊎ ((j : ℕ) × (k ≡ length (reverse new) + j) × (slice_get held j ≡ Some wind)) →
+          IsOpenFor (lines ++ map (wind_line event number true) new) number wind
+      still k wind (inr old) = still_later lines _ number wind (h.still old.0 wind old.2)
+      still k wind (inl now) =
+          let r = get_reverse new k wind now in
+          record {
+            opened_at = length lines + r.0;
+            opening = wind_line event number true wind;
+            stands = get_append_later lines _ r.0 _ (get_mapped (wind_line event number true) new r.0 wind r.1);
+            is_opening = refl;
+            wind_is = refl;
+            graph = refl;
+            call = refl;
+          }
+
+  -- open winds end
+  pub end_open : (xs ys : List WindNo) → HasOpen lines number (xs ++ ys) → HasOpen (lines ++ map (wind_line event number false) xs) number ys
+  end_open xs ys h =
+      let more : List WindLine = map (wind_line event number false) xs in
+      record {
+        once = record {
+          opened_once = λ wind. omega (arith, opened_append wind lines more, ends_open_none wind event number xs, h.once.opened_once wind);
+          ended_once = λ wind. omega (arith, opened_append wind lines more, ends_open_none wind event number xs, ended_append wind lines more, ends_end wind event number xs, h.ended wind, times_in_append wind xs ys);
+          ends = λ k line at closed. ends k line closed (get_append_cases lines more k line at);
+        };
+        still = λ k wind at. still_later lines more number wind (h.still (length xs + k) wind (get_append_later xs ys k wind at));
+        ended = λ wind. omega (arith, opened_append wind lines more, ends_open_none wind event number xs, ended_append wind lines more, ends_end wind event number xs, h.ended wind, times_in_append wind xs ys);
+      }
+    where
+      ends : (k : ℕ) (line : WindLine) → line.opened ≡ false →
+          (slice_get lines k ≡ Some line) ⊎ ((j : ℕ) × (k ≡ length lines + j) × (slice_get (map (wind_line event number false) xs) j ≡ Some line)) →
+          IsEndOf (lines ++ map (wind_line event number false) xs) k line
+      ends k line closed (inl old) = end_later lines _ k line (h.once.ends k line old closed)
+      ends k line closed (inr now) =
+          let m = get_map (wind_line event number false) xs now.0 line now.2 in
+          let o : IsOpenFor lines number m.0 = h.still now.0 m.0 (get_push_old xs ys now.0 m.0 m.1) in
+          subst (IsEndOf (lines ++ map (wind_line event number false) xs) k) m.2 (record {
+            opened_at = o.opened_at;
+            opening = o.opening;
+            earlier = (let below : o.opened_at < length lines = get_below lines o.opened_at o.opening o.stands in omega (arith, now.1, below));
+            stands = get_push_old lines _ o.opened_at o.opening o.stands;
+            is_opening = o.is_opening;
+            same_wind = o.wind_is;
+            same_graph = o.graph;
+            same_call = o.call;
+          })
+
+-- ---- turns
+
+-- a fop is sent with new winds, or ends at once
+wound_sent : (b : HubState) (t : Turning) (winds : List WindLine) (places : List ℕ) (rest : List (List ℕ)) (f : Fop) (new : List WindNo) (r : Option AppError) →
+    HasOpen winds t.number [] → MayOpen new winds → IsWound (sent_on b t (record b.log { winds = winds }) places rest f new r)
+wound_sent b t winds places rest f new None h may =
+    let o : HasOpen (winds ++ map (wind_line t.event t.number true) new) t.number (reverse new) =
+    subst (HasOpen (winds ++ map (wind_line t.event t.number true) new) t.number) (append-nil (reverse new)) (open_new winds t.number t.event [] new h may) in
+    record { once = o.once; still_open = o.still; ended = o.ended }
+wound_sent b t winds places rest f new (Some error) h may =
+    let o : HasOpen (winds ++ map (wind_line t.event t.number true) new) t.number (reverse new ++ []) = open_new winds t.number t.event [] new h may in
+    let e : HasOpen ((winds ++ map (wind_line t.event t.number true) new) ++ map (wind_line t.event t.number false) (reverse new)) t.number [] =
+    end_open (winds ++ map (wind_line t.event t.number true) new) t.number t.event (reverse new) [] o in
+    record { once = e.once; still_open = λ k wind at. absurd cc; ended = e.ended }
+
+-- with no call at work all winds have ended, whatever the call
+pub none_open : (s : HubState) (number : ℕ) → IsWound s → s.working ≡ None → HasOpen s.log.winds number []
+none_open s number h idle =
+    let k : WindsKept s.log.winds None = subst (WindsKept s.log.winds) idle h in
+    record { once = k.once; still = λ i wind at. absurd cc; ended = k.ended }
+
+pub work_open : (s : HubState) (w : Working) → IsWound s → s.working ≡ Some w → HasOpen s.log.winds w.call w.winds
+work_open s w h at_work =
+    let k : WindsKept s.log.winds (Some w) = subst (WindsKept s.log.winds) at_work h in
+    record { once = k.once; still = k.still_open; ended = k.ended }
+
+wound_once : (s : HubState) (line : RootLine) (new : List WindNo) → HasOpen s.log.winds (s.submitted + 1) [] → MayOpen new s.log.winds → (o : Option AppError) →
+    IsWound (record (begun s line) { log = (submit_turned s line new o).log; working = (submit_turned s line new o).working })
+wound_once s line new h may (Some error) = record { once = h.once; still_open = λ k wind at. absurd cc; ended = h.ended }
+wound_once s line new h may None =
+    wound_sent (begun s line) (turning_of s line) s.log.winds [] (rest_after (looked_up line.call))
+    (next_fop line.call (turning_of s line).drawn (length s.log.history) root Dir (looked_up line.call)) new
+    (refused (next_fop line.call (turning_of s line).drawn (length s.log.history) root Dir (looked_up line.call))) h may
+
+wound_answered : (s : HubState) (bytes : List ℕ) (w : Working) (line : RootLine) (a : Answer) (d : Bool) (places : List ℕ) →
+    HasOpen (s.log.winds ++ map (wind_line (length s.log.events + 1) w.call false) w.winds) w.call [] → IsWound (answered_on s bytes w line a d places)
+wound_answered s bytes w line a true places e = record { once = e.once; still_open = λ k wind at. absurd cc; ended = e.ended }
+wound_answered s bytes w line a false places e = record { once = e.once; still_open = λ k wind at. absurd cc; ended = e.ended }
+
+wound_take : (s : HubState) (bytes : List ℕ) (w : Working) (line : RootLine) (goes : Onward) (new : List WindNo) → HasOpen s.log.winds w.call w.winds → MayOpen new s.log.winds →
+    IsWound (arrived_with s bytes w line goes new)
+wound_take s bytes w line (onward.Ask next kept) new h may =
+    let event : ℕ = length s.log.events + 1 in
+    let parts : HasOpen s.log.winds w.call (ending w kept ++ staying w kept) = subst (HasOpen s.log.winds w.call) (sym (take_drop (length w.winds - kept) w.winds)) h in
+    let e : HasOpen (s.log.winds ++ map (wind_line event w.call false) (ending w kept)) w.call (staying w kept) = end_open s.log.winds w.call event (ending w kept) (staying w kept) parts in
+    let o : HasOpen ((s.log.winds ++ map (wind_line event w.call false) (ending w kept)) ++ map (wind_line event w.call true) new) w.call (reverse new ++ staying w kept) =
+    open_new (s.log.winds ++ map (wind_line event w.call false) (ending w kept)) w.call event (staying w kept) new e (may_open_later new (ending w kept) s.log.winds event w.call may) in
+    record { once = o.once; still_open = o.still; ended = o.ended }
+wound_take s bytes w line (onward.Answer (flat.Call a)) new h may =
+    wound_answered s bytes w line a (is_done a) (places_after w.places a (length s.log.history))
+    (end_open s.log.winds w.call (length s.log.events + 1) w.winds [] (subst (HasOpen s.log.winds w.call) (sym (append-nil w.winds)) h))
+wound_take s bytes w line (onward.Answer (flat.Found gfid kind)) new h may =
+    let event : ℕ = length s.log.events + 1 in
+    wound_sent (ignored s bytes) (arrived_turning s w line) (s.log.winds ++ map (wind_line event w.call false) w.winds) (w.places ++ length s.log.history ∷ [])
+    (rest_after w.rest) (next_fop line.call w.drawn (length s.log.history) gfid kind w.rest) new (refused (next_fop line.call w.drawn (length s.log.history) gfid kind w.rest))
+    (end_open s.log.winds w.call event w.winds [] (subst (HasOpen s.log.winds w.call) (sym (append-nil w.winds)) h))
+    (may_open_later new w.winds s.log.winds event w.call may)
+
+pub wound_of : (s : HubState) → IsReached s → IsWound s
+wound_of = by_turns IsWound
+    (λ calls. record {
+      once = record { opened_once = λ wind. omega arith; ended_once = λ wind. omega arith; ends = λ k line h closed. absurd cc };
+      still_open = λ k wind at. absurd cc;
+      ended = λ wind. refl;
+    })
+    (λ s line new before h idle there fresh many.
+    wound_once s line new (none_open s (s.submitted + 1) h idle) (may_open new s.log.winds h.once fresh) (at_once line.call))
+    (λ s bytes before h. h)
+    (λ s bytes w line goes new before h taken.
+    wound_take s bytes w line goes new (work_open s w h taken.at_work) (may_open new s.log.winds h.once taken.fresh))

@@ -1,26 +1,21 @@
 -- What may be said of a log: that it follows a script and is finished, that its arrivals are honest, that
 -- its winds are balanced, that its replies are lawful, and that its changes are on the brick.
-use Rattle.std.specs.Prelude.{◌≡◌, ◌≢◌, ℕ, zero, suc, ◌+◌, ◌-◌, ◌*◌, ◌<◌, ◌≤◌, ◌==◌, nat_lt, Bool, true, false, ◌&&◌, not, cond, List, [], ◌∷◌, ◌++◌, Option, Some, None, length, take, map, slice_get, if◌then◌else◌}
-use Rattle.fop_types.specs.declared.answers.Answer.{Answer}
-use Rattle.fop_types.specs.declared.cells.Gfid.{Gfid}
-use Rattle.fop_types.specs.declared.contents.Span.{Span}
+use Rattle.std.specs.Prelude.{◌≡◌, ℕ, zero, suc, ◌+◌, ◌-◌, ◌<◌, ◌≤◌, ◌==◌, nat_lt, Bool, true, false, ◌&&◌, not, List, [], ◌∷◌, Option, Some, None, length, take, slice_get, if◌then◌else◌}
+use Rattle.fop_types.specs.declared.cells.Cell.{Cell}
 use Rattle.fop_types.specs.declared.calls.RootCall.{RootCall}
-use Rattle.fop_types.specs.declared.calls.RootCall.TheVariants as call
-use Rattle.fop_types.specs.declared.history.Entry.{Entry}
+use Rattle.fop_types.specs.declared.flat.FlatOp.{FlatOp}
+use Rattle.fop_types.specs.declared.flat.FlatOp.TheVariants.{Lookup, Mkdir, Stat}
 use Rattle.fop_types.specs.declared.messages.BrickReq.{BrickReq}
 use Rattle.fop_types.specs.declared.messages.BrickReq.TheVariants.{Op, Post}
-use Rattle.fop_types.specs.declared.messages.DoneArm.{DoneArm}
 use Rattle.fop_types.specs.declared.messages.DoneArm.TheVariants.{Nothing}
-use Rattle.fop_types.specs.declared.messages.BrickRep.{BrickRep}
 use Rattle.fop_types.specs.declared.messages.BrickRep.TheVariants.{Done}
 use Rattle.fop_types.specs.declared.messages.Input.TheVariants.{Request}
 use Rattle.fop_types.specs.declared.messages.OutKind.TheVariants.{Reply}
 use Rattle.fop_types.specs.declared.messages.Output.{Output}
-use Rattle.fop_types.specs.declared.contents.Mask.{Mask}
 use Rattle.fop_types.specs.declared.store_ops.StoreOp.{StoreOp}
 use Rattle.fop_types.specs.declared.store_ops.StoreOp.TheVariants.{AddName}
-use Rattle.fop_types.specs.Flat.{root, directory_item}
-use Rattle.fop_types.specs.History.{IsLawfulReply, IsLegalHistory, call_numbered, drawn_by, last_part}
+use Rattle.fop_types.specs.Flat.{directory_item}
+use Rattle.fop_types.specs.History.{IsLawfulReply}
 use Rattle.fop_types.specs.declared.calls.RootLine.{RootLine}
 use Rattle.brick_store.specs.Cells.{names_cell}
 use Rattle.wire_xdr.specs.WireText.{input_text, output_text}
@@ -32,7 +27,8 @@ use Rattle.hub_core.specs.declared.logs.HubEvent.TheVariants.{Submit, Arrive}
 use Rattle.hub_core.specs.declared.logs.SentLine.{SentLine}
 use Rattle.hub_core.specs.declared.logs.ReplyLine.{ReplyLine}
 use Rattle.hub_core.specs.declared.logs.WindLine.{WindLine}
-use Rattle.hub_core.specs.declared.logs.WindNo.{WindNo}
+use Rattle.xlator_law.specs.declared.winds.WindNo.{WindNo}
+use Rattle.graph_core.specs.Fops.{whole_span}
 use Rattle.hub_core.specs.declared.logs.Log.{Log}
 
 -- ---- what a log holds
@@ -148,30 +144,27 @@ pub record WindsAreBalanced (lines : List WindLine) : Type 0 where
 
 -- ---- replies
 
-pub record IsLawfulLine (calls : List RootLine) (log : Log) (reply : ReplyLine) : Type 0 where
+pub record IsLawfulLine (calls : List RootLine) (ops : List FlatOp) (log : Log) (reply : ReplyLine) : Type 0 where
   pub lawful :
-      IsLawfulReply (calls_of calls) log.history (length_at_submit log reply.call) (length_at_reply log reply.event)
+      IsLawfulReply (calls_of calls) ops log.history (length_at_submit log reply.call) (length_at_reply log reply.event)
       reply.call reply.places reply.answer
   pub own_line : slice_get (places_of calls) (reply.call - 1) ≡ Some (reply.session, reply.line)
 
-abbrev pub AreLawful : List RootLine → Log → Type 0
-AreLawful calls log = (k : ℕ) (reply : ReplyLine) → slice_get log.replies k ≡ Some reply → IsLawfulLine calls log reply
+abbrev pub AreLawful : List RootLine → List FlatOp → Log → Type 0
+AreLawful calls ops log = (k : ℕ) (reply : ReplyLine) → slice_get log.replies k ≡ Some reply → IsLawfulLine calls ops log reply
 
 -- ---- changes on the brick
 
--- every hash: the range of a directory where there is one set
-abbrev pub whole_span : Span
-whole_span = record { first = 0; last = 4294967295 }
+-- the op that stands for a change on the brick, and the cells that it alters
+abbrev pub store_op_of : FlatOp → Option StoreOp
+store_op_of (Mkdir parent name mode drawn) = Some (AddName parent (directory_item name drawn) mode (Some whole_span))
+store_op_of (Lookup parent name) = None
+store_op_of (Stat gfid) = None
 
-abbrev pub store_op_with : Option RootCall → Gfid → Option StoreOp
-store_op_with None drawn = None
-store_op_with (Some (call.Mkdir path mode)) drawn =
-    Some (AddName root (directory_item (last_part path.parts) drawn) mode (Some whole_span))
-store_op_with (Some (call.Stat path)) drawn = None
-
--- the store op of an entry
-abbrev pub store_op_of : List RootLine → Entry → Option StoreOp
-store_op_of calls entry = store_op_with (call_numbered (calls_of calls) entry.call) (drawn_by (calls_of calls) entry.call)
+abbrev pub changed_cells : FlatOp → List Cell
+changed_cells (Mkdir parent name mode drawn) = names_cell parent ∷ []
+changed_cells (Lookup parent name) = []
+changed_cells (Stat gfid) = []
 
 -- a request of graph 1 stands at this place in the journal, and an output answers it Done, each as its bytes
 pub record IsDoneRequest (journal outputs : List (List ℕ)) (place : ℕ) (req : BrickReq) : Type 0 where
@@ -181,17 +174,16 @@ pub record IsDoneRequest (journal outputs : List (List ℕ)) (place : ℕ) (req 
   pub stands : slice_get journal place ≡ Some (input_text (Request wind 1 req))
   pub answered : slice_get outputs answer_at ≡ Some (output_text (record { taken = taken; kind = Reply wind (Done Nothing) }))
 
--- the entry's op and then its post, under one change number, are in the journal, each answered Done
-pub record IsBacked (calls : List RootLine) (journal outputs : List (List ℕ)) (entry : Entry) : Type 0 where
+-- the operation's op and then its post, under one change number, are in the journal, each answered Done
+pub record IsBacked (journal outputs : List (List ℕ)) (operation : FlatOp) : Type 0 where
   pub op : StoreOp
-  pub op_is : store_op_of calls entry ≡ Some op
+  pub op_is : store_op_of operation ≡ Some op
   pub change : ℕ
   pub op_place : ℕ
   pub post_place : ℕ
   pub op_done : IsDoneRequest journal outputs op_place (Op change 0 op)
-  pub post_done : IsDoneRequest journal outputs post_place (Post change (names_cell root ∷ []) (record { 0 = 0 }))
+  pub post_done : IsDoneRequest journal outputs post_place (Post change (changed_cells operation) (record { 0 = 0 }))
   pub later : op_place < post_place
 
-abbrev pub IsBackedByBrick : List RootLine → List Entry → List (List ℕ) → List (List ℕ) → Type 0
-IsBackedByBrick calls history journal outputs =
-    (k : ℕ) (entry : Entry) → slice_get history k ≡ Some entry → IsBacked calls journal outputs entry
+abbrev pub IsBackedByBrick : List FlatOp → List (List ℕ) → List (List ℕ) → Type 0
+IsBackedByBrick ops journal outputs = (k : ℕ) (operation : FlatOp) → slice_get ops k ≡ Some operation → IsBacked journal outputs operation

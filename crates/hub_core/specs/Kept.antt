@@ -1,14 +1,13 @@
 -- What the hub's turns keep, whatever arrives: the counts of calls, objects and entries, and the places of
 -- the call at work.
-use Rattle.std.specs.Prelude.{◌≡◌, ℕ, ◌+◌, ◌-◌, ◌<◌, ◌≤◌, List, [], ◌∷◌, Option, Some, None, Bool, true, false, length, take, slice_get, if◌then◌else◌}
+use Rattle.std.specs.Prelude.{◌≡◌, ℕ, ◌+◌, ◌-◌, ◌<◌, ◌≤◌, List, [], ◌∷◌, Option, Some, None, true, length, take, slice_get, if◌then◌else◌}
 use Rattle.fop_types.specs.declared.history.Entry.{Entry}
 use Rattle.fop_types.specs.History.{objects_made, drawn_by, AreBetween}
 use Rattle.hub_core.specs.declared.logs.ReplyLine.{ReplyLine}
-use Rattle.hub_core.specs.declared.stages.Working.{Working}
 use Rattle.hub_core.specs.declared.logs.WindLine.{WindLine}
-use Rattle.hub_core.specs.declared.logs.WindNo.{WindNo}
+use Rattle.xlator_law.specs.declared.winds.WindNo.{WindNo}
 use Rattle.hub_core.specs.Journal.{WindsAreOnce, times_opened, times_ended, is_wind, submits_of, places_of, calls_of, length_at_submit, length_at_reply}
-use Rattle.hub_core.specs.Turns.{HubState}
+use Rattle.hub_core.specs.Turns.{HubState, Working}
 
 -- numbers that are all below a bound
 abbrev pub AreBelow : List ℕ → ℕ → Type 0
@@ -54,38 +53,38 @@ pub record IsTimed (s : HubState) : Type 0 where
       AreBetween reply.places (length_at_submit s.log reply.call) (length_at_reply s.log reply.event)
   pub work : WhereWorking (WorkIsTimed s) s.working
 
--- ---- winds: all lines are of turns below a number, and every wind is ended, or all but the last
-abbrev pub TurnsAreBelow : List WindLine → ℕ → Type 0
-TurnsAreBelow [] bound = Unit {0}
-TurnsAreBelow (line ∷ lines) bound = (line.wind.turn < bound) × TurnsAreBelow lines bound
+-- ---- winds: every wind that was opened is ended, but those of the call at work, each of which is open
 
-pub record AllEnded (lines : List WindLine) (turns : ℕ) : Type 0 where
-  pub once : WindsAreOnce lines
-  pub below : TurnsAreBelow lines turns
-  pub ended : (wind : WindNo) → times_ended wind lines ≡ times_opened wind lines
+-- how often a wind stands in a list
+abbrev pub times_in : WindNo → List WindNo → ℕ
+times_in wind [] = 0
+times_in wind (w ∷ winds) = (if is_wind wind w then 1 else 0) + times_in wind winds
 
-abbrev pub slot_wind : ℕ → WindNo
-slot_wind turn = record { slot = 0; turn = turn }
+abbrev pub open_winds : Option Working → List WindNo
+open_winds None = []
+open_winds (Some w) = w.winds
 
-abbrev pub one_if : Bool → ℕ
-one_if b = if b then 1 else 0
-
-pub record LastOpen (lines : List WindLine) (turns number turn : ℕ) : Type 0 where
-  pub once : WindsAreOnce lines
-  pub below : TurnsAreBelow lines turns
-  pub last : turn + 1 ≡ turns
+-- an open wind was opened by a line of graph 1 and of this call
+pub record IsOpenFor (lines : List WindLine) (number : ℕ) (wind : WindNo) : Type 0 where
   pub opened_at : ℕ
   pub opening : WindLine
   pub stands : slice_get lines opened_at ≡ Some opening
   pub is_opening : opening.opened ≡ true
-  pub wind : opening.wind ≡ slot_wind turn
+  pub wind_is : opening.wind ≡ wind
   pub graph : opening.graph ≡ 1
   pub call : opening.call ≡ number
-  pub ended : (wind : WindNo) → times_ended wind lines + one_if (is_wind wind (slot_wind turn)) ≡ times_opened wind lines
 
-abbrev pub WindsKept : List WindLine → ℕ → Option Working → Type 0
-WindsKept lines turns None = AllEnded lines turns
-WindsKept lines turns (Some w) = LastOpen lines turns w.call w.turn
+abbrev pub AreOpenFor : List WindLine → ℕ → List WindNo → Type 0
+AreOpenFor lines number winds = (k : ℕ) (wind : WindNo) → slice_get winds k ≡ Some wind → IsOpenFor lines number wind
+
+abbrev pub call_at_work : Option Working → ℕ
+call_at_work None = 0
+call_at_work (Some w) = w.call
+
+pub record WindsKept (lines : List WindLine) (working : Option Working) : Type 0 where
+  pub once : WindsAreOnce lines
+  pub still_open : AreOpenFor lines (call_at_work working) (open_winds working)
+  pub ended : (wind : WindNo) → times_ended wind lines + times_in wind (open_winds working) ≡ times_opened wind lines
 
 abbrev pub IsWound : HubState → Type 0
-IsWound s = WindsKept s.log.winds (length s.log.sent) s.working
+IsWound s = WindsKept s.log.winds s.working

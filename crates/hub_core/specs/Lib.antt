@@ -3,5 +3,7 @@ pub mod Follows
 pub mod Journal
 pub mod Kept
 pub mod Laws
+pub mod Steps
+pub mod Tasks
 pub mod Ties
 pub mod Turns

@@ -1,11 +1,5 @@
 use fop_types::{Answer, Entry, Seq};
-
-/// The number of a wind: a slot of the frame table with the turn of the slot. No two winds have the same.
-#[derive(Debug, Clone, Copy, PartialEq, Eq)]
-pub struct WindNo {
-    pub slot: u32,
-    pub turn: u32,
-}
+use xlator_law::WindNo;
 
 /// One event of the hub: a session's next call is submitted, with the call's line in the script; or the
 /// bytes of an output of a brick have arrived. Events are numbered from 1.

@@ -1,13 +1,15 @@
 use crate::logs::Log;
 use brick_node::Brick;
-use fop_types::Seq;
+use fop_types::{FlatOp, Seq};
 use std::alloc::Global;
 
-/// What a run leaves: its bricks, each with its journal, its outputs and its store, and the log.
+/// What a run leaves: its bricks, each with its journal, its outputs and its store; the log; and the
+/// operations of the history's entries, in their order.
 #[derive(Drop)]
 pub struct Rack {
     pub bricks: Seq<Brick>,
     pub log: Log,
+    pub ops: Seq<FlatOp>,
 }
 
 impl Rack {
@@ -16,18 +18,12 @@ impl Rack {
 
     /// The rack before a run: no bricks, and an empty log. It takes no memory.
     pub fn new(alloc: Global) -> Rack
-        ensures { result ≡ record { bricks = []; log = empty_log } }
+        ensures { result ≡ record { bricks = []; log = empty_log; ops = [] } }
     {
         Rack {
             bricks: Seq::new(alloc),
-            log: Log {
-                events: Seq::new(alloc),
-                sent: Seq::new(alloc),
-                replies: Seq::new(alloc),
-                history: Seq::new(alloc),
-                entered: Seq::new(alloc),
-                winds: Seq::new(alloc),
-            },
+            log: Log::new(alloc),
+            ops: Seq::new(alloc),
         }
     }
 }

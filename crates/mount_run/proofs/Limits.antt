@@ -1,8 +1,7 @@
 -- A script that the grammar accepts keeps to the limits.
-use Rattle.std.proofs.Common.{◌≡◌, ℕ, ◌+◌, ◌<◌, ◌≤◌, List, [], ◌∷◌, ◌++◌, Option, Some, None, Bool, true, false, length, refl, sym, ◌∙◌, ap, subst, arith}
+use Rattle.std.proofs.Common.{◌≡◌, ℕ, ◌+◌, ◌<◌, ◌≤◌, List, [], ◌∷◌, ◌++◌, Option, Some, None, Bool, true, false, length, refl, subst, arith}
 use Rattle.std.specs.Prelude.{Result, Ok, Err, IfOk, if◌then◌else◌, nat_le, ◌&&◌, ◌||◌, not, zero, suc}
 use Rattle.std.proofs.lemmas.List.{length_push}
-use Rattle.std.proofs.lemmas.Bool.Decides.{nat_tests}
 use Rattle.volfile.specs.TextLines.{lines_of, words_of, is_name, is_visible_word}
 use Rattle.volfile.specs.VolfileText.{Reading as VolReading, line_read as vol_line_read}
 use Rattle.volfile.specs.declared.errors.VolKind.{VolKind}
@@ -15,7 +14,6 @@ use Rattle.script_lang.specs.declared.errors.ScriptError.TheVariants.{At}
 use Rattle.script_lang.specs.declared.scripts.Script.{Script}
 use Rattle.script_lang.specs.declared.scripts.Phase.{Phase}
 use Rattle.script_lang.specs.declared.scripts.CallLine.{CallLine}
-use Rattle.script_lang.specs.declared.scripts.ControlLine.{ControlLine}
 use Rattle.script_lang.specs.declared.scripts.Action.{Action}
 use Rattle.script_lang.specs.declared.scripts.When.{When}
 use Rattle.script_lang.specs.declared.drafts.Draft.{Draft}
@@ -27,7 +25,6 @@ use Rattle.script_lang.specs.ScriptText
 use Rattle.script_lang.specs.StatementText
 use Rattle.script_lang.specs.CallText.{call_at}
 use Rattle.script_lang.specs.ControlText.{volfile_at, control_at}
-use Rattle.script_lang.specs.WordForms.{place_of}
 use Rattle.volfile.specs.VolfileText.{nothing_read}
 use Rattle.volfile.specs.Volumes.{AreVolumes, IsRead}
 use Rattle.volfile.proofs.WellRead.{line_kept}

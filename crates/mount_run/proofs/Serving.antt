@@ -1,7 +1,7 @@
 -- The calls that are run can be sent, and are no more than the script's.
-use Rattle.std.proofs.Common.{◌≡◌, ℕ, ◌+◌, ◌≤◌, List, [], ◌∷◌, ◌++◌, Option, Some, None, Bool, true, false, length, refl, sym, ◌∙◌, ap, subst, arith}
+use Rattle.std.proofs.Common.{◌≡◌, ℕ, ◌+◌, ◌≤◌, List, [], ◌∷◌, ◌++◌, Option, Some, None, Bool, true, false, length, refl, subst, arith}
 use Rattle.std.specs.List.{list_all}
-use Rattle.std.specs.Prelude.{nat_le, ◌&&◌, not, codes, if◌then◌else◌}
+use Rattle.std.specs.Prelude.{nat_le, ◌&&◌, not, codes}
 use Rattle.volfile.specs.TextLines.{is_text}
 use Rattle.std.proofs.lemmas.List.{length_push}
 use Rattle.std.proofs.lemmas.Bool.Decides.{nat_tests}
@@ -14,13 +14,10 @@ use Rattle.script_lang.specs.declared.scripts.Script.{Script}
 use Rattle.script_lang.specs.declared.scripts.Phase.{Phase}
 use Rattle.script_lang.specs.declared.scripts.CallLine.{CallLine}
 use Rattle.script_lang.specs.WordForms.{is_component, is_component_byte}
-use Rattle.hub_core.specs.Bounds.{IsOneName, IsSendable, AreSendable, AreFit}
+use Rattle.hub_core.specs.Bounds.{IsComponent, AreComponents, IsSendable, AreSendable, AreFit}
 use Rattle.mount_run.specs.Limits.{IsSpoken, AreSpoken, ArePhasesSpoken, IsWithinLimits}
 use Rattle.mount_run.specs.Checks.{calls_in}
-use Rattle.mount_run.specs.Served.{is_one_name, root_call, with_root_call, root_lines, root_phases, calls_to_run}
-
-short : (n : ℕ) → nat_le n 255 ≡ true → n ≤ 255
-short n h = grind (arith, nat_tests)
+use Rattle.mount_run.specs.Served.{root_call, with_root_call, root_lines, root_phases, calls_to_run}
 
 least : (n : ℕ) → nat_le 1 n ≡ true → 1 ≤ n
 least n h = grind (arith, nat_tests)
@@ -31,27 +28,22 @@ component_is true true c d h = (refl, refl)
 component_is true false c d h = absurd cc
 component_is false b c d h = absurd cc
 
-first_of : (b c : Bool) → (b && c) ≡ true → b ≡ true
-first_of true c h = refl
-first_of false c h = absurd cc
+both_of : (b c : Bool) → (b && c) ≡ true → (b ≡ true) × (c ≡ true)
+both_of true c h = (refl, h)
+both_of false c h = absurd cc
 
--- one component, of at most 255 bytes, is a name that a message can carry
-name_in : (parts : List (List ℕ)) → is_one_name parts ≡ true → list_all is_component parts ≡ true → IsOneName parts
-name_in [] h spoken = absurd cc
-name_in (name ∷ []) h spoken =
-    let part : is_component name ≡ true = first_of (is_component name) (list_all is_component []) spoken in
-    let both = component_is (nat_le 1 (length name)) (list_all is_component_byte name) (not (is_text name (codes "."))) (not (is_text name (codes ".."))) part in
-    (least (length name) both.0, short (length name) h, both.1)
-name_in (name ∷ other ∷ parts) h spoken = absurd cc
+component : (part : List ℕ) → is_component part ≡ true → IsComponent part
+component part h =
+    let both = component_is (nat_le 1 (length part)) (list_all is_component_byte part) (not (is_text part (codes "."))) (not (is_text part (codes ".."))) h in
+    record { some = least (length part) both.0; visible = both.1 }
 
--- a call that is made only where the test holds
-chosen : (b : Bool) (c r : RootCall) → (if b then Some c else None) ≡ Some r → (b ≡ true) × (c ≡ r)
-chosen true c r h = (refl, cc)
-chosen false c r h = absurd cc
+components : (parts : List (List ℕ)) → list_all is_component parts ≡ true → AreComponents parts
+components [] h = tt
+components (part ∷ parts) h = (let both = both_of (is_component part) (list_all is_component parts) h in (component part both.0, components parts both.1))
 
 root_name : (c : Call) (r : RootCall) → IsSpoken c → root_call c ≡ Some r → IsSendable r
-root_name (Mkdir path mode) r spoken h = (let x = chosen (is_one_name path.parts) (root.Mkdir path mode) r h in subst IsSendable x.1 (name_in path.parts x.0 spoken.0, spoken.1))
-root_name (Stat path) r spoken h = (let x = chosen (is_one_name path.parts) (root.Stat path) r h in subst IsSendable x.1 (name_in path.parts x.0 spoken))
+root_name (Mkdir path mode) r spoken h = (let same : root.Mkdir path mode ≡ r = cc in subst IsSendable same (components path.parts spoken.0, spoken.1))
+root_name (Stat path) r spoken h = (let same : root.Stat path ≡ r = cc in subst IsSendable same (components path.parts spoken))
 root_name (Rmdir path) r spoken h = absurd cc
 root_name (Create fd path mode) r spoken h = absurd cc
 root_name (Unlink path) r spoken h = absurd cc

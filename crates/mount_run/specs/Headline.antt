@@ -27,10 +27,10 @@ pub record IsLawfulRun (calls : List RootLine) (names : Names) (report : List â„
   -- the bytes are the report of the log
   pub written : report â‰¡ report_text (report_of names rack.log)
   -- one legal history, lawful replies, balanced winds, and each change on the brick
-  pub legal : IsLegalHistory (calls_of calls) rack.log.history
-  pub lawful : AreLawful calls rack.log
+  pub legal : IsLegalHistory (calls_of calls) rack.ops rack.log.history
+  pub lawful : AreLawful calls rack.ops rack.log
   pub winds : WindsAreBalanced rack.log.winds
-  pub backed : IsBackedByBrick calls rack.log.history journal (outputs_of journal)
+  pub backed : IsBackedByBrick rack.ops journal (outputs_of journal)
   -- each line of the log is of the event that wrote it, and each request opened one wind
   pub tied : IsTied calls rack.log
 

@@ -1,11 +1,11 @@
 -- When each status of the top call comes, and what was written. Where the source and the sink tell their
 -- bytes, the text is what was read and the bytes written are named.
-use Rattle.std.specs.Prelude.{◌≡◌, ℕ, List, [], ◌∷◌, Option, Some, None, Ok, Err, IfSome, ◌⊎◌}
+use Rattle.std.specs.Prelude.{◌≡◌, ℕ, List, [], Option, Some, None, Ok, Err, IfSome, ◌⊎◌}
 use Rattle.std.specs.Io.KnownBytes.{Appends}
 use Rattle.xl_base.specs.Writes.{WrotePrefix}
-use Rattle.fop_types.specs.declared.calls.RootLine.{RootLine}
 use Rattle.hub_core.specs.declared.racks.Rack.{Rack}
 use Rattle.hub_core.specs.Turns.{empty_log}
+use Rattle.world_core.specs.Worlds.{world_start, HasRun, IsOutOfWinds}
 use Rattle.script_lang.specs.declared.scripts.Script.{Script}
 use Rattle.mount_run.specs.Checks.{check_text}
 use Rattle.mount_run.specs.Headline.{Headline, IsLawfulRun}
@@ -20,7 +20,7 @@ use Rattle.mount_run.specs.declared.refusals.Refusal.{Refusal}
 
 -- a rack before a run: no bricks, and an empty log
 abbrev pub empty_rack : Rack
-empty_rack = record { bricks = []; log = empty_log }
+empty_rack = record { bricks = []; log = empty_log; ops = [] }
 
 -- the text that was read, where the source told its bytes
 abbrev pub IsRead : Option (List ℕ) → List ℕ → Type 0
@@ -63,6 +63,22 @@ pub record Checked (told taken taken_after : Option (List ℕ)) (rack : Rack) : 
   pub accepted_as : accepted text ≡ Ok read
   pub wrote : Appends taken taken_after (check_text read.script)
   pub empty : rack ≡ empty_rack
+
+-- the text is accepted for a run, events lead from the start of its calls to a world without winds for a
+-- further fop, and the rack is as before a run
+pub record WindsRanOut (told : Option (List ℕ)) (rack : Rack) : Type 0 where
+  pub text : List ℕ
+  pub read : Accepted
+  pub is_text : IsRead told text
+  pub accepted_as : for_a_run (accepted text) ≡ Ok read
+  pub run_out : HasRun (world_start (calls_to_run read.script)) IsOutOfWinds
+  pub empty : rack ≡ empty_rack
+
+-- a run alone needs winds
+abbrev pub RanOutOfWinds : Option Command → Option (List ℕ) → Rack → Type 0
+RanOutOfWinds None told rack = ⊥
+RanOutOfWinds (Some Check) told rack = ⊥
+RanOutOfWinds (Some (Run seed)) told rack = WindsRanOut told rack
 
 -- what each command did, where it ended well
 abbrev pub Succeeded : Option Command → Option (List ℕ) → Option (List ℕ) → Option (List ℕ) → Rack → Type 0

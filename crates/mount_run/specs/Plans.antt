@@ -1,7 +1,7 @@
 -- What a text is accepted as: its script, with a plan for each of its volfiles; every `switch` follows the
 -- plans before it. Else the text has a first refusal: its length, its grammar by line, its plans in the
 -- order of volfiles, its followings by line.
-use Rattle.std.specs.Prelude.{ℕ, nat_lt, Bool, true, false, List, [], ◌∷◌, ◌++◌, Option, Some, None, Result, Ok, Err, length, slice_get, if◌then◌else◌}
+use Rattle.std.specs.Prelude.{ℕ, nat_lt, Bool, false, List, [], ◌∷◌, ◌++◌, Option, Some, None, Result, Ok, Err, length, slice_get, if◌then◌else◌}
 use Rattle.volfile.specs.declared.volumes.Volfile.{Volfile}
 use Rattle.volfile.specs.declared.volumes.Volume.{Volume}
 use Rattle.script_lang.specs.declared.errors.ScriptError.{ScriptError}

@@ -1,6 +1,6 @@
 -- The report of a log: its replies, its history and the counts of its winds, with the script's names in
 -- place of numbers.
-use Rattle.std.specs.Prelude.{ℕ, Bool, not, List, [], ◌∷◌, Option, Some, None, map, count_by, take, slice_get}
+use Rattle.std.specs.Prelude.{ℕ, not, List, [], ◌∷◌, Option, Some, None, map, count_by, take, slice_get}
 use Rattle.fop_types.specs.declared.answers.Answer.{Answer}
 use Rattle.fop_types.specs.declared.answers.Answer.TheVariants as answer
 use Rattle.fop_types.specs.declared.answers.IoError.{IoError}
@@ -10,7 +10,6 @@ use Rattle.fop_types.specs.declared.cells.Kind.{Kind}
 use Rattle.fop_types.specs.declared.contents.Item.{Item}
 use Rattle.fop_types.specs.declared.history.Entry.{Entry}
 use Rattle.hub_core.specs.declared.logs.ReplyLine.{ReplyLine}
-use Rattle.hub_core.specs.declared.logs.WindLine.{WindLine}
 use Rattle.hub_core.specs.declared.logs.Log.{Log}
 use Rattle.volfile.specs.declared.volumes.Volume.{Volume}
 use Rattle.script_lang.specs.declared.scripts.Script.{Script}
@@ -23,7 +22,6 @@ use Rattle.report_text.specs.declared.faults.ReportIo.{ReportIo}
 use Rattle.report_text.specs.declared.faults.ReportIo.TheVariants as fault
 use Rattle.report_text.specs.declared.faults.ReportRow.{ReportRow}
 use Rattle.report_text.specs.declared.calls.ReportCall.{ReportCall}
-use Rattle.report_text.specs.declared.graphs.ReportGraph.{ReportGraph}
 use Rattle.report_text.specs.declared.report.Report.{Report}
 
 -- the names of a script of one session and one graph, whose one set is a client of the one brick; a script

@@ -1,7 +1,6 @@
--- What a run serves so far of an accepted script: the calls `mkdir` and `stat` on names of the root, of one
--- session, over one brick and one client. The first statement that asks for more is refused for later.
-use Rattle.std.specs.Prelude.{◌≡◌, ℕ, ◌≤◌, nat_le, ◌==◌, ◌&&◌, ◌||◌, not, Bool, true, false, List, [], ◌∷◌, ◌++◌, Option, Some, None, is_none, Result, Ok, Err, length, codes, if◌then◌else◌}
-use Rattle.fop_types.specs.declared.calls.Path.{Path}
+-- What a run serves so far of an accepted script: the calls `mkdir` and `stat`, of one session, over one brick
+-- and one client. The first statement that asks for more is refused for later.
+use Rattle.std.specs.Prelude.{ℕ, nat_le, ◌==◌, ◌||◌, not, Bool, List, [], ◌∷◌, ◌++◌, Option, Some, None, is_none, Result, Ok, Err, length, codes, if◌then◌else◌}
 use Rattle.fop_types.specs.declared.calls.Call.{Call}
 use Rattle.fop_types.specs.declared.calls.Call.TheVariants.{Mkdir, Rmdir, Create, Unlink, Rename, Open, Stat, List as ListOf, Chmod, Truncate, SetAttr, GetAttr, DelAttr, Read, Write, Seek, Close}
 use Rattle.fop_types.specs.declared.calls.RootCall.{RootCall}
@@ -23,16 +22,10 @@ use Rattle.mount_run.specs.declared.plans.Accepted.{Accepted}
 use Rattle.mount_run.specs.Plans.{accepted}
 
 -- ---- the calls that are served
--- a path of one name, of at most 255 bytes
-abbrev pub is_one_name : List (List ℕ) → Bool
-is_one_name [] = false
-is_one_name (name ∷ []) = nat_le (length name) 255
-is_one_name (name ∷ other ∷ parts) = false
-
 -- the call as the hub takes it, `None` where it is not served
 abbrev pub root_call : Call → Option RootCall
-root_call (Mkdir path mode) = if is_one_name path.parts then Some (root.Mkdir path mode) else None
-root_call (Stat path) = if is_one_name path.parts then Some (root.Stat path) else None
+root_call (Mkdir path mode) = Some (root.Mkdir path mode)
+root_call (Stat path) = Some (root.Stat path)
 root_call (Rmdir path) = None
 root_call (Create fd path mode) = None
 root_call (Unlink path) = None

@@ -1,5 +1,6 @@
 //! The program: `vealepoch check` reads a script from standard input and plans its volfiles; `vealepoch run
-//! SEED` runs it over one brick in memory, and writes the report to standard output.
+//! SEED` runs it over one brick in memory, and writes the report to standard output. The calls that are run
+//! are `mkdir` and `stat` of any path.
 //!
 //! ```text
 //! standard input ── read_script ── run_script ── report_of ── print ── standard output
@@ -25,6 +26,8 @@ mod tops;
 
 use std::process::ExitCode;
 
+#[cfg(test)]
+mod path_tests;
 #[cfg(test)]
 mod tests;
 

@@ -21,8 +21,7 @@ whose bricks live in memory, and judges it or runs it.
   vealepoch --version  the version
 
 So far a run serves one brick and volfiles of one client, one session, and the calls
-mkdir and stat of names of the root; it refuses the first statement that asks for more
-as Later.
+mkdir and stat; it refuses the first statement that asks for more as Later.
 
 status 0  the script was read to its end and every line was answered, or accepted
        1  the script is refused; one line `fault line L KIND` is written
@@ -30,6 +29,7 @@ status 0  the script was read to its end and every line was answered, or accepte
        3  reading failed; nothing is written
        4  writing failed; a front of the text is written
        5  want of memory; nothing is written
+       7  a run needed more than 4294967295 winds; nothing is written
 
 example: vealepoch run 1 < examples/first.script
 ";
@@ -112,6 +112,7 @@ fn tell<R: Eprint>(rt: &R, status: u8) {
         3 => rt.eprintln("vealepoch: reading standard input failed"),
         4 => rt.eprintln("vealepoch: writing standard output failed"),
         5 => rt.eprintln("vealepoch: want of memory"),
+        7 => rt.eprintln("vealepoch: the run needed more than 4294967295 winds"),
         _ => Ok(()),
     };
 }

@@ -1,8 +1,8 @@
-ghost use Rattle.std.specs.Prelude.{◌≡◌, ◌≤◌, ◌<◌, ◌^◌, IfOk, map, take, length};
+ghost use Rattle.std.specs.Prelude.{◌≡◌, ◌≤◌, ◌<◌, ◌^◌, IfOk, map, take, not, count_by};
 ghost use Rattle.mount_run.specs.Reports.{report_of as report_of_log, shown_call, shown_entry, shown_answer, shown_io, shown_item, shown_list, shown_brick, shown_row, first_text, first_brick, first_volume, names_of};
 
 use fop_types::{Answer, Entry, IoError, Item, Kind, Seq, SplitRow};
-use hub_core::{Log, ReplyLine};
+use hub_core::{Log, ReplyLine, WindLine};
 use report_text::{Report, ReportAnswer, ReportCall, ReportGraph, ReportIo, ReportRow};
 use script_lang::{BrickLine, Script};
 use std::alloc::{AllocError, Global};
@@ -243,26 +243,39 @@ fn show_history(alloc: Global, history: &[Entry]) -> Result<Seq<(u32, u8)>, Allo
     Ok(shown)
 }
 
+/// How many winds were opened.
+pub fn opened(winds: &[WindLine]) -> usize
+    ensures { result ≡ count_by (λ line. line.opened) winds.now }
+{
+    winds.iter().filter(|line| line.opened).count()
+}
+
+// How many winds were ended.
+fn ended(winds: &[WindLine]) -> usize
+    ensures { result ≡ count_by (λ line. not line.opened) winds.now }
+{
+    winds.iter().filter(|line| !line.opened).count()
+}
+
 /// The report of a log: each reply, each entry of the history, and the counts of the winds that the graph
-/// opened and ended, with the script's names in place of numbers.
+/// opened and ended, each less than 2^32, with the script's names in place of numbers.
 ///
 /// # Errors
 /// Want of memory.
 pub fn report_of(alloc: Global, names: &Names, log: &Log) -> Result<Report, AllocError>
-    requires { length log.now.winds < 2 ^ 32 }
+    requires opened { count_by (λ line. line.opened) log.now.winds < 2 ^ 32 }
+    requires ended { count_by (λ line. not line.opened) log.now.winds < 2 ^ 32 }
     ensures { IfOk result (λ report. report ≡ report_of_log names.now log.now) }
 {
     let calls = show_calls(alloc, names, log.replies.as_slice())?;
     let history = show_history(alloc, log.history.as_slice())?;
     let winds = log.winds.as_slice();
-    let opened = winds.iter().filter(|line| line.opened).count() as u32;
-    let ended = winds.iter().filter(|line| !line.opened).count() as u32;
     let mut graphs = Seq::new(alloc);
     graphs.push(ReportGraph {
         graph: 1,
         name: names.graph.copy(alloc)?,
-        opened,
-        ended,
+        opened: opened(winds) as u32,
+        ended: ended(winds) as u32,
     })?;
     Ok(Report {
         calls,

@@ -1,28 +1,18 @@
 ghost use Rattle.std.specs.Prelude.{◌≡◌, is_some, IfOk};
-ghost use Rattle.mount_run.specs.Served.{is_one_name as has_one_name, root_call as root_call_of, root_lines as lines_with, root_phases as phases_with, calls_to_run, is_unserved_volume as is_more, unserved_volume, unserved_volfile, unserved_call, unserved_control, unserved_phase, earlier as earlier_of, or_else as or_else_of, first_unserved};
+ghost use Rattle.mount_run.specs.Served.{root_call as root_call_of, root_lines as lines_with, root_phases as phases_with, calls_to_run, is_unserved_volume as is_more, unserved_volume, unserved_volfile, unserved_call, unserved_control, unserved_phase, earlier as earlier_of, or_else as or_else_of, first_unserved};
 
-use fop_types::{Call, Path, RootCall, RootLine, RootScript, Seq};
+use fop_types::{Call, RootCall, RootLine, RootScript, Seq};
 use script_lang::{CallLine, ControlLine, NamedVolfile, Phase, Script};
 use std::alloc::{AllocError, Global};
 use volfile::{Volume, is_same};
-
-// Whether a path has one component, of at most 255 bytes.
-fn is_one_name(path: &Path) -> bool
-    ensures { result ≡ has_one_name path.now.parts }
-{
-    match path.parts.as_slice() {
-        [name] => name.len() <= 255,
-        _ => false,
-    }
-}
 
 // Whether the hub takes the call.
 fn is_root_call(call: &Call) -> bool
     ensures { result ≡ is_some (root_call_of call.now) }
 {
     match call {
-        Call::Mkdir { path, .. } => is_one_name(path),
-        Call::Stat { path } => is_one_name(path),
+        Call::Mkdir { .. } => true,
+        Call::Stat { .. } => true,
         _ => false,
     }
 }
@@ -33,20 +23,12 @@ fn root_call(alloc: Global, call: &Call) -> Result<Option<RootCall>, AllocError>
 {
     match call {
         Call::Mkdir { path, mode } => {
-            if is_one_name(path) {
-                let path = path.copy(alloc)?;
-                Ok(Some(RootCall::Mkdir { path, mode: *mode }))
-            } else {
-                Ok(None)
-            }
+            let path = path.copy(alloc)?;
+            Ok(Some(RootCall::Mkdir { path, mode: *mode }))
         }
         Call::Stat { path } => {
-            if is_one_name(path) {
-                let path = path.copy(alloc)?;
-                Ok(Some(RootCall::Stat { path }))
-            } else {
-                Ok(None)
-            }
+            let path = path.copy(alloc)?;
+            Ok(Some(RootCall::Stat { path }))
         }
         _ => Ok(None),
     }
@@ -183,7 +165,7 @@ fn phase_line(phases: &[Phase]) -> Option<u32>
 
 /// The line of the first statement of a script that a run does not serve so far: a volume of another type
 /// than a client, or any volume where the script has more than one brick; a call of a second session, or
-/// one other than `mkdir` and `stat` of a name of the root of at most 255 bytes; a control.
+/// one other than `mkdir` and `stat`; a control.
 pub fn first_later(script: &Script) -> Option<u32>
     ensures { result ≡ first_unserved script.now }
 {

@@ -6,7 +6,7 @@ use std::test::Fail;
 use xl_base::{MemSink, MemSource};
 
 // One brick, a volfile of one client, and its start: nine lines.
-const PROLOGUE: &[u8] =
+pub(crate) const PROLOGUE: &[u8] =
     b"brick b0 h /b0\nvolfile g\nvolume c0\ntype protocol/client\noption remote-host h\noption remote-subvolume /b0\nend-volume\nend-volfile\nstart g\n";
 
 // Three bricks and a volfile of one replicate volume as far as its last block: 23 lines.
@@ -22,14 +22,14 @@ const TWO: &[u8] =
     b"brick b0 h /b0\nbrick b1 h /b1\nvolfile g\nvolume c0\ntype protocol/client\noption remote-host h\noption remote-subvolume /b0\nend-volume\nend-volfile\nvolfile h\nvolume c1\ntype protocol/client\noption remote-host h\noption remote-subvolume /b1\nend-volume\nend-volfile\nstart g\nphase\n";
 
 // A text with some more behind it.
-fn joined(alloc: Global, front: &[u8], more: &[u8]) -> Result<Vec<u8>, AllocError> {
+pub(crate) fn joined(alloc: Global, front: &[u8], more: &[u8]) -> Result<Vec<u8>, AllocError> {
     let mut text = Vec::from_slice(alloc, front)?;
     text.extend_from_slice(more)?;
     Ok(text)
 }
 
 // The words of a command of two words.
-fn words(alloc: Global, first: &str, second: &str) -> Result<Vec<String>, AllocError> {
+pub(crate) fn words(alloc: Global, first: &str, second: &str) -> Result<Vec<String>, AllocError> {
     let mut words = Vec::new(alloc);
     words.push(String::from_str(alloc, first)?)?;
     words.push(String::from_str(alloc, second)?)?;
@@ -55,13 +55,23 @@ fn done(
 }
 
 // Runs a text that is accepted.
-fn ran(rt: &impl Abort, alloc: Global, text: Vec<u8>, written: &[u8]) -> Result<(), Fail> {
+pub(crate) fn ran(
+    rt: &impl Abort,
+    alloc: Global,
+    text: Vec<u8>,
+    written: &[u8],
+) -> Result<(), Fail> {
     let words = words(alloc, "run", "1")?;
     done(rt, alloc, words.as_slice(), text, 0, written)
 }
 
 // Runs a text that is refused.
-fn not_run(rt: &impl Abort, alloc: Global, text: Vec<u8>, written: &[u8]) -> Result<(), Fail> {
+pub(crate) fn not_run(
+    rt: &impl Abort,
+    alloc: Global,
+    text: Vec<u8>,
+    written: &[u8],
+) -> Result<(), Fail> {
     let words = words(alloc, "run", "1")?;
     done(rt, alloc, words.as_slice(), text, 1, written)
 }
@@ -101,7 +111,7 @@ fn mkdir_and_stat_answer_as_a_file_system(rt: HostRuntime) -> Result<(), Fail> {
         &rt,
         rt.alloc(),
         text,
-        b"report 1\ncall 1 session s line 11 places 1 ok\ncall 2 session s line 12 places 1,1 ok dir 755 0\ncall 3 session s line 13 places 1 error 17 EEXIST\ncall 4 session s line 14 places 1 error 2 ENOENT\nhistory 1\nentry 1 call 1 part 1\ngraph 1 g winds 8 ended 8 drained\nend\n",
+        b"report 1\ncall 1 session s line 11 places 1 ok\ncall 2 session s line 12 places 1,1 ok dir 755 0\ncall 3 session s line 13 places 1 error 17 EEXIST\ncall 4 session s line 14 places 1 error 2 ENOENT\nhistory 1\nentry 1 call 1 part 1\ngraph 1 g winds 27 ended 27 drained\nend\n",
     )
 }
 
@@ -116,7 +126,7 @@ fn phases_comments_and_blanks_are_read(rt: HostRuntime) -> Result<(), Fail> {
         &rt,
         rt.alloc(),
         text,
-        b"report 1\ncall 1 session s1 line 13 places 1 ok\ncall 2 session s1 line 15 places 1,1 ok dir 0 0\nhistory 1\nentry 1 call 1 part 1\ngraph 1 g winds 6 ended 6 drained\nend\n",
+        b"report 1\ncall 1 session s1 line 13 places 1 ok\ncall 2 session s1 line 15 places 1,1 ok dir 0 0\nhistory 1\nentry 1 call 1 part 1\ngraph 1 g winds 19 ended 19 drained\nend\n",
     )
 }
 
@@ -131,7 +141,7 @@ fn modes_of_one_to_four_octal_digits(rt: HostRuntime) -> Result<(), Fail> {
         &rt,
         rt.alloc(),
         text,
-        b"report 1\ncall 1 session s line 11 places 1 ok\ncall 2 session s line 12 places 2 ok\ncall 3 session s line 13 places 2,2 ok dir 7 0\ncall 4 session s line 14 places 2,2 ok dir 777 0\nhistory 2\nentry 1 call 1 part 1\nentry 2 call 2 part 1\ngraph 1 g winds 12 ended 12 drained\nend\n",
+        b"report 1\ncall 1 session s line 11 places 1 ok\ncall 2 session s line 12 places 2 ok\ncall 3 session s line 13 places 2,2 ok dir 7 0\ncall 4 session s line 14 places 2,2 ok dir 777 0\nhistory 2\nentry 1 call 1 part 1\nentry 2 call 2 part 1\ngraph 1 g winds 38 ended 38 drained\nend\n",
     )
 }
 
@@ -269,47 +279,6 @@ fn control_is_run_later(rt: HostRuntime) -> Result<(), Fail> {
         b"phase\ncontrol up b0\ndo s create 1 /a 644\n",
     )?;
     not_run(&rt, rt.alloc(), text, b"fault line 11 Later\n")
-}
-
-#[test]
-fn path_of_two_names_is_run_later(rt: HostRuntime) -> Result<(), Fail> {
-    let text = joined(
-        rt.alloc(),
-        PROLOGUE,
-        b"phase\ndo s stat /a\ndo s stat /a/b\n",
-    )?;
-    not_run(&rt, rt.alloc(), text, b"fault line 12 Later\n")
-}
-
-// The prologue with a `phase` and a `stat` of a name of so many bytes.
-fn named(alloc: Global, length: usize) -> Result<Vec<u8>, AllocError> {
-    let mut text = joined(alloc, PROLOGUE, b"phase\ndo s stat /")?;
-    for _ in 0..length {
-        text.push(b'n')?;
-    }
-    text.push(b'\n')?;
-    Ok(text)
-}
-
-#[test]
-fn name_of_255_bytes_is_run(rt: HostRuntime) -> Result<(), Fail> {
-    let text = named(rt.alloc(), 255)?;
-    ran(
-        &rt,
-        rt.alloc(),
-        text,
-        b"report 1\ncall 1 session s line 11 places 0 error 2 ENOENT\nhistory 0\ngraph 1 g winds 1 ended 1 drained\nend\n",
-    )
-}
-
-#[test]
-fn longer_names_are_run_later_and_longer_lines_refused(rt: HostRuntime) -> Result<(), Fail> {
-    let text = named(rt.alloc(), 256)?;
-    not_run(&rt, rt.alloc(), text, b"fault line 11 Later\n")?;
-    let text = named(rt.alloc(), 139989)?;
-    not_run(&rt, rt.alloc(), text, b"fault line 11 Later\n")?;
-    let text = named(rt.alloc(), 139990)?;
-    not_run(&rt, rt.alloc(), text, b"fault line 11 LongLine\n")
 }
 
 // The prologue with a `phase` and so many calls.

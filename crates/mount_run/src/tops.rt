@@ -6,7 +6,9 @@ ghost use Rattle.mount_run.specs.Checks.{calls_in, check_text};
 ghost use Rattle.mount_run.specs.Limits.{IsWithinLimits};
 ghost use Rattle.mount_run.specs.Commands.{command_of};
 ghost use Rattle.mount_run.specs.Refusals.{fault_text};
-ghost use Rattle.mount_run.specs.Outcomes.{empty_rack, IsWritten, IsCutShort, Succeeded, RefusedBy, Unwritten};
+ghost use Rattle.mount_run.specs.Outcomes.{empty_rack, IsWritten, IsCutShort, Succeeded, RefusedBy, Unwritten, RanOutOfWinds};
+ghost use Rattle.mount_run.specs.Served.{calls_to_run};
+ghost use Rattle.world_core.specs.Worlds.{world_start, HasRun, IsOutOfWinds};
 
 use crate::checks::check_line;
 use crate::commands::{Command, command_in};
@@ -18,6 +20,7 @@ use hub_core::Rack;
 use script_lang::Script;
 use std::alloc::Global;
 use xl_base::{Sink, Source, write_all};
+use xlator_law::Stop;
 
 /// Carries out a command on a script: `check` reads and plans it, and writes one line of what it has;
 /// `run SEED` runs it too, and writes its report.
@@ -25,9 +28,9 @@ use xl_base::{Sink, Source, write_all};
 /// The words are those after the program's name. The result is the status: 0 the command was carried out
 /// and its text was written; 1 the script is refused and its one fault line was written; 2 the words are
 /// no command, and nothing was read or written; 3 the source failed, and nothing was written; 4 the sink
-/// failed, and a front of the text was written; 5 want of memory, and nothing was written. The rack must be
-/// empty; after a run it holds the bricks and the log of the run, and else it is empty still, but where
-/// memory wanted in a run.
+/// failed, and a front of the text was written; 5 want of memory, and nothing was written; 7 the run needed
+/// a further wind where 4,294,967,295 were opened, and nothing was written. The rack must be empty; after a
+/// run that came to its end it holds the brick and the log of the run, and else it is empty still.
 pub fn top<S: Source, K: Sink>(
     alloc: Global,
     words: &[String],
@@ -39,7 +42,7 @@ pub fn top<S: Source, K: Sink>(
     requires sink { K.faults sink.old < 2 ^ 64 - 1 }
     requires rack { rack.old ≡ empty_rack }
 
-    ensures statuses { result ≤ 5 }
+    ensures statuses { (result ≤ 5) ⊎ (result ≡ 7) }
     ensures usage { (result ≡ 2) ↔ (command_of (map string_bytes words.now) ≡ None) }
     ensures untouched { result ≡ 2 → (source.new ≡ source.old) × (sink.new ≡ sink.old) × (rack.new ≡ rack.old) }
 
@@ -47,7 +50,8 @@ pub fn top<S: Source, K: Sink>(
     ensures refused { result ≡ 1 → RefusedBy (command_of (map string_bytes words.now)) (S.left source.old) (K.taken sink.old) (K.taken sink.new) rack.new }
     ensures read_fault { result ≡ 3 → (S.faults source.old < S.faults source.new) × (sink.new ≡ sink.old) × (rack.new ≡ empty_rack) }
     ensures write_fault { result ≡ 4 → (K.faults sink.old < K.faults sink.new) × Unwritten (command_of (map string_bytes words.now)) (S.left source.old) (K.taken sink.old) (K.taken sink.new) rack.new }
-    ensures memory { result ≡ 5 → sink.new ≡ sink.old }
+    ensures memory { result ≡ 5 → (sink.new ≡ sink.old) × (rack.new ≡ empty_rack) }
+    ensures winds { result ≡ 7 → (sink.new ≡ sink.old) × RanOutOfWinds (command_of (map string_bytes words.now)) (S.left source.old) rack.new }
 {
     match command_in(words) {
         None => 2,
@@ -67,13 +71,14 @@ fn carry_out<S: Source, K: Sink>(
     requires sink { K.faults sink.old < 2 ^ 64 - 1 }
     requires rack { rack.old ≡ empty_rack }
 
-    ensures statuses { result ≤ 5 }
+    ensures statuses { (result ≤ 5) ⊎ (result ≡ 7) }
     ensures command { result ≡ 2 → ⊥ }
     ensures succeeded { result ≡ 0 → Succeeded (Some command) (S.left source.old) (K.taken sink.old) (K.taken sink.new) rack.new }
     ensures refused { result ≡ 1 → RefusedBy (Some command) (S.left source.old) (K.taken sink.old) (K.taken sink.new) rack.new }
     ensures read_fault { result ≡ 3 → (S.faults source.old < S.faults source.new) × (sink.new ≡ sink.old) × (rack.new ≡ empty_rack) }
     ensures write_fault { result ≡ 4 → (K.faults sink.old < K.faults sink.new) × Unwritten (Some command) (S.left source.old) (K.taken sink.old) (K.taken sink.new) rack.new }
-    ensures memory { result ≡ 5 → sink.new ≡ sink.old }
+    ensures memory { result ≡ 5 → (sink.new ≡ sink.old) × (rack.new ≡ empty_rack) }
+    ensures winds { result ≡ 7 → (sink.new ≡ sink.old) × RanOutOfWinds (Some command) (S.left source.old) rack.new }
 {
     match read_script(alloc, command, source) {
         Ok(read) => match command {
@@ -125,16 +130,18 @@ fn check_read<K: Sink>(alloc: Global, script: &Script, sink: &mut K) -> u8
 fn run_read<K: Sink>(alloc: Global, script: &Script, sink: &mut K, rack: &mut Rack) -> u8
     requires sink { K.faults sink.old < 2 ^ 64 - 1 }
     requires limits { IsWithinLimits script.now }
-    ensures statuses { (result ≡ 0) ⊎ ((result ≡ 4) ⊎ (result ≡ 5)) }
+    ensures statuses { (result ≡ 0) ⊎ ((result ≡ 4) ⊎ ((result ≡ 5) ⊎ (result ≡ 7))) }
     ensures ran { result ≡ 0 → IsWritten script.now (K.taken sink.old) (K.taken sink.new) rack.new }
     ensures write_fault { result ≡ 4 → (K.faults sink.old < K.faults sink.new) × IsCutShort script.now (K.taken sink.old) (K.taken sink.new) rack.new }
-    ensures memory { result ≡ 5 → sink.new ≡ sink.old }
+    ensures memory { result ≡ 5 → (sink.new ≡ sink.old) × (rack.new ≡ rack.old) }
+    ensures winds { result ≡ 7 → (sink.new ≡ sink.old) × (rack.new ≡ rack.old) × HasRun (world_start (calls_to_run script.now)) IsOutOfWinds }
 {
     match run_script(alloc, script, rack) {
         Ok(report) => match write_all(sink, report.as_slice()) {
             Ok(()) => 0,
             Err(_) => 4,
         },
-        Err(_) => 5,
+        Err(Stop::Mem) => 5,
+        Err(Stop::Winds) => 7,
     }
 }

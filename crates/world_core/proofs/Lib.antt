@@ -1,5 +1,7 @@
+pub mod Choice
 pub mod Fronts
-pub mod Grows
-pub mod Links
+pub mod Moving
+pub mod Runs
 pub mod Steps
+pub mod Taken
 pub mod Work

@@ -17,13 +17,18 @@
 //! inputs that it counts were sent. The brick serves copies of the bytes that the hub sent, and the hub is
 //! handed copies of the bytes that the brick made: neither sees a value of the other. The program's top
 //! call makes a world of a script, runs it, and takes the rack.
+//!
+//! A call that stops, for want of memory or of winds, has spent the world: it takes the world by value, and
+//! gives it back only where it carried the event out or found it not enabled.
 #![tactic(auto)]
 
 mod events;
+mod laws;
 mod worlds;
 
 pub use events::Event;
 pub use hub_core::{Log, Rack};
+pub use laws::{events_are_steps, first_is_enabled, quiet_runs_are_whole, worlds_are_runs};
 pub use worlds::World;
 
 #[cfg(test)]

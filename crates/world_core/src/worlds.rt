@@ -1,9 +1,9 @@
-ghost use Rattle.std.specs.Prelude.{◌≡◌, ◌≤◌, ◌<◌, ◌+◌, ◌^◌, Option, Some, None, true, length, is_some, slice_get, OnOk, OnErr, IfOk, IfSome, IfNone};
+ghost use Rattle.std.specs.Prelude.{◌≡◌, ◌<◌, ◌+◌, ◌^◌, ◌++◌, ◌∷◌, [], true, length, is_some, slice_get, IfOk, IfSome, IfNone, IsErrOf, OnOk, MatchOption};
 ghost use Rattle.std.specs.Option.{option_copied};
 ghost use Rattle.brick_node.specs.Machine.{outputs_of};
 ghost use Rattle.hub_core.specs.Bounds.{AreFit};
 ghost use Rattle.hub_core.specs.Follows.{call_due};
-ghost use Rattle.world_core.specs.Worlds.{world_start, moved, moved_or_same, submit_moved, arrive_moved, serve_moved, next_output, next_input, first_enabled, work_left, IsEnabled, IsQuiet, IsRun, IsRackOf};
+ghost use Rattle.world_core.specs.Worlds.{world_start, is_enabled, first_enabled, next_output, next_input, work_left, IsQuiet, IsRun, IsRackOf, MovesIf, HasRun, IsOutOfWinds};
 
 use crate::events::Event;
 use brick_node::Brick;
@@ -11,9 +11,10 @@ use fop_types::{RootScript, Seq};
 use hub_core::{Hub, Rack, SentLine};
 use std::alloc::{AllocError, Global};
 use std::marker::Model;
+use xlator_law::Stop;
 
 /// The hub with its brick, the number of outputs that have arrived, and room for the list of bricks that
-/// the world leaves. A call that wants memory and gets none has changed nothing.
+/// the world leaves. A method that stops has spent the world.
 #[derive(Drop)]
 pub struct World {
     hub: Hub,
@@ -51,10 +52,24 @@ fn line_to_serve<'a>(hub: &'a Hub, brick: &Brick) -> Option<&'a SentLine>
     hub.sent().get(brick.journal().len())
 }
 
+/// Lets a brick serve the first input that it has not served: true exactly where there is one.
+fn serve_next(alloc: Global, hub: &Hub, brick: &mut Brick) -> Result<bool, AllocError>
+    ensures did { IfOk result (λ did. did ≡ is_some (slice_get hub.now.log.sent (length brick.old))) }
+    ensures served { OnOk result (MatchOption (slice_get hub.now.log.sent (length brick.old)) (brick.new ≡ brick.old) (λ line. brick.new ≡ brick.old ++ line.bytes ∷ [])) }
+{
+    match line_to_serve(hub, brick) {
+        None => Ok(false),
+        Some(line) => {
+            brick.serve(alloc, line.bytes.as_slice())?;
+            Ok(true)
+        }
+    }
+}
+
 impl World {
     /// The world at the start of a script, of which it keeps a copy: no call is submitted, and the brick
-    /// has the root alone. The script has at most 4,096 calls, each with a name and a mode that a message
-    /// can carry.
+    /// has the root alone. The script has at most 4,096 calls, each with components and a mode that a
+    /// message can carry.
     ///
     /// # Errors
     /// Want of memory.
@@ -73,73 +88,104 @@ impl World {
         })
     }
 
-    /// Submits the call that is due to a session.
-    fn submit(&mut self, alloc: Global, session: u8) -> Result<bool, AllocError>
-        ensures did { IfOk result (λ did. did ≡ is_some (submit_moved self.old (call_due self.old.hub session))) }
-        ensures ok { OnOk result (self.new ≡ moved_or_same self.old (submit_moved self.old (call_due self.old.hub session))) }
-        ensures err { OnErr result (self.new ≡ self.old) }
+    /// Submits the call that is due to a session: true exactly where there is one.
+    ///
+    /// # Errors
+    /// As for [`World::apply`].
+    fn submit(self, alloc: Global, session: u8) -> Result<(World, bool), Stop>
+        ensures did { IfOk result (λ r. r.1 ≡ is_enabled self (Event.Submit session)) }
+        ensures moved { IfOk result (λ r. MovesIf (is_enabled self (Event.Submit session)) self (Event.Submit session) r.0) }
+        ensures winds { IsErrOf result Stop.Winds → IsOutOfWinds self }
     {
-        let did = self.hub.submit(alloc, session)?;
-        Ok(did)
+        let (hub, did) = self.hub.submit(alloc, session)?;
+        Ok((
+            World {
+                hub,
+                brick: self.brick,
+                arrived: self.arrived,
+                room: self.room,
+            },
+            did,
+        ))
     }
 
-    /// Hands the hub the brick's first output that has not arrived.
-    fn arrive(&mut self, alloc: Global) -> Result<bool, AllocError>
-        ensures did { IfOk result (λ did. did ≡ is_some (arrive_moved self.old (next_output self.old))) }
-        ensures ok { OnOk result (self.new ≡ moved_or_same self.old (arrive_moved self.old (next_output self.old))) }
-        ensures err { OnErr result (self.new ≡ self.old) }
+    /// Hands the hub the brick's first output that has not arrived: true exactly where there is one.
+    ///
+    /// # Errors
+    /// As for [`World::apply`].
+    fn arrive(self, alloc: Global) -> Result<(World, bool), Stop>
+        ensures did { IfOk result (λ r. r.1 ≡ is_some (next_output self)) }
+        ensures moved { IfOk result (λ r. MovesIf (is_some (next_output self)) self (Event.Arrive 0) r.0) }
+        ensures winds { IsErrOf result Stop.Winds → IsOutOfWinds self }
     {
         match output_at(&self.brick, self.arrived) {
-            None => Ok(false),
+            None => Ok((self, false)),
             Some(output) => {
-                let copy = Seq::from_bytes(alloc, output.as_slice())?;
-                self.hub.arrive(alloc, copy)?;
-                self.arrived += 1;
-                Ok(true)
+                let bytes = Seq::from_bytes(alloc, output.as_slice())?;
+                let hub = self.hub.arrive(alloc, bytes)?;
+                Ok((
+                    World {
+                        hub,
+                        brick: self.brick,
+                        arrived: self.arrived + 1,
+                        room: self.room,
+                    },
+                    true,
+                ))
             }
         }
     }
 
-    /// Lets the brick serve the first input that it has not served.
-    fn serve(&mut self, alloc: Global) -> Result<bool, AllocError>
-        ensures did { IfOk result (λ did. did ≡ is_some (serve_moved self.old (next_input self.old))) }
-        ensures ok { OnOk result (self.new ≡ moved_or_same self.old (serve_moved self.old (next_input self.old))) }
-        ensures err { OnErr result (self.new ≡ self.old) }
+    /// Lets the brick serve the first input that it has not served: true exactly where there is one.
+    ///
+    /// # Errors
+    /// Want of memory.
+    fn serve(self, alloc: Global) -> Result<(World, bool), Stop>
+        ensures did { IfOk result (λ r. r.1 ≡ is_some (next_input self)) }
+        ensures moved { IfOk result (λ r. MovesIf (is_some (next_input self)) self (Event.Serve 0) r.0) }
+        ensures winds { IsErrOf result Stop.Winds → IsOutOfWinds self }
     {
-        match line_to_serve(&self.hub, &self.brick) {
-            None => Ok(false),
-            Some(line) => {
-                self.brick.serve(alloc, line.bytes.as_slice())?;
-                Ok(true)
-            }
-        }
+        let mut brick = self.brick;
+        let did = serve_next(alloc, &self.hub, &mut brick)?;
+        Ok((
+            World {
+                hub: self.hub,
+                brick,
+                arrived: self.arrived,
+                room: self.room,
+            },
+            did,
+        ))
     }
 
     /// Carries out an event: true where it is enabled, and false, with nothing changed, exactly where it is
     /// not.
     ///
     /// # Errors
-    /// Want of memory, with nothing changed.
-    pub fn apply(&mut self, alloc: Global, e: Event) -> Result<bool, AllocError>
-        ensures did { IfOk result (λ did. did ≡ is_some (moved self.old e)) }
-        ensures ok { OnOk result (self.new ≡ moved_or_same self.old (moved self.old e)) }
-        ensures err { OnErr result (self.new ≡ self.old) }
+    /// `Winds` only where more than 4,294,967,295 winds would be opened; else want of memory.
+    pub fn apply(self, alloc: Global, e: Event) -> Result<(World, bool), Stop>
+        ensures did { IfOk result (λ r. r.1 ≡ is_enabled self e) }
+        ensures moved { IfOk result (λ r. MovesIf (is_enabled self e) self e r.0) }
+        ensures winds { IsErrOf result Stop.Winds → IsOutOfWinds self }
     {
         match e {
-            Event::Submit(session) => self.submit(alloc, session),
+            Event::Submit(session) => {
+                let (world, did) = self.submit(alloc, session)?;
+                Ok((world, did))
+            }
             Event::Arrive(brick) => {
-                if brick == 0 {
-                    self.arrive(alloc)
-                } else {
-                    Ok(false)
+                if brick != 0 {
+                    return Ok((self, false));
                 }
+                let (world, did) = self.arrive(alloc)?;
+                Ok((world, did))
             }
             Event::Serve(brick) => {
-                if brick == 0 {
-                    self.serve(alloc)
-                } else {
-                    Ok(false)
+                if brick != 0 {
+                    return Ok((self, false));
                 }
+                let (world, did) = self.serve(alloc)?;
+                Ok((world, did))
             }
         }
     }
@@ -190,7 +236,7 @@ impl World {
     /// services, whatever the state of the generator. None exactly where no event is enabled.
     pub fn pick(&self, state: u64) -> Option<Event>
         ensures first { result ≡ first_enabled self.now }
-        ensures enabled { IfSome result (λ e. IsEnabled self.now e) }
+        ensures enabled { IfSome result (λ e. is_enabled self.now e ≡ true) }
         ensures quiet { IfNone result (IsQuiet self.now) }
     {
         let _whatever = state;
@@ -201,28 +247,37 @@ impl World {
     }
 
     /// Carries out an enabled event, which leaves less work.
-    fn step(&mut self, alloc: Global, e: Event) -> Result<(), AllocError>
-        requires { IsEnabled self.old e }
-        ensures less { OnOk result (work_left self.new < work_left self.old) }
-        ensures calls { self.new.hub.calls ≡ self.old.hub.calls }
+    ///
+    /// # Errors
+    /// As for [`World::apply`].
+    fn step(self, alloc: Global, e: Event) -> Result<World, Stop>
+        requires { is_enabled self e ≡ true }
+        ensures less { IfOk result (λ world. work_left world < work_left self) }
+        ensures calls { IfOk result (λ world. world.hub.calls ≡ self.hub.calls) }
+        ensures winds { IsErrOf result Stop.Winds → HasRun self IsOutOfWinds }
     {
-        self.apply(alloc, e)?;
-        Ok(())
+        self.is_run();
+        self.is_fit();
+        let (world, _did) = self.apply(alloc, e)?;
+        Ok(world)
     }
 
     /// Carries out events until none is enabled. The number of events is at most the work that is left at
     /// first.
     ///
     /// # Errors
-    /// Want of memory, with the world as the last event left it.
-    pub fn run(&mut self, alloc: Global) -> Result<(), AllocError>
-        ensures quiet { OnOk result (IsQuiet self.new) }
-        ensures calls { self.new.hub.calls ≡ self.old.hub.calls }
+    /// `Winds` only where, after some events, more than 4,294,967,295 winds would be opened; else want of
+    /// memory.
+    pub fn run(self, alloc: Global) -> Result<World, Stop>
+        ensures quiet { IfOk result (λ world. IsQuiet world) }
+        ensures calls { IfOk result (λ world. world.hub.calls ≡ self.hub.calls) }
+        ensures winds { IsErrOf result Stop.Winds → HasRun self IsOutOfWinds }
     {
-        while let Some(e) = self.pick(0) {
-            self.step(alloc, e)?;
+        let mut world = self;
+        while let Some(e) = world.pick(0) {
+            world = world.step(alloc, e)?;
         }
-        Ok(())
+        Ok(world)
     }
 
     /// What holds of every world: its log's arrivals are honest, and its brick has served a front of what
@@ -233,17 +288,25 @@ impl World {
         let _hub = &self.hub;
     }
 
-    /// The bricks and the log, with nothing copied.
+    /// The calls of every world fit.
+    fn is_fit(&self)
+        ensures { AreFit self.now.hub.calls }
+    {
+        let _hub = &self.hub;
+    }
+
+    /// The bricks, the log and the operations of the history's entries, with nothing copied.
     pub fn into_rack(self) -> Rack
         ensures rack { IsRackOf self result }
         ensures run { IsRun self }
     {
         let mut bricks = self.room;
         bricks.push_reserved(self.brick);
-        let (_script, log) = self.hub.into_log();
+        let (log, ops) = self.hub.into_log();
         Rack {
             bricks: Seq::from_vec(bricks),
             log,
+            ops,
         }
     }
 }

@@ -1,4 +1,4 @@
-use Rattle.hub_core.proofs.LawProofs.{tied}
+use Rattle.hub_core.proofs.Tied.{tied}
 use Rattle.hub_core.proofs.laws.logs_are_tied.Goals as goal
 
 pub returns : goal.returns

@@ -1,4 +1,4 @@
-use Rattle.std.proofs.Common.{◌≡◌, ◌+◌, [], drop}
+use Rattle.std.proofs.Common.{◌≡◌, ◌+◌, drop}
 use Rattle.mount_run.specs.Checks.{calls_in}
 use Rattle.mount_run.proofs.checks.count_calls.Given as goal
 

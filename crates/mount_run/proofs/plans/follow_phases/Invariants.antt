@@ -1,4 +1,4 @@
-use Rattle.std.proofs.Common.{◌≡◌, ◌+◌, [], drop}
+use Rattle.std.proofs.Common.{◌≡◌, drop}
 use Rattle.mount_run.specs.Plans.{after_phases}
 use Rattle.mount_run.proofs.plans.follow_phases.Given as goal
 

@@ -1,4 +1,4 @@
-use Rattle.std.proofs.Common.{◌≡◌, ◌+◌, [], drop}
+use Rattle.std.proofs.Common.{◌≡◌, [], drop}
 use Rattle.mount_run.specs.Plans.{plans_of}
 use Rattle.mount_run.proofs.plans.plans.Given as goal
 

@@ -1,4 +1,4 @@
-use Rattle.std.proofs.Common.{◌≡◌, ◌+◌, [], drop}
+use Rattle.std.proofs.Common.{◌≡◌, drop}
 use Rattle.mount_run.specs.Served.{unserved_call}
 use Rattle.mount_run.proofs.served.call_line.Given as goal
 

@@ -1,4 +1,4 @@
-use Rattle.std.proofs.Common.{◌≡◌, ◌+◌, [], drop}
+use Rattle.std.proofs.Common.{◌≡◌, [], drop}
 use Rattle.mount_run.specs.Served.{root_phases}
 use Rattle.mount_run.proofs.served.calls.Given as goal
 

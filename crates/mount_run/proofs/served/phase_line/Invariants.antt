@@ -1,4 +1,4 @@
-use Rattle.std.proofs.Common.{◌≡◌, ◌+◌, [], drop}
+use Rattle.std.proofs.Common.{◌≡◌, drop}
 use Rattle.mount_run.specs.Served.{unserved_phase}
 use Rattle.mount_run.proofs.served.phase_line.Given as goal
 

@@ -1,4 +1,4 @@
-use Rattle.std.proofs.Common.{◌≡◌, ◌+◌, [], drop}
+use Rattle.std.proofs.Common.{◌≡◌, drop}
 use Rattle.mount_run.specs.Served.{root_lines}
 use Rattle.mount_run.proofs.served.root_lines.Given as goal
 

@@ -1,7 +1,7 @@
 use Rattle.std.proofs.Common.{arith, sym, ap, subst}
 use Rattle.hub_core.specs.Bounds.{AreFit}
 use Rattle.hub_core.specs.Turns.{HubState}
-use Rattle.world_core.proofs.Steps.{reached_start, none_arrived}
+use Rattle.world_core.proofs.Moving.{reached_start, none_arrived}
 use Rattle.world_core.proofs.worlds.World.new.Goals as goal
 
 pub invariant_of-result : goal.invariant_of-result

@@ -1,11 +1,12 @@
-use Rattle.world_core.proofs.Steps.{reached_submit, arrived_same, fit_submit}
+use Rattle.world_core.proofs.Moving.{held_submit, submits_if}
 use Rattle.world_core.proofs.worlds.World.submit.Goals as goal
 
-pub invariant_of-self-2 : goal.invariant_of-self-2
-invariant_of-self-2 c = (
-  reached_submit c.args.session c.submit.new.self c.self.invariant.0 c.in_ok-did.ensures.ok,
-  arrived_same c.self.inside.hub c.submit.new.self c.args.session c.self.inside.arrived c.in_ok-did.ensures.ok c.self.invariant.1,
-  c.self.invariant.2,
-  c.self.invariant.3,
-  fit_submit c.self.inside.hub c.submit.new.self c.args.session c.in_ok-did.ensures.ok c.self.invariant.4,
-)
+pub invariant_of-result : goal.invariant_of-result
+invariant_of-result c =
+    let held = held_submit (record { hub = c.self.inside.hub; journal = c.self.inside.brick }) c.in_ok-hub.hub c.args.session c.self.inside.arrived c.in_ok-hub.ensures.submitted
+    (record { reached = c.self.invariant.0; counted = c.self.invariant.1; fit = c.self.invariant.4 }) in
+    (held.reached, held.counted, c.self.invariant.2, c.self.invariant.3, held.fit)
+
+pub returns-clause-moved : goal.returns-clause-moved
+returns-clause-moved c =
+    submits_if (record { hub = c.self.inside.hub; journal = c.self.inside.brick }) c.args.self c.in_ok-hub.hub c.args.session c.self.view_is c.in_ok-hub.ensures.submitted
