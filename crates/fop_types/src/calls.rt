@@ -31,14 +31,14 @@ pub enum Call {
     Close { fd: u8 },
 }
 
-/// A call that the hub serves so far: one on a name of the root.
+/// A call that the hub serves so far.
 #[derive(Debug, Drop, PartialEq, Eq)]
 pub enum RootCall {
     Mkdir { path: Path, mode: u16 },
     Stat { path: Path },
 }
 
-/// A line of a script that makes a call on a name of the root. `session` is the number of the line's
+/// A line of a script that makes a call which the hub serves so far. `session` is the number of the line's
 /// session, by the order in which sessions are first named, from 0.
 #[derive(Debug, Drop, PartialEq, Eq)]
 pub struct RootLine {
