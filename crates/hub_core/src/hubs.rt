@@ -1,9 +1,9 @@
-ghost use Rattle.std.specs.Prelude.{◌≡◌, ◌-◌, None, IfSome, is_some, is_none, IfOk, OnOk, IsErrOf, slice_get};
+ghost use Rattle.std.specs.Prelude.{◌≡◌, ◌≤◌, ◌-◌, None, IfSome, is_some, is_none, IfOk, OnOk, IsErrOf, slice_get};
 ghost use Rattle.std.specs.Option.{option_copied};
 ghost use Rattle.xlator_law.specs.Numbers.{wind_number};
 ghost use Rattle.hub_core.specs.Bounds.{AreFit};
 ghost use Rattle.hub_core.specs.Follows.{call_due};
-ghost use Rattle.hub_core.specs.Steps.{IsSubmittedIf, HasArrived, IsOutOfWinds};
+ghost use Rattle.hub_core.specs.Steps.{openings, IsSubmittedIf, HasArrived, IsOutOfWinds};
 ghost use Rattle.hub_core.specs.Tasks.{state_of, winds_of, reply_of, reply_in, IsSound};
 ghost use Rattle.hub_core.specs.Turns.{start_of, innermost};
 
@@ -297,10 +297,12 @@ impl Hub {
         self.parts.task.is_none()
     }
 
-    /// The log and the operations of the history's entries, with nothing copied.
+    /// The log and the operations of the history's entries, with nothing copied. The log has opened at most
+    /// 4,294,967,295 winds.
     pub fn into_log(self) -> (Log, Seq<FlatOp>)
         ensures log { result.0 ≡ self.log }
         ensures ops { result.1 ≡ self.ops }
+        ensures few { openings result.0.winds ≤ 4294967295 }
     {
         let desk = self.parts.desk;
         (desk.log, desk.ops)

@@ -243,8 +243,8 @@ fn show_history(alloc: Global, history: &[Entry]) -> Result<Seq<(u32, u8)>, Allo
     Ok(shown)
 }
 
-/// How many winds were opened.
-pub fn opened(winds: &[WindLine]) -> usize
+// How many winds were opened.
+fn opened(winds: &[WindLine]) -> usize
     ensures { result ≡ count_by (λ line. line.opened) winds.now }
 {
     winds.iter().filter(|line| line.opened).count()

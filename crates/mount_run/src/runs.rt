@@ -5,7 +5,7 @@ ghost use Rattle.mount_run.specs.Reports.{names_of};
 ghost use Rattle.mount_run.specs.Served.{calls_to_run};
 ghost use Rattle.world_core.specs.Worlds.{world_start, HasRun, IsOutOfWinds};
 
-use crate::reports::{opened, report_of, script_names};
+use crate::reports::{report_of, script_names};
 use crate::served::calls;
 use hub_core::{Rack, logs_are_tied};
 use report_text::print;
@@ -33,10 +33,6 @@ pub fn run_script(alloc: Global, script: &Script, rack: &mut Rack) -> Result<Vec
     quiet_runs_are_whole();
     logs_are_tied();
     let left = ended.into_rack();
-    // a graph's line counts its winds in 32 bits
-    if opened(left.log.winds.as_slice()) > 4294967295 {
-        return Err(Stop::Winds);
-    }
     let names = script_names(alloc, script)?;
     let report = report_of(alloc, &names, &left.log)?;
     let text = print(alloc, &report)?;

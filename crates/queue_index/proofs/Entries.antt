@@ -1,12 +1,12 @@
 -- What one entry more, or one less, makes of the entries and of their places.
-use Rattle.std.proofs.Common.{◌≡◌, ℕ, zero, suc, ◌+◌, ◌-◌, ◌<◌, ◌≤◌, Bool, true, false, not, ◌&&◌, ◌||◌, ◌==◌, nat_lt, nat_le, cond, List, [], ◌∷◌, ◌++◌, Option, Some, None, map, refl, sym, ap, ◌∙◌, arith, subst, ltb, le-ltb, lt-ltb, ◌^◌}
-use Rattle.std.specs.List.{list_any, filter, AllByRecursion, All}
+use Rattle.std.proofs.Common.{◌≡◌, ℕ, suc, ◌+◌, ◌<◌, ◌≤◌, Bool, true, false, not, ◌&&◌, ◌||◌, ◌==◌, cond, List, [], ◌∷◌, ◌++◌, Option, Some, None, length, refl, sym, ap, ◌∙◌, arith, subst}
+use Rattle.std.specs.List.{AllByRecursion, All}
 use Rattle.std.specs.declared.cmp.Ordering.{Ordering}
-use Rattle.std.specs.declared.cmp.Ordering.TheVariants.{Less, Equal, Greater}
-use Rattle.std.specs.Ordering.{is_eq, nat_cmp, match_ordering}
-use Rattle.std.specs.Map.{lookup, keys_of, remove_entry, set_value}
-use Rattle.std.specs.BTreeMap as tree
+use Rattle.std.specs.declared.cmp.Ordering.TheVariants.{Less, Greater}
+use Rattle.std.specs.Ordering.{is_eq, is_lt, is_gt, nat_cmp, match_ordering}
+use Rattle.std.specs.Map.{keys_of, remove_entry, set_value}
 use Rattle.std.specs.BTreeMap.{insert_entry, is_at}
+use Rattle.std.specs.BTreeMap.Range.{IsLeBy}
 use Rattle.std.specs.BTreeSet.{BTreeSet, contains}
 use Rattle.std.specs.List.Sorted.{IsStrictlySortedBy}
 use Rattle.std.specs.Cmp.{nat_cmp_total}
@@ -16,9 +16,9 @@ use Rattle.std.proofs.lemmas.Bool.{cases_lt}
 use mathlib.Core.Logic.{⊎_elim}
 use Rattle.queue_index.specs.declared.key.Key.{Key}
 use Rattle.queue_index.specs.declared.place.Place.{Place}
-use Rattle.queue_index.specs.Places.{has_key, place_cmp, place, is_of, IsFirst, IsNone}
-use Rattle.queue_index.specs.Queue.{item_at, items, numbers, before, without, changed_at, touches, touching, touching_from}
-use Rattle.queue_index.specs.Whole.{has, ArePlaced, AreBetween, IsWhole}
+use Rattle.queue_index.specs.Places.{has_key, place_cmp, place, is_of}
+use Rattle.queue_index.specs.Queue.{item_at, without, changed_at}
+use Rattle.queue_index.specs.Whole.{has, ArePlaced}
 
 pub at_is : (a b : ℕ) → is_eq (nat_cmp a b) ≡ (a == b)
 at_is a b = grind (arith)
@@ -40,6 +40,16 @@ eq_is a b h = grind (arith, h)
 
 apart_is : (a b : ℕ) → b < a → (a == b) ≡ false
 apart_is a b h = grind (arith, h)
+
+each_of : (P : ℕ → Type 0) (ns : List ℕ) → All P ns → AllByRecursion P ns
+each_of P [] h = tt
+each_of P (n ∷ ns) h = (h 0 n (omega arith), each_of P ns (λ k d low. h (suc k) d (omega (arith, low))))
+
+not_less : (a b : ℕ) → is_lt (nat_cmp a b) ≡ false → b < a + 1
+not_less a b h = grind (arith, h)
+
+not_more : (a b : ℕ) → is_gt (nat_cmp a b) ≡ false → a ≤ b
+not_more a b h = grind (arith, h)
 
 lt_if : (n m : ℕ) → (m ≤ n → ⊥) → n < m
 lt_if n m h = ⊎_elim (λ l. l) (λ l. absurd (h l)) (cases_lt n m)
@@ -87,17 +97,38 @@ module _ {T : Type 0} where
   pub absurd_none : (n : ℕ) (x : T) (es : List (ℕ × T)) → item_at n es ≡ Some x → item_at n es ≡ None → ⊥
   absurd_none n x es h t = let f : ◌≡◌ {A = Option T} (Some x) None = sym h ∙ t in absurd cc
 
-  all_below : (es : List (ℕ × T)) (front back : ℕ) → IsStrictlySortedBy nat_cmp (keys_of es) → AreBetween es front back → AllByRecursion (λ e. e.0 < back) es
-  all_below es front back s b = each (λ n x. n < back) es es (founds es s) (λ n x h. lt_if n back (λ late. absurd_none n x es h (b.below n late)))
+  all_below : (n : ℕ) (es : List (ℕ × T)) → AllByRecursion (λ k. is_lt (nat_cmp n k) ≡ false) (keys_of es) → AllByRecursion (λ e. e.0 < n + 1) es
+  all_below n [] h = tt
+  all_below n (e ∷ es) h = (not_less n e.0 h.0, all_below n es h.1)
 
-  all_above : (es : List (ℕ × T)) (front back n : ℕ) → IsStrictlySortedBy nat_cmp (keys_of es) → AreBetween es front back → n < front → AllByRecursion (λ e. n < e.0) es
-  all_above es front back n s b low = each (λ m x. n < m) es es (founds es s) (λ m x h. lt_if n m (λ late. absurd_none m x es h (b.above m (omega (arith, late, low)))))
+  all_above : (n m : ℕ) (es : List (ℕ × T)) → n < m → AllByRecursion (λ k. is_gt (nat_cmp m k) ≡ false) (keys_of es) → AllByRecursion (λ e. n < e.0) es
+  all_above n m [] low h = tt
+  all_above n m (e ∷ es) low h = (omega (arith, not_more m e.0 h.0, low), all_above n m es low h.1)
 
-  pub at_the_end : (es : List (ℕ × T)) (front back : ℕ) (x : T) → IsStrictlySortedBy nat_cmp (keys_of es) → AreBetween es front back → insert_entry nat_cmp es back x ≡ es ++ (back, x) ∷ []
-  at_the_end es front back x s b = insert_last back x es (all_below es front back s b)
+  none_there : (es : List (ℕ × T)) → (0 < length es → false ≡ true) → es ≡ []
+  none_there [] h = refl
+  none_there (e ∷ es) h = absurd (let t : false ≡ true = h (omega arith) in cc)
 
-  pub at_the_front : (es : List (ℕ × T)) (front back n : ℕ) (x : T) → IsStrictlySortedBy nat_cmp (keys_of es) → AreBetween es front back → n < front → insert_entry nat_cmp es n x ≡ (n, x) ∷ es
-  at_the_front es front back n x s b low = insert_first n x es (all_above es front back n s b low)
+  pub in_the_empty : (es fs gs : List (ℕ × T)) (n : ℕ) (x : T) → gs ≡ insert_entry nat_cmp fs n x → fs ≡ es → (0 < length es → false ≡ true) → gs ≡ (n, x) ∷ []
+  in_the_empty es fs gs n x put same h = put ∙ ap (λ (l : List (ℕ × T)). insert_entry nat_cmp l n x) (same ∙ none_there es h)
+
+  pub alone_at_the_end : (es fs gs : List (ℕ × T)) (n : ℕ) (x : T) → gs ≡ insert_entry nat_cmp fs n x → fs ≡ es → (0 < length es → false ≡ true) → gs ≡ es ++ (n, x) ∷ []
+  alone_at_the_end es fs gs n x put same h = in_the_empty es fs gs n x put same h ∙ ap (λ (l : List (ℕ × T)). l ++ (n, x) ∷ []) (sym (none_there es h))
+
+  pub alone_at_the_front : (es fs gs : List (ℕ × T)) (n : ℕ) (x : T) → gs ≡ insert_entry nat_cmp fs n x → fs ≡ es → (0 < length es → false ≡ true) → gs ≡ (n, x) ∷ es
+  alone_at_the_front es fs gs n x put same h = in_the_empty es fs gs n x put same h ∙ ap (λ (l : List (ℕ × T)). (n, x) ∷ l) (sym (none_there es h))
+
+  pub at_the_end : (es fs gs : List (ℕ × T)) (n m : ℕ) (x : T) → gs ≡ insert_entry nat_cmp fs n x → fs ≡ es → n ≡ m + 1 → All (λ k. is_lt (nat_cmp m k) ≡ false) (keys_of es) → gs ≡ es ++ (n, x) ∷ []
+  at_the_end es fs gs n m x put same next h =
+      put
+      ∙ ap (λ (l : List (ℕ × T)). insert_entry nat_cmp l n x) same
+      ∙ insert_last n x es (subst (λ (k : ℕ). AllByRecursion (λ e. e.0 < k) es) (sym next) (all_below m es (each_of (λ k. is_lt (nat_cmp m k) ≡ false) (keys_of es) h)))
+
+  pub at_the_front : (es fs gs : List (ℕ × T)) (n m : ℕ) (x : T) → gs ≡ insert_entry nat_cmp fs n x → fs ≡ es → n < m → All (IsLeBy nat_cmp m) (keys_of es) → gs ≡ (n, x) ∷ es
+  at_the_front es fs gs n m x put same low h =
+      put
+      ∙ ap (λ (l : List (ℕ × T)). insert_entry nat_cmp l n x) same
+      ∙ insert_first n x es (all_above n m es low (each_of (IsLeBy nat_cmp m) (keys_of es) h))
 
   -- ---- an entry taken out
   none_left : (n : ℕ) (es : List (ℕ × T)) → AllByRecursion (λ y. nat_cmp n y ≡ Less) (keys_of es) → without n es ≡ es
@@ -110,41 +141,6 @@ module _ {T : Type 0} where
     | true ↦ λ t. ap (λ (b : Bool). cond b es (e ∷ remove_entry (is_at (nat_cmp n)) es)) (at_is n e.0 ∙ t) ∙ sym (none_left n es (subst (λ (j : ℕ). AllByRecursion (λ y. nat_cmp j y ≡ Less) (keys_of es)) (sym (eq_is n e.0 t)) (sorted_head nat_cmp e.0 (keys_of es) s)))
     | false ↦ λ t. ap (λ (b : Bool). cond b es (e ∷ remove_entry (is_at (nat_cmp n)) es)) (at_is n e.0 ∙ t) ∙ ap (λ (l : List (ℕ × T)). e ∷ l) (removed_is n es (sorted_tail nat_cmp e.0 (keys_of es) s))
   ] refl
-
-  -- ---- the bounds
-  other : (n m : ℕ) (o w : Option T) (new : Option T) → (m == n) ≡ false → new ≡ cond (is_eq (nat_cmp m n)) w o → new ≡ o
-  other n m o w new apart is = is ∙ ap (λ (b : Bool). cond b w o) (at_is m n ∙ apart)
-
-  pub between_back : (es fs : List (ℕ × T)) (front back : ℕ) (w : Option T) → back + 1 < 2 ^ 64 → AreBetween es front back → ((q : ℕ) → item_at q fs ≡ cond (is_eq (nat_cmp back q)) w (item_at q es)) → AreBetween fs front (back + 1)
-  between_back es fs front back w fits b u = record {
-    order = omega (arith, b.order);
-    small = fits;
-    above = λ n low. other n back (item_at n es) w (item_at n fs) (apart_is back n (omega (arith, low, b.order))) (u n) ∙ b.above n low;
-    below = λ n late. other n back (item_at n es) w (item_at n fs) (eq_flip back n ∙ apart_is n back (omega (arith, late))) (u n) ∙ b.below n (omega (arith, late));
-  }
-
-  pub between_front : (es fs : List (ℕ × T)) (front back m : ℕ) (w : Option T) → m + 1 ≡ front → AreBetween es front back → ((q : ℕ) → item_at q fs ≡ cond (is_eq (nat_cmp m q)) w (item_at q es)) → AreBetween fs m back
-  between_front es fs front back m w is b u = record {
-    order = omega (arith, b.order, is);
-    small = b.small;
-    above = λ n low. other n m (item_at n es) w (item_at n fs) (apart_is m n low) (u n) ∙ b.above n (omega (arith, low, is));
-    below = λ n late. other n m (item_at n es) w (item_at n fs) (eq_flip m n ∙ apart_is n m (omega (arith, late, is, b.order))) (u n) ∙ b.below n late;
-  }
-
-  gone : (o w : Option T) (b : Bool) → w ≡ None → o ≡ None → cond b w o ≡ None
-  gone o w true h t = h
-  gone o w false h t = t
-
-  pub between_less : (es fs : List (ℕ × T)) (front back m : ℕ) → AreBetween es front back → ((q : ℕ) → item_at q fs ≡ cond (is_eq (nat_cmp m q)) None (item_at q es)) → AreBetween fs front back
-  between_less es fs front back m b u = record {
-    order = b.order;
-    small = b.small;
-    above = λ n low. u n ∙ gone (item_at n es) None (is_eq (nat_cmp m n)) refl (b.above n low);
-    below = λ n late. u n ∙ gone (item_at n es) None (is_eq (nat_cmp m n)) refl (b.below n late);
-  }
-
-  pub between_same : (es fs : List (ℕ × T)) (front back : ℕ) → fs ≡ es → AreBetween es front back → AreBetween fs front back
-  between_same es fs front back is b = subst (λ (l : List (ℕ × T)). AreBetween l front back) (sym is) b
 
 module _ {T : Type 0} (keys : T → List Key) where
   has_more : (o : Option T) (x : T) (k : Key) (b : Bool) → (b ≡ true → o ≡ None) → (has keys o k || (has_key k (keys x) && b)) ≡ has keys (cond b (Some x) o) k

@@ -1,20 +1,20 @@
 -- The entries that have a key, from one number to the next.
-use Rattle.std.proofs.Common.{◌≡◌, ℕ, zero, suc, ◌+◌, ◌<◌, ◌≤◌, ◌^◌, Bool, true, false, not, ◌&&◌, ◌||◌, ◌==◌, nat_lt, nat_le, cond, List, [], ◌∷◌, ◌++◌, Option, Some, None, map, refl, sym, ap, ◌∙◌, arith, subst, IfSome, IfNone}
-use Rattle.std.specs.List.{list_any, filter, AllByRecursion}
+use Rattle.std.proofs.Common.{◌≡◌, ℕ, ◌+◌, ◌<◌, ◌≤◌, ◌^◌, Bool, true, false, ◌&&◌, ◌||◌, nat_lt, nat_le, cond, List, [], ◌∷◌, Option, Some, None, refl, sym, ap, ◌∙◌, arith, subst}
+use Rattle.std.specs.List.{list_any, AllByRecursion}
 use Rattle.std.specs.declared.cmp.Ordering.TheVariants.{Less}
 use Rattle.std.specs.Ordering.{is_eq, nat_cmp}
 use Rattle.std.specs.Map.{keys_of}
-use Rattle.std.specs.BTreeSet.{BTreeSet, contains}
+use Rattle.std.specs.BTreeSet.{BTreeSet}
 use Rattle.std.specs.List.Sorted.{IsStrictlySortedBy}
 use Rattle.std.proofs.lemmas.Map.Keys.{sorted_head, sorted_tail}
-use Rattle.std.proofs.lemmas.Bool.{and_parts, le-leb, lt-leb, leb-true, le-ltb, lt-ltb, ltb-false, cases_lt}
+use Rattle.std.proofs.lemmas.Bool.{and_parts, le-leb, lt-leb, leb-true, le-ltb, ltb-false, cases_lt}
 use mathlib.Core.Logic.{⊎_elim}
 use Rattle.queue_index.specs.declared.key.Key.{Key}
 use Rattle.queue_index.specs.declared.place.Place.{Place}
-use Rattle.queue_index.specs.Places.{has_key, place_cmp, place, IsFirst, IsNone}
+use Rattle.queue_index.specs.Places.{IsFirst, IsNone}
 use Rattle.queue_index.specs.Queue.{item_at, items, numbers, before, touches, touching, touching_from}
-use Rattle.queue_index.specs.Whole.{has, ArePlaced, AreBetween, IsWhole}
-use Rattle.queue_index.proofs.Entries.{founds, each, found_in, at_is, none_if, absurd_none}
+use Rattle.queue_index.specs.Whole.{has, IsWhole}
+use Rattle.queue_index.proofs.Entries.{founds, each, found_in, absurd_none}
 
 less_is : (a b : ℕ) → nat_cmp a b ≡ Less → a < b
 less_is a b h = grind (arith, h)
@@ -78,22 +78,22 @@ module _ {T : Type 0} (keys : T → List Key) where
   has_at : (o : Option T) (x : T) (k : Key) → o ≡ Some x → has keys o k ≡ touches keys k x
   has_at o x k is = ap (λ (t : Option T). has keys t k) is
 
-  pub next_is : (es : List (ℕ × T)) (places : BTreeSet Place) (front back from m : ℕ) (k : Key) → IsWhole keys es places front back → IsFirst places k from m → numbers (touching_from keys k from es) ≡ m ∷ numbers (touching_from keys k (m + 1) es)
-  next_is es places front back from m k w f =
+  pub next_is : (es : List (ℕ × T)) (places : BTreeSet Place) (from m : ℕ) (k : Key) → IsWhole keys es places → IsFirst places k from m → numbers (touching_from keys k from es) ≡ m ∷ numbers (touching_from keys k (m + 1) es)
+  next_is es places from m k w f =
       let found = has_some (item_at m es) k (sym (w.placed k m) ∙ f.there) in
       ap (λ (l : List (ℕ × T)). numbers l) (first_and_rest k from m found.0 es w.rising
       (each (λ n y. from ≤ n → touches keys k y ≡ true → m ≤ n) es es (founds es w.rising) (λ n y is late t. f.least n late (w.placed k n ∙ has_at (item_at n es) y k is ∙ t)))
       found.1 found.2 f.late)
 
-  pub next_none : (es : List (ℕ × T)) (places : BTreeSet Place) (front back from : ℕ) (k : Key) → IsWhole keys es places front back → IsNone places k from → numbers (touching_from keys k from es) ≡ []
-  next_none es places front back from k w f =
+  pub next_none : (es : List (ℕ × T)) (places : BTreeSet Place) (from : ℕ) (k : Key) → IsWhole keys es places → IsNone places k from → numbers (touching_from keys k from es) ≡ []
+  next_none es places from k w f =
       ap (λ (l : List (ℕ × T)). numbers l) (none_from k from es
       (each (λ n y. (nat_le from n && touches keys k y) ≡ false) es es (founds es w.rising) (λ n y is. decided (nat_le from n && touches keys k y) (λ b. let p = and_parts (nat_le from n) (touches keys k y) b in let t : true ≡ false = sym (w.placed k n ∙ has_at (item_at n es) y k is ∙ p.1) ∙ f n (leb-true from n p.0) in absurd cc))))
 
-  pub next_fits : (es : List (ℕ × T)) (places : BTreeSet Place) (front back from m limit : ℕ) (k : Key) → back < limit → IsWhole keys es places front back → IsFirst places k from m → m + 1 < limit
-  next_fits es places front back from m limit k small w f =
+  pub next_fits : (es : List (ℕ × T)) (places : BTreeSet Place) (from m : ℕ) (k : Key) → IsWhole keys es places → IsFirst places k from m → m + 1 < 2 ^ 64
+  next_fits es places from m k w f =
       let found = has_some (item_at m es) k (sym (w.placed k m) ∙ f.there) in
-      ⊎_elim (λ l. omega (arith, l, small)) (λ l. absurd (absurd_none m found.0 es found.1 (w.between.below m l))) (cases_lt m back)
+      ⊎_elim (λ l. l) (λ l. absurd (absurd_none m found.0 es found.1 (w.small m l))) (cases_lt (m + 1) (2 ^ 64))
 
   -- ---- all of them
   all_from : (k : Key) (es : List (ℕ × T)) → touching_from keys k 0 es ≡ touching keys k es

@@ -1,6 +1,6 @@
 -- A queue of entries with rising numbers, and which of them have a key. An entry is a number and an item;
 -- `keys` tells the keys of an item.
-use Rattle.std.specs.Prelude.{ℕ, Bool, not, ◌==◌, nat_lt, nat_le, ◌&&◌, cond, List, map, Option}
+use Rattle.std.specs.Prelude.{ℕ, ◌+◌, ◌-◌, ◌^◌, Bool, not, ◌==◌, nat_lt, nat_le, ◌&&◌, cond, List, map, length, slice_get, Option, Some, None}
 use Rattle.std.specs.List.{filter}
 use Rattle.std.specs.Map.{lookup}
 use Rattle.std.specs.Ordering.{nat_cmp}
@@ -31,6 +31,21 @@ module _ {T : Type 0} where
   -- the entries, with that of a number changed
   abbrev pub changed_at : (T → T) → ℕ → List (ℕ × T) → List (ℕ × T)
   changed_at change n es = map (λ e. cond (n == e.0) (e.0, change e.1) e) es
+
+  abbrev pub after_entry : Option (ℕ × T) → ℕ
+  after_entry None = 2 ^ 63
+  after_entry (Some e) = e.0 + 1
+
+  abbrev pub before_entry : Option (ℕ × T) → ℕ
+  before_entry None = 2 ^ 63
+  before_entry (Some e) = e.0 - 1
+
+  -- the number of an entry that is put at the end, and of one that is put at the front
+  abbrev pub number_after : List (ℕ × T) → ℕ
+  number_after es = after_entry (slice_get es (length es - 1))
+
+  abbrev pub number_before : List (ℕ × T) → ℕ
+  number_before es = before_entry (slice_get es 0)
 
 module _ {T : Type 0} (keys : T → List Key) where
   -- whether an item has a key

@@ -1,6 +1,6 @@
--- What a queue keeps: a place stands exactly where the entry of its number has its key, the numbers rise,
--- and all of them lie between two bounds.
-use Rattle.std.specs.Prelude.{◌≡◌, ℕ, ◌≤◌, ◌<◌, ◌^◌, Bool, false, List, Option, Some, None}
+-- What a queue keeps: a place stands exactly where the entry of its number has its key, and the numbers
+-- rise and are small.
+use Rattle.std.specs.Prelude.{◌≡◌, ℕ, ◌≤◌, ◌+◌, ◌^◌, Bool, false, List, Option, Some, None}
 use Rattle.std.specs.BTreeSet.{BTreeSet, contains}
 use Rattle.std.specs.Map.{keys_of}
 use Rattle.std.specs.Ordering.{nat_cmp}
@@ -19,14 +19,11 @@ module _ {T : Type 0} (keys : T → List Key) where
   abbrev pub ArePlaced : List (ℕ × T) → BTreeSet Place → Type 0
   ArePlaced es places = (k : Key) (n : ℕ) → contains place_cmp places (place k n) ≡ has (item_at n es) k
 
--- all numbers are from `front` on and below `back`, which is a number of 64 bits
-pub record AreBetween {T : Type 0} (es : List (ℕ × T)) (front back : ℕ) : Type 0 where
-  pub order : front ≤ back
-  pub small : back < 2 ^ 64
-  pub above : (n : ℕ) → n < front → item_at n es ≡ None
-  pub below : (n : ℕ) → back ≤ n → item_at n es ≡ None
+-- all numbers are less than 2^64 - 1
+abbrev pub AreSmall : {T : Type 0} → List (ℕ × T) → Type 0
+AreSmall es = (n : ℕ) → 2 ^ 64 ≤ n + 1 → item_at n es ≡ None
 
-pub record IsWhole {T : Type 0} (keys : T → List Key) (es : List (ℕ × T)) (places : BTreeSet Place) (front back : ℕ) : Type 0 where
+pub record IsWhole {T : Type 0} (keys : T → List Key) (es : List (ℕ × T)) (places : BTreeSet Place) : Type 0 where
   pub placed : ArePlaced keys es places
   pub rising : IsStrictlySortedBy nat_cmp (keys_of es)
-  pub between : AreBetween es front back
+  pub small : AreSmall es

@@ -3,7 +3,7 @@ ghost use Rattle.std.specs.Map.{keys_of};
 ghost use Rattle.std.specs.Ordering.{nat_cmp};
 ghost use Rattle.std.specs.List.{list_any};
 ghost use Rattle.std.specs.List.Sorted.{IsStrictlySortedBy};
-ghost use Rattle.queue_index.specs.Queue.{item_at, items, numbers, before, without, changed_at, touches, touching, touching_from};
+ghost use Rattle.queue_index.specs.Queue.{item_at, items, numbers, before, without, changed_at, touches, touching, touching_from, number_after, number_before};
 
 use crate::entry::add_entry;
 use crate::key::Key;
@@ -21,8 +21,6 @@ const MIDDLE: u64 = 9223372036854775808;
 pub struct KeyedQueue<T: Keyed> {
     held: BTreeMap<u64, T>,
     places: BTreeSet<Place>,
-    front: u64,
-    back: u64,
 }
 
 impl<T: Keyed> Model for KeyedQueue<T> {
@@ -33,7 +31,7 @@ impl<T: Keyed> Model for KeyedQueue<T> {
 
     ghost view = { λ q. q.held.entries };
 
-    ghost invariant = { λ q. IsWhole T.keys q.held.entries q.places q.front q.back };
+    ghost invariant = { λ q. IsWhole T.keys q.held.entries q.places };
 }
 
 impl<T: Keyed + Drop> KeyedQueue<T> {
@@ -44,8 +42,6 @@ impl<T: Keyed + Drop> KeyedQueue<T> {
         KeyedQueue {
             held: BTreeMap::new(alloc),
             places: BTreeSet::new(alloc),
-            front: MIDDLE,
-            back: MIDDLE,
         }
     }
 
@@ -70,37 +66,47 @@ impl<T: Keyed + Drop> KeyedQueue<T> {
         self.held.get(&number)
     }
 
-    /// Puts an entry at the end, and gives its number.
+    /// Puts an entry at the end, and gives its number: one more than that of the last entry, and 2^63 where
+    /// the queue is empty.
     ///
     /// # Errors
-    /// Want of memory, or of a number: 2^63 entries were put at the end before. The queue is unchanged.
+    /// Want of memory, or the last entry has the number 2^64 - 2. The queue is unchanged.
     pub fn push_back(&mut self, item: T) -> Result<u64, AllocError>
         ensures added { IfOk result (λ n. self.new ≡ self.old ++ (n, item) ∷ []) }
+        ensures number { IfOk result (λ n. n ≡ number_after self.old) }
         ensures err { OnErr result (self.new ≡ self.old) }
     {
-        let number = self.back;
+        let number = match self.held.last_key_value() {
+            None => MIDDLE,
+            Some((last, _)) => *last + 1,
+        };
         if number == u64::MAX {
             return Err(AllocError);
         }
         add_entry(&mut self.held, &mut self.places, number, item)?;
-        self.back = number + 1;
         Ok(number)
     }
 
-    /// Puts an entry at the front, and gives its number.
+    /// Puts an entry at the front, and gives its number: one less than that of the first entry, and 2^63
+    /// where the queue is empty.
     ///
     /// # Errors
-    /// Want of memory, or of a number: 2^63 entries were put at the front before. The queue is unchanged.
+    /// Want of memory, or the first entry has the number 0. The queue is unchanged.
     pub fn push_front(&mut self, item: T) -> Result<u64, AllocError>
         ensures added { IfOk result (λ n. self.new ≡ (n, item) ∷ self.old) }
+        ensures number { IfOk result (λ n. n ≡ number_before self.old) }
         ensures err { OnErr result (self.new ≡ self.old) }
     {
-        if self.front == 0 {
-            return Err(AllocError);
-        }
-        let number = self.front - 1;
+        let number = match self.held.first_key_value() {
+            None => MIDDLE,
+            Some((first, _)) => {
+                if *first == 0 {
+                    return Err(AllocError);
+                }
+                *first - 1
+            }
+        };
         add_entry(&mut self.held, &mut self.places, number, item)?;
-        self.front = number;
         Ok(number)
     }
 

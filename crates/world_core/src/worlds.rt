@@ -1,8 +1,9 @@
-ghost use Rattle.std.specs.Prelude.{◌≡◌, ◌<◌, ◌+◌, ◌^◌, ◌++◌, ◌∷◌, [], true, length, is_some, slice_get, IfOk, IfSome, IfNone, IsErrOf, OnOk, MatchOption};
+ghost use Rattle.std.specs.Prelude.{◌≡◌, ◌<◌, ◌≤◌, ◌+◌, ◌^◌, ◌++◌, ◌∷◌, [], true, length, is_some, slice_get, IfOk, IfSome, IfNone, IsErrOf, OnOk, MatchOption};
 ghost use Rattle.std.specs.Option.{option_copied};
 ghost use Rattle.brick_node.specs.Machine.{outputs_of};
 ghost use Rattle.hub_core.specs.Bounds.{AreFit};
 ghost use Rattle.hub_core.specs.Follows.{call_due};
+ghost use Rattle.hub_core.specs.Steps.{openings};
 ghost use Rattle.world_core.specs.Worlds.{world_start, is_enabled, first_enabled, next_output, next_input, work_left, IsQuiet, IsRun, IsRackOf, MovesIf, HasRun, IsOutOfWinds};
 
 use crate::events::Event;
@@ -295,10 +296,12 @@ impl World {
         let _hub = &self.hub;
     }
 
-    /// The bricks, the log and the operations of the history's entries, with nothing copied.
+    /// The bricks, the log and the operations of the history's entries, with nothing copied. The log has
+    /// opened at most 4,294,967,295 winds.
     pub fn into_rack(self) -> Rack
         ensures rack { IsRackOf self result }
         ensures run { IsRun self }
+        ensures few { openings result.log.winds ≤ 4294967295 }
     {
         let mut bricks = self.room;
         bricks.push_reserved(self.brick);

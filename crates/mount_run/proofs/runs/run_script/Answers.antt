@@ -17,10 +17,8 @@ new-requires c = rw c.in_ok-calls.ensures (run_fit c.args.script.now c.requires)
 pub report_of-requires-clause-ended : goal.report_of-requires-clause-ended
 report_of-requires-clause-ended c =
     let same : c.in_ok-ended.ended.hub.calls ≡ calls_to_run c.args.script.now = c.in_ok-ended.ensures.calls ∙ ap (λ (w : WorldState). w.hub.calls) c.in_ok-start.ensures ∙ c.in_ok-calls.ensures in
-    let counted : c.opened.result ≡ openings c.into_rack-left.result.log.winds = c.opened.ensures ∙ ap openings c.as_slice.ensures in
-    let opened : openings c.into_rack-left.result.log.winds ≤ 4294967295 = omega (arith, counted, c.if-opened-gt4294967295.false) in
     let few = few_ends (calls_to_run c.args.script.now) c.in_ok-ended.ended (run_fit c.args.script.now c.requires) same c.in_ok-ended.ensures.quiet c.into_rack-left.ensures.run
-    c.quiet_runs_are_whole.ensures c.logs_are_tied.ensures c.into_rack-left.result c.into_rack-left.ensures.rack opened in
+    c.quiet_runs_are_whole.ensures c.logs_are_tied.ensures c.into_rack-left.result c.into_rack-left.ensures.rack c.into_rack-left.ensures.few in
     omega (arith, few)
 
 -- the error of a call that is handed on is that call's
@@ -33,18 +31,6 @@ returns-in_err-ended-clause-winds c = λ h. (
     let begun : c.in_ok-start.start ≡ world_start (calls_to_run c.args.script.now) = c.in_ok-start.ensures ∙ ap world_start c.in_ok-calls.ensures in
     subst (λ (w : WorldState). HasRun w IsOutOfWinds) begun
     (c.in_err-ended.ensures.winds (handed_on c.from_residual-in_err-ended.result c.in_err-ended.field-0.0 _ c.from_residual-in_err-ended.ensures.1 h)))
-
-pub returns-then-opened-gt4294967295-clause-winds : goal.returns-then-opened-gt4294967295-clause-winds
-returns-then-opened-gt4294967295-clause-winds c = λ h. (
-    let same : c.in_ok-ended.ended.hub.calls ≡ calls_to_run c.args.script.now = c.in_ok-ended.ensures.calls ∙ ap (λ (w : WorldState). w.hub.calls) c.in_ok-start.ensures ∙ c.in_ok-calls.ensures in
-    let counted : c.opened.result ≡ openings c.into_rack-left.result.log.winds = c.opened.ensures ∙ ap openings c.as_slice.ensures in
-    let more : 4294967295 < openings c.into_rack-left.result.log.winds + 4 = omega (arith, counted, c.if-opened-gt4294967295.true) in
-    record {
-      state = c.in_ok-ended.ended;
-      run = c.into_rack-left.ensures.run;
-      calls = same;
-      holds = subst (λ (l : Log). 4294967295 < openings l.winds + 4) c.into_rack-left.ensures.rack.log more;
-    })
 
 pub returns-clause-ran : goal.returns-clause-ran
 returns-clause-ran c =

@@ -1,4 +1,4 @@
-use Rattle.std.proofs.Common.{arith, sym, ap, ◌∙◌, ◌≡◌, false, ℕ, subst}
+use Rattle.std.proofs.Common.{arith, sym, ◌≡◌, false, ℕ, subst}
 use Rattle.std.specs.BTreeSet as sorted
 use Rattle.queue_index.specs.Places.{place_cmp, place}
 use Rattle.queue_index.proofs.Steps.{put_one, put_back}

@@ -1,4 +1,4 @@
-use Rattle.std.proofs.Common.{sym, ap, ◌∙◌}
+use Rattle.std.proofs.Common.{sym, ◌∙◌}
 use Rattle.queue_index.proofs.Found.{first_is, none_of, none_at_all}
 use Rattle.queue_index.proofs.place.first_place.Goals as goal
 

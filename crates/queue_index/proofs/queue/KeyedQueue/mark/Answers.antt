@@ -1,8 +1,7 @@
-use Rattle.std.proofs.Common.{◌≡◌, sym, ap, ◌∙◌, List, ℕ}
-use Rattle.std.specs.BTreeMap.{is_at, BTreeMap}
+use Rattle.std.proofs.Common.{sym, ap, ◌∙◌}
+use Rattle.std.specs.BTreeMap.{is_at}
 use Rattle.std.specs.Map.{set_value}
 use Rattle.std.specs.Ordering.{nat_cmp}
-use Rattle.queue_index.specs.Queue.{item_at, changed_at}
 use Rattle.queue_index.proofs.Entries.{changed_is, changed_no}
 use Rattle.queue_index.proofs.queue.KeyedQueue.mark.Goals as goal
 

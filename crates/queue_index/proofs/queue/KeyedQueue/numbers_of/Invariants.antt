@@ -1,4 +1,4 @@
-use Rattle.std.proofs.Common.{◌≡◌, ◌-◌, ◌++◌, ℕ}
+use Rattle.std.proofs.Common.{◌≡◌, ◌-◌, ◌++◌}
 use Rattle.queue_index.specs.Queue.{numbers, touching, touching_from}
 use Rattle.queue_index.proofs.queue.KeyedQueue.numbers_of.Given as goal
 

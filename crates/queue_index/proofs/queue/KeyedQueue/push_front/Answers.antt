@@ -1,13 +1,10 @@
-use Rattle.std.proofs.Common.{arith, sym, ap, ◌∙◌, ◌-◌, ◌++◌, ◌∷◌, [], List, ℕ, Some}
-use Rattle.queue_index.proofs.Entries.{at_the_front, between_front}
+use Rattle.std.proofs.Common.{arith, ap}
+use Rattle.queue_index.proofs.Entries.{alone_at_the_front, at_the_front}
 use Rattle.queue_index.proofs.queue.KeyedQueue.push_front.Goals as goal
-
-pub invariant_of-self-2 : goal.invariant_of-self-2
-invariant_of-self-2 g c = record {
-  placed = c.in_ok-add_entry.ensures.placed;
-  rising = c.in_ok-add_entry.ensures.ordered;
-  between = between_front c.self.inside.held.entries c.add_entry.new.held.entries c.self.inside.front c.self.inside.back (c.self.inside.front - 1) (Some c.args.item) (omega arith) c.self.invariant.between c.in_ok-add_entry.ensures.updates;
-}
+use Rattle.queue_index.proofs.queue.KeyedQueue.push_front.Goals.{in-None, in-Some+else-first-eq0}
 
 pub returns-clause-added : goal.returns-clause-added
-returns-clause-added g c = rw (← c.self.view_is) (c.in_ok-add_entry.ensures.ok ∙ at_the_front c.self.inside.held.entries c.self.inside.front c.self.inside.back (c.self.inside.front - 1) c.args.item c.self.invariant.rising c.self.invariant.between (omega arith))
+returns-clause-added g c = rw (← c.self.view_is) (elim c.match-first_key_value.branch [
+  | in-None w ↦ alone_at_the_front c.self.inside.held.entries c.match-first_key_value.self-inside.held.entries c.add_entry.new.held.entries c.match-first_key_value.number c.args.item c.in_ok-add_entry.ensures.ok (ap (λ q. q.held.entries) w.self-inside-is) w.in-None.ensures.variant.1
+  | in-Some+else-first-eq0 w ↦ at_the_front c.self.inside.held.entries c.match-first_key_value.self-inside.held.entries c.add_entry.new.held.entries c.match-first_key_value.number w.in-Some.first.now c.args.item c.in_ok-add_entry.ensures.ok (ap (λ q. q.held.entries) w.self-inside-is) (omega (arith, w.number-is, w.if-first-eq0.false)) w.in-Some.ensures.all_from
+])

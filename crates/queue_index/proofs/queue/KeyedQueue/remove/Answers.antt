@@ -1,4 +1,4 @@
-use Rattle.std.proofs.Common.{sym, ap, ◌∙◌}
+use Rattle.std.proofs.Common.{ap, ◌∙◌}
 use Rattle.queue_index.specs.Queue.{without}
 use Rattle.queue_index.proofs.Entries.{removed_is}
 use Rattle.queue_index.proofs.queue.KeyedQueue.remove.Goals as goal
