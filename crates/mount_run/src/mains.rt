@@ -1,3 +1,7 @@
+ghost use Rattle.std.specs.Prelude.{◌≡◌, ◌≤◌, ◌↔◌, ◌⊎◌, None, map};
+ghost use Rattle.std.specs.String.{string_bytes};
+ghost use Rattle.mount_run.specs.Commands.{command_of};
+
 use crate::tops::top;
 use hub_core::Rack;
 use std::rt::Env;
@@ -46,7 +50,9 @@ fn words<R: Env + AllocGlobal>(rt: &R) -> io::Result<Vec<String>> {
 }
 
 /// Carries out the command that the program's words name, and gives the status.
-pub fn start<R: Env + Input + Print + Eprint + AllocGlobal>(rt: &R) -> u8 {
+pub fn start<R: Env + Input + Print + Eprint + AllocGlobal>(rt: &R) -> u8
+    ensures { (result ≤ 5) ⊎ (result ≡ 7) }
+{
     match words(rt) {
         Ok(words) => choose(rt, words.as_slice()),
         Err(error) => {
@@ -61,7 +67,9 @@ pub fn start<R: Env + Input + Print + Eprint + AllocGlobal>(rt: &R) -> u8 {
 }
 
 // Looks at the first word alone.
-fn choose<R: Input + Print + Eprint + AllocGlobal>(rt: &R, words: &[String]) -> u8 {
+fn choose<R: Input + Print + Eprint + AllocGlobal>(rt: &R, words: &[String]) -> u8
+    ensures { (result ≤ 5) ⊎ (result ≡ 7) }
+{
     match words.first() {
         None => usage(rt),
         Some(word) => {
@@ -81,12 +89,16 @@ fn choose<R: Input + Print + Eprint + AllocGlobal>(rt: &R, words: &[String]) -> 
     }
 }
 
-fn usage<R: Eprint>(rt: &R) -> u8 {
+fn usage<R: Eprint>(rt: &R) -> u8
+    ensures { result ≡ 2 }
+{
     let _ = rt.eprintln(USAGE);
     2
 }
 
-fn print<R: Print + Eprint>(rt: &R, text: &str) -> u8 {
+fn print<R: Print + Eprint>(rt: &R, text: &str) -> u8
+    ensures { (result ≤ 5) ⊎ (result ≡ 7) }
+{
     match rt.print(text) {
         Ok(()) => 0,
         Err(_) => {
@@ -97,7 +109,10 @@ fn print<R: Print + Eprint>(rt: &R, text: &str) -> u8 {
 }
 
 // Makes the top call over standard input and output, and tells why where it could not.
-fn carry_out<R: Input + Print + Eprint + AllocGlobal>(rt: &R, words: &[String]) -> u8 {
+fn carry_out<R: Input + Print + Eprint + AllocGlobal>(rt: &R, words: &[String]) -> u8
+    ensures statuses { (result ≤ 5) ⊎ (result ≡ 7) }
+    ensures usage { (result ≡ 2) ↔ (command_of (map string_bytes words.now) ≡ None) }
+{
     let mut source = StdSource::new(rt.reader());
     let mut sink = StdSink::new(io::writer(rt));
     let mut rack = Rack::new(rt.alloc());
