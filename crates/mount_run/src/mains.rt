@@ -50,9 +50,7 @@ fn words<R: Env + AllocGlobal>(rt: &R) -> io::Result<Vec<String>> {
 }
 
 /// Carries out the command that the program's words name, and gives the status.
-pub fn start<R: Env + Input + Print + Eprint + AllocGlobal>(rt: &R) -> u8
-    ensures { (result ≤ 5) ⊎ (result ≡ 7) }
-{
+pub fn start<R: Env + Input + Print + Eprint + AllocGlobal>(rt: &R) -> u8 {
     match words(rt) {
         Ok(words) => choose(rt, words.as_slice()),
         Err(error) => {
@@ -67,9 +65,7 @@ pub fn start<R: Env + Input + Print + Eprint + AllocGlobal>(rt: &R) -> u8
 }
 
 // Looks at the first word alone.
-fn choose<R: Input + Print + Eprint + AllocGlobal>(rt: &R, words: &[String]) -> u8
-    ensures { (result ≤ 5) ⊎ (result ≡ 7) }
-{
+fn choose<R: Input + Print + Eprint + AllocGlobal>(rt: &R, words: &[String]) -> u8 {
     match words.first() {
         None => usage(rt),
         Some(word) => {
@@ -96,9 +92,7 @@ fn usage<R: Eprint>(rt: &R) -> u8
     2
 }
 
-fn print<R: Print + Eprint>(rt: &R, text: &str) -> u8
-    ensures { (result ≤ 5) ⊎ (result ≡ 7) }
-{
+fn print<R: Print + Eprint>(rt: &R, text: &str) -> u8 {
     match rt.print(text) {
         Ok(()) => 0,
         Err(_) => {
