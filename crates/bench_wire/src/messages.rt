@@ -1,4 +1,7 @@
-ghost use Rattle.std.specs.Prelude.{◌≤◌, length, IfOk};
+ghost use Rattle.std.specs.Prelude.{◌≡◌, ◌≤◌, length, IfOk};
+ghost use Rattle.fop_types.specs.declared.store_ops.StoreOp.TheVariants as op;
+ghost use Rattle.fop_types.specs.declared.messages.BrickReq.TheVariants as req;
+ghost use Rattle.fop_types.specs.declared.messages.Input.TheVariants as input;
 ghost use Rattle.wire_xdr.specs.WireText.{IsInput};
 
 use fop_types::{BrickReq, Gfid, Input, Seq, StoreOp};
@@ -10,7 +13,7 @@ pub const SIZE: usize = 65536;
 
 /// The bytes that are written.
 pub fn payload(alloc: Global) -> Result<Seq<u8>, AllocError>
-    ensures { IfOk result (λ bytes. length bytes ≤ 65536) }
+    ensures { IfOk result (λ bytes. length bytes ≡ 65536) }
 {
     let block = [7u8; SIZE];
     Seq::from_bytes(alloc, &block)
@@ -19,7 +22,8 @@ pub fn payload(alloc: Global) -> Result<Seq<u8>, AllocError>
 /// The request that writes these bytes.
 pub fn request(bytes: Seq<u8>) -> Input
     requires { length bytes ≤ 65536 }
-    ensures { IsInput result }
+    ensures spelled { IsInput result }
+    ensures said { result ≡ input.Request 5 1 (req.Op 9 0 (op.Write (record { hi = 0; lo = 2 }) 0 bytes)) }
 {
     let op = StoreOp::Write {
         gfid: Gfid { hi: 0, lo: 2 },
