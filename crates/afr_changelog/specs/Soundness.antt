@@ -1,5 +1,5 @@
--- Which copies of a cell a set may trust. The rows of one cell stand in the order of the set's n
--- replicas; a place holds a row exactly where that replica was reached. A quorum is q of n.
+-- Which copies of a cell a set may trust. The rows of one cell are in the order of the set's n
+-- replicas; a place has a row exactly where that replica was reached. A quorum is q of n.
 --
 -- A replica is sound where its copy is there, it does not accuse itself, and fewer of the reached
 -- replicas accuse it than were reached, less n - q. With all n reached this is fewer than a quorum.

@@ -1,10 +1,10 @@
 ghost use Rattle.std.specs.Prelude.{◌≡◌};
-ghost use Rattle.afr_changelog.specs.Bytes.{spelled, counters_in};
+ghost use Rattle.afr_changelog.specs.Bytes.{encoded, counters_in};
 
-/// The counters of data, metadata and entries that a changelog attribute's value spells.
+/// The counters of data, metadata and entries that a changelog attribute's value encodes.
 pub fn read12(bytes: &[u8; 12]) -> [u32; 3]
     ensures counters { result ≡ counters_in bytes.now }
-    ensures spelling { spelled result ≡ bytes.now }
+    ensures encoding { encoded result ≡ bytes.now }
 {
     [
         u32::from_be_bytes([bytes[0], bytes[1], bytes[2], bytes[3]]),
@@ -15,7 +15,7 @@ pub fn read12(bytes: &[u8; 12]) -> [u32; 3]
 
 /// The value of a changelog attribute with these counters of data, metadata and entries.
 pub fn write12(counters: [u32; 3]) -> [u8; 12]
-    ensures spelling { result ≡ spelled counters }
+    ensures encoding { result ≡ encoded counters }
     ensures counters { counters_in result ≡ counters }
 {
     let [data, meta, entry] = counters;

@@ -13,7 +13,7 @@
 //! ```
 //!
 //! The brick's store raises and lowers counters; the transaction of replicate and the copies of self
-//! heal ask which replicas are sound. Nothing here takes memory.
+//! heal ask which replicas are sound. Nothing here allocates.
 #![tactic(auto)]
 
 mod attribute;

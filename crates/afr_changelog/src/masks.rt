@@ -3,7 +3,7 @@ ghost use Rattle.afr_changelog.specs.Masks.{IsCommon, IsLowestCommon};
 
 use fop_types::Mask;
 
-/// The lowest replica that all masks name; None exactly where there is none. With the masks of the
+/// The lowest replica that all masks name; `None` exactly where there is none. With the masks of the
 /// sound replicas of each cell of a change this is the source for all its cells.
 pub fn common_source(masks: &[Mask]) -> Option<u8>
     requires { 1 ≤ length masks.now }

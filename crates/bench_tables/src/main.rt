@@ -2,7 +2,7 @@
 //!
 //! Without arguments it does nothing. With the argument `time` it writes to standard error how long a call
 //! takes where a table has 10 entries of each kind, and where it has 10,000. Where the two are alike, a
-//! call walks over what it touches alone.
+//! call walks only over what it touches.
 #![tactic(auto)]
 
 mod holds;

@@ -26,8 +26,8 @@ fn report_locks<R: Runtime>(rt: &R, alloc: Global, entries: u32) -> io::Result<(
     let mut table = locks::filled(alloc, entries)?;
     let start = Instant::now(rt)?;
     locks::ask_and_release(alloc, &mut table, entries)?;
-    let alone = each(start.elapsed(rt)?);
-    eprintln!(rt; "  locks of a brick: ask and release {alone}")?;
+    let single = each(start.elapsed(rt)?);
+    eprintln!(rt; "  locks of a brick: ask and release {single}")?;
     let start = Instant::now(rt)?;
     locks::hand_over(alloc, &mut table, entries)?;
     let handed = each(start.elapsed(rt)?);
@@ -38,16 +38,16 @@ fn report_holds<R: Runtime>(rt: &R, alloc: Global, entries: u32) -> io::Result<(
     let mut table = holds::filled(alloc, entries)?;
     let start = Instant::now(rt)?;
     holds::ask_and_release(alloc, &mut table, entries)?;
-    let alone = each(start.elapsed(rt)?);
-    eprintln!(rt; "  holds of the mount: ask and release {alone}")
+    let single = each(start.elapsed(rt)?);
+    eprintln!(rt; "  holds of the mount: ask and release {single}")
 }
 
 fn report_tasks<R: Runtime>(rt: &R, alloc: Global, entries: u32) -> io::Result<()> {
     let mut table = tasks::filled(alloc, entries)?;
     let start = Instant::now(rt)?;
     tasks::push_and_pop(alloc, &mut table)?;
-    let alone = each(start.elapsed(rt)?);
-    eprintln!(rt; "  tasks: push and pop {alone}")
+    let single = each(start.elapsed(rt)?);
+    eprintln!(rt; "  tasks: push and pop {single}")
 }
 
 fn report_pages<R: Runtime>(rt: &R, alloc: Global, entries: u32) -> io::Result<()>

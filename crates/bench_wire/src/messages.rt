@@ -2,18 +2,22 @@ ghost use Rattle.std.specs.Prelude.{◌≡◌, ◌≤◌, length, IfOk};
 ghost use Rattle.fop_types.specs.declared.store_ops.StoreOp.TheVariants as op;
 ghost use Rattle.fop_types.specs.declared.messages.BrickReq.TheVariants as req;
 ghost use Rattle.fop_types.specs.declared.messages.Input.TheVariants as input;
+ghost use Rattle.wire_xdr.specs.Limits.{max_data};
 ghost use Rattle.wire_xdr.specs.WireText.{IsInput};
 
 use fop_types::{BrickReq, Gfid, Input, Seq, StoreOp};
 use std::alloc::{AllocError, Global};
 use wire_xdr::{Decoded, decode_req, encode_req};
 
-/// The bytes of a write.
+/// The bytes of a write: as many as one may have.
 pub const SIZE: usize = 65536;
+
+/// More bytes than the message of a write has.
+const ABOVE_MESSAGE: usize = 98304;
 
 /// The bytes that are written.
 pub fn payload(alloc: Global) -> Result<Seq<u8>, AllocError>
-    ensures { IfOk result (λ bytes. length bytes ≡ 65536) }
+    ensures { IfOk result (λ bytes. length bytes ≡ max_data) }
 {
     let block = [7u8; SIZE];
     Seq::from_bytes(alloc, &block)
@@ -21,8 +25,8 @@ pub fn payload(alloc: Global) -> Result<Seq<u8>, AllocError>
 
 /// The request that writes these bytes.
 pub fn request(bytes: Seq<u8>) -> Input
-    requires { length bytes ≤ 65536 }
-    ensures spelled { IsInput result }
+    requires { length bytes ≤ max_data }
+    ensures encodable { IsInput result }
     ensures said { result ≡ input.Request 5 1 (req.Op 9 0 (op.Write (record { hi = 0; lo = 2 }) 0 bytes)) }
 {
     let op = StoreOp::Write {
@@ -43,11 +47,11 @@ pub fn request(bytes: Seq<u8>) -> Input
 }
 
 /// The message of an input. Memory below it is held meanwhile and then given back, so that each round
-/// which is timed takes that memory again, and none waits for pages of the system.
+/// which is timed takes that memory again, and none asks the system for pages.
 pub fn message(alloc: Global, input: &Input) -> Result<Vec<u8>, AllocError>
     requires { IsInput input.now }
 {
-    let _held: Vec<u8> = Vec::with_capacity(alloc, 98304)?;
+    let _held: Vec<u8> = Vec::with_capacity(alloc, ABOVE_MESSAGE)?;
     encode_req(alloc, input)
 }
 
@@ -61,14 +65,14 @@ pub fn copied(alloc: Global, bytes: &[u8], rounds: u32) -> Result<u64, AllocErro
     Ok(sum)
 }
 
-/// The sum of a byte of each of so many spellings of the input.
+/// The sum of a byte of each of so many encodings of the input.
 pub fn encoded(alloc: Global, input: &Input, rounds: u32) -> Result<u64, AllocError>
     requires { IsInput input.now }
 {
     let mut sum = 0u64;
     for round in 0..rounds {
-        let spelled = encode_req(alloc, input)?;
-        sum = sum.wrapping_add(byte_of(spelled.as_slice(), round));
+        let encoded = encode_req(alloc, input)?;
+        sum = sum.wrapping_add(byte_of(encoded.as_slice(), round));
     }
     Ok(sum)
 }

@@ -10,7 +10,7 @@ use std::time::{Duration, Instant};
 /// How often each is done in a pass.
 const ROUNDS: u32 = 2000;
 
-/// How many passes follow the first. The quickest is told, since others may use the processor meanwhile.
+/// How many passes follow the first. The quickest is reported, since others may use the processor meanwhile.
 const PASSES: u32 = 20;
 
 /// The nanoseconds that the rounds of a pass took, and the sum of a byte of what each gave.
@@ -76,8 +76,8 @@ fn one_pass<R: Runtime>(
     requires { IsInput input.now }
 {
     let copy = time_of_copies(rt, alloc, bytes)?;
-    let encode = time_of_spellings(rt, alloc, input)?;
-    let decode = time_of_readings(rt, alloc, message)?;
+    let encode = time_of_encodings(rt, alloc, input)?;
+    let decode = time_of_decodings(rt, alloc, message)?;
     Ok(Pass {
         copy,
         encode,
@@ -100,7 +100,7 @@ fn time_of_copies<R: Runtime>(rt: &R, alloc: Global, bytes: &[u8]) -> io::Result
     Ok(Timed { nanoseconds, sum })
 }
 
-fn time_of_spellings<R: Runtime>(rt: &R, alloc: Global, input: &Input) -> io::Result<Timed>
+fn time_of_encodings<R: Runtime>(rt: &R, alloc: Global, input: &Input) -> io::Result<Timed>
     requires { IsInput input.now }
 {
     let start = Instant::now(rt)?;
@@ -109,7 +109,7 @@ fn time_of_spellings<R: Runtime>(rt: &R, alloc: Global, input: &Input) -> io::Re
     Ok(Timed { nanoseconds, sum })
 }
 
-fn time_of_readings<R: Runtime>(rt: &R, alloc: Global, message: &[u8]) -> io::Result<Timed> {
+fn time_of_decodings<R: Runtime>(rt: &R, alloc: Global, message: &[u8]) -> io::Result<Timed> {
     let start = Instant::now(rt)?;
     let sum = decoded(alloc, message, ROUNDS)?;
     let nanoseconds = nanoseconds_of(start.elapsed(rt)?);

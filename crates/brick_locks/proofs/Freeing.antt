@@ -11,35 +11,26 @@ use Rattle.std.proofs.lemmas.List.Elements.{filter_agree}
 use Rattle.fop_types.specs.declared.cells.Cell.{Cell}
 use Rattle.fop_types.specs.Rank.{rank}
 use Rattle.queue_index.specs.declared.key.Key.{Key}
-use Rattle.queue_index.specs.Queue.{item_at, items, numbers, before, touches, touching}
+use Rattle.queue_index.specs.Queue.{item_at, items, numbers, before, touches, touching, passes, is_at_number}
 use Rattle.queue_index.proofs.Entries.{founds}
 use Rattle.brick_locks.specs.declared.owner.Owner.{Owner}
 use Rattle.brick_locks.specs.declared.request.Request.{Request}
 use Rattle.brick_locks.specs.Locks.{is_cell, has_cell, conflicts, is_kept_by, is_of, held, waiting, is_freed, freed, gone, owners, holds}
 use Rattle.brick_locks.specs.Keys.{owner_key, graph_key, keys_of}
 use Rattle.brick_locks.specs.Leaving.{other_owner, other_graph}
-use Rattle.brick_locks.specs.Walks.{meets, waits, passes, is_at_number, picked, meets_number, meets_at, is_rival, stays_waiting}
-use Rattle.brick_locks.proofs.Lists.{any_same, any_swap, any_map, any_filter, none, filter_filter, filter_all, filter_members, filter_map_is}
-use Rattle.brick_locks.proofs.Touches.{touches_owner, touches_graph}
-use Rattle.brick_locks.proofs.Numbered.{held_is, waiting_is, freed_is, gone_is, picked_is, any_numbers, filter_numbers, number_in, set_is}
+use Rattle.brick_locks.specs.Walks.{meets, waits, picked, stays_waiting}
+use Rattle.queue_index.specs.Rivals.{is_rival, conflicts as by_keys}
+use Rattle.queue_index.proofs.Lists.{any_same, any_swap, any_map, any_filter, none, filter_filter, filter_all, filter_members, filter_map_is}
+use Rattle.brick_locks.proofs.Touches.{touches_owner, touches_graph, keys_meet}
+use Rattle.queue_index.proofs.Numbers.{any_numbers, number_in, set_is}
+use Rattle.brick_locks.proofs.Numbered.{held_is, waiting_is, freed_is, gone_is, picked_is, filter_numbers}
 
 -- ---- the rivals that are found
-meets_all : (q : ℕ) (p : ℕ × Request → Bool) (es fs : List (ℕ × Request)) → AllByRecursion (λ e. item_at e.0 es ≡ Some e.1) fs → list_any (meets_at es q) (numbers (filter p fs)) ≡ list_any (λ r. passes (λ _. meets r.cells r.shared) q (item_at q es)) (items (filter p fs))
-meets_all q p es [] h = refl
-meets_all q p es (e ∷ fs) h = elim (p e) as (λ (b : Bool). list_any (meets_at es q) (numbers (cond b (e ∷ filter p fs) (filter p fs))) ≡ list_any (λ r. passes (λ _. meets r.cells r.shared) q (item_at q es)) (items (cond b (e ∷ filter p fs) (filter p fs)))) [
-  | true ↦ ap (λ (o : Option Request). meets_number es q o || list_any (meets_at es q) (numbers (filter p fs))) h.0 ∙ ap (λ (b : Bool). passes (λ _. meets e.1.cells e.1.shared) q (item_at q es) || b) (meets_all q p es fs h.1)
-  | false ↦ meets_all q p es fs h.1
-]
-
-through : (q : ℕ) (rs : List Request) (o : Option Request) → list_any (λ r. passes (λ _. meets r.cells r.shared) q o) rs ≡ passes (λ _ s. list_any (λ r. meets r.cells r.shared s) rs) q o
-through q rs None = none rs
-through q rs (Some s) = refl
-
-pub rivals_are : (k : Key) (es : List (ℕ × Request)) (ns is : List ℕ) (found : BTreeSet ℕ) → IsStrictlySortedBy nat_cmp (keys_in es) → ns ≡ numbers (touching keys_of k es) → ((q : ℕ) → sorted.contains nat_cmp found q ≡ list_any (meets_at es q) ns) → sorted.IsOrdered nat_cmp found → is ≡ filter (is_at_number (stays_waiting k es) es) found.keys → is ≡ numbers (filter (λ e. is_rival k es e.1 && stays_waiting k es e.0 e.1) es)
-rivals_are k es ns is found s all has rise chosen =
+pub rivals_are : (k : Key) (es : List (ℕ × Request)) (found is : List ℕ) → IsStrictlySortedBy nat_cmp (keys_in es) → found ≡ numbers (filter (λ e. is_rival keys_of k es e.1) es) → is ≡ filter (is_at_number (stays_waiting k es) es) found → is ≡ numbers (filter (λ e. is_rival keys_of k es e.1 && stays_waiting k es e.0 e.1) es)
+rivals_are k es found is s all chosen =
     chosen
-    ∙ ap (λ (l : List ℕ). filter (is_at_number (stays_waiting k es) es) l) (set_is (λ e. is_rival k es e.1) found es s rise (λ q. has q ∙ ap (list_any (meets_at es q)) all ∙ meets_all q (λ e. touches keys_of k e.1) es es (founds es s) ∙ through q (items (touching keys_of k es)) (item_at q es)))
-    ∙ filter_numbers (stays_waiting k es) (λ e. is_rival k es e.1) es es (founds es s)
+    ∙ ap (λ (l : List ℕ). filter (is_at_number (stays_waiting k es) es) l) all
+    ∙ filter_numbers (stays_waiting k es) (λ e. is_rival keys_of k es e.1) es es (founds es s)
 
 -- ---- what stays
 in_touching : (k : Key) (es fs : List (ℕ × Request)) → IsStrictlySortedBy nat_cmp (keys_in es) → AllByRecursion (λ e. item_at e.0 es ≡ Some e.1) fs → AllByRecursion (λ e. not (list_any (λ n. is_eq (nat_cmp e.0 n)) (numbers (touching keys_of k es))) ≡ not (touches keys_of k e.1)) fs
@@ -79,7 +70,7 @@ all_gone es ns os s all is =
     ∙ ap (λ (l : List Request). owners l) (sym (waiting_is es s))
 
 -- ---- who is freed: one that waited and waits no longer conflicts with one that left
-eq_flip : (a b : ℕ) → (a == b) ≡ (b == a)
+pub eq_flip : (a b : ℕ) → (a == b) ≡ (b == a)
 eq_flip a b = nat_eq_equiv.symm a b
 
 cell_flip : (a b : Cell) → is_cell a b ≡ is_cell b a
@@ -139,9 +130,9 @@ any_before p t n (e ∷ es) h = more (nat_lt e.0 n) refl (t e.1) refl (p e.1) re
 other_side : (w a b : Bool) → w ≡ (a || b) → w ≡ true → a ≡ false → b ≡ true
 other_side w a b is one off = sym (is ∙ ap (λ (x : Bool). x || b) off) ∙ one
 
-is_needed : (k : Key) (es : List (ℕ × Request)) (n : ℕ) (r : Request) → is_kept_by (items (before n es)) r ≡ true → is_kept_by (filter (λ s. not (touches keys_of k s)) (items (before n es))) r ≡ false → is_rival k es r ≡ true
+is_needed : (k : Key) (es : List (ℕ × Request)) (n : ℕ) (r : Request) → is_kept_by (items (before n es)) r ≡ true → is_kept_by (filter (λ s. not (touches keys_of k s)) (items (before n es))) r ≡ false → is_rival keys_of k es r ≡ true
 is_needed k es n r kept free =
-    any_same (λ s. meets s.cells s.shared r) (conflicts r) (items (touching keys_of k es)) (λ s. sym (conflict_flip r s))
+    any_same (λ s. by_keys keys_of s r) (conflicts r) (items (touching keys_of k es)) (λ s. keys_meet s r ∙ sym (conflict_flip r s))
     ∙ ap (list_any (conflicts r)) (sym (filter_map_is (touches keys_of k) (λ (e : ℕ × Request). e.1) es))
     ∙ any_before (conflicts r) (touches keys_of k) n es (other_side _ _ _ (any_split (conflicts r) (touches keys_of k) (items (before n es))) kept free)
 
@@ -163,11 +154,11 @@ twice true true wt = refl
 twice true false wt = refl
 twice false riv wt = refl
 
-pub freed_are : (k : Key) (es fs : List (ℕ × Request)) (ns : List ℕ) (os : List Owner) → IsStrictlySortedBy nat_cmp (keys_in es) → IsStrictlySortedBy nat_cmp (keys_in fs) → fs ≡ filter (λ e. not (touches keys_of k e.1)) es → ns ≡ numbers (filter (λ e. is_rival k es e.1 && stays_waiting k es e.0 e.1) es) → os ≡ picked (λ n r. not (waits fs n r)) fs ns → os ≡ owners (freed (λ r. not (touches keys_of k r)) (items es))
+pub freed_are : (k : Key) (es fs : List (ℕ × Request)) (ns : List ℕ) (os : List Owner) → IsStrictlySortedBy nat_cmp (keys_in es) → IsStrictlySortedBy nat_cmp (keys_in fs) → fs ≡ filter (λ e. not (touches keys_of k e.1)) es → ns ≡ numbers (filter (λ e. is_rival keys_of k es e.1 && stays_waiting k es e.0 e.1) es) → os ≡ picked (λ n r. not (waits fs n r)) fs ns → os ≡ owners (freed (λ r. not (touches keys_of k r)) (items es))
 freed_are k es fs ns os s t left found is =
     let st = λ (e : ℕ × Request). not (touches keys_of k e.1) in
-    let w = λ (e : ℕ × Request). is_rival k es e.1 && stays_waiting k es e.0 e.1 in
-    let chosen : ns ≡ numbers (filter w fs) = found ∙ ap (λ (l : List (ℕ × Request)). numbers l) (sym (ap (filter w) left ∙ filter_filter w st es ∙ filter_agree (λ e. st e && w e) w (λ e. twice (touches keys_of k e.1) (is_rival k es e.1) (waits es e.0 e.1)) es)) in
+    let w = λ (e : ℕ × Request). is_rival keys_of k es e.1 && stays_waiting k es e.0 e.1 in
+    let chosen : ns ≡ numbers (filter w fs) = found ∙ ap (λ (l : List (ℕ × Request)). numbers l) (sym (ap (filter w) left ∙ filter_filter w st es ∙ filter_agree (λ e. st e && w e) w (λ e. twice (touches keys_of k e.1) (is_rival keys_of k es e.1) (waits es e.0 e.1)) es)) in
     is
     ∙ ap (λ (l : List ℕ). picked (λ n r. not (waits fs n r)) fs l) chosen
     ∙ picked_is (λ n r. not (waits fs n r)) w fs fs (founds fs t)
@@ -175,7 +166,7 @@ freed_are k es fs ns os s t left found is =
     ∙ ap (λ (l : List (ℕ × Request)). owners (items l)) (filter_filter (λ e. w e && not (waits (filter st es) e.0 e.1)) st es
     ∙ filter_agree (λ e. st e && (w e && not (waits (filter st es) e.0 e.1))) (λ e. is_freed (λ r. not (touches keys_of k r)) (items (before e.0 es)) e.1) (λ e.
     ap (λ (l : List Request). st e && (w e && not (is_kept_by l e.1))) (before_left (λ r. not (touches keys_of k r)) e.0 es)
-    ∙ choose (st e) (is_rival k es e.1) (waits es e.0 e.1) (is_kept_by (filter (λ r. not (touches keys_of k r)) (items (before e.0 es))) e.1) (is_needed k es e.0 e.1)) es)
+    ∙ choose (st e) (is_rival keys_of k es e.1) (waits es e.0 e.1) (is_kept_by (filter (λ r. not (touches keys_of k r)) (items (before e.0 es))) e.1) (is_needed k es e.0 e.1)) es)
     ∙ ap (λ (l : List Request). owners l) (sym (freed_is (λ r. not (touches keys_of k r)) es s))
 
 -- ---- whether an owner holds

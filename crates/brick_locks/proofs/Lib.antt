@@ -1,7 +1,7 @@
 pub mod Apart
-pub mod Lists
 pub mod Touches
 pub mod Numbered
 pub mod Rests
 pub mod Freeing
 pub mod Fates
+pub mod Laws

@@ -12,13 +12,13 @@ use Rattle.std.specs.Cmp.{nat_cmp_total}
 use Rattle.std.proofs.lemmas.Map.Keys.{sorted_head, sorted_tail}
 use Rattle.std.proofs.lemmas.Map.Lookups.{btree_set_from_contains, exact_unsigned}
 use Rattle.queue_index.specs.declared.key.Key.{Key}
-use Rattle.queue_index.specs.Queue.{item_at, items, numbers, before, without, touches, touching}
+use Rattle.queue_index.specs.Queue.{item_at, items, numbers, before, without, touches, touching, passes, is_at_number}
 use Rattle.queue_index.proofs.Entries.{founds, at_is}
 use Rattle.brick_locks.specs.declared.owner.Owner.{Owner}
 use Rattle.brick_locks.specs.declared.request.Request.{Request}
 use Rattle.brick_locks.specs.Locks.{is_kept_by, held_after, waiting_after, is_freed, freed_after, gone_after, owners}
-use Rattle.brick_locks.specs.Walks.{passes, is_at_number, owner_if, with_owner, picked, waits}
-use Rattle.brick_locks.proofs.Lists.{filter_filter}
+use Rattle.brick_locks.specs.Walks.{owner_if, with_owner, picked, waits}
+use Rattle.queue_index.proofs.Lists.{filter_filter}
 
 less_is : (a b : ℕ) → nat_cmp a b ≡ Less → a < b
 less_is a b h = grind (arith, h)
@@ -119,13 +119,6 @@ picked_is p q es (e ∷ fs) h = elim (q e) as (λ (b : Bool). picked p es (numbe
     first true l = refl
     first false l = refl
 
-pub any_numbers : (p : ℕ → Request → Bool) (q : ℕ × Request → Bool) (es fs : List (ℕ × Request)) → AllByRecursion (λ e. item_at e.0 es ≡ Some e.1) fs → list_any (is_at_number p es) (numbers (filter q fs)) ≡ list_any (λ e. q e && p e.0 e.1) fs
-any_numbers p q es [] h = refl
-any_numbers p q es (e ∷ fs) h = elim (q e) as (λ (b : Bool). list_any (is_at_number p es) (numbers (cond b (e ∷ filter q fs) (filter q fs))) ≡ ((b && p e.0 e.1) || list_any (λ e. q e && p e.0 e.1) fs)) [
-  | true ↦ ap (λ (o : Option Request). passes p e.0 o || list_any (is_at_number p es) (numbers (filter q fs))) h.0 ∙ ap (λ (b : Bool). p e.0 e.1 || b) (any_numbers p q es fs h.1)
-  | false ↦ any_numbers p q es fs h.1
-]
-
 pub filter_numbers : (p : ℕ → Request → Bool) (q : ℕ × Request → Bool) (es fs : List (ℕ × Request)) → AllByRecursion (λ e. item_at e.0 es ≡ Some e.1) fs → filter (is_at_number p es) (numbers (filter q fs)) ≡ numbers (filter (λ e. q e && p e.0 e.1) fs)
 filter_numbers p q es [] h = refl
 filter_numbers p q es (e ∷ fs) h = elim (q e) as (λ (b : Bool). filter (is_at_number p es) (numbers (cond b (e ∷ filter q fs) (filter q fs))) ≡ numbers (cond (b && p e.0 e.1) (e ∷ filter (λ e. q e && p e.0 e.1) fs) (filter (λ e. q e && p e.0 e.1) fs))) [
@@ -141,53 +134,3 @@ filter_numbers p q es (e ∷ fs) h = elim (q e) as (λ (b : Bool). filter (is_at
     first false l = refl
 
 -- ---- whether a number is among them
-below_apart : (q n : ℕ) → q < n → is_eq (nat_cmp q n) ≡ false
-below_apart q n h = grind (arith, h)
-
-eq_is : (a b : ℕ) → is_eq (nat_cmp a b) ≡ true → a ≡ b
-eq_is a b h = grind (arith, h)
-
-none_above : (p : ℕ × Request → Bool) (q : ℕ) (es : List (ℕ × Request)) → AllByRecursion (λ y. nat_cmp q y ≡ Less) (keys_of es) → list_any (λ n. is_eq (nat_cmp q n)) (numbers (filter p es)) ≡ false
-none_above p q [] h = refl
-none_above p q (e ∷ es) h = elim (p e) as (λ (b : Bool). list_any (λ n. is_eq (nat_cmp q n)) (numbers (cond b (e ∷ filter p es) (filter p es))) ≡ false) [
-  | true ↦ ap (λ (b : Bool). b || list_any (λ n. is_eq (nat_cmp q n)) (numbers (filter p es))) (below_apart q e.0 (less_is q e.0 h.0)) ∙ none_above p q es h.1
-  | false ↦ none_above p q es h.1
-]
-
-pub number_in : (p : ℕ × Request → Bool) (q : ℕ) (es : List (ℕ × Request)) → IsStrictlySortedBy nat_cmp (keys_of es) → list_any (λ n. is_eq (nat_cmp q n)) (numbers (filter p es)) ≡ is_at_number (λ n r. p (n, r)) es q
-number_in p q [] s = refl
-number_in p q (e ∷ es) s = at_one (is_eq (nat_cmp q e.0)) refl (p e) refl (number_in p q es (sorted_tail nat_cmp e.0 (keys_of es) s))
-  where
-    at_one : (b : Bool) → is_eq (nat_cmp q e.0) ≡ b → (c : Bool) → p e ≡ c → list_any (λ n. is_eq (nat_cmp q n)) (numbers (filter p es)) ≡ passes (λ n r. p (n, r)) q (item_at q es) → list_any (λ n. is_eq (nat_cmp q n)) (numbers (cond (p e) (e ∷ filter p es) (filter p es))) ≡ passes (λ n r. p (n, r)) q (cond (is_eq (nat_cmp q e.0)) (Some e.1) (item_at q es))
-    at_one true t true u on =
-        ap (λ (b : Bool). list_any (λ n. is_eq (nat_cmp q n)) (numbers (cond b (e ∷ filter p es) (filter p es)))) u
-        ∙ ap (λ (b : Bool). b || list_any (λ n. is_eq (nat_cmp q n)) (numbers (filter p es))) t
-        ∙ sym (ap (λ (n : ℕ). p (n, e.1)) (eq_is q e.0 t) ∙ u)
-        ∙ ap (λ (b : Bool). passes (λ n r. p (n, r)) q (cond b (Some e.1) (item_at q es))) (sym t)
-    at_one true t false u on =
-        ap (λ (b : Bool). list_any (λ n. is_eq (nat_cmp q n)) (numbers (cond b (e ∷ filter p es) (filter p es)))) u
-        ∙ none_above p q es (subst (λ (n : ℕ). AllByRecursion (λ y. nat_cmp n y ≡ Less) (keys_of es)) (sym (eq_is q e.0 t)) (sorted_head nat_cmp e.0 (keys_of es) s))
-        ∙ sym (ap (λ (n : ℕ). p (n, e.1)) (eq_is q e.0 t) ∙ u)
-        ∙ ap (λ (b : Bool). passes (λ n r. p (n, r)) q (cond b (Some e.1) (item_at q es))) (sym t)
-    at_one false t true u on =
-        ap (λ (b : Bool). list_any (λ n. is_eq (nat_cmp q n)) (numbers (cond b (e ∷ filter p es) (filter p es)))) u
-        ∙ ap (λ (b : Bool). b || list_any (λ n. is_eq (nat_cmp q n)) (numbers (filter p es))) t
-        ∙ on
-        ∙ ap (λ (b : Bool). passes (λ n r. p (n, r)) q (cond b (Some e.1) (item_at q es))) (sym t)
-    at_one false t false u on =
-        ap (λ (b : Bool). list_any (λ n. is_eq (nat_cmp q n)) (numbers (cond b (e ∷ filter p es) (filter p es)))) u
-        ∙ on
-        ∙ ap (λ (b : Bool). passes (λ n r. p (n, r)) q (cond b (Some e.1) (item_at q es))) (sym t)
-
-fewer_less : (n : ℕ) (p : ℕ × Request → Bool) (es : List (ℕ × Request)) → AllByRecursion (λ y. nat_cmp n y ≡ Less) (keys_of es) → AllByRecursion (λ y. nat_cmp n y ≡ Less) (numbers (filter p es))
-fewer_less n p [] h = tt
-fewer_less n p (e ∷ es) h = elim (p e) as (λ (b : Bool). AllByRecursion (λ y. nat_cmp n y ≡ Less) (numbers (cond b (e ∷ filter p es) (filter p es)))) [ true ↦ (h.0, fewer_less n p es h.1) | false ↦ fewer_less n p es h.1 ]
-
-pub fewer_rise : (p : ℕ × Request → Bool) (es : List (ℕ × Request)) → IsStrictlySortedBy nat_cmp (keys_of es) → IsStrictlySortedBy nat_cmp (numbers (filter p es))
-unfolding IsStrictlySortedBy
-fewer_rise p [] s = tt
-fewer_rise p (e ∷ es) s = elim (p e) as (λ (b : Bool). IsStrictlySortedBy nat_cmp (numbers (cond b (e ∷ filter p es) (filter p es)))) [ true ↦ (fewer_less e.0 p es s.0, fewer_rise p es s.1) | false ↦ fewer_rise p es s.1 ]
-
--- a set of numbers that has those of the entries that pass, and no others
-pub set_is : (p : ℕ × Request → Bool) (found : BTreeSet ℕ) (es : List (ℕ × Request)) → IsStrictlySortedBy nat_cmp (keys_of es) → sorted.IsOrdered nat_cmp found → ((q : ℕ) → sorted.contains nat_cmp found q ≡ is_at_number (λ n r. p (n, r)) es q) → found.keys ≡ numbers (filter p es)
-set_is p found es s t h = btree_set_from_contains nat_cmp_total found (record { keys = numbers (filter p es) }) t (fewer_rise p es s) (λ q. h q ∙ sym (number_in p q es s)) exact_unsigned

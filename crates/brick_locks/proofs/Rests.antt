@@ -6,78 +6,24 @@ use Rattle.std.specs.List.{list_any, filter}
 use Rattle.std.specs.Ordering.{nat_cmp, is_eq}
 use Rattle.fop_types.specs.declared.cells.Cell.{Cell}
 use Rattle.queue_index.specs.declared.key.Key.{Key}
-use Rattle.queue_index.specs.Queue.{item_at, numbers, without, touches, touching}
+use Rattle.queue_index.specs.Queue.{item_at, numbers, without, touches, touching, passes, is_at_number}
 use Rattle.queue_index.proofs.Entries.{at_is}
 use Rattle.brick_locks.specs.declared.request.Request.{Request}
 use Rattle.brick_locks.specs.declared.owner.Owner.{Owner}
 use Rattle.brick_locks.specs.Locks.{has_cell, is_kept_by}
 use Rattle.brick_locks.specs.Keys.{cell_key, keys_of}
-use Rattle.brick_locks.specs.Walks.{bars, meets, passes, is_at_number, owner_if, owner_at, with_owner, picked}
-use Rattle.brick_locks.proofs.Lists.{none, any_and, filter_filter, filter_all}
+use Rattle.brick_locks.specs.Walks.{bars, meets, owner_if, owner_at, with_owner, picked}
+use Rattle.queue_index.proofs.Lists.{none, any_and, filter_filter, filter_all}
 use Rattle.brick_locks.proofs.Touches.{bars_is}
 
 -- one that does not pass
 pub any_skip : {X : Type 0} (p : X → Bool) (xs : List X) (i : ℕ) (d : X) (w : Bool) → i < length xs → p (get_or xs i d) ≡ false → list_any p (drop i xs) ≡ w → list_any p (drop (i + 1) xs) ≡ w
 any_skip p xs i d w fits off so_far = sym (ap (list_any p) (drop_more xs i d fits) ∙ ap (λ (b : Bool). b || list_any p (drop (i + 1) xs)) off) ∙ so_far
 
-or_move : (f a r : Bool) → ((f || a) || r) ≡ (f || (a || r))
-or_move true a r = refl
-or_move false a r = refl
-
--- one that is put in
-pub put_rest : {X : Type 0} (p : X → Bool) (xs : List X) (i : ℕ) (d : X) (f g w : Bool) → i < length xs → g ≡ (f || p (get_or xs i d)) → (f || list_any p (drop i xs)) ≡ w → (g || list_any p (drop (i + 1) xs)) ≡ w
-put_rest {X = X} p xs i d f g w fits is so_far =
-    ap (λ (b : Bool). b || list_any p (drop (i + 1) xs)) is
-    ∙ or_move f (p (get_or xs i d)) (list_any p (drop (i + 1) xs))
-    ∙ sym (ap (λ (l : List X). f || list_any p l) (drop_more xs i d fits))
-    ∙ so_far
-
+-- ---- requests taken out, one by one
 eq_turn : (a b : ℕ) → is_eq (nat_cmp a b) ≡ is_eq (nat_cmp b a)
 eq_turn a b = grind (arith)
 
-cond_or : (b f : Bool) → cond b true f ≡ (f || b)
-cond_or true true = refl
-cond_or true false = refl
-cond_or false true = refl
-cond_or false false = refl
-
-pub put_number : (n q : ℕ) (f g : Bool) → g ≡ cond (is_eq (nat_cmp n q)) true f → g ≡ (f || is_eq (nat_cmp q n))
-put_number n q f g is = is ∙ cond_or (is_eq (nat_cmp n q)) f ∙ ap (λ (b : Bool). f || b) (eq_turn n q)
-
--- ---- the requests that conflict with one on a cell, and on several
-pub on_cells : (cs : List Cell) (together : Bool) (q : ℕ) (o : Option Request) → list_any (λ c. passes (λ _. bars c together) q o) cs ≡ passes (λ _. meets cs together) q o
-on_cells cs together q None = none cs
-on_cells cs together q (Some s) = any_and (has_cell s) (not (together && s.shared)) cs
-
-on_modes : (c : Cell) (together : Bool) (q : ℕ) (o : Option Request) → (passes (λ _ s. touches keys_of (cell_key c false) s) q o || (not together && passes (λ _ s. touches keys_of (cell_key c true) s) q o)) ≡ passes (λ _. bars c together) q o
-on_modes c true q None = refl
-on_modes c false q None = refl
-on_modes c together q (Some s) = bars_is c together s
-
-pub sole_put : (c : Cell) (together : Bool) (q : ℕ) (o : Option Request) (k : Key) (f g a : Bool) → k ≡ cell_key c false → together ≡ true → g ≡ (f || a) → a ≡ passes (λ _ s. touches keys_of k s) q o → g ≡ (f || passes (λ _. bars c together) q o)
-sole_put c together q o k f g a is t puts at =
-    puts
-    ∙ ap (λ (b : Bool). f || b) (at
-    ∙ ap (λ (j : Key). passes (λ _ s. touches keys_of j s) q o) is
-    ∙ sym (or_not (passes (λ _ s. touches keys_of (cell_key c false) s) q o) (passes (λ _ s. touches keys_of (cell_key c true) s) q o) together t)
-    ∙ on_modes c together q o)
-  where
-    or_not : (x y t : Bool) → t ≡ true → (x || (not t && y)) ≡ x
-    or_not true y true h = refl
-    or_not false y true h = refl
-    or_not x y false h = absurd cc
-
-pub both_put : (c : Cell) (together : Bool) (q : ℕ) (o : Option Request) (k l : Key) (f g h a b : Bool) → k ≡ cell_key c false → l ≡ cell_key c true → together ≡ false → g ≡ (f || a) → a ≡ passes (λ _ s. touches keys_of k s) q o → h ≡ (g || b) → b ≡ passes (λ _ s. touches keys_of l s) q o → h ≡ (f || passes (λ _. bars c together) q o)
-both_put c together q o k l f g h a b is js t puts at again bt =
-    again
-    ∙ ap (λ (x : Bool). x || b) puts
-    ∙ or_move f a b
-    ∙ ap (λ (x : Bool). f || (x || b)) (at ∙ ap (λ (j : Key). passes (λ _ s. touches keys_of j s) q o) is)
-    ∙ ap (λ (x : Bool). f || (passes (λ _ s. touches keys_of (cell_key c false) s) q o || x)) (bt ∙ ap (λ (j : Key). passes (λ _ s. touches keys_of j s) q o) js)
-    ∙ ap (λ (x : Bool). f || (passes (λ _ s. touches keys_of (cell_key c false) s) q o || (not x && passes (λ _ s. touches keys_of (cell_key c true) s) q o))) (sym t)
-    ∙ ap (λ (x : Bool). f || x) (on_modes c together q o)
-
--- ---- requests taken out, one by one
 not_or : (a b : Bool) → (not a && not b) ≡ not (a || b)
 not_or true b = refl
 not_or false b = refl

@@ -8,12 +8,13 @@ use Rattle.fop_types.specs.Rank.{rank}
 use Rattle.queue_index.specs.declared.key.Key.{Key}
 use Rattle.queue_index.specs.Places.{is_key, has_key}
 use Rattle.queue_index.specs.Queue.{touches}
+use Rattle.queue_index.specs.Rivals.{meets_key, conflicts as by_keys}
 use Rattle.brick_locks.specs.declared.owner.Owner.{Owner}
 use Rattle.brick_locks.specs.declared.request.Request.{Request}
 use Rattle.brick_locks.specs.Locks.{is_cell, has_cell, is_of}
 use Rattle.brick_locks.specs.Keys.{owner_key, graph_key, cell_key, mode_of, keys_of}
 use Rattle.brick_locks.specs.Walks.{bars, meets}
-use Rattle.brick_locks.proofs.Lists.{any_same, any_or, any_and, any_swap, any_map, none}
+use Rattle.queue_index.proofs.Lists.{any_same, any_or, any_and, any_swap, any_map, none}
 
 -- ---- the key at a place
 get_map : {A B : Type 0} (f : A → B) (xs : List A) (j : ℕ) (d : A) (r : B) → j < length (map f xs) → r ≡ f (get_or xs j d) → r ≡ get_or (map f xs) j r
@@ -55,11 +56,11 @@ or_false false = refl
 
 owner_cells : (o : Owner) (together : Bool) (cs : List Cell) → has_key (owner_key o) (map (λ c. cell_key c together) cs) ≡ false
 owner_cells o together [] = refl
-owner_cells o together (c ∷ cs) = ap (λ (b : Bool). (b && ((o.graph == c.gfid.hi) && ((o.call == c.gfid.lo) && (0 == mode_of together)))) || has_key (owner_key o) (map (λ c. cell_key c together) cs)) (not_three c.aspect) ∙ owner_cells o together cs
+owner_cells o together (c ∷ cs) = ap (λ (b : Bool). (b && ((o.graph == c.gfid.hi) && ((o.call == c.gfid.lo) && (2 == mode_of together)))) || has_key (owner_key o) (map (λ c. cell_key c together) cs)) (not_three c.aspect) ∙ owner_cells o together cs
 
 graph_cells : (g : ℕ) (together : Bool) (cs : List Cell) → has_key (graph_key g) (map (λ c. cell_key c together) cs) ≡ false
 graph_cells g together [] = refl
-graph_cells g together (c ∷ cs) = ap (λ (b : Bool). (b && ((g == c.gfid.hi) && ((0 == c.gfid.lo) && (0 == mode_of together)))) || has_key (graph_key g) (map (λ c. cell_key c together) cs)) (not_four c.aspect) ∙ graph_cells g together cs
+graph_cells g together (c ∷ cs) = ap (λ (b : Bool). (b && ((g == c.gfid.hi) && ((0 == c.gfid.lo) && (2 == mode_of together)))) || has_key (graph_key g) (map (λ c. cell_key c together) cs)) (not_four c.aspect) ∙ graph_cells g together cs
 
 pub touches_owner : (o : Owner) (r : Request) → touches keys_of (owner_key o) r ≡ is_of o r
 touches_owner o r =
@@ -92,11 +93,11 @@ cell_cells c a b cs =
 
 pub touches_cell : (c : Cell) (a : Bool) (r : Request) → touches keys_of (cell_key c a) r ≡ (has_cell r c && same_mode a r.shared)
 touches_cell c a r =
-    ap (λ (b : Bool). (b && ((c.gfid.hi == r.owner.graph) && ((c.gfid.lo == r.owner.call) && (mode_of a == 0)))) || (is_key (cell_key c a) (graph_key r.owner.graph) || has_key (cell_key c a) (map (λ d. cell_key d r.shared) r.cells))) (three_not c.aspect)
-    ∙ ap (λ (b : Bool). (b && ((c.gfid.hi == r.owner.graph) && ((c.gfid.lo == 0) && (mode_of a == 0)))) || has_key (cell_key c a) (map (λ d. cell_key d r.shared) r.cells)) (four_not c.aspect)
+    ap (λ (b : Bool). (b && ((c.gfid.hi == r.owner.graph) && ((c.gfid.lo == r.owner.call) && (mode_of a == 2)))) || (is_key (cell_key c a) (graph_key r.owner.graph) || has_key (cell_key c a) (map (λ d. cell_key d r.shared) r.cells))) (three_not c.aspect)
+    ∙ ap (λ (b : Bool). (b && ((c.gfid.hi == r.owner.graph) && ((c.gfid.lo == 0) && (mode_of a == 2)))) || has_key (cell_key c a) (map (λ d. cell_key d r.shared) r.cells)) (four_not c.aspect)
     ∙ cell_cells c a r.shared r.cells
 
--- ---- the sole ones, and the shared ones where the request is sole
+-- ---- the exclusive ones, and the shared ones where the request is exclusive
 two_modes : (h together s : Bool) → ((h && same_mode false s) || (not together && (h && same_mode true s))) ≡ (h && not (together && s))
 two_modes true true true = refl
 two_modes true true false = refl
@@ -121,8 +122,8 @@ any_bars c together rs =
     ∙ any_or (touches keys_of (cell_key c false)) (λ s. not together && touches keys_of (cell_key c true) s) rs
     ∙ ap (λ (b : Bool). list_any (touches keys_of (cell_key c false)) rs || b) (any_when (not together) (touches keys_of (cell_key c true)) rs)
 
-pub barred_sole : (c : Cell) (together : Bool) (k : Key) (rs : List Request) → k ≡ cell_key c false → true ≡ list_any (touches keys_of k) rs → true ≡ list_any (bars c together) rs
-barred_sole c together k rs is h = sym (any_bars c together rs ∙ ap (λ (b : Bool). b || (not together && list_any (touches keys_of (cell_key c true)) rs)) (ap (λ (t : Key). list_any (touches keys_of t) rs) (sym is) ∙ sym h))
+pub barred_exclusive : (c : Cell) (together : Bool) (k : Key) (rs : List Request) → k ≡ cell_key c false → true ≡ list_any (touches keys_of k) rs → true ≡ list_any (bars c together) rs
+barred_exclusive c together k rs is h = sym (any_bars c together rs ∙ ap (λ (b : Bool). b || (not together && list_any (touches keys_of (cell_key c true)) rs)) (ap (λ (t : Key). list_any (touches keys_of t) rs) (sym is) ∙ sym h))
 
 pub barred_none : (c : Cell) (together : Bool) (k : Key) (rs : List Request) → k ≡ cell_key c false → false ≡ list_any (touches keys_of k) rs → together ≡ true → false ≡ list_any (bars c together) rs
 barred_none c together k rs is h t =
@@ -145,3 +146,14 @@ any_meets cs together rs =
 -- ---- which requests an owner or a graph has
 pub any_known : (o : Owner) (k : Key) (rs : List Request) → k ≡ owner_key o → list_any (touches keys_of k) rs ≡ list_any (is_of o) rs
 any_known o k rs is = ap (λ (t : Key). list_any (touches keys_of t) rs) is ∙ any_same (touches keys_of (owner_key o)) (is_of o) rs (touches_owner o)
+
+-- ---- two requests conflict by their keys exactly where they conflict
+on_mode : (b : Bool) (c : Cell) (s : Request) → meets_key keys_of (cell_key c b) s ≡ bars c b s
+on_mode true c s = bars_is c true s
+on_mode false c s = ap (λ (x : Bool). touches keys_of (cell_key c false) s || x) (or_false (touches keys_of (cell_key c true) s)) ∙ bars_is c false s
+
+pub keys_meet : (r s : Request) → by_keys keys_of r s ≡ meets r.cells r.shared s
+keys_meet r s =
+    any_map (λ k. meets_key keys_of k s) (λ c. cell_key c r.shared) r.cells
+    ∙ any_same (λ c. meets_key keys_of (cell_key c r.shared) s) (λ c. bars c r.shared s) r.cells (λ c. on_mode r.shared c s)
+    ∙ any_and (has_cell s) (not (r.shared && s.shared)) r.cells

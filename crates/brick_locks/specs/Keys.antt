@@ -1,5 +1,5 @@
--- What the requests of a brick are found by: their owner, their graph, and each of their cells, the sole
--- ones apart from the shared ones.
+-- What the requests of a brick are found by: their owner and their graph, by name only (mode 2), and each
+-- of their cells, exclusive (mode 0) or shared (mode 1).
 use Rattle.std.specs.Prelude.{ℕ, Bool, true, false, List, ◌∷◌, map}
 use Rattle.fop_types.specs.declared.cells.Cell.{Cell}
 use Rattle.fop_types.specs.Rank.{rank}
@@ -8,10 +8,10 @@ use Rattle.brick_locks.specs.declared.owner.Owner.{Owner}
 use Rattle.brick_locks.specs.declared.request.Request.{Request}
 
 abbrev pub owner_key : Owner → Key
-owner_key o = record { kind = 3; hi = o.graph; lo = o.call; mode = 0 }
+owner_key o = record { kind = 3; hi = o.graph; lo = o.call; mode = 2 }
 
 abbrev pub graph_key : ℕ → Key
-graph_key g = record { kind = 4; hi = g; lo = 0; mode = 0 }
+graph_key g = record { kind = 4; hi = g; lo = 0; mode = 2 }
 
 abbrev pub mode_of : Bool → ℕ
 mode_of true = 1

@@ -12,7 +12,7 @@ other_owner o r = not (is_of o r)
 abbrev pub other_graph : ℕ → Request → Bool
 other_graph g r = not (g == r.owner.graph)
 
--- a release takes the owner's request away where it holds, and frees what waits for it alone
+-- a release takes the owner's request away where it holds, and frees what waits for nothing else
 abbrev pub released : Caller → List Request → List Request
 released o rs = cond (holds o rs) (filter (other_owner o) rs) rs
 

@@ -1,5 +1,5 @@
 -- The requests for locks on a brick, in the order in which they were asked. Two conflict where they have
--- a cell in common and one of the two is sole. One holds exactly where no earlier one conflicts with
+-- a cell in common and one of the two is exclusive. One holds exactly where no earlier one conflicts with
 -- it, and waits otherwise.
 use Rattle.std.specs.Prelude.{ℕ, ◌≡◌, Bool, true, false, cond, not, ◌&&◌, ◌||◌, ◌==◌, List, [], ◌∷◌, ◌++◌, map}
 use Rattle.std.specs.List.{filter, list_any}
@@ -14,7 +14,7 @@ is_cell a b = ((a.gfid.hi == b.gfid.hi) && (a.gfid.lo == b.gfid.lo)) && (rank a.
 abbrev pub has_cell : Request → Cell → Bool
 has_cell r c = list_any (is_cell c) r.cells
 
--- two requests conflict where they have a cell in common and one of them is sole
+-- two requests conflict where they have a cell in common and one of them is exclusive
 abbrev pub conflicts : Request → Request → Bool
 conflicts r s = list_any (has_cell s) r.cells && not (r.shared && s.shared)
 
@@ -76,3 +76,12 @@ holds o rs = list_any (is_of o) (held rs)
 abbrev pub AreApart : List Request → Type 0
 AreApart [] = Unit {0}
 AreApart (r ∷ rs) = (list_any (λ s. conflicts s r) rs ≡ false) × AreApart rs
+
+-- Each request that waits conflicts with one before it that holds or waits.
+abbrev pub WaitersAreBlocked : List Request → Type 0
+WaitersAreBlocked rs = (earlier : List Request) (r : Request) (later : List Request) → rs ≡ earlier ++ r ∷ later → is_kept_by earlier r ≡ true → (is_kept_by (held earlier) r || is_kept_by (waiting earlier) r) ≡ true
+
+-- no owner has two requests
+abbrev pub OwnersDiffer : List Request → Type 0
+OwnersDiffer [] = Unit {0}
+OwnersDiffer (r ∷ rs) = (is_known r.owner rs ≡ false) × OwnersDiffer rs

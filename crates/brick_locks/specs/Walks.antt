@@ -9,7 +9,7 @@ use Rattle.brick_locks.specs.declared.request.Request.{Request}
 use Rattle.brick_locks.specs.Locks.{has_cell, is_kept_by}
 use Rattle.brick_locks.specs.Keys.{keys_of}
 
--- whether a request on one cell, shared or sole, conflicts with s
+-- whether a request on one cell, shared or exclusive, conflicts with s
 abbrev pub bars : Cell → Bool → Request → Bool
 bars c together s = has_cell s c && not (together && s.shared)
 
@@ -20,14 +20,6 @@ meets cs together s = list_any (has_cell s) cs && not (together && s.shared)
 -- whether a request at a number waits
 abbrev pub waits : List (ℕ × Request) → ℕ → Request → Bool
 waits es n r = is_kept_by (items (before n es)) r
-
--- whether the entry of a number is there and passes
-abbrev pub passes : (ℕ → Request → Bool) → ℕ → Option Request → Bool
-passes p n None = false
-passes p n (Some r) = p n r
-
-abbrev pub is_at_number : (ℕ → Request → Bool) → List (ℕ × Request) → ℕ → Bool
-is_at_number p es n = passes p n (item_at n es)
 
 -- the owner of a request that is there and passes
 abbrev pub owner_if : (ℕ → Request → Bool) → ℕ → Option Request → Option Owner
@@ -45,18 +37,6 @@ with_owner (Some o) os = o ∷ os
 abbrev pub picked : (ℕ → Request → Bool) → List (ℕ × Request) → List ℕ → List Owner
 picked p es [] = []
 picked p es (n ∷ ns) = with_owner (owner_at p es n) (picked p es ns)
-
--- whether the request of one number conflicts with that of another
-abbrev pub meets_number : List (ℕ × Request) → ℕ → Option Request → Bool
-meets_number es q None = false
-meets_number es q (Some r) = is_at_number (λ _. meets r.cells r.shared) es q
-
-abbrev pub meets_at : List (ℕ × Request) → ℕ → ℕ → Bool
-meets_at es q n = meets_number es q (item_at n es)
-
--- whether a request conflicts with one that has a key
-abbrev pub is_rival : Key → List (ℕ × Request) → Request → Bool
-is_rival k es s = list_any (λ r. meets r.cells r.shared s) (items (touching keys_of k es))
 
 -- whether a request stays though those of a key leave, and waits
 abbrev pub stays_waiting : Key → List (ℕ × Request) → ℕ → Request → Bool

@@ -3,18 +3,31 @@
 //! ```text
 //!   requests, in the order in which they were asked
 //!
-//!     (1, 4)  cells a b  shared   holds
-//!     (1, 7)  cells b    sole     waits: (1, 4) has b
-//!     (2, 5)  cells b    shared   waits: (1, 7) came before it and is sole
-//!     (2, 6)  cells c    sole     holds
+//!     (1, 4)  cells a b  shared     holds
+//!     (1, 7)  cells b    exclusive  waits: (1, 4) has b
+//!     (2, 5)  cells b    shared     waits: (1, 7) came before it and is exclusive
+//!     (2, 6)  cells c    exclusive  holds
 //! ```
 //!
-//! An owner is a call of a graph. Two requests conflict where they have a cell in common and one of the
-//! two is sole. A request holds exactly where no earlier one conflicts with it, and waits otherwise, so
-//! held locks never conflict, and a later request never overtakes one that waits for the same cell.
+//! An owner is one call of one graph, and has at most one request at a time, for all the cells that it wants.
+//! Two requests conflict where they have a cell in common and one of the two is exclusive. A request holds
+//! exactly where no earlier one conflicts with it, and waits otherwise. So held locks never conflict, and a
+//! later request never overtakes one that waits for the same cell.
 //!
-//! The requests stand in a queue that finds them by owner, by graph and by cell. So a call that asks or
-//! releases walks over the requests of its own cells alone, however many others hold and wait.
+//! A lock ends where its owner unlocks it (`release`) or where its connection ends: when the graph connects
+//! again or disconnects (`drop_graph`), or when the brick goes down (`drop_all`). A request that still waits
+//! ends only with the connection, and its owner is then reported as gone. Nothing else ends a lock, neither
+//! time nor the end of the operation for which it was taken.
+//!
+//! The requests are kept in a queue that finds them by owner, by graph, and by cell with the exclusive ones
+//! apart from the shared ones (`queue_index`). Where n requests hold or wait:
+//!
+//! - `knows` is of the order log n.
+//! - `ask` looks, for each of its cells, at the first request that conflicts: of the order log n a cell.
+//! - `release` and `drop_graph` take their requests out, of the order log n for each cell of these, and look
+//!   at each request that conflicts with one of them, of the order log n for each cell of it. All others
+//!   stay as they are, so they are not looked at.
+//! - `drop_all` looks at every request.
 //!
 //! Called by the brick, for its requests lock and unlock, and where it connects, disconnects or goes
 //! down.

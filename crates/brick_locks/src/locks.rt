@@ -1,6 +1,6 @@
 ghost use Rattle.std.specs.Prelude.{◌≡◌, not, false, [], ◌∷◌, ◌++◌, OnOk, OnErr, IfOk};
 ghost use Rattle.std.specs.List.{filter};
-ghost use Rattle.brick_locks.specs.Locks.{is_known, request, held, waiting, AreApart, owners, gone, freed, holds};
+ghost use Rattle.brick_locks.specs.Locks.{is_known, request, held, waiting, AreApart, WaitersAreBlocked, OwnersDiffer, owners, gone, freed, holds};
 ghost use Rattle.brick_locks.specs.Keys.{keys_of};
 ghost use Rattle.queue_index.specs.Queue.{touches};
 ghost use Rattle.queue_index.specs.declared.key.Key.{Key};
@@ -17,7 +17,7 @@ use std::alloc::{AllocError, Global};
 use std::marker::Model;
 
 /// What became of a request: it holds, or it waits.
-#[derive(Debug, Clone, Copy, PartialEq, Eq)]
+#[derive(Clone, Copy, PartialEq, Eq)]
 pub enum Asked {
     Granted,
     Queued,
@@ -25,7 +25,7 @@ pub enum Asked {
 
 /// What became of the owners when requests were dropped: `gone` waited and were dropped, `granted` wait
 /// no longer and hold. Both in the order in which they asked.
-#[derive(Debug, Drop, PartialEq, Eq)]
+#[derive(Drop)]
 pub struct Dropped {
     pub gone: Seq<Owner>,
     pub granted: Seq<Owner>,
@@ -42,21 +42,34 @@ impl Model for BrickLocks {
     ghost use Rattle.std.specs.Prelude.{List};
     ghost use Rattle.queue_index.specs.Queue.{items};
     ghost use Rattle.brick_locks.specs.declared.request.Request.{Request};
+    ghost use Rattle.brick_locks.specs.Locks.{OwnersDiffer};
 
     ghost Value = { List Request };
 
     ghost view = { λ b. items b.queue };
+
+    ghost invariant = { λ b. OwnersDiffer (items b.queue) };
 }
 
 #[tactic(auto, using(crate::proofs::Apart::held_apart))]
 impl BrickLocks {
-    /// No locks, which takes no memory.
+    /// No locks. It allocates nothing.
     pub fn new(alloc: Global) -> BrickLocks
         ensures { result ≡ [] }
     {
         BrickLocks {
             queue: KeyedQueue::new(alloc),
         }
+    }
+
+    /// Held locks never conflict; each request that waits conflicts with one before it that holds or waits;
+    /// and no owner has two requests. The call does nothing: its contract exports this.
+    pub fn laws(&self)
+        ensures apart { AreApart (held self.now) }
+        ensures blocked { WaitersAreBlocked self.now }
+        ensures once { OwnersDiffer self.now }
+    {
+        let _ = &self.queue;
     }
 
     /// Whether the owner holds or waits.
@@ -70,7 +83,7 @@ impl BrickLocks {
     /// conflicts with it, and else queued behind all others.
     ///
     /// # Errors
-    /// Want of memory, and the locks are unchanged.
+    /// Out of memory, or the numbers of the queue are used up (`queue_index`). The locks are unchanged.
     pub fn ask(
         &mut self,
         alloc: Global,
@@ -85,11 +98,14 @@ impl BrickLocks {
         ensures err { OnErr result (self.new ≡ self.old) }
     {
         let own = Seq::from_vec(Vec::from_slice(alloc, cells)?);
-        let number = self.queue.push_back(Request {
+        let request = Request {
             owner,
             cells: own,
             shared,
-        })?;
+        };
+        let Ok(number) = self.queue.push_back(request) else {
+            return Err(AllocError);
+        };
         self.queue.numbers_rise();
         if is_kept(&self.queue, number, cells, shared) {
             return Ok(Asked::Queued);
@@ -101,7 +117,7 @@ impl BrickLocks {
     /// the order in which they asked. An owner that does not hold changes nothing, also where it waits.
     ///
     /// # Errors
-    /// Want of memory, and the locks are unchanged.
+    /// Out of memory. The locks are unchanged.
     pub fn release(&mut self, alloc: Global, owner: Owner) -> Result<Seq<Owner>, AllocError>
         ensures left { OnOk result (self.new ≡ released owner self.old) }
         ensures granted { IfOk result (λ o. o ≡ freed_by owner self.old) }
@@ -119,7 +135,7 @@ impl BrickLocks {
     /// Drops every request of a graph: its locks, and its requests that wait.
     ///
     /// # Errors
-    /// Want of memory, and the locks are unchanged.
+    /// Out of memory. The locks are unchanged.
     pub fn drop_graph(&mut self, alloc: Global, graph: u32) -> Result<Dropped, AllocError>
         ensures left { OnOk result (self.new ≡ filter (other_graph graph) self.old) }
         ensures gone { IfOk result (λ d. d.gone ≡ owners (gone (other_graph graph) self.old)) }
@@ -134,7 +150,7 @@ impl BrickLocks {
     /// Drops every request. The owners that waited are gone, and none is granted.
     ///
     /// # Errors
-    /// Want of memory, and the locks are unchanged.
+    /// Out of memory. The locks are unchanged.
     pub fn drop_all(&mut self, alloc: Global) -> Result<Dropped, AllocError>
         ensures left { OnOk result (self.new ≡ []) }
         ensures gone { IfOk result (λ d. d.gone ≡ owners (waiting self.old)) }
@@ -161,7 +177,7 @@ impl BrickLocks {
         Ok(held)
     }
 
-    // Takes the requests of a key out. All that wants memory comes first.
+    // Takes the requests of a key out. All that allocates comes first.
     fn take_out(&mut self, alloc: Global, key: Key) -> Result<Dropped, AllocError>
         ensures left { OnOk result (self.new ≡ filter (λ r. not (touches keys_of key r)) self.old) }
         ensures gone { IfOk result (λ d. d.gone ≡ owners (gone (λ r. not (touches keys_of key r)) self.old)) }
@@ -171,7 +187,7 @@ impl BrickLocks {
         self.queue.numbers_rise();
         let numbers = self.queue.numbers_of(alloc, key)?;
         let gone = waiting_owners(alloc, &self.queue, &numbers)?;
-        let rivals = waiting_rivals(alloc, &self.queue, key, &numbers)?;
+        let rivals = waiting_rivals(alloc, &self.queue, key)?;
         let mut granted = Vec::with_capacity(alloc, rivals.len())?;
         remove_all(&mut self.queue, &numbers);
         self.queue.numbers_rise();

@@ -1,6 +1,8 @@
-/// Who asks for a lock: a graph and the number of its call.
-#[derive(Debug, Clone, Copy, PartialEq, Eq, PartialOrd, Ord)]
+/// Who asks for a lock: one call of one graph. An owner has at most one request at a time, on all its cells.
+#[derive(Clone, Copy, PartialEq, Eq)]
 pub struct Owner {
+    /// The number of the graph, as its client connected with it.
     pub graph: u32,
+    /// The number of the call in its mount.
     pub call: u32,
 }

@@ -4,14 +4,14 @@ ghost use Rattle.brick_locks.specs.Keys.{owner_key, graph_key, cell_key, keys_of
 
 use crate::owner::Owner;
 use fop_types::{Cell, Seq};
-use queue_index::{Key, Keyed};
+use queue_index::{EXCLUSIVE, Key, Keyed, NAME, SHARED};
 
 const OWNERS: u8 = 3;
 
 const GRAPHS: u8 = 4;
 
 /// A lock that was asked for, on all its cells at once.
-#[derive(Debug, Drop)]
+#[derive(Drop)]
 pub struct Request {
     pub owner: Owner,
     pub cells: Seq<Cell>,
@@ -26,7 +26,7 @@ pub(crate) fn owner_key(owner: Owner) -> Key
         kind: OWNERS,
         hi: u64::from(owner.graph),
         lo: u64::from(owner.call),
-        mode: 0,
+        mode: NAME,
     }
 }
 
@@ -38,15 +38,15 @@ pub(crate) fn graph_key(graph: u32) -> Key
         kind: GRAPHS,
         hi: u64::from(graph),
         lo: 0,
-        mode: 0,
+        mode: NAME,
     }
 }
 
-/// The key of the requests that have a cell, of the sole ones or of the shared ones.
+/// The key of the requests that have a cell, of the exclusive ones or of the shared ones.
 pub(crate) fn cell_key(cell: Cell, shared: bool) -> Key
     ensures { result ≡ cell_key cell shared }
 {
-    let mode = if shared { 1 } else { 0 };
+    let mode = if shared { SHARED } else { EXCLUSIVE };
     Key {
         kind: cell.aspect.rank(),
         hi: cell.gfid.hi,

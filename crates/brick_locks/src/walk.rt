@@ -3,8 +3,8 @@ ghost use Rattle.std.specs.Prelude.{◌≡◌, ◌≤◌, ◌==◌, [], length, 
 ghost use Rattle.std.specs.List.{list_any, filter, AllByRecursion};
 ghost use Rattle.std.specs.Vec.{vec_capacity};
 ghost use Rattle.std.specs.Ordering.{nat_cmp, is_eq};
-ghost use Rattle.queue_index.specs.Queue.{items, before, without};
-ghost use Rattle.brick_locks.specs.Walks.{bars, meets, waits, is_at_number, owner_at, picked};
+ghost use Rattle.queue_index.specs.Queue.{items, before, without, is_at_number};
+ghost use Rattle.brick_locks.specs.Walks.{bars, meets, waits, owner_at, picked};
 
 use crate::owner::Owner;
 use crate::request::{Request, cell_key};
@@ -108,7 +108,7 @@ pub(crate) fn waiting_owners(
     Ok(owners)
 }
 
-/// The owners of those of these numbers whose requests hold. It takes no memory.
+/// The owners of those of these numbers whose requests hold. It allocates nothing.
 pub(crate) fn push_holders(queue: &KeyedQueue<Request>, numbers: &[u64], owners: &mut Vec<Owner>)
     requires none { owners.old.items ≡ [] }
     requires room { length numbers.now ≤ vec_capacity owners.old }
@@ -122,7 +122,7 @@ pub(crate) fn push_holders(queue: &KeyedQueue<Request>, numbers: &[u64], owners:
     }
 }
 
-/// Takes the requests of these numbers out. It takes no memory.
+/// Takes the requests of these numbers out. It allocates nothing.
 pub(crate) fn remove_all(queue: &mut KeyedQueue<Request>, numbers: &[u64])
     ensures { queue.new ≡ filter (λ e. not (list_any (λ n. is_eq (nat_cmp e.0 n)) numbers.now)) queue.old }
 {

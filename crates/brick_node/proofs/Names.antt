@@ -7,7 +7,7 @@ use Rattle.std.specs.Ordering.{nat_cmp, is_eq, ordering_reverse}
 use Rattle.std.specs.Cmp.{tied_back}
 use Rattle.std.specs.Cmp.Lexicographic.{slice_cmp, pointwise, texts_ties, nat_list_cmp_total}
 use Rattle.fop_types.specs.declared.contents.Item.{Item}
-use Rattle.fop_types.specs.Flat.{item_named, with_item}
+use Rattle.fop_types.specs.Names.{item_named, with_item}
 use Rattle.wire_xdr.specs.Order.{Each, Follows, RisesFrom, Rises}
 use Rattle.wire_xdr.specs.PartText.{item_cmp}
 

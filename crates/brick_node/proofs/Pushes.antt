@@ -22,7 +22,7 @@ module _ (old : List (List ℕ)) (input : List ℕ) (cells : Cells) (before : Li
         put ∙ ap (λ (l : List (List ℕ)). l ++ added) was.1 ∙ ap (λ (l : List (List ℕ)). outputs_of old ++ l) due ∙ sym (outputs_of_push old input),
       )
 
-  -- with the journal and the outputs as they stand after their room was taken
+  -- with the journal and the outputs after their memory was reserved
   pub served : (came all kept made : List (List ℕ)) (entry : List ℕ) (after : Cells) (due : Option (List ℕ))
       → came ≡ old → all ≡ came ++ entry ∷ [] → entry ≡ input → kept ≡ before → made ≡ kept ++ option_to_list due
       → after ≡ cells_for cells m → option_to_list due ≡ map output_text (outputs_for cells (length came + 1) m)

@@ -1,5 +1,5 @@
--- What a brick keeps has a spelling but for the number of items, and so have its replies.
-use Rattle.std.proofs.Common.{◌≡◌, ◌<◌, ◌^◌, ◌∷◌, ◌+◌, ◌==◌, ℕ, true, false, true≢false, sym, refl, List, [], length, arith}
+-- What a brick keeps has an encoding but for the number of items, and so have its replies.
+use Rattle.std.proofs.Common.{◌≡◌, ◌<◌, ◌^◌, ◌∷◌, ◌+◌, ◌==◌, ℕ, true, false, true≢false, sym, subst, refl, List, [], length, arith}
 use Rattle.std.specs.Prelude.{Bool, Option, Some, None, is_none, nat_le, IfSome, if◌then◌else◌}
 use Rattle.std.specs.Map.{lookup}
 use Rattle.std.specs.BTreeMap.{is_at}
@@ -7,7 +7,8 @@ use Rattle.std.proofs.lemmas.Bool.{leb-true}
 use Rattle.std.proofs.lemmas.List.Elements.{All-nil}
 use Rattle.std.proofs.lemmas.Map.Views.{All-values-insert_entry, IfSome-lookup_from_All}
 use Rattle.fop_types.specs.Orders.{cell_cmp}
-use Rattle.fop_types.specs.Flat.{item_named, with_item, root}
+use Rattle.fop_types.specs.Names.{item_named, with_item}
+use Rattle.fop_types.specs.Cells.{root}
 use Rattle.fop_types.specs.declared.cells.Gfid.{Gfid}
 use Rattle.fop_types.specs.declared.cells.Cell.{Cell}
 use Rattle.fop_types.specs.declared.cells.Kind.{Kind}
@@ -30,9 +31,11 @@ use Rattle.wire_xdr.specs.WireText.{IsInput, IsOutput}
 use Rattle.wire_messages.specs.Messages.{input_in}
 use Rattle.wire_messages.specs.declared.messages.Message.{Message}
 use Rattle.wire_messages.specs.declared.messages.Message.TheVariants.{Whole, Wrong}
-use Rattle.wire_messages.proofs.ReadBack.{input_is_spelled}
+use Rattle.wire_messages.proofs.ReadBack.{input_is_encoded}
 use Rattle.brick_store.specs.declared.kept.Kept.{Kept}
-use Rattle.brick_store.specs.Cells.{Cells, kept_at, kept_or_nothing, with_kept, names_cell, meta_cell, copy_of, copy_with, root_alone, mark_of, post_of, marked, posted, birth_of, with_birth, with_directory, takes_name, items_of, name_added, directory_added, applied}
+use Rattle.brick_store.specs.Cells.{Cells, kept_at, kept_or_nothing, with_kept, names_cell, meta_cell, copy_of, copy_with, root_alone, mark_of, post_of, marked, posted, birth_of, items_of, applied}
+use Rattle.brick_store.specs.code.Adding.{with_birth, with_directory, takes_name, name_added, directory_added}
+use Rattle.brick_store.proofs.Adding.{added_by_steps}
 use Rattle.brick_node.specs.Machine.{Served, fetch_reply, op_served, serve_request, cells_for, cells_from, cells_of}
 use Rattle.brick_node.specs.Stored.{IsStored, IsKept, AreKept, IsLegal}
 use Rattle.brick_node.proofs.Names.{each_with, rises_with}
@@ -69,14 +72,16 @@ posted_kept [] cells all = all
 posted_kept (cell ∷ others) cells all = posted_kept others (with_kept cells cell (post_of (kept_at cells cell))) (put_kept cells cell (post_of (kept_at cells cell)) all (kept_there cells cell all))
 
 -- births, and names that are added
-birth_kept : (there : Option Content) (kept : Kept) (content : Content) (change : ℕ) → IsKept kept → IsStored (Some content) → IsHyper change → IsKept (birth_of there kept content change)
-birth_kept None kept content change was one fits = (one, fits)
-birth_kept (Some c) kept content change was one fits = was
+birth_kept : (there : Option Content) (dirty last : ℕ) (content : Content) (change : ℕ) → IsStored there → IsHyper last → IsStored (Some content) → IsHyper change
+    → IsKept (birth_of (record { content = there; dirty = dirty; last = last }) content change)
+birth_kept None dirty last content change was old one fits = (one, fits)
+birth_kept (Some c) dirty last content change was old one fits = (was, old)
 
 born_kept : (cells : Cells) (cell : Cell) (content : Content) (change : ℕ) → AreKept cells → IsStored (Some content) → IsHyper change → AreKept (with_birth cells cell content change)
 born_kept cells cell content change all one fits =
-    put_kept cells cell (birth_of (kept_at cells cell).content (kept_at cells cell) content change) all
-    (birth_kept (kept_at cells cell).content (kept_at cells cell) content change (kept_there cells cell all) one fits)
+    let kept = kept_at cells cell in
+    let was = kept_there cells cell all in
+    put_kept cells cell (birth_of kept content change) all (birth_kept kept.content kept.dirty kept.last content change was.0 was.1 one fits)
 
 directory_kept : (cells : Cells) (gfid : Gfid) (mode : ℕ) (span : Option Span) (change : ℕ) → AreKept cells → IsMode mode → IsSpan span → IsHyper change → AreKept (with_directory cells gfid mode span change)
 directory_kept cells gfid mode span change all legal_mode legal_span fits =
@@ -113,8 +118,9 @@ added_kept Link free cells after all made = all
 
 op_kept : (cells : Cells) (change : ℕ) (o : StoreOp) → AreKept cells → IsHyper change → IsOp o → AreKept (op_served cells (applied cells change o)).cells
 op_kept cells change (op.AddName parent item mode span) all fits legal =
-    added_kept item.kind (takes_name (kept_at cells (names_cell parent)).content item.name) cells (name_added cells change parent item mode span) all
-    (λ takes. name_kept cells change parent item mode span all takes fits legal.1 legal.2 legal.3)
+    subst (λ (after : Option Cells). AreKept (op_served cells after).cells) (sym (added_by_steps cells change parent item mode span))
+    (added_kept item.kind (takes_name (kept_at cells (names_cell parent)).content item.name) cells (name_added cells change parent item mode span) all
+    (λ takes. name_kept cells change parent item mode span all takes fits legal.1 legal.2 legal.3))
 op_kept cells change (op.Write gfid offset bytes) all fits legal = all
 op_kept cells change (op.Truncate gfid size) all fits legal = all
 op_kept cells change (op.SetMode gfid mode) all fits legal = all
@@ -157,7 +163,7 @@ pub input_legal : (bytes : List ℕ) → IsLegal (input_in bytes)
 input_legal bytes = by_case (input_in bytes) refl
   where
     by_case : (m : Message Input) → input_in bytes ≡ m → IsLegal m
-    by_case (Whole x) e = (input_is_spelled bytes x e).0
+    by_case (Whole x) e = (input_is_encoded bytes x e).0
     by_case (Wrong place) e = tt
 
 cells_from_kept : (cells : Cells) (xs : List (List ℕ)) → AreKept cells → AreKept (cells_from cells xs)
@@ -167,7 +173,7 @@ cells_from_kept cells (x ∷ xs) all = cells_from_kept (cells_for cells (input_i
 pub cells_of_kept : (xs : List (List ℕ)) → AreKept (cells_of xs)
 cells_of_kept xs = cells_from_kept root_alone xs root_kept
 
--- a reply on such a store has a spelling
+-- a reply on such a store has an encoding
 fetch_legal : (content : Option Content) (last : ℕ) → IsStored content → IsHyper last → IsRep true (fetch_reply (copy_with content last))
 fetch_legal None last stored fits = tt
 fetch_legal (Some (Bytes bytes)) last stored fits = (stored, fits)
@@ -207,7 +213,7 @@ reply_legal cells Index all = tt
 reply_legal cells (Open fd gfid) all = tt
 reply_legal cells (Release fd) all = tt
 
--- the output of a request that has a spelling has one
-pub reply_is_spelled : (xs : List (List ℕ)) (wind graph : ℕ) (req : BrickReq) → IsInput (Request wind graph req) → length xs + 1 < 2 ^ 64
+-- the output of a request that has an encoding has one
+pub reply_is_encoded : (xs : List (List ℕ)) (wind graph : ℕ) (req : BrickReq) → IsInput (Request wind graph req) → length xs + 1 < 2 ^ 64
     → IsOutput (record { taken = length xs + 1; kind = Reply wind (serve_request (cells_of xs) req).reply })
-reply_is_spelled xs wind graph req legal fits = (fits, (legal.0, reply_legal (cells_of xs) req (cells_of_kept xs)))
+reply_is_encoded xs wind graph req legal fits = (fits, (legal.0, reply_legal (cells_of xs) req (cells_of_kept xs)))

@@ -24,7 +24,7 @@ pub record Served : Type 0 where
   pub cells : Cells
   pub reply : BrickRep
 
--- a list of at most 65,536 items has a spelling; file bytes are never more
+-- a list of at most 65,536 items has an encoding; a file never has more bytes
 abbrev pub is_sendable : Content → Bool
 is_sendable (Bytes bytes) = true
 is_sendable (Meta mode attrs span) = nat_le (length attrs) 65536
@@ -96,7 +96,7 @@ outputs_from cells before [] = []
 outputs_from cells before (bytes ∷ inputs) =
     map output_text (outputs_for cells (before + 1) (input_in bytes)) ++ outputs_from (cells_for cells (input_in bytes)) (before + 1) inputs
 
--- a brick begins with the root alone
+-- a brick begins with only the root
 abbrev pub cells_of : List (List ℕ) → Cells
 cells_of inputs = cells_from root_alone inputs
 

@@ -1,5 +1,5 @@
--- Runs of a brick: what one more input adds, how many outputs there are, that earlier outputs stand, and
--- what a request adds.
+-- Runs of a brick: what one more input adds, how many outputs there are, that later inputs change no earlier
+-- output, and what a request adds.
 use Rattle.std.specs.Prelude.{◌≡◌, ℕ, List, [], ◌∷◌, ◌++◌, ◌+◌, map, length, take}
 use Rattle.std.proofs.Common.{refl, ap, sym, ◌∙◌, suc, arith, length-append, append_assoc}
 use Rattle.fop_types.specs.declared.messages.BrickReq.{BrickReq}
@@ -122,7 +122,7 @@ due_of_requests : (xs : List (List ℕ)) → AreRequests xs → outputs_due_amon
 due_of_requests [] all = refl
 due_of_requests (x ∷ xs) all = omega (arith, ap outputs_due_for (request_is_read x all.0), due_of_requests xs all.1)
 
--- of requests alone there are as many outputs as inputs
+-- where every input is a request there are as many outputs as inputs
 pub length_outputs_of_requests : (xs : List (List ℕ)) → AreRequests xs → length (outputs_of xs) ≡ length xs
 length_outputs_of_requests xs all = length-outputs_of xs ∙ due_of_requests xs all
 

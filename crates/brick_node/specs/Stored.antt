@@ -1,4 +1,4 @@
--- What a brick keeps has a spelling, but for the number of items of its lists: whatever is read as an
+-- What a brick keeps has an encoding, but for the number of items of its lists: whatever is read as an
 -- input has one, and all that a brick keeps came in its inputs.
 use Rattle.std.specs.Prelude.{◌≤◌, true, length, Option, Some, None}
 use Rattle.std.specs.List.{All}
@@ -27,7 +27,7 @@ IsKept kept = IsStored kept.content × IsHyper kept.last
 abbrev pub AreKept : Cells → Type 0
 AreKept cells = All IsKept (values_of cells)
 
--- bytes are read as an input that has a spelling, or as none
+-- bytes are read as an input that has an encoding, or as none
 abbrev pub IsLegal : Message Input → Type 0
 IsLegal (Whole input) = IsInput input
 IsLegal (Wrong place) = Unit {0}

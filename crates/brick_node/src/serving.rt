@@ -14,12 +14,13 @@ use std::alloc::{AllocError, Global};
 use wire_messages::Message;
 use wire_xdr::encode_rep;
 
-/// Takes a message: changes the store, and gives the output that it causes, where it causes one.
+/// Serves a message: changes the store, and gives the encoding of the output that it causes, where it
+/// causes one.
 ///
 /// # Errors
-/// Want of memory, with nothing changed.
+/// Out of memory, with nothing changed.
 #[tactic(auto, using(crate::proofs::Stored::reply_legal))]
-pub(crate) fn output_due(
+pub(crate) fn serve_message(
     store: &mut Store,
     alloc: Global,
     taken: u64,
@@ -42,14 +43,14 @@ pub(crate) fn output_due(
         Message::Whole(Input::Disconnect { .. }) => Ok(None),
         Message::Whole(Input::FaultAt { .. }) => Ok(None),
         Message::Wrong { place } => {
-            let output = spelled(alloc, taken, OutKind::Malformed { place })?;
+            let output = encoded(alloc, taken, OutKind::Malformed { place })?;
             Ok(Some(output))
         }
     }
 }
 
-/// The spelling of an output, which must have one.
-fn spelled(alloc: Global, taken: u64, kind: OutKind) -> Result<Seq<u8>, AllocError>
+/// The encoding of an output, which must have one.
+fn encoded(alloc: Global, taken: u64, kind: OutKind) -> Result<Seq<u8>, AllocError>
     requires { IsOutKind true kind }
     ensures { IfOk result (λ bytes. bytes ≡ output_text (record { taken = taken; kind = kind })) }
 {
@@ -58,20 +59,20 @@ fn spelled(alloc: Global, taken: u64, kind: OutKind) -> Result<Seq<u8>, AllocErr
     Ok(Seq::from_vec(bytes))
 }
 
-/// The spelling of a reply, which must have one.
-fn replied(alloc: Global, taken: u64, wind: u64, rep: BrickRep) -> Result<Seq<u8>, AllocError>
+/// The encoding of an output with a reply, which must have one.
+fn encoded_reply(alloc: Global, taken: u64, wind: u64, rep: BrickRep) -> Result<Seq<u8>, AllocError>
     requires { IsRep true rep }
     ensures { IfOk result (λ bytes. bytes ≡ output_text (record { taken = taken; kind = Reply wind rep })) }
 {
-    let bytes = spelled(alloc, taken, OutKind::Reply { wind, rep })?;
+    let bytes = encoded(alloc, taken, OutKind::Reply { wind, rep })?;
     Ok(bytes)
 }
 
-/// Serves a request: changes the store and gives the spelling of the reply. What a change is answered is
-/// spelled before it, so that want of memory leaves no change behind.
+/// Serves a request: changes the store and gives the encoding of the reply. The reply to a change is encoded
+/// before the change is made, so that no change is left behind where memory runs out.
 ///
 /// # Errors
-/// Want of memory, with nothing changed.
+/// Out of memory, with nothing changed.
 fn answer(
     store: &mut Store,
     alloc: Global,
@@ -87,33 +88,33 @@ fn answer(
     match req {
         BrickReq::Fetch { fd, cell } => {
             if *fd != 0 {
-                let bytes = replied(alloc, taken, wind, BrickRep::BadFd)?;
+                let bytes = encoded_reply(alloc, taken, wind, BrickRep::BadFd)?;
                 return Ok(bytes);
             }
             let rep = fetched(store, alloc, cell)?;
-            let bytes = replied(alloc, taken, wind, rep)?;
+            let bytes = encoded_reply(alloc, taken, wind, rep)?;
             Ok(bytes)
         }
         BrickReq::Mark { cells, .. } => {
-            let bytes = replied(alloc, taken, wind, BrickRep::Done(DoneArm::Nothing))?;
+            let bytes = encoded_reply(alloc, taken, wind, BrickRep::Done(DoneArm::Nothing))?;
             store.mark(cells.as_slice())?;
             Ok(bytes)
         }
         BrickReq::Op { change, fd, op } => {
             if *fd != 0 {
-                let bytes = replied(alloc, taken, wind, BrickRep::BadFd)?;
+                let bytes = encoded_reply(alloc, taken, wind, BrickRep::BadFd)?;
                 return Ok(bytes);
             }
-            let bytes = replied(alloc, taken, wind, BrickRep::Done(DoneArm::Nothing))?;
+            let bytes = encoded_reply(alloc, taken, wind, BrickRep::Done(DoneArm::Nothing))?;
             if store.apply(alloc, *change, op)? {
                 Ok(bytes)
             } else {
-                let bytes = replied(alloc, taken, wind, BrickRep::Unfit)?;
+                let bytes = encoded_reply(alloc, taken, wind, BrickRep::Unfit)?;
                 Ok(bytes)
             }
         }
         BrickReq::Post { cells, .. } => {
-            let bytes = replied(alloc, taken, wind, BrickRep::Done(DoneArm::Nothing))?;
+            let bytes = encoded_reply(alloc, taken, wind, BrickRep::Done(DoneArm::Nothing))?;
             store.post(cells.as_slice())?;
             Ok(bytes)
         }
@@ -128,18 +129,19 @@ fn answer(
     }
 }
 
-/// What is answered to a procedure that is not served so far.
+/// The reply to a request of a procedure that is not served so far.
 fn unfit(alloc: Global, taken: u64, wind: u64) -> Result<Seq<u8>, AllocError>
     ensures { IfOk result (λ bytes. bytes ≡ output_text (record { taken = taken; kind = Reply wind Unfit })) }
 {
-    let bytes = replied(alloc, taken, wind, BrickRep::Unfit)?;
+    let bytes = encoded_reply(alloc, taken, wind, BrickRep::Unfit)?;
     Ok(bytes)
 }
 
-/// The reply to a fetch.
+/// The reply to a fetch: the cell's copy, or `Unfit` where the cell is not present or its list is too long
+/// for an encoding.
 ///
 /// # Errors
-/// Want of memory.
+/// Out of memory.
 fn fetched(store: &Store, alloc: Global, cell: &Cell) -> Result<BrickRep, AllocError>
     ensures { IfOk result (λ rep. rep ≡ fetch_reply (copy_of (kept_at store.now cell.now))) }
 {
@@ -155,7 +157,7 @@ fn fetched(store: &Store, alloc: Global, cell: &Cell) -> Result<BrickRep, AllocE
     }
 }
 
-/// Whether a content's list is short enough for a spelling.
+/// True exactly where a content's list is short enough for an encoding.
 fn is_sendable(content: &Content) -> bool
     ensures { result ≡ can_be_sent content.now }
 {

@@ -4,7 +4,7 @@ use Rattle.fop_types.specs.declared.cells.Cell.{Cell}
 use Rattle.brick_store.specs.declared.steps.Count.TheVariants.{Mark, Post}
 use Rattle.brick_store.specs.declared.steps.Step.TheVariants.{Counts}
 use Rattle.brick_store.specs.Cells.{Cells, marked, posted}
-use Rattle.brick_store.specs.Steps.{all_counted, with_step}
+use Rattle.brick_store.specs.code.Steps.{all_counted, with_step}
 
 pub marks_counted : (those : List Cell) (cells : Cells) → all_counted Mark those cells ≡ marked those cells
 marks_counted [] cells = refl

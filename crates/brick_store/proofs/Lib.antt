@@ -1,5 +1,7 @@
+pub mod Adding
+pub mod Copies
+pub mod Counts
 pub mod Entries
 pub mod Names
 pub mod Places
 pub mod Results
-pub mod Counts

@@ -7,7 +7,7 @@ use Rattle.fop_types.specs.declared.contents.Content.{Content}
 use Rattle.fop_types.specs.declared.contents.Content.TheVariants.{Names}
 use Rattle.fop_types.proofs.Names.{remove_inserted}
 use Rattle.brick_store.specs.declared.kept.Kept.{Kept}
-use Rattle.brick_store.specs.Steps.{unnamed}
+use Rattle.brick_store.specs.code.Steps.{unnamed}
 
 pub named_back : (kept : Kept) (removed : Bool) (old new : List Item) (i : ℕ) (item : Item) (change : ℕ)
     → kept.content ≡ Some (Names removed old) → i ≤ length old → new ≡ insert old i item

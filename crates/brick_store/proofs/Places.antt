@@ -2,32 +2,25 @@
 use Rattle.std.proofs.Common.{◌≡◌, ◌≤◌, ◌∙◌, true, sym, refl, ap, subst, ℕ, List}
 use Rattle.std.specs.Prelude.{Option, Some, None, is_some, Result, Ok, Err, OnOk, OnErr, IfSome}
 use Rattle.afr_changelog.specs.Counters.{full_count}
-use Rattle.std.specs.Cmp.{IsTotalOrder, nat_cmp_total}
 use Rattle.std.specs.List.{All}
 use Rattle.std.specs.List.Sorted.{IsStrictlySortedBy}
 use Rattle.std.specs.Map.{lookup, set_value, remove_entry, keys_of, values_of}
 use Rattle.std.specs.BTreeMap.{insert_entry, is_at}
-use Rattle.std.proofs.lemmas.Cmp.{then_total, on_total}
 use Rattle.std.proofs.lemmas.Map.Views.{All-values-set_value, All-values-insert_entry, All-map-remove_entry, IfSome-lookup_from_All}
 use Rattle.std.proofs.lemmas.Map.Steps.{set_value_same}
-use Rattle.fop_types.specs.Rank.{rank}
 use Rattle.fop_types.specs.Orders.{cell_cmp}
-use Rattle.fop_types.specs.declared.cells.Gfid.{Gfid}
 use Rattle.fop_types.specs.declared.cells.Cell.{Cell}
 use Rattle.fop_types.specs.declared.contents.Content.{Content}
 use Rattle.fop_types.specs.declared.contents.Row.{Row}
+use Rattle.fop_types.proofs.MapLemmas.{cell_cmp_total}
 use Rattle.brick_store.specs.declared.kept.Kept.{Kept}
 use Rattle.brick_store.specs.declared.steps.Step.{Step}
 use Rattle.brick_store.specs.declared.steps.Step.TheVariants.{Counts, Birth}
 use Rattle.brick_store.specs.declared.steps.Count.TheVariants.{Mark, Post}
-use Rattle.brick_store.specs.Cells.{Cells, kept_at, kept_or_nothing, with_kept, takes_name}
-use Rattle.brick_store.specs.Steps.{IsCounted, stepped, with_row, row_of}
+use Rattle.brick_store.specs.Cells.{Cells, kept_at, kept_or_nothing, with_kept, row_of, IsCounted}
+use Rattle.brick_store.specs.code.Adding.{takes_name}
+use Rattle.brick_store.specs.code.Steps.{stepped, with_row}
 use Rattle.brick_store.proofs.Entries.{lookup_set, set_back, set_missing, set_is_insert, remove_new}
-
-pub cell_total : IsTotalOrder cell_cmp
-cell_total =
-    then_total (on_total (λ (c : Cell). c.gfid) (then_total (on_total (λ (g : Gfid). g.hi) nat_cmp_total) (on_total (λ (g : Gfid). g.lo) nat_cmp_total)))
-    (on_total (λ (c : Cell). rank c.aspect) nat_cmp_total)
 
 module _ (now es : Cells) (cell : Cell) (seen : es ≡ now) where
   found_at : (kept : Kept) → Some kept ≡ lookup (is_at (cell_cmp cell)) es → kept_at now cell ≡ kept
@@ -46,7 +39,7 @@ module _ (now es : Cells) (cell : Cell) (seen : es ≡ now) where
   pub put_in : (f : Kept → Kept) (after : Cells) (kept w : Kept) → IsStrictlySortedBy cell_cmp (keys_of es) → Some kept ≡ lookup (is_at (cell_cmp cell)) es
       → after ≡ set_value (is_at (cell_cmp cell)) es w → w ≡ f kept → after ≡ with_kept now cell (f (kept_at now cell))
   put_in f after kept w sorted found written made =
-      written ∙ set_is_insert cell_cmp cell_total es cell w sorted (ap is_some (sym found))
+      written ∙ set_is_insert cell_cmp cell_cmp_total es cell w sorted (ap is_some (sym found))
       ∙ ap (λ (l : Cells). with_kept l cell w) seen
       ∙ ap (λ (k : Kept). with_kept now cell k) (made ∙ ap f (sym (found_at kept found)))
 
@@ -72,7 +65,7 @@ module _ (now es : Cells) (cell : Cell) (seen : es ≡ now) where
   pub new_taken_back : (read after : Cells) (w : Kept) → read ≡ es → None ≡ lookup (is_at (cell_cmp cell)) es → after ≡ insert_entry cell_cmp read cell w
       → remove_entry (is_at (cell_cmp cell)) after ≡ now
   new_taken_back read after w same missing put =
-      ap (λ (l : Cells). remove_entry (is_at (cell_cmp cell)) l) (put ∙ ap (λ (l : Cells). insert_entry cell_cmp l cell w) same) ∙ remove_new cell_cmp cell_total es cell w (sym missing) ∙ seen
+      ap (λ (l : Cells). remove_entry (is_at (cell_cmp cell)) l) (put ∙ ap (λ (l : Cells). insert_entry cell_cmp l cell w) same) ∙ remove_new cell_cmp cell_cmp_total es cell w (sym missing) ∙ seen
 
 -- the counts stay in bounds
 pub counted_in_place : (es after : Cells) (cell : Cell) (w : Kept) → All IsCounted (values_of es) → after ≡ set_value (is_at (cell_cmp cell)) es w → IsCounted w → All IsCounted (values_of after)

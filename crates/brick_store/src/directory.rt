@@ -1,5 +1,5 @@
 ghost use Rattle.std.specs.Prelude.{◌≡◌};
-ghost use Rattle.brick_store.specs.Cells.{names_cell as names_of_cell, meta_cell as meta_of_cell};
+ghost use Rattle.fop_types.specs.Cells.{names_cell as names_of_cell, meta_cell as meta_of_cell};
 
 use fop_types::{Aspect, Cell, Gfid};
 

@@ -1,15 +1,16 @@
 ghost use Rattle.std.specs.Prelude.{◌≡◌, ◌≤◌, true, OnOk, OnErr, IfOk};
-ghost use Rattle.brick_store.specs.Cells.{nothing_kept, takes_name as is_free, birth_of};
-ghost use Rattle.brick_store.specs.Steps.{row_of, IsCounted, stepped, with_row as kept_with_row, named, unnamed};
+ghost use Rattle.brick_store.specs.Cells.{nothing_kept, row_of, IsCounted, birth_of};
+ghost use Rattle.brick_store.specs.code.Adding.{takes_name as is_free, named};
+ghost use Rattle.brick_store.specs.code.Steps.{stepped, with_row as kept_with_row, unnamed};
 
-use crate::steps::{Count, Named, Step};
+use crate::steps::{AddedName, Count, Step};
 use afr_changelog::{lower, raise};
 use fop_types::{Content, Item, Row, find_item, insert_new_item};
 use std::alloc::AllocError;
 
-/// What a brick keeps of a cell: its copy, where the cell is present; the count of marks that no post
-/// has lowered, at most 2147483647; and the number of the last change in the copy, 0 where none is.
-#[derive(Debug, Drop, PartialEq, Eq)]
+/// What a brick keeps of a cell: its copy, where the cell is present; the count of marks that no post has
+/// lowered, at most 2,147,483,647; and the number of the last change in the copy, 0 where there is none.
+#[derive(Drop)]
 pub struct Kept {
     pub content: Option<Content>,
     pub dirty: u32,
@@ -40,7 +41,7 @@ impl Kept {
         }
     }
 
-    /// A step. A birth leaves a copy that is there as it is.
+    /// Takes a step. A birth leaves a copy that is there as it is.
     pub(crate) fn step(&mut self, step: Step)
         requires { IsCounted self.old }
         ensures step { self.new ≡ stepped step self.old }
@@ -54,7 +55,7 @@ impl Kept {
     }
 
     fn give_birth(&mut self, content: Content, change: u64)
-        ensures { self.new ≡ birth_of self.old.content self.old content change }
+        ensures { self.new ≡ birth_of self.old content change }
     {
         if self.content.is_none() {
             self.content = Some(content);
@@ -62,7 +63,7 @@ impl Kept {
         }
     }
 
-    /// What an earlier row says; the copy stays where the row had one.
+    /// Goes back to what an earlier row says. The copy stays where the row had one.
     pub(crate) fn put_back(&mut self, row: Row)
         ensures { self.new ≡ kept_with_row self.old row }
     {
@@ -73,7 +74,7 @@ impl Kept {
         self.last = row.last;
     }
 
-    /// Whether a directory takes a new name: its names are here, it is not removed, and the name is free.
+    /// True exactly where the cell holds the names of a directory that is not removed, and the name is free.
     pub(crate) fn takes_name(&self, name: &[u8]) -> bool
         ensures { result ≡ is_free self.now.content name.now }
     {
@@ -89,11 +90,11 @@ impl Kept {
         }
     }
 
-    /// Puts a free name among the directory's names, in place.
+    /// Puts a free name among the directory's names.
     ///
     /// # Errors
-    /// Want of memory, with nothing changed.
-    pub(crate) fn add_name(&mut self, item: Item, change: u64) -> Result<Named, AllocError>
+    /// Out of memory, with nothing changed.
+    pub(crate) fn add_name(&mut self, item: Item, change: u64) -> Result<AddedName, AllocError>
         requires { is_free self.old.content item.name ≡ true }
         ensures ok { OnOk result (self.new ≡ named self.old item change) }
         ensures back { IfOk result (λ n. unnamed self.new n.place n.last ≡ self.old) }
@@ -109,14 +110,14 @@ impl Kept {
                 let place = insert_new_item(items, item)?;
                 let last = self.last;
                 self.last = change;
-                Ok(Named { place, last })
+                Ok(AddedName { place, last })
             }
             _ => unreachable!(),
         }
     }
 
-    /// Takes a name back, in place.
-    pub(crate) fn drop_name(&mut self, name: Named)
+    /// Takes back a name that was added.
+    pub(crate) fn drop_name(&mut self, name: AddedName)
         ensures { self.new ≡ unnamed self.old name.place name.last }
     {
         if let Some(Content::Names { items, .. }) = &mut self.content {

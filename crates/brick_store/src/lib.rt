@@ -11,20 +11,21 @@
 //! ```
 //!
 //! A cell is present where it has a copy. An op alters cells and gives birth to others, all under one
-//! change number; where it does not fit nothing changes. A mark says that a change is on its way, and
-//! the post that it came through. After want of memory the store is as it was before the call.
+//! change number; where it does not fit nothing changes. What an op does to the copies is defined in
+//! `fop_types`, for bricks and for the file system alike. A mark says that a change is on its way, and a
+//! post that it came through. Where memory runs out the store is as it was before the call.
 //!
 //! The brick machine calls this for each request that it serves, and owns the one store of its brick.
+//! `specs/Cells.antt` says what each request makes of the cells; `specs/code/` has the steps of the code.
 #![tactic(auto)]
 
 mod directory;
 mod kept;
+mod laws;
 mod serves;
 mod steps;
 mod store;
 
 pub use kept::Kept;
+pub use laws::ops_change_copies;
 pub use store::Store;
-
-#[cfg(test)]
-mod tests;

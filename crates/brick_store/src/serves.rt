@@ -1,6 +1,7 @@
 ghost use Rattle.std.specs.Prelude.{◌≡◌, true, Some, None, MatchBool, IfOk, OnOk, OnErr};
-ghost use Rattle.brick_store.specs.Cells.{kept_at, marked, posted, applied, with_directory, name_added, takes_name as is_free, names_cell as names_of_cell};
-ghost use Rattle.brick_store.specs.Steps.{all_counted};
+ghost use Rattle.brick_store.specs.Cells.{kept_at, marked, posted, applied, names_cell as names_of_cell};
+ghost use Rattle.brick_store.specs.code.Adding.{with_directory, name_added, takes_name as is_free};
+ghost use Rattle.brick_store.specs.code.Steps.{all_counted};
 
 use crate::directory::{meta_cell, names_cell};
 use crate::steps::{Count, Step};
@@ -9,12 +10,14 @@ use fop_types::{Cell, Content, Gfid, Item, Kind, Seq, Span, StoreOp};
 use std::alloc::{AllocError, Global};
 
 impl Store {
-    /// Applies an op under a change number. `false` where the op does not fit, and nothing is changed;
-    /// of the ops, the adding of a directory's name is served so far. The cost of adding a name is the
-    /// search of its place and one move of the names after it.
+    /// Applies an op under a change number: true where it fits, and false, with nothing changed, exactly where
+    /// it does not. Of the ops only the adding of a directory's name, which no link has, is served so far;
+    /// every other is answered false. Adding a name costs the search of its place and one move of the names
+    /// after it.
     ///
     /// # Errors
-    /// Want of memory, with nothing changed.
+    /// Out of memory, with nothing changed.
+    #[tactic(auto, using(crate::proofs::Adding::added_by_steps))]
     pub fn apply(&mut self, alloc: Global, change: u64, op: &StoreOp) -> Result<bool, AllocError>
         ensures fits { IfOk result (λ fits. MatchBool fits (applied self.old change op.now ≡ Some self.new) ((applied self.old change op.now ≡ None) × (self.new ≡ self.old))) }
         ensures err { OnErr result (self.new ≡ self.old) }
@@ -49,10 +52,10 @@ impl Store {
         }
     }
 
-    /// One more mark on each cell.
+    /// Raises the count of marks of each cell by one, up to 2,147,483,647.
     ///
     /// # Errors
-    /// Want of memory, with nothing changed.
+    /// Out of memory, with nothing changed.
     #[tactic(auto, using(crate::proofs::Counts::marks_counted))]
     pub fn mark(&mut self, cells: &[Cell]) -> Result<(), AllocError>
         ensures ok { OnOk result (self.new ≡ marked cells.now self.old) }
@@ -61,10 +64,10 @@ impl Store {
         self.count_each(cells, Count::Mark)
     }
 
-    /// One mark less on each cell.
+    /// Lowers the count of marks of each cell by one, down to 0.
     ///
     /// # Errors
-    /// Want of memory, with nothing changed.
+    /// Out of memory, with nothing changed.
     #[tactic(auto, using(crate::proofs::Counts::posts_counted))]
     pub fn post(&mut self, cells: &[Cell]) -> Result<(), AllocError>
         ensures ok { OnOk result (self.new ≡ posted cells.now self.old) }
@@ -73,9 +76,9 @@ impl Store {
         self.count_each(cells, Count::Post)
     }
 
-    /// A step of counting on each cell in turn. Where memory wants, the steps that were done are taken
-    /// back on the way out. The calls nest as deep as there are cells, of which a request names at most
-    /// four.
+    /// Takes a step of counting on each cell in turn. Where memory runs out, the steps that were done are
+    /// taken back on the way out. The calls nest as deep as there are cells, of which a request names at
+    /// most four.
     fn count_each(&mut self, cells: &[Cell], count: Count) -> Result<(), AllocError>
         ensures ok { OnOk result (self.new ≡ all_counted count cells.now self.old) }
         ensures err { OnErr result (self.new ≡ self.old) }
@@ -95,7 +98,7 @@ impl Store {
         }
     }
 
-    /// The name of a directory with the birth of its two cells.
+    /// Adds the name of a directory, with the birth of its two cells.
     fn add_directory(
         &mut self,
         alloc: Global,
@@ -121,7 +124,7 @@ impl Store {
         }
     }
 
-    /// The birth of a directory's two cells.
+    /// Gives birth to a directory's two cells.
     fn give_directory(
         &mut self,
         alloc: Global,

@@ -14,10 +14,10 @@ pub enum Step {
     Birth { content: Content, change: u64 },
 }
 
-/// A name that was put into a directory: its place among the names, and the directory's last change
+/// A name that was added to a directory: its place among the names, and the directory's last change
 /// before it. With both the name can be taken back.
 #[derive(Clone, Copy)]
-pub struct Named {
+pub struct AddedName {
     pub place: usize,
     pub last: u64,
 }

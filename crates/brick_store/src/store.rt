@@ -1,11 +1,12 @@
 ghost use Rattle.std.specs.Prelude.{◌≡◌, ◌≤◌, true, Some, None, IfOk, IfSome, OnOk, OnErr};
 ghost use Rattle.afr_changelog.specs.Counters.{full_count};
-ghost use Rattle.brick_store.specs.Cells.{root_alone, kept_at, with_kept, copy_of, takes_name as is_free, names_cell as names_of_cell};
-ghost use Rattle.brick_store.specs.Steps.{row_of, with_step, with_earlier, named, without_name};
+ghost use Rattle.brick_store.specs.Cells.{root_alone, kept_at, with_kept, copy_of, row_of};
+ghost use Rattle.brick_store.specs.code.Adding.{takes_name as is_free, named};
+ghost use Rattle.brick_store.specs.code.Steps.{with_step, with_earlier, without_name};
 
 use crate::directory::{meta_cell, names_cell};
 use crate::kept::Kept;
-use crate::steps::{Named, Step};
+use crate::steps::{AddedName, Step};
 use fop_types::{Cell, Content, Gfid, Item, Row, Seq};
 use std::alloc::{AllocError, Global};
 use std::collections::BTreeMap;
@@ -22,8 +23,7 @@ pub struct Store {
 impl Model for Store {
     ghost use Rattle.std.specs.List.{All};
     ghost use Rattle.std.specs.Map.{values_of};
-    ghost use Rattle.brick_store.specs.Cells.{Cells};
-    ghost use Rattle.brick_store.specs.Steps.{IsCounted};
+    ghost use Rattle.brick_store.specs.Cells.{Cells, IsCounted};
 
     ghost Value = { Cells };
 
@@ -36,7 +36,7 @@ impl Store {
     /// The store of a new brick: the root's metadata, mode 755 octal, and its empty names.
     ///
     /// # Errors
-    /// Want of memory.
+    /// Out of memory.
     pub fn new(alloc: Global) -> Result<Store, AllocError>
         ensures { IfOk result (λ s. s ≡ root_alone) }
     {
@@ -71,7 +71,7 @@ impl Store {
     /// The copy of a cell with the number of its last change, or `None` where the cell is not present.
     ///
     /// # Errors
-    /// Want of memory.
+    /// Out of memory.
     pub fn fetch(&self, alloc: Global, cell: &Cell) -> Result<Option<(Content, u64)>, AllocError>
         ensures { IfOk result (λ copy. copy ≡ copy_of (kept_at self.now cell.now)) }
     {
@@ -87,7 +87,7 @@ impl Store {
         }
     }
 
-    /// The row of a cell. Of a cell of which nothing is kept it is not present, and all zero.
+    /// The row of a cell. Of a cell of which nothing is kept the row is not present, and all zero.
     pub fn row(&self, cell: &Cell) -> Row
         ensures { result ≡ row_of (kept_at self.now cell.now) }
     {
@@ -107,10 +107,10 @@ impl Store {
         }
     }
 
-    /// One step on a cell; the row before it is told.
+    /// Takes one step on a cell, and gives the row before it, where there was one.
     ///
     /// # Errors
-    /// Want of memory, with nothing changed.
+    /// Out of memory, with nothing changed.
     pub(crate) fn step(&mut self, cell: &Cell, step: Step) -> Result<Option<Row>, AllocError>
         ensures ok { OnOk result (self.new ≡ with_step self.old cell.now step) }
         ensures back { IfOk result (λ row. with_earlier self.new cell.now row ≡ self.old) }
@@ -132,7 +132,7 @@ impl Store {
         }
     }
 
-    /// Takes the last step on a cell back, by the row before it.
+    /// Takes back the last step on a cell, by the row before it.
     pub(crate) fn take_back(&mut self, cell: &Cell, row: Option<Row>)
         requires { IfSome row (λ r. r.dirty ≤ full_count) }
         ensures { self.new ≡ with_earlier self.old cell.now row }
@@ -162,13 +162,13 @@ impl Store {
     /// Puts a free name among a directory's names, in place.
     ///
     /// # Errors
-    /// Want of memory, with nothing changed.
+    /// Out of memory, with nothing changed.
     pub(crate) fn put_name(
         &mut self,
         cell: &Cell,
         item: Item,
         change: u64,
-    ) -> Result<Named, AllocError>
+    ) -> Result<AddedName, AllocError>
         requires { is_free (kept_at self.old cell.now).content item.name ≡ true }
         ensures ok { OnOk result (self.new ≡ with_kept self.old cell.now (named (kept_at self.old cell.now) item change)) }
         ensures back { IfOk result (λ n. without_name self.new cell.now n.place n.last ≡ self.old) }
@@ -181,7 +181,7 @@ impl Store {
     }
 
     /// Takes a name back.
-    pub(crate) fn drop_name(&mut self, cell: &Cell, name: Named)
+    pub(crate) fn drop_name(&mut self, cell: &Cell, name: AddedName)
         ensures { self.new ≡ without_name self.old cell.now name.place name.last }
     {
         match self.cells.get_mut(cell) {

@@ -91,7 +91,7 @@ impl Client {
     /// nothing where none is open. The table grows in the allocator that it was made with.
     ///
     /// # Errors
-    /// Want of memory, and nothing changed.
+    /// Out of memory, and nothing changed.
     pub fn opened(&mut self, _alloc: Global, fd: u32, gfid: Gfid) -> Result<(), AllocError>
         ensures noted { OnOk result (self.new ≡ noted self.old fd gfid) }
         ensures known { OnOk result (IsSome self.old.connection → is_known self.new fd gfid ≡ true) }
@@ -108,13 +108,13 @@ impl Client {
     /// The messages that carry a request to the brick: the request, with an open before it where `fd` names
     /// a descriptor that is new to the connection. `w` is the request's wind, with a slot below
     /// 2,147,483,648. `bound` is the connection on which the request's lock was granted. `fd` is a
-    /// descriptor's number, which is not 0 and which the request carries, with its gfid. The request has a
-    /// spelling.
+    /// descriptor's number, which is not 0 and which the request carries, with its gfid. The request has an
+    /// encoding.
     ///
     /// `NotConnected` comes exactly where no connection is open, or another one than `bound` names.
     ///
     /// # Errors
-    /// Want of memory. The client is unchanged in any case.
+    /// Out of memory. The client is unchanged in any case.
     pub fn send(
         &mut self,
         alloc: Global,
@@ -124,7 +124,7 @@ impl Client {
         req: BrickReq,
     ) -> Result<Sent, AllocError>
         requires slot { w.slot < 2147483648 }
-        requires spelled { IsReq true req }
+        requires encoded { IsReq true req }
         requires fd { IfSome fd (λ f. (f.0 ≢ 0) × (carried req ≡ f.0)) }
         ensures sent { IfOk result (λ s. s ≡ sent_by self.old w bound fd req) }
         ensures kept { self.new ≡ self.old }
@@ -157,8 +157,8 @@ impl Client {
             return Ok(messages);
         }
         let open = BrickReq::Open { fd: number, gfid };
-        let spelled = message(alloc, self.graph, w.open_before().number(), open)?;
-        messages.push(spelled)?;
+        let opening = message(alloc, self.graph, w.open_before().number(), open)?;
+        messages.push(opening)?;
         Ok(messages)
     }
 

@@ -24,8 +24,6 @@
 mod client;
 mod law;
 mod sent;
-#[cfg(test)]
-mod tests;
 
 pub use client::Client;
 pub use law::ended_stays_ended;

@@ -13,7 +13,7 @@ use Rattle.dht_layout.specs.Layouts.{holds, Has, even_span, even_layout, CoversE
 abbrev first_of : ℕ → ℕ → ℕ
 first_of m i = i * 4294967296 / m
 
--- a hash is before the first of set i, or not, by products alone
+-- a hash is before the first of set i, or not, by products only
 before : (m i h : ℕ) → 0 < m → i * 4294967296 < (h + 1) * m → first_of m i ≤ h
 before m i h pos l = let d : i * 4294967296 / m < h + 1 = div_below (i * 4294967296) m (h + 1) pos l in omega arith
 
@@ -34,7 +34,7 @@ not_within m i h pos few l =
 abbrev set_of : ℕ → ℕ → ℕ
 set_of m h = ((h + 1) * m - 1) / 4294967296
 
--- where product x lies between two neighbours of M's multiples, the quotient tells which
+-- where product x is between two neighbouring multiples of 2 ^ 32, the quotient says which
 between : (x i : ℕ) → i * 4294967296 < x → x ≤ (i + 1) * 4294967296 → (x - 1) / 4294967296 ≡ i
 between x i low high =
     let e : x - 1 ≡ i * 4294967296 + (x - 1 - i * 4294967296) = omega arith in
@@ -71,7 +71,7 @@ even_covers m pos few h below =
     record {
       set = set_of m h;
       has = has_set m (set_of m h) h l (before m (set_of m h) h pos s.0) (within m (set_of m h) h pos s.1);
-      alone = λ other has. let o = set_has m other h has in
+      only = λ other has. let o = set_has m other h has in
           sym (between ((h + 1) * m) other (not_before m other h pos o.1) (not_within m other h pos few o.2));
     }
 

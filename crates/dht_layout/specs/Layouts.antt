@@ -26,12 +26,12 @@ even_span sets set = record { first = set * 2 ^ 32 / sets; last = (set + 1) * 2 
 abbrev pub even_layout : ℕ → List (Option Span)
 even_layout sets = map (λ set. Some (even_span sets set)) (range_with_len 0 sets)
 
--- one set alone has the hash
+-- exactly one set has the hash
 pub record IsHeldOnce (layout : List (Option Span)) (hash : ℕ) : Type 0 where
   pub set : ℕ
   pub has : Has layout set hash
-  pub alone : (other : ℕ) → Has layout other hash → other ≡ set
+  pub only : (other : ℕ) → Has layout other hash → other ≡ set
 
--- each hash is in the range of one set alone
+-- each hash is in the range of exactly one set
 abbrev pub CoversEachOnce : List (Option Span) → Type 0
 CoversEachOnce layout = (hash : ℕ) → hash < 2 ^ 32 → IsHeldOnce layout hash

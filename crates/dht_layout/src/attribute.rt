@@ -1,11 +1,12 @@
 ghost use Rattle.std.specs.Prelude.{◌≡◌, ◌≤◌, Some, IfSome};
-ghost use Rattle.dht_layout.specs.Bytes.{spelled, span_in};
+ghost use Rattle.dht_layout.specs.Bytes.{encoded, span_in};
 
 use fop_types::Span;
 
-/// The value of the layout attribute of a directory's copy that has this range.
+/// The value of the layout attribute of a directory's copy that has this range: 16 bytes, as `read16`
+/// reads them.
 pub fn write16(span: Span) -> [u8; 16]
-    ensures spelling { result ≡ spelled span }
+    ensures encoding { result ≡ encoded span }
     ensures read { span.first ≤ span.last → span_in result ≡ Some span }
 {
     let mut bytes = [0; 16];
@@ -15,11 +16,11 @@ pub fn write16(span: Span) -> [u8; 16]
     bytes
 }
 
-/// The range that a layout attribute's value spells; None exactly where its first two numbers are not
+/// The range that a layout attribute's value encodes; `None` exactly where its first two numbers are not
 /// 1 and 0, or the range is reversed.
 pub fn read16(bytes: &[u8; 16]) -> Option<Span>
     ensures span { result ≡ span_in bytes.now }
-    ensures spelling { IfSome result (λ span. spelled span ≡ bytes.now) }
+    ensures encoding { IfSome result (λ span. encoded span ≡ bytes.now) }
 {
     let head = u32::from_be_bytes([bytes[0], bytes[1], bytes[2], bytes[3]]);
     let kind = u32::from_be_bytes([bytes[4], bytes[5], bytes[6], bytes[7]]);

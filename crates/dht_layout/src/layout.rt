@@ -9,10 +9,10 @@ use std::alloc::{AllocError, Global};
 const HASHES: u64 = 1 << 32;
 
 /// The even split of all hashes over this many sets, which are at least one: each set has a range, the
-/// ranges rise with the sets, and each hash is in one of them alone.
+/// ranges rise with the sets, and each hash is in exactly one of them.
 ///
 /// # Errors
-/// Want of memory.
+/// Out of memory.
 pub fn even(alloc: Global, sets: u8) -> Result<Seq<Option<Span>>, AllocError>
     requires { 1 ≤ sets }
     ensures layout { IfOk result (λ layout. layout ≡ even_layout sets) }
@@ -37,7 +37,7 @@ fn span_of(sets: u8, set: u8) -> Span
     }
 }
 
-/// The lowest set whose range holds the hash; None exactly where no range does. The layout has at
+/// The lowest set whose range holds the hash; `None` exactly where no range does. The layout has at
 /// most 256 places.
 pub fn find(layout: &[Option<Span>], hash: u32) -> Option<u8>
     requires { length layout.now ≤ 256 }

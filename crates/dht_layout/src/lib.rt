@@ -12,7 +12,7 @@
 //!
 //! Distribute asks for the hashed set of each name that it looks up, makes or moves. A brick keeps the
 //! range of its set beside a directory's mode, and shows it as an attribute of 16 bytes. Only the even
-//! split takes memory.
+//! split allocates.
 #![tactic(auto)]
 
 mod attribute;

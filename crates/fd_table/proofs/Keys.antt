@@ -1,4 +1,4 @@
--- The order of descriptors is total and tells them apart.
+-- The order of descriptors is total, and equal in it are only equal ones.
 use Rattle.std.proofs.Common.{ap, sym, ◌∙◌}
 use Rattle.std.specs.Cmp.{IsTotalOrder, then_total, on_total, nat_cmp_total}
 use Rattle.std.specs.Ordering.{nat_cmp}

@@ -44,7 +44,7 @@ put_back fds session fd (Some d) move = with_fd fds session fd (record d { offse
 abbrev pub with_offset : Fds → ℕ → ℕ → (ℕ → ℕ) → Fds
 with_offset fds session fd move = put_back fds session fd (fd_at fds session fd) move
 
--- how a table is told from another: by its entries, as numbers
+-- how one table is distinguished from another: by its entries, as numbers
 abbrev pub fd_key_code : Coded FdKey
 fd_key_code = code_by (ℕ × ℕ) (coded× coded_ℕ coded_ℕ) (λ k. (k.session, k.fd)) (λ p. record { session = p.0; fd = p.1 }) (λ _. refl)
 

@@ -29,7 +29,7 @@ impl Model for FdTable {
 }
 
 impl FdTable {
-    /// The table with no descriptor, which takes no memory.
+    /// An empty table, which allocates nothing.
     pub fn new(alloc: Global) -> FdTable
         ensures { result ≡ map.empty }
     {
@@ -41,7 +41,7 @@ impl FdTable {
     /// Opens descriptor `fd` of `session` for a file and the set that holds it, at offset 0.
     ///
     /// `InUse` comes exactly where that descriptor is open, and then it keeps its file and its offset.
-    /// `Mem` is want of memory; the table is unchanged. The table grows in the allocator that it was made
+    /// `Mem` is out of memory; the table is unchanged. The table grows in the allocator that it was made
     /// with.
     pub fn open(&mut self, _alloc: Global, session: u8, fd: u8, gfid: Gfid, set: u8) -> FdOpen
         ensures opened { result ≡ FdOpen.Opened → self.new ≡ with_fd self.old session fd (opened_at gfid set) }
@@ -63,7 +63,7 @@ impl FdTable {
         FdOpen::Opened
     }
 
-    /// What descriptor `fd` of `session` stands for, `None` exactly where it is not open.
+    /// The file, set and offset of descriptor `fd` of `session`, `None` exactly where it is not open.
     pub fn get(&self, session: u8, fd: u8) -> Option<Fd>
         ensures { result ≡ fd_at self.now session fd }
     {

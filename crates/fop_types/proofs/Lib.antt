@@ -1,4 +1,3 @@
-pub mod FlatPrograms
 pub mod MapLemmas
 pub mod Names
 pub mod PathLemmas

@@ -10,7 +10,7 @@ use Rattle.std.specs.Ordering.{nat_cmp, is_eq, ordering_reverse}
 use Rattle.std.specs.Cmp.{tied_back}
 use Rattle.std.specs.Cmp.Lexicographic.{slice_cmp, pointwise, texts_ties, nat_list_cmp_total}
 use Rattle.fop_types.specs.declared.contents.Item.{Item}
-use Rattle.fop_types.specs.Flat.{item_named, with_item}
+use Rattle.fop_types.specs.Names.{item_named, with_item}
 
 same_name : (a b : List ℕ) → slice_cmp nat_cmp a b ≡ Equal → pointwise nat_eq b a ≡ true
 same_name a b e = texts_ties b a ∙ ap is_eq (tied_back nat_list_cmp_total a b e)

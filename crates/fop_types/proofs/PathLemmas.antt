@@ -1,5 +1,5 @@
 use Rattle.std.proofs.Common.{◌≡◌, ℕ, ◌+◌, ◌-◌, ◌<◌, List, [], ◌∷◌, length, slice_get, get_or, Some, refl, sym, ◌∙◌, ap, arith}
-use Rattle.fop_types.specs.History.{last_part}
+use Rattle.fop_types.specs.Paths.{last_part}
 
 -- the last component is the one at the last place
 pub last_at : (part : List ℕ) (parts : List (List ℕ)) (d : List ℕ) → get_or (part ∷ parts) (length parts) d ≡ last_part (part ∷ parts)

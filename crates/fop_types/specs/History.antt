@@ -1,187 +1,153 @@
--- The history of accepted changes, as the flat file system reads it, and what makes a reply lawful: it is
--- the answer of the flat file system at its written places.
-use Rattle.std.specs.Prelude.{◌≡◌, ◌≢◌, ℕ, ◌+◌, ◌-◌, ◌<◌, ◌≤◌, Bool, true, false, ◌&&◌, List, [], ◌∷◌, Option, Some, None, length, take, slice_get, MatchBool}
-use Rattle.fop_types.specs.Flat.{Files, flat_answer, flat_after, empty_root, root}
+-- The history of accepted changes, as the flat file system reads it.
+--
+-- A history is told by its entries and, beside them, by their operations, one for each entry in order. Each
+-- operation is fixed by its call: by the call's words, the objects that its lookups found at their places, its
+-- descriptor and its drawn gfid.
+use Rattle.std.specs.Prelude.{◌≡◌, ℕ, ◌<◌, ◌≤◌, Bool, true, false, ◌&&◌, List, [], ◌∷◌, Option, Some, None, ◌++◌, length, take, slice_get, nat_lt, nat_eq, if◌then◌else◌}
+use Rattle.std.specs.FinMap.{empty}
+use Rattle.fop_types.specs.Calls.{Submission, call_numbered, drawn_by, looked_up, lookups, Descriptors, after_answer, at_once, last_op, part_op}
+use Rattle.fop_types.specs.Cells.{root}
+use Rattle.fop_types.specs.Files.{Files, first_files}
+use Rattle.fop_types.specs.Flat.{Outcome, flat, flat_answer, flat_after, IsChange}
 use Rattle.fop_types.specs.declared.cells.Gfid.{Gfid}
 use Rattle.fop_types.specs.declared.cells.Kind.{Kind}
 use Rattle.fop_types.specs.declared.answers.Answer.{Answer}
-use Rattle.fop_types.specs.declared.answers.Answer.TheVariants.{Done, Stat as StatOf, App, Count, Bytes, List as ListOf, Io}
+use Rattle.fop_types.specs.declared.answers.Answer.TheVariants as answer
 use Rattle.fop_types.specs.declared.answers.AppError.{AppError}
-use Rattle.fop_types.specs.declared.answers.AppError.TheVariants.{Eexist}
-use Rattle.fop_types.specs.declared.calls.RootCall.{RootCall}
-use Rattle.fop_types.specs.declared.calls.RootCall.TheVariants as call
+use Rattle.fop_types.specs.declared.calls.Call.{Call}
+use Rattle.fop_types.specs.declared.calls.Call.TheVariants as call
 use Rattle.fop_types.specs.declared.flat.FlatOp.{FlatOp}
-use Rattle.fop_types.specs.declared.flat.FlatOp.TheVariants.{Lookup, Mkdir, Stat}
+use Rattle.fop_types.specs.declared.flat.FlatOp.TheVariants.{Lookup}
 use Rattle.fop_types.specs.declared.flat.FlatAnswer.{FlatAnswer}
-use Rattle.fop_types.specs.declared.flat.FlatAnswer.TheVariants as flat
+use Rattle.fop_types.specs.declared.flat.FlatAnswer.TheVariants as flat_answers
 use Rattle.fop_types.specs.declared.history.Entry.{Entry}
 
--- the call of a number; calls are numbered from 1 in the order in which they are submitted
-abbrev pub call_numbered : List RootCall → ℕ → Option RootCall
-call_numbered calls number = slice_get calls (number - 1)
+-- a reply: the number of its call, a place for each of the call's fops that was answered by something else than an
+-- I/O error, and the call's answer
+pub record Reply : Type 0 where
+  pub call : ℕ
+  pub places : List ℕ
+  pub answer : Answer
 
--- how many objects a call asks to be made
-abbrev pub makes : RootCall → ℕ
-makes (call.Mkdir path mode) = 1
-makes (call.Stat path) = 0
+-- ---- files at a place
 
-abbrev pub objects_made : List RootCall → ℕ
-objects_made [] = 0
-objects_made (c ∷ calls) = makes c + objects_made calls
-
--- the gfid that is drawn for a call: 1 plus the number of calls up to it that ask for an object
-abbrev pub drawn_by : List RootCall → ℕ → Gfid
-drawn_by calls number = record { hi = 0; lo = 1 + objects_made (take number calls) }
-
--- the last component of a path, and those before it
-abbrev pub last_part : List (List ℕ) → List ℕ
-last_part [] = []
-last_part (part ∷ []) = part
-last_part (part ∷ other ∷ parts) = last_part (other ∷ parts)
-
-abbrev pub front_parts : List (List ℕ) → List (List ℕ)
-front_parts [] = []
-front_parts (part ∷ []) = []
-front_parts (part ∷ other ∷ parts) = part ∷ front_parts (other ∷ parts)
-
--- the components that a call looks up one after another, and its last operation on what they lead to
-abbrev pub looked_up : RootCall → List (List ℕ)
-looked_up (call.Mkdir path mode) = front_parts path.parts
-looked_up (call.Stat path) = path.parts
-
-abbrev pub last_op : RootCall → Gfid → Gfid → FlatOp
-last_op (call.Mkdir path mode) found drawn = Mkdir found (last_part path.parts) mode drawn
-last_op (call.Stat path) found drawn = Stat found
-
--- ---- history
-
--- The history is told by its entries and, beside them, by their operations: one for each entry, in order.
-
--- the files after these operations, one after another
 abbrev pub files_after : Files → List FlatOp → Files
 files_after files [] = files
 files_after files (op ∷ ops) = files_after (flat_after files op) ops
 
--- the files after the first `place` operations of a history, from the empty root
-abbrev pub files_at : List FlatOp → ℕ → Files
-files_at ops place = files_after empty_root (take place ops)
+-- the files after the first `place` entries
+abbrev pub fs_after : List FlatOp → ℕ → Files
+fs_after ops place = files_after first_files (take place ops)
 
-abbrev pub IsAccepted : FlatAnswer → Type 0
-IsAccepted answer = answer ≡ flat.Call Done
+-- ---- lookups at their places
 
--- an entry's operation is the last one of its call, on what the call's lookups led to, and is accepted by
--- the flat file system as the entries before it leave it
-pub record IsLegalEntry (calls : List RootCall) (ops : List FlatOp) (place : ℕ) (entry : Entry) : Type 0 where
-  pub call : RootCall
-  pub numbered : 0 < entry.call
-  pub asked : call_numbered calls entry.call ≡ Some call
-  pub found : Gfid
-  pub stands : slice_get ops place ≡ Some (last_op call found (drawn_by calls entry.call))
-  pub accepted : IsAccepted (flat_answer (files_at ops place) (last_op call found (drawn_by calls entry.call)))
-  pub first_part : entry.part ≡ 1
-
--- each entry has its operation, no entry is repeated, and each is legal at its place
-pub record IsLegalHistory (calls : List RootCall) (ops : List FlatOp) (history : List Entry) : Type 0 where
-  pub as_many : length ops ≡ length history
-  pub distinct : (i j : ℕ) (entry : Entry) → slice_get history i ≡ Some entry → slice_get history j ≡ Some entry → i ≡ j
-  pub legal : (place : ℕ) (entry : Entry) → slice_get history place ≡ Some entry → IsLegalEntry calls ops place entry
-
--- ---- lawful replies
-
--- how far the lookups of a call came, with the places that are left: all names found, an error at one,
--- or too few places
+-- where the lookups of a call lead at the places that are written: to objects, one for each path, with the places
+-- that are left; to an error, with the places that are left; or further than there are places
 pub data Walk : Type 0 where
-  Reached : (gfid : Gfid) → (places : List ℕ) → Walk
+  Reached : (found : List Gfid) → (places : List ℕ) → Walk
   Stopped : (error : AppError) → (places : List ℕ) → Walk
-  TooShort : Walk
+  Short : Walk
 
 abbrev pub after_lookup : FlatAnswer → List ℕ → (Gfid → Walk) → Walk
-after_lookup (flat.Found gfid kind) places more = more gfid
-after_lookup (flat.Call (App error)) places more = Stopped error places
-after_lookup (flat.Call Done) places more = TooShort
-after_lookup (flat.Call (Count count)) places more = TooShort
-after_lookup (flat.Call (Bytes bytes)) places more = TooShort
-after_lookup (flat.Call (StatOf kind mode size)) places more = TooShort
-after_lookup (flat.Call (ListOf items)) places more = TooShort
-after_lookup (flat.Call (Io error)) places more = TooShort
+after_lookup (flat_answers.Found gfid kind) places more = more gfid
+after_lookup (flat_answers.Call (answer.App error)) places more = Stopped error places
+after_lookup (flat_answers.Call answer.Done) places more = Short
+after_lookup (flat_answers.Call (answer.Count count)) places more = Short
+after_lookup (flat_answers.Call (answer.Bytes bytes)) places more = Short
+after_lookup (flat_answers.Call (answer.Stat kind mode size)) places more = Short
+after_lookup (flat_answers.Call (answer.List items)) places more = Short
+after_lookup (flat_answers.Call (answer.Io error)) places more = Short
 
--- each name is looked up in the directory that the one before it led to, at its own place
-abbrev pub walk : List (List ℕ) → (ℕ → Files) → Gfid → List ℕ → Walk
-walk [] files directory places = Reached directory places
-walk (name ∷ names) files directory [] = TooShort
-walk (name ∷ names) files directory (place ∷ places) =
-    after_lookup (flat_answer (files place) (Lookup directory name)) places (λ found. walk names files found places)
+-- each name is looked up in the object that the one before it led to, at its own place
+abbrev pub walk_path : (ℕ → Files) → List (List ℕ) → Gfid → List ℕ → Walk
+walk_path files [] at places = Reached (at ∷ []) places
+walk_path files (name ∷ names) at [] = Short
+walk_path files (name ∷ names) at (place ∷ places) =
+    after_lookup (flat_answer (files place) (Lookup at name)) places (λ found. walk_path files names found places)
 
-abbrev pub HasNoEntry : List Entry → ℕ → Type 0
-HasNoEntry history number = (k : ℕ) (entry : Entry) → slice_get history k ≡ Some entry → entry.call ≢ number
+abbrev pub with_found : List Gfid → Walk → Walk
+with_found found (Reached others places) = Reached (found ++ others) places
+with_found found (Stopped error places) = Stopped error places
+with_found found Short = Short
 
-abbrev pub is_change : FlatOp → Bool
-is_change (Lookup parent name) = false
-is_change (Mkdir parent name mode drawn) = true
-is_change (Stat gfid) = false
+abbrev pub after_path : Walk → (List ℕ → Walk) → Walk
+after_path (Reached found places) more = with_found found (more places)
+after_path (Stopped error places) more = Stopped error places
+after_path Short more = Short
 
-abbrev pub is_done : Answer → Bool
-is_done Done = true
-is_done (Count count) = false
-is_done (Bytes bytes) = false
-is_done (StatOf kind mode size) = false
-is_done (ListOf items) = false
-is_done (App error) = false
-is_done (Io error) = false
+abbrev pub walk : (ℕ → Files) → List (List (List ℕ)) → List ℕ → Walk
+walk files [] places = Reached [] places
+walk files (path ∷ paths) places = after_path (walk_path files path root places) (λ rest. walk files paths rest)
 
--- a change that is done has its entry, with its operation, at its place, and the answer is that of the
--- files before it
-pub record IsDoneAt (ops : List FlatOp) (history : List Entry) (number : ℕ) (op : FlatOp) (place : ℕ) (answer : Answer) : Type 0 where
-  pub from_one : 0 < place
-  pub entered : slice_get history (place - 1) ≡ Some (record { call = number; part = 1 })
-  pub carried : slice_get ops (place - 1) ≡ Some op
-  pub answered : flat_answer (files_at ops (place - 1)) op ≡ flat.Call answer
+-- ---- descriptors by earlier replies
 
--- any other answer is that of the files at its place, and the call has no entry
-pub record IsReadAt (ops : List FlatOp) (history : List Entry) (number : ℕ) (op : FlatOp) (place : ℕ) (answer : Answer) : Type 0 where
-  pub answered : flat_answer (files_at ops place) op ≡ flat.Call answer
-  pub no_entry : HasNoEntry history number
+abbrev pub first_found : Walk → Gfid
+first_found (Reached [] places) = root
+first_found (Reached (gfid ∷ found) places) = gfid
+first_found (Stopped error places) = root
+first_found Short = root
 
-abbrev pub IsAnswerAt : List FlatOp → List Entry → ℕ → FlatOp → ℕ → Answer → Type 0
-IsAnswerAt ops history number op place answer =
-    MatchBool (is_change op && is_done answer) (IsDoneAt ops history number op place answer) (IsReadAt ops history number op place answer)
+-- the file of a descriptor that a create or an open gives: what the create made, or what the open's last lookup found
+abbrev pub file_of : List Submission → List FlatOp → Call → Reply → Gfid
+file_of calls ops (call.Create fd path mode) reply = drawn_by calls reply.call
+file_of calls ops (call.Open fd path) reply = first_found (walk (fs_after ops) (path.parts ∷ []) reply.places)
+file_of calls ops other reply = root
 
--- a lookup that fails is the call's answer, and has its last place; else the last operation has it
-abbrev pub IsAnswered : Walk → List FlatOp → List Entry → ℕ → (Gfid → FlatOp) → Answer → Type 0
-IsAnswered (Reached gfid []) ops history number op answer = ⊥
-IsAnswered (Reached gfid (place ∷ [])) ops history number op answer = IsAnswerAt ops history number (op gfid) place answer
-IsAnswered (Reached gfid (place ∷ other ∷ places)) ops history number op answer = ⊥
-IsAnswered (Stopped error []) ops history number op answer = (answer ≡ App error) × HasNoEntry history number
-IsAnswered (Stopped error (place ∷ places)) ops history number op answer = ⊥
-IsAnswered TooShort ops history number op answer = ⊥
+abbrev pub after_reply_of : List Submission → List FlatOp → ℕ → ℕ → Descriptors → Reply → Option Submission → Descriptors
+after_reply_of calls ops session number fds reply None = fds
+after_reply_of calls ops session number fds reply (Some s) =
+    if nat_eq s.session session && nat_lt reply.call number then after_answer fds s.call (file_of calls ops s.call reply) reply.answer else fds
 
--- places never fall, and stand between these bounds
-abbrev pub AreBetween : List ℕ → ℕ → ℕ → Type 0
-AreBetween [] low high = Unit {0}
-AreBetween (place ∷ places) low high = (low ≤ place) × (place ≤ high) × AreBetween places place high
+abbrev pub after_replies : List Submission → List FlatOp → ℕ → ℕ → Descriptors → List Reply → Descriptors
+after_replies calls ops session number fds [] = fds
+after_replies calls ops session number fds (reply ∷ replies) =
+    after_replies calls ops session number
+    (after_reply_of calls ops session number fds reply (call_numbered calls reply.call)) replies
 
--- what a call answers at once, with no place: a mkdir of the path `/`
-abbrev pub mkdir_at_once : List (List ℕ) → Option AppError
-mkdir_at_once [] = Some Eexist
-mkdir_at_once (part ∷ parts) = None
+-- a session's descriptors when its call of this number was submitted: by the replies to its earlier calls, in order
+abbrev pub descriptors_at : List Submission → List FlatOp → List Reply → ℕ → ℕ → Descriptors
+descriptors_at calls ops replies session number = after_replies calls ops session number empty replies
 
-abbrev pub at_once : RootCall → Option AppError
-at_once (call.Mkdir path mode) = mkdir_at_once path.parts
-at_once (call.Stat path) = None
+-- ---- legal histories
 
-pub record IsAnsweredAtOnce (history : List Entry) (number : ℕ) (places : List ℕ) (answer : Answer) (error : AppError) : Type 0 where
-  pub no_place : places ≡ []
-  pub answered : answer ≡ App error
-  pub no_entry : HasNoEntry history number
+abbrev pub AreAtMost : List ℕ → ℕ → Type 0
+AreAtMost [] most = Unit {0}
+AreAtMost (place ∷ places) most = (place ≤ most) × AreAtMost places most
 
-abbrev pub IsLawfulAnswer : Option AppError → List RootCall → List FlatOp → List Entry → ℕ → RootCall → List ℕ → Answer → Type 0
-IsLawfulAnswer (Some error) calls ops history number c places answer = IsAnsweredAtOnce history number places answer error
-IsLawfulAnswer None calls ops history number c places answer =
-    IsAnswered (walk (looked_up c) (files_at ops) root places) ops history number (λ found. last_op c found (drawn_by calls number)) answer
+-- An entry at `index`, counted from 0, whose operation is the one that its call fixes: the call is not answered at
+-- once, the places of its lookups lead to the objects, each place is below the entry's number, and the flat file
+-- system makes the change on the files that the entries before it leave. The call's last operation was possible at
+-- some length of the history between its lookups and the entry: of a rename's part 1 this says that there was a file
+-- to be renamed. `places` gives the places of a call's fops that were answered so far.
+pub record IsLegalEntry (calls : List Submission) (replies : List Reply) (places : ℕ → List ℕ) (ops : List FlatOp) (index : ℕ) (entry : Entry) : Type 0 where
+  pub submission : Submission
+  pub asked : call_numbered calls entry.call ≡ Some submission
+  pub sent : at_once (descriptors_at calls ops replies submission.session entry.call) submission.call ≡ None
+  pub found : List Gfid
+  pub rest : List ℕ
+  pub reached : walk (fs_after ops) (looked_up submission.call) (places entry.call) ≡ Reached found rest
+  pub below : AreAtMost (take (lookups (looked_up submission.call)) (places entry.call)) index
+  pub last : FlatOp
+  pub whole :
+      last_op submission.call found (drawn_by calls entry.call) (descriptors_at calls ops replies submission.session entry.call)
+      ≡ Some last
+  pub op : FlatOp
+  pub fixed : part_op submission.call (Some last) entry.part ≡ Some op
+  pub stands : slice_get ops index ≡ Some op
+  pub accepted : IsChange (flat (fs_after ops index) op)
+  pub seen : ℕ
+  pub after_lookups : AreAtMost (take (lookups (looked_up submission.call)) (places entry.call)) seen
+  pub not_later : seen ≤ index
+  pub possible : IsChange (flat (fs_after ops seen) last)
 
-pub record IsLawfulReply (calls : List RootCall) (ops : List FlatOp) (history : List Entry) (since until number : ℕ) (places : List ℕ) (answer : Answer) : Type 0 where
-  pub call : RootCall
-  pub numbered : 0 < number
-  pub asked : call_numbered calls number ≡ Some call
-  pub between : AreBetween places since until
-  pub answered : IsLawfulAnswer (at_once call) calls ops history number call places answer
+-- Each entry has its operation, none is repeated, each is legal where it stands and stands after its call's
+-- submission, and a rename's move stands after the unlink that is its part 1. `since` gives the length of the history
+-- at a call's submission; the places of an answered call are those of its reply.
+pub record IsLegalHistory (calls : List Submission) (replies : List Reply) (since : ℕ → ℕ) (places : ℕ → List ℕ) (ops : List FlatOp) (history : List Entry) : Type 0 where
+  pub as_many : length ops ≡ length history
+  pub distinct : (i j : ℕ) (entry : Entry) → slice_get history i ≡ Some entry → slice_get history j ≡ Some entry → i ≡ j
+  pub legal : (index : ℕ) (entry : Entry) → slice_get history index ≡ Some entry → IsLegalEntry calls replies places ops index entry
+  pub submitted : (index : ℕ) (entry : Entry) → slice_get history index ≡ Some entry → since entry.call ≤ index
+  pub in_order : (i j : ℕ) (first second : Entry) → slice_get history i ≡ Some first → slice_get history j ≡ Some second
+      → first.call ≡ second.call → first.part < second.part → i < j
+  pub written : (k : ℕ) (reply : Reply) → slice_get replies k ≡ Some reply → places reply.call ≡ reply.places

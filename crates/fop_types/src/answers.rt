@@ -6,7 +6,7 @@ use crate::contents::{Item, Row};
 use crate::lists::Seq;
 
 /// The row of one cell that one brick showed with a granted lock.
-#[derive(Debug, Clone, Copy, PartialEq, Eq)]
+#[derive(Clone, Copy, PartialEq, Eq)]
 pub struct SplitRow {
     pub cell: Cell,
     pub brick: u8,
@@ -16,7 +16,7 @@ pub struct SplitRow {
 /// Why a set could not serve: lost quorum, split brain, or bricks that answered a fault. A lost pair
 /// names a brick and the number of its last connection when it was found to be out, 0 if it had none;
 /// a fault pair names a brick and the place in its journal, counted from 1, of the failed request.
-#[derive(Debug, Drop, PartialEq, Eq)]
+#[derive(Drop, PartialEq, Eq)]
 pub enum IoError {
     Quorum {
         set: u8,
@@ -34,7 +34,7 @@ pub enum IoError {
 }
 
 /// The errors of POSIX.1-2017 that a call may answer; `number` gives Linux's number.
-#[derive(Debug, Clone, Copy, PartialEq, Eq)]
+#[derive(Clone, Copy, PartialEq, Eq)]
 pub enum AppError {
     Enoent,
     Ebadf,
@@ -93,7 +93,7 @@ impl AppError {
 }
 
 /// The answer of a call.
-#[derive(Debug, Drop, PartialEq, Eq)]
+#[derive(Drop, PartialEq, Eq)]
 pub enum Answer {
     Done,
     Count(u32),
@@ -106,7 +106,7 @@ pub enum Answer {
 
 /// The answer of one file operation. `Found` answers a lookup that found its name and a create that is
 /// done, and `Call` all else.
-#[derive(Debug, Drop, PartialEq, Eq)]
+#[derive(Drop, PartialEq, Eq)]
 pub enum FopAnswer {
     Found { set: u8, gfid: Gfid, kind: Kind },
     Call(Answer),

@@ -2,7 +2,7 @@ use crate::contents::Attr;
 use crate::lists::Seq;
 
 /// A path as its components; the root's has none.
-#[derive(Debug, Drop, PartialEq, Eq)]
+#[derive(Drop, PartialEq, Eq)]
 pub struct Path {
     pub parts: Seq<Seq<u8>>,
 }
@@ -10,7 +10,7 @@ pub struct Path {
 /// A call of an application on the mount, with what the words of its line give. `fd` is the session's own
 /// number of a descriptor, 0 to 255; a mode is at most 511; sizes, counts and offsets are in bytes. The
 /// calls follow POSIX.1-2017.
-#[derive(Debug, Drop, PartialEq, Eq)]
+#[derive(Drop, PartialEq, Eq)]
 pub enum Call {
     Mkdir { path: Path, mode: u16 },
     Rmdir { path: Path },
@@ -29,26 +29,4 @@ pub enum Call {
     Write { fd: u8, bytes: Seq<u8> },
     Seek { fd: u8, offset: u32 },
     Close { fd: u8 },
-}
-
-/// A call that the hub serves so far.
-#[derive(Debug, Drop, PartialEq, Eq)]
-pub enum RootCall {
-    Mkdir { path: Path, mode: u16 },
-    Stat { path: Path },
-}
-
-/// A line of a script that makes a call which the hub serves so far. `session` is the number of the line's
-/// session, by the order in which sessions are first named, from 0.
-#[derive(Debug, Drop, PartialEq, Eq)]
-pub struct RootLine {
-    pub line: u32,
-    pub session: u8,
-    pub call: RootCall,
-}
-
-/// The calls of a script that the hub serves so far, in the order of their lines.
-#[derive(Debug, Drop, PartialEq, Eq)]
-pub struct RootScript {
-    pub calls: Seq<RootLine>,
 }

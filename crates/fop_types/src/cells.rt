@@ -4,7 +4,7 @@ use std::cmp::Ordering;
 
 /// The number of a file or directory: 128 bits, as two halves. The root's is 1, and each object that
 /// is made has the next number from 2 on.
-#[derive(Debug, Clone, Copy, PartialEq, Eq, PartialOrd, Ord, Hash)]
+#[derive(Clone, Copy, PartialEq, Eq, PartialOrd, Ord, Hash)]
 pub struct Gfid {
     pub hi: u64,
     pub lo: u64,
@@ -12,7 +12,7 @@ pub struct Gfid {
 
 /// The part of an object that a cell names: a file has data and metadata, a directory has metadata
 /// and entries.
-#[derive(Debug, Clone, Copy)]
+#[derive(Clone, Copy)]
 pub enum Aspect {
     Data,
     Meta,
@@ -89,7 +89,7 @@ impl Ord for Aspect {
 
 /// One part of one object, the unit of locks, changelog rows and copies. Cells are ordered by gfid and
 /// then by aspect.
-#[derive(Debug, Clone, Copy, PartialEq, Eq, PartialOrd, Ord)]
+#[derive(Clone, Copy, PartialEq, Eq, PartialOrd, Ord)]
 pub struct Cell {
     pub gfid: Gfid,
     pub aspect: Aspect,
@@ -97,7 +97,7 @@ pub struct Cell {
 
 /// What a name in a directory stands for: a file, a directory, or a link, by which distribute points
 /// to the set that holds a file.
-#[derive(Debug, Clone, Copy, PartialEq, Eq)]
+#[derive(Clone, Copy, PartialEq, Eq)]
 pub enum Kind {
     File,
     Dir,

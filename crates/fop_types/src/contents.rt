@@ -3,14 +3,14 @@ use crate::lists::Seq;
 
 /// A range of hashes, both ends within it: the part of the hash space that a directory's copy on one
 /// set has.
-#[derive(Debug, Clone, Copy, PartialEq, Eq)]
+#[derive(Clone, Copy, PartialEq, Eq)]
 pub struct Span {
     pub first: u32,
     pub last: u32,
 }
 
 /// One name of a directory. `target` is empty but for a link, where it is the name of a set.
-#[derive(Debug, Drop, PartialEq, Eq)]
+#[derive(Drop, PartialEq, Eq)]
 pub struct Item {
     pub name: Seq<u8>,
     pub gfid: Gfid,
@@ -19,7 +19,7 @@ pub struct Item {
 }
 
 /// An extended attribute.
-#[derive(Debug, Drop, PartialEq, Eq)]
+#[derive(Drop, PartialEq, Eq)]
 pub struct Attr {
     pub name: Seq<u8>,
     pub value: Seq<u8>,
@@ -27,7 +27,7 @@ pub struct Attr {
 
 /// What a cell holds, by its aspect: a file's bytes; mode, attributes by rising name and, for a
 /// directory, the copy's range; a directory's names by rising bytes.
-#[derive(Debug, Drop, PartialEq, Eq)]
+#[derive(Drop, PartialEq, Eq)]
 pub enum Content {
     Bytes(Seq<u8>),
     Meta {
@@ -44,7 +44,7 @@ pub enum Content {
 /// What a brick keeps beside its copy of a cell: whether the copy is there, the count of marks that no
 /// post has lowered, a counter of accusations for each replica, and the number of the last change in
 /// the copy.
-#[derive(Debug, Clone, Copy, PartialEq, Eq)]
+#[derive(Clone, Copy, PartialEq, Eq)]
 pub struct Row {
     pub present: bool,
     pub dirty: u32,
@@ -53,5 +53,5 @@ pub struct Row {
 }
 
 /// A set of replicas: bit k is replica k. At most five replicas, so below 32.
-#[derive(Debug, Clone, Copy, PartialEq, Eq)]
+#[derive(Clone, Copy, PartialEq, Eq)]
 pub struct Mask(pub u8);

@@ -1,6 +1,6 @@
 ghost use Rattle.std.specs.Prelude.{None, ◌≡◌, ◌≤◌, ◌<◌, ◌∷◌, ◌++◌, suc, take, drop, length, insert, OnOk, OnErr, IfOk, IfErr};
 ghost use Rattle.std.specs.Option.{option_copied};
-ghost use Rattle.fop_types.specs.Flat.{item_named, with_item};
+ghost use Rattle.fop_types.specs.Names.{item_named, with_item};
 
 use crate::contents::Item;
 use crate::lists::Seq;
@@ -40,7 +40,7 @@ fn place_of(items: &[Item], item: &Item) -> Result<usize, usize>
 /// the search of the place and one move of the items after it.
 ///
 /// # Errors
-/// Want of memory, with the items unchanged.
+/// Out of memory, with the items unchanged.
 pub fn insert_new_item(items: &mut Seq<Item>, item: Item) -> Result<usize, AllocError>
     requires { item_named items.old item.name ≡ None }
     ensures ok { OnOk result (items.new ≡ with_item items.old item) }
@@ -60,7 +60,7 @@ pub fn insert_new_item(items: &mut Seq<Item>, item: Item) -> Result<usize, Alloc
 /// the search of the place and one move of the items after it.
 ///
 /// # Errors
-/// Want of memory, with the items unchanged.
+/// Out of memory, with the items unchanged.
 #[tactic(auto, using(crate::proofs::Places::set_parts))]
 pub fn insert_item(items: &mut Seq<Item>, item: Item) -> Result<(), AllocError>
     ensures ok { OnOk result (items.new ≡ with_item items.old item) }

@@ -5,7 +5,7 @@ use std::alloc::{AllocError, AllocFailed, Global};
 use std::marker::Model;
 
 /// A list in a public type: contracts see it as the plain list of its items, and nothing of its room.
-#[derive(Debug, Drop)]
+#[derive(Drop)]
 pub struct Seq<T> {
     items: Vec<T>,
 }
@@ -64,7 +64,7 @@ impl<T> Seq<T> {
     /// Puts an item at the end.
     ///
     /// # Errors
-    /// Want of memory hands the item back, and the list is unchanged.
+    /// Out of memory hands the item back, and the list is unchanged.
     pub fn push(&mut self, item: T) -> Result<(), AllocFailed<T>>
         ensures ok { OnOk result (self.new ≡ self.old ++ item ∷ []) }
         ensures err { OnErr result (self.new ≡ self.old) }
@@ -77,7 +77,7 @@ impl<T> Seq<T> {
     /// from `index` on move by one place.
     ///
     /// # Errors
-    /// Want of memory hands the item back, and the list is unchanged.
+    /// Out of memory hands the item back, and the list is unchanged.
     pub fn insert(&mut self, index: usize, item: T) -> Result<(), AllocFailed<T>>
         requires { index ≤ length self.old }
         ensures ok { OnOk result (self.new ≡ insert self.old index item) }
@@ -110,7 +110,7 @@ impl<T: Copy> Seq<T> {
     /// A copy of the list.
     ///
     /// # Errors
-    /// Want of memory.
+    /// Out of memory.
     pub fn copy(&self, alloc: Global) -> Result<Seq<T>, AllocError>
         ensures { IfOk result (λ s. s ≡ self.now) }
     {
@@ -123,7 +123,7 @@ impl Seq<u8> {
     /// A copy of some bytes.
     ///
     /// # Errors
-    /// Want of memory.
+    /// Out of memory.
     pub fn from_bytes(alloc: Global, bytes: &[u8]) -> Result<Seq<u8>, AllocError>
         ensures { IfOk result (λ s. s ≡ bytes.now) }
     {

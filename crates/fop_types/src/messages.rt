@@ -4,7 +4,7 @@ use crate::lists::Seq;
 use crate::store_ops::StoreOp;
 
 /// The procedures of a brick, in the order of their numbers on the wire, from 1.
-#[derive(Debug, Clone, Copy, PartialEq, Eq)]
+#[derive(Clone, Copy, PartialEq, Eq)]
 pub enum Proc {
     Lock,
     Unlock,
@@ -23,7 +23,7 @@ pub enum Proc {
 /// A request to a brick. `call` is the number of the call for which a lock is asked, 0 for internal
 /// calls; `fd` is 0 or the number of a descriptor, 256 * session + FD + 1; `change` is the number of a
 /// change of the set.
-#[derive(Debug, Drop, PartialEq, Eq)]
+#[derive(Drop, PartialEq, Eq)]
 pub enum BrickReq {
     Lock {
         call: u32,
@@ -76,7 +76,7 @@ pub enum BrickReq {
 
 /// What comes with a request's Done: nothing, a row for each cell of a lock, a content with its last
 /// change, or the cells of an index.
-#[derive(Debug, Drop, PartialEq, Eq)]
+#[derive(Drop, PartialEq, Eq)]
 pub enum DoneArm {
     Nothing,
     Rows(Seq<Row>),
@@ -88,7 +88,7 @@ pub enum DoneArm {
 /// dropped with the connection. `Fault`: the brick was told to fail this request. `Unfit`: the op does
 /// not fit the store, the cell is not present, or the answer would hold a list that is too long to be
 /// sent. `BadFd`: the descriptor was not opened on this connection.
-#[derive(Debug, Drop, PartialEq, Eq)]
+#[derive(Drop, PartialEq, Eq)]
 pub enum BrickRep {
     Done(DoneArm),
     Gone,
@@ -98,7 +98,7 @@ pub enum BrickRep {
 }
 
 /// One input of a brick: a request with the number of its wind, or a control.
-#[derive(Debug, Drop, PartialEq, Eq)]
+#[derive(Drop, PartialEq, Eq)]
 pub enum Input {
     Request {
         wind: u64,
@@ -123,7 +123,7 @@ pub enum Input {
 }
 
 /// What an output says. `place` is the offset in the input's bytes at which they are no message.
-#[derive(Debug, Drop, PartialEq, Eq)]
+#[derive(Drop, PartialEq, Eq)]
 pub enum OutKind {
     Reply { wind: u64, rep: BrickRep },
     Closed,
@@ -133,7 +133,7 @@ pub enum OutKind {
 }
 
 /// One output of a brick. `taken` is the number of inputs up to the one that caused it.
-#[derive(Debug, Drop, PartialEq, Eq)]
+#[derive(Drop, PartialEq, Eq)]
 pub struct Output {
     pub taken: u64,
     pub kind: OutKind,

@@ -4,7 +4,7 @@ use crate::lists::Seq;
 
 /// An alteration of a brick's cells. Each names the cells that it alters; `AddName` and `MakeCopy`
 /// also give birth to cells.
-#[derive(Debug, Drop, PartialEq, Eq)]
+#[derive(Drop, PartialEq, Eq)]
 pub enum StoreOp {
     Write {
         gfid: Gfid,

@@ -2,25 +2,24 @@
 use Rattle.std.proofs.Common.{◌≡◌, refl, sym, ap, subst, ◌∙◌, arith, set}
 use Rattle.std.proofs.lemmas.Bool.{eq-eqb}
 use Rattle.std.proofs.lemmas.List.{get_or-set_same, append-nil}
-use Rattle.std.specs.Prelude.{ℕ, ◌≢◌, ◌≤◌, ◌<◌, ◌+◌, ◌==◌, ◌||◌, ◌&&◌, not, cond, Bool, true, false, List, [], ◌∷◌, ◌++◌, length, Option, Some, None, IsSome, IfSome, IsSomeAnd, is_some}
+use Rattle.std.specs.Prelude.{ℕ, ◌≤◌, ◌+◌, ◌==◌, ◌||◌, ◌&&◌, not, cond, Bool, true, false, List, [], ◌∷◌, ◌++◌, length, Option, Some, None, IsSome, IfSome, is_some}
 use Rattle.xlator_law.specs.declared.winds.WindNo.{WindNo}
 use Rattle.xlator_law.specs.declared.winds.Parent.{Parent}
 use Rattle.xlator_law.specs.declared.winds.Place.{Place}
 use Rattle.frame_stack.specs.declared.frame.Frame.{Frame}
 use Rattle.frame_stack.specs.declared.frame.Opener.{Opener}
-use Rattle.frame_stack.specs.Cells.{cell_at, put_at, taken, IsInserted}
-use Rattle.frame_stack.specs.Stack.{Stack, frame, frame_at, place_at, place_in, local_at, local_in, word_at, word_of, pending, replied, next_free, awaits, HasNoWind, AwaitsMore, AwaitsLess, IsWound, with_local, keeping, without_frame, after_settle, after_resume, resumed, resumed_as, parent_of, opener_at, opener_in, opener_of, wound}
-use Rattle.frame_stack.specs.Reached.{Leads}
+use Rattle.frame_stack.specs.Cells.{cell_at, taken, IsInserted}
+use Rattle.frame_stack.specs.Stack.{Stack, frame, frame_at, place_at, place_in, local_at, local_in, word_at, pending, replied, awaits, HasNoWind, AwaitsMore, AwaitsLess, IsWound, with_local, keeping, without_frame, after_settle, after_resume, resumed, resumed_as, parent_of, opener_at, opener_in, opener_of}
 use Rattle.frame_stack.proofs.Puts.{put_same}
 use Rattle.frame_stack.proofs.Sound.{in_range}
 use Rattle.frame_stack.proofs.Vacancy.{some_within}
 use Rattle.frame_chains.specs.declared.link.Link.{Link}
 use Rattle.frame_chains.specs.Links.{ChainState, IsLink, AreLinked, IsChain, IsAnswered, kept_in, last_wind, place, opener, link, IsSteady}
-use Rattle.frame_chains.specs.Turn.{opens, ends, IsTurn, AreMore, LeadsOn, AreOthersKept, IsAsBefore}
+use Rattle.frame_chains.specs.Turn.{opens, ends, LeadsOn}
 use Rattle.frame_chains.specs.Moves.{IsPushed, IsPopped, IsLeft}
-use Rattle.frame_chains.proofs.Touches.{Touches, touches_both, touches_open, touches_wind, touches_settle, touches_resume, touches_local, touches_free, steady_kept, IsApart, IsOwn, chain_kept, others_kept}
-use Rattle.frame_chains.proofs.Counts.{taken_put, taken_inserted, taken_emptied, taken_replaced}
-use Rattle.frame_chains.proofs.Turns.{leads_on, leads_both}
+use Rattle.frame_chains.proofs.Touches.{Touches, touches_both, touches_open, touches_wind, touches_settle, touches_resume, touches_local, touches_free, steady_kept, IsOwn, chain_kept, others_kept}
+use Rattle.frame_stack.proofs.Counts.{taken_put, taken_inserted, taken_emptied, taken_replaced}
+use Rattle.frame_chains.proofs.Turns.{leads_both}
 
 zero_eq : (n : ℕ) → (n == n) ≡ true
 zero_eq n = eq-eqb n n refl

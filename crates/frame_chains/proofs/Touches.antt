@@ -1,19 +1,18 @@
 -- What one call of a stack leaves as it was: all frames but one, and all slots but one. From that follows
 -- what stays of chains.
-use Rattle.std.proofs.Common.{◌≡◌, refl, sym, ap, subst, ◌∙◌, arith, set, get_or}
+use Rattle.std.proofs.Common.{◌≡◌, refl, sym, ap, subst, ◌∙◌, arith, set}
 use Rattle.std.proofs.lemmas.Bool.{eqb-true, eqb-false, ne_eqb}
-use Rattle.std.proofs.lemmas.List.{get_or-set_same, get_or-set_other}
-use Rattle.std.specs.Prelude.{ℕ, ◌≢◌, suc, ◌≤◌, ◌<◌, ◌==◌, ◌||◌, ◌&&◌, not, Bool, true, false, List, [], ◌∷◌, length, Option, Some, None, is_some}
+use Rattle.std.proofs.lemmas.List.{get_or-set_other}
+use Rattle.std.specs.Prelude.{ℕ, ◌≢◌, ◌≤◌, ◌==◌, ◌||◌, ◌&&◌, not, Bool, true, false, List, [], ◌∷◌, length, Option, Some, None, is_some}
 use Rattle.xlator_law.specs.declared.winds.WindNo.{WindNo}
-use Rattle.xlator_law.specs.declared.winds.Parent.{Parent}
 use Rattle.xlator_law.specs.declared.winds.Place.{Place}
 use Rattle.frame_stack.specs.declared.frame.Frame.{Frame}
 use Rattle.frame_stack.specs.declared.frame.Opener.{Opener}
-use Rattle.frame_stack.specs.Cells.{cell_at, put_at, IsInserted}
-use Rattle.frame_stack.specs.Stack.{Stack, frame_at, place_at, place_in, local_at, local_in, word_at, word_of, pending, replied, next_free, awaits, HasNoWind, AwaitsMore, AwaitsLess, IsWound, with_local, keeping, without_frame, resumed}
+use Rattle.frame_stack.specs.Cells.{cell_at, IsInserted}
+use Rattle.frame_stack.specs.Stack.{Stack, frame_at, place_at, place_in, local_at, local_in, word_at, replied, next_free, awaits, HasNoWind, AwaitsMore, AwaitsLess, IsWound, with_local, keeping, without_frame, resumed}
 use Rattle.frame_stack.proofs.Puts.{put_other}
 use Rattle.frame_chains.specs.declared.link.Link.{Link}
-use Rattle.frame_chains.specs.Links.{IsLink, AreLinked, kept_in, last_wind, place, opener, IsSteady}
+use Rattle.frame_chains.specs.Links.{IsLink, AreLinked, last_wind, place, opener, IsSteady}
 use Rattle.frame_chains.specs.Turn.{AreOthersKept, IsAsBefore}
 
 module _ {L : Type 0} where

@@ -1,13 +1,11 @@
 -- Parts of a turn, one after another, are a part of a turn.
-use Rattle.std.proofs.Common.{◌≡◌, refl, sym, ap, subst, ◌∙◌, arith}
+use Rattle.std.proofs.Common.{◌≡◌, sym, ap, subst, ◌∙◌, arith}
 use Rattle.std.proofs.lemmas.List.{append-nil, append_assoc}
-use Rattle.std.specs.Prelude.{ℕ, ◌≢◌, ◌+◌, cond, Bool, true, false, List, [], ◌∷◌, ◌++◌}
+use Rattle.std.specs.Prelude.{ℕ, ◌+◌, List, [], ◌∷◌, ◌++◌}
 use Rattle.frame_stack.specs.Stack.{Stack, Line}
 use Rattle.frame_stack.specs.Moves.{Move}
 use Rattle.frame_stack.specs.Reached.{IsReached, Leads}
-use Rattle.frame_chains.specs.declared.link.Link.{Link}
-use Rattle.frame_chains.specs.Links.{AreLinked, kept_in}
-use Rattle.frame_chains.specs.Turn.{openings, LeadsOn, IsAsBefore, AreOthersKept, IsTurn, AreMore}
+use Rattle.frame_chains.specs.Turn.{openings, LeadsOn, AreOthersKept, IsTurn}
 
 pub openings_both : (xs ys : List Line) → openings (xs ++ ys) ≡ openings xs + openings ys
 openings_both [] ys = omega (arith)

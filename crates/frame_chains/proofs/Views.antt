@@ -1,7 +1,7 @@
 -- A chain's list against the list that it is kept in, and what stands where a move ended early.
 use Rattle.std.proofs.Common.{◌≡◌, refl, sym, ap, subst, ◌∙◌, arith, set}
 use Rattle.std.proofs.lemmas.List.{reverse-append, append-nil}
-use Rattle.std.specs.Prelude.{ℕ, ◌+◌, ◌==◌, cond, Bool, true, false, List, [], ◌∷◌, ◌++◌, reverse, Option, Some, None}
+use Rattle.std.specs.Prelude.{ℕ, ◌==◌, cond, Bool, true, false, List, [], ◌∷◌, ◌++◌, reverse, Option, Some, None}
 use Rattle.xlator_law.specs.declared.winds.WindNo.{WindNo}
 use Rattle.frame_stack.specs.declared.frame.Frame.{Frame}
 use Rattle.frame_stack.specs.Cells.{IsInserted}

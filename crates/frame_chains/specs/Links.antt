@@ -1,7 +1,7 @@
 -- A chain: the open frames of one call, the innermost first. Each frame but the innermost waits for the
 -- wind that opened the one before it in the list. The node of a frame is its depth, 0 for the root's. Every
 -- frame winds in its slot 0. Ours, after the frames of a call stack of GlusterFS.
-use Rattle.std.specs.Prelude.{ℕ, ◌≡◌, ◌<◌, ◌==◌, Bool, true, List, [], ◌∷◌, length, Option, Some, None, is_some}
+use Rattle.std.specs.Prelude.{ℕ, ◌≡◌, ◌<◌, ◌==◌, true, List, [], ◌∷◌, length, Option, Some, None, is_some}
 use Rattle.xlator_law.specs.declared.winds.WindNo.{WindNo}
 use Rattle.xlator_law.specs.declared.winds.Place.{Place}
 use Rattle.frame_stack.specs.declared.frame.Opener.{Opener}

@@ -1,6 +1,6 @@
 -- What a part of a turn makes of the stack of a mount, as all but the call that it serves see it: the chains
 -- of other calls are as before, and the winds that were opened and ended are told as lines, in order.
-use Rattle.std.specs.Prelude.{ℕ, ◌≡◌, ◌≢◌, ◌<◌, ◌+◌, Bool, true, false, cond, List, [], ◌∷◌, ◌++◌}
+use Rattle.std.specs.Prelude.{ℕ, ◌≡◌, ◌≢◌, ◌<◌, ◌+◌, true, false, cond, List, [], ◌∷◌, ◌++◌}
 use Rattle.xlator_law.specs.declared.winds.WindNo.{WindNo}
 use Rattle.frame_stack.specs.Cells.{taken}
 use Rattle.frame_stack.specs.Stack.{Stack, Line}

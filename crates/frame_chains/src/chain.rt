@@ -68,7 +68,7 @@ impl Chain {
     /// this gives.
     ///
     /// # Errors
-    /// `Winds` exactly where the stack has opened 4,294,967,295 winds; else want of memory. A frame that
+    /// `Winds` exactly where the stack has opened 4,294,967,295 winds; else out of memory. A frame that
     /// waits for no wind may stand in the stack, and no line was added.
     pub fn push<L>(
         &mut self,
@@ -99,7 +99,7 @@ impl Chain {
     /// Ends the wind that the innermost frame waits for, and takes the frame off the chain with its local.
     ///
     /// # Errors
-    /// Want of memory. No line was added.
+    /// Out of memory. No line was added.
     pub fn answer<L>(
         &mut self,
         alloc: Global,
@@ -131,7 +131,7 @@ impl Chain {
     /// wind, which this gives.
     ///
     /// # Errors
-    /// `Winds` exactly where the stack has opened 4,294,967,295 winds; else want of memory. The frame may
+    /// `Winds` exactly where the stack has opened 4,294,967,295 winds; else out of memory. The frame may
     /// stand in the stack, waiting for no wind, and no line was added.
     pub fn again<L>(
         &mut self,

@@ -23,8 +23,6 @@
 
 mod chain;
 mod link;
-#[cfg(test)]
-mod tests;
 
 pub use chain::Chain;
 pub use link::{Answered, Link};

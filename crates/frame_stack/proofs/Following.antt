@@ -45,7 +45,7 @@ module _ {F L : Type 0} where
 
   pub follows : (s : Stack L) (key : ℕ) (slots : Slots) → Awaits s key slots → FrameFollows F s key slots
   follows s key slots held = record {
-    winds = λ child most ws now left step. opened_in_turn s key slots now ws held step.fresh step.kept;
+    winds = λ p most ws local step. opened_in_turn s key slots (p.unanswered local) ws held step.fresh step.kept;
     answered = λ t slot less n. less key n ∙ ap (λ b. b && not ((key == key) && (slot == n))) (held n) ∙ ap (λ b. slots n && not b) (own key slot n);
     unwound = λ none n. held n ∙ none n;
   }

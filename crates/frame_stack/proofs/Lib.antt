@@ -2,6 +2,7 @@ pub mod Vacancy
 pub mod Puts
 pub mod Sound
 pub mod Lists
+pub mod Counts
 pub mod Winds
 pub mod Told
 pub mod Steps

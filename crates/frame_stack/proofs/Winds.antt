@@ -1,4 +1,4 @@
--- Two winds are told apart by slot and turn.
+-- Two winds differ by slot or turn.
 use Rattle.std.proofs.Common.{◌≡◌}
 use Rattle.std.specs.Prelude.{◌≢◌, ◌==◌, true, false}
 use Rattle.std.proofs.lemmas.Bool.{eq-eqb, ne_eqb}

@@ -2,7 +2,7 @@
 -- unanswered, a step that meets the law of a translator keeps it so. Each wind of the step may be opened
 -- in turn, an answered slot is one less, and a frame that unwinds has no open wind and may be ended.
 use Rattle.std.specs.Prelude.{ℕ, ◌≡◌, false, List, [], ◌∷◌, Some}
-use Rattle.xlator_law.specs.Law.{Slots, IsWinding, without}
+use Rattle.xlator_law.specs.Law.{Slots, Promise, IsWinding, without}
 use Rattle.frame_stack.specs.Stack.{Stack, awaits, HasNoWind, AwaitsMore, AwaitsLess}
 
 module _ {L : Type 0} where
@@ -17,7 +17,7 @@ module _ {L : Type 0} where
   MayOpen now s key (w ∷ ws) = (awaits s key w.1 ≡ false) × ((t : Stack L) → AwaitsMore s t key w.1 → MayOpen now t key ws)
 
   pub record FrameFollows (F : Type 0) (s : Stack L) (key : ℕ) (slots : Slots) : Type 0 where
-    pub winds : (child : ℕ → F → ℕ) (most : ℕ) (ws : List (ℕ × ℕ × F)) (now : Slots) (left : ℕ) → IsWinding child slots most ws now left → MayOpen now s key ws
+    pub winds : (p : Promise F L) (most : ℕ) (ws : List (ℕ × ℕ × F)) (local : L) → IsWinding p slots most ws local → MayOpen (p.unanswered local) s key ws
     pub answered : (t : Stack L) (slot : ℕ) → AwaitsLess s t (Some (record { frame = key; slot = slot })) → Awaits t key (without slot slots)
     pub unwound : ((n : ℕ) → slots n ≡ false) → HasNoWind s key
 

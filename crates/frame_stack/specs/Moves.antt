@@ -12,7 +12,7 @@ pub record Move : Type 0 where
   pub call : ℕ
   pub opened : Bool
 
--- the move as a line tells it
+-- the line of the move
 abbrev pub line_of : Move → Line
 line_of m = (m.wind, m.call, m.opened)
 

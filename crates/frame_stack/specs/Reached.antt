@@ -58,7 +58,7 @@ module _ {L : Type 0} where
   abbrev pub HasNoFrame : Stack L → ℕ → Type 0
   HasNoFrame s g = (key : ℕ) (f : Frame L) → frame_at s key ≡ Some f → f.place.graph ≢ g
 
-  -- The lines that were handed over, and those that were not yet, tell the moves of the winds; these are
+  -- The lines that were handed over, and those that were not yet, are those of the moves of the winds; these are
   -- orderly; a graph without an open frame has ended all winds that it opened; and the frame that opened a
   -- wind stays open until the wind is resumed.
   pub record IsBalanced (s : Stack L) (moves : List Move) (handed : List Line) : Type 0 where

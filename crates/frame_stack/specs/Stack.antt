@@ -10,7 +10,7 @@ use Rattle.xlator_law.specs.declared.winds.Settled.{Settled}
 use Rattle.xlator_law.specs.declared.winds.Settled.TheVariants.{Won, Lost}
 use Rattle.frame_stack.specs.declared.frame.Frame.{Frame}
 use Rattle.frame_stack.specs.declared.frame.Opener.{Opener}
-use Rattle.frame_stack.specs.Cells.{cell_at, put_at}
+use Rattle.frame_stack.specs.Cells.{cell_at, put_at, taken}
 
 -- a wind, the call of the frame that opened it, and whether it was opened or resumed
 abbrev pub Line : Type 0
@@ -117,11 +117,12 @@ module _ {L : Type 0} where
   wound s w o = record s { openers = put_at s.openers w.slot (Some o); words = put_at s.words w.slot (pending w); opened = s.opened + 1; lines = s.lines ++ (w, o.call, true) ∷ [] }
 
   -- The frame opens this wind in this slot of its own: a free slot of the stack at its turn, which is
-  -- pending from then on.
+  -- pending from then on. A slot that was never used comes only where all others are taken.
   pub record IsWound (old new : Stack L) (key slot : ℕ) (w : WindNo) : Type 0 where
     pub below : w.slot < 2147483648
     pub within : w.slot ≤ length old.openers
     pub vacant : cell_at old.openers w.slot ≡ None
+    pub full : w.slot ≡ length old.openers → taken old.openers ≡ length old.openers
     pub free : word_at old w.slot ≡ w.turn * 4
     pub made : new ≡ wound old w (opener_at old key slot)
 

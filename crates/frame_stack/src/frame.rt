@@ -1,15 +1,15 @@
 use xlator_law::Place;
 
-/// An open frame: where it stands, and what its translator keeps in it while it waits. `local` is `None`
+/// An open frame: where it is, and what its translator keeps in it while it waits. `local` is `None`
 /// while it is taken out.
-#[derive(Debug, Drop)]
+#[derive(Drop)]
 pub struct Frame<L> {
     pub place: Place,
     pub local: Option<L>,
 }
 
 /// Who opened a wind: a frame, in one of its slots, and the graph and call of that frame.
-#[derive(Debug, Clone, Copy, PartialEq, Eq)]
+#[derive(Clone, Copy)]
 pub struct Opener {
     pub frame: u32,
     pub slot: u8,

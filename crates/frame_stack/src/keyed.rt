@@ -39,6 +39,13 @@ impl<T> Keyed<T> {
         }
     }
 
+    /// How many values there are.
+    pub fn len(&self) -> usize
+        ensures { result ≡ taken self.now }
+    {
+        self.cells.len() - self.vacant.len()
+    }
+
     /// The value at `key`, if there is one.
     pub fn get(&self, key: u32) -> Option<&T>
         ensures { option_copied result ≡ cell_at self.now key }
@@ -52,7 +59,7 @@ impl<T> Keyed<T> {
     /// Stores a value and gives its key.
     ///
     /// # Errors
-    /// Want of memory, and nothing changed.
+    /// Out of memory, and nothing changed.
     pub fn insert(&mut self, value: T) -> Result<u32, AllocError>
     where
         T: Drop,
@@ -60,13 +67,16 @@ impl<T> Keyed<T> {
         ensures ok { IfOk result (λ key. IsInserted self.old self.new key value) }
         ensures err { OnErr result (self.new ≡ self.old) }
     {
-        if let Some(key) = self.vacant.pop() {
-            self.cells[key as usize] = Some(value);
+        if self.vacant.is_empty() {
+            let key = self.cells.len() as u32;
+            self.vacant.reserve(self.cells.len() + 1)?;
+            self.cells.push(Some(value))?;
             return Ok(key);
         }
-        let key = self.cells.len() as u32;
-        self.vacant.reserve(self.cells.len() + 1)?;
-        self.cells.push(Some(value))?;
+        let Some(key) = self.vacant.pop() else {
+            unreachable!()
+        };
+        self.cells[key as usize] = Some(value);
         Ok(key)
     }
 

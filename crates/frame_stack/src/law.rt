@@ -2,7 +2,7 @@ ghost use Rattle.frame_stack.specs.Following.{FramesFollow};
 ghost use Rattle.frame_stack.specs.Reached.{WindsAreBalanced};
 
 /// The law over all calls of a stack, for contracts and proofs alone: whatever calls a stack went
-/// through, the lines that it handed over, and those that it still has, tell each wind once at most as
+/// through, the lines that it handed over, and those that it still has, have each wind once at most as
 /// opened, and once at most as resumed, after its opening and in the graph and call of the frame that
 /// opened it. In a graph without an open frame as many winds were resumed as were opened. The frame that
 /// opened a wind is open until the wind is resumed. `L` is the type of the locals.

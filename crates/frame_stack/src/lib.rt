@@ -30,9 +30,8 @@ mod frame;
 mod keyed;
 mod law;
 mod stack;
-#[cfg(test)]
-mod tests;
 mod words;
 
+pub use frame::Opener;
 pub use law::{frames_follow_translators, winds_are_balanced};
 pub use stack::FrameStack;

@@ -1,4 +1,4 @@
-ghost use Rattle.std.specs.Prelude.{ℕ, ◌≡◌, ◌∷◌, ◌<◌, ◌≤◌, ◌+◌, ◌*◌, ◌^◌, ◌==◌, ◌||◌, ◌↔◌, [], length, vec_len, vec_capacity, None, Some, true, false, is_some, IsSome, IfSome, IsSomeAnd, OnOk, OnErr, IfOk, IsErrOf};
+ghost use Rattle.std.specs.Prelude.{ℕ, ◌≡◌, ◌∷◌, ◌<◌, ◌≤◌, ◌+◌, ◌*◌, ◌^◌, ◌==◌, ◌||◌, ◌↔◌, [], length, vec_len, vec_capacity, None, Some, true, false, is_some, IsSome, IfSome, IsSomeAnd, IsTrue, OnOk, OnErr, IfOk, IsErrOf};
 ghost use Rattle.frame_stack.specs.Cells.{taken, put_at, IsInserted};
 ghost use Rattle.frame_stack.specs.Reached.{IsReached, Leads, opening, ended_by};
 ghost use Rattle.frame_stack.specs.Stack.{empty_stack, opener_at, frame_at, word_at, word_of, frame, place_at, local_at, with_local, without_frame, awaits, HasNoWind, AwaitsMore, AwaitsLess, opener_of, parent_of, IsWound, settled_as, after_settle, resumed_as, after_resume, pending, replied};
@@ -64,7 +64,7 @@ impl<L> FrameStack<L> {
     /// frames are open.
     ///
     /// # Errors
-    /// Want of memory, and nothing changed.
+    /// Out of memory, and nothing changed.
     pub fn open(
         &mut self,
         _alloc: Global,
@@ -95,12 +95,20 @@ impl<L> FrameStack<L> {
         })
     }
 
+    /// Whether a further frame and a further wind may be opened: fewer than 4,294,967,295 frames and fewer
+    /// than 2,147,483,648 winds are open.
+    pub fn has_room(&self) -> bool
+        ensures { IsTrue result ↔ ((taken self.now.frames < 4294967295) × (taken self.now.openers < 2147483648)) }
+    {
+        self.frames.len() < 4294967295 && self.openers.len() < 2147483648
+    }
+
     /// Opens a wind of an open frame in one of its slots, in which it has no open wind. Fewer than
-    /// 2,147,483,648 winds are open. The number was never given before, and its slot is below
-    /// 2,147,483,648.
+    /// 2,147,483,648 winds are open. The number was never given before. Its slot is one whose wind was
+    /// resumed, where there is such a slot, and else the next new one; it is below 2,147,483,648.
     ///
     /// # Errors
-    /// `Winds` exactly where this stack has opened 4,294,967,295 winds; else want of memory. Nothing
+    /// `Winds` exactly where this stack has opened 4,294,967,295 winds; else out of memory. Nothing
     /// changed.
     pub fn wind(&mut self, _alloc: Global, frame: u32, slot: u8) -> Result<WindNo, Stop>
         requires open { IsSome (frame_at self.old frame) }
@@ -110,6 +118,7 @@ impl<L> FrameStack<L> {
         ensures leads { IfOk result (λ w. Leads self.old self.new (opening w (opener_at self.old frame slot) ∷ []) []) }
         ensures awaits { OnOk result (AwaitsMore self.old self.new frame slot) }
         ensures pending { IfOk result (λ w. word_at self.new w.slot ≡ pending w) }
+        ensures taken { OnOk result (taken self.new.openers ≡ taken self.old.openers + 1) }
         ensures winds { IsErrOf result Stop.Winds ↔ (self.old.opened ≡ 4294967295) }
         ensures err { OnErr result (self.new ≡ self.old) }
     {
@@ -173,13 +182,14 @@ impl<L> FrameStack<L> {
     /// wind is not settled or was resumed, and then nothing changed. The slot goes to its next turn.
     ///
     /// # Errors
-    /// Want of memory, and nothing changed.
+    /// Out of memory, and nothing changed.
     pub fn resume(&mut self, _alloc: Global, w: WindNo) -> Result<Option<Parent>, AllocError>
         ensures resumed { IfOk result (λ parent. parent ≡ resumed_as self.old w) }
         ensures settled { IfOk result (λ parent. is_some parent ≡ (word_at self.old w.slot == replied w)) }
         ensures after { OnOk result (self.new ≡ after_resume self.old w) }
         ensures leads { OnOk result (Leads self.old self.new (ended_by self.old w) []) }
         ensures awaits { IfOk result (λ parent. AwaitsLess self.old self.new parent) }
+        ensures taken { IfOk result (λ parent. IsSome parent → taken self.new.openers + 1 ≡ taken self.old.openers) }
         ensures err { OnErr result (self.new ≡ self.old) }
     {
         let word = word_in(&self.words, w.slot);
@@ -198,10 +208,10 @@ impl<L> FrameStack<L> {
         }))
     }
 
-    /// The frame and slot that opened a wind. `None` comes exactly where the wind was not opened or was
-    /// resumed.
-    pub fn wound_by(&self, w: WindNo) -> Option<Parent>
-        ensures opener { result ≡ parent_of (opener_of self.now w) }
+    /// Who opened a wind, with the graph and call of its frame. `None` comes exactly where the wind was not
+    /// opened or was resumed.
+    pub fn opener(&self, w: WindNo) -> Option<Opener>
+        ensures opener { result ≡ opener_of self.now w }
         ensures opened { is_some result ≡ ((word_at self.now w.slot == pending w) || (word_at self.now w.slot == replied w)) }
     {
         let word = word_in(&self.words, w.slot);
@@ -210,13 +220,23 @@ impl<L> FrameStack<L> {
             return None;
         }
         let opener = self.openers.get(w.slot)?;
+        Some(*opener)
+    }
+
+    /// The frame and slot that opened a wind. `None` comes exactly where the wind was not opened or was
+    /// resumed.
+    pub fn wound_by(&self, w: WindNo) -> Option<Parent>
+        ensures opener { result ≡ parent_of (opener_of self.now w) }
+        ensures opened { is_some result ≡ ((word_at self.now w.slot == pending w) || (word_at self.now w.slot == replied w)) }
+    {
+        let opener = self.opener(w)?;
         Some(Parent {
             frame: opener.frame,
             slot: opener.slot,
         })
     }
 
-    /// Where a frame stands. `None` comes exactly where it is not open.
+    /// Where a frame is. `None` comes exactly where it is not open.
     pub fn place(&self, frame: u32) -> Option<Place>
         ensures { result ≡ place_at self.now frame }
     {

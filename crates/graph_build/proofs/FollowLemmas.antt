@@ -2,7 +2,7 @@
 use Rattle.std.proofs.Common.{◌≡◌, ℕ, zero, suc, ◌<◌, ◌≤◌, Bool, false, List, [], ◌∷◌, length, drop, refl, sym, ap, ◌∙◌, arith}
 use Rattle.std.proofs.lemmas.List.{drop_all}
 use Rattle.graph_build.specs.Follows.{sets_follow}
-use Rattle.graph_build.specs.declared.plans.SetPlan.{SetPlan}
+use Rattle.fop_types.specs.declared.jobs.SetPlan.{SetPlan}
 
 one_more : (xs : List SetPlan) (i : ℕ) → i < length xs → (x : SetPlan) × (rest : List SetPlan) × (drop i xs ≡ x ∷ rest)
 one_more [] i h = absurd (omega (arith, h))

@@ -1,6 +1,11 @@
+pub mod Apart
+pub mod Facts
 pub mod FollowLemmas
 pub mod MarkLemmas
 pub mod NumberLemmas
 pub mod OptionLemmas
 pub mod PlaceLemmas
+pub mod PlanSets
+pub mod RoleFacts
+pub mod Steps
 pub mod UnusedLemmas

@@ -3,7 +3,7 @@
 use Rattle.std.specs.Prelude.{ℕ, ◌==◌, ◌&&◌, ◌||◌, not, Bool, true, false, List, [], ◌∷◌}
 use Rattle.std.specs.List.{list_all, list_any}
 use Rattle.std.specs.Cmp.Lexicographic.{pointwise}
-use Rattle.graph_build.specs.declared.plans.SetPlan.{SetPlan}
+use Rattle.fop_types.specs.declared.jobs.SetPlan.{SetPlan}
 
 abbrev pub is_same_set : SetPlan → SetPlan → Bool
 is_same_set a b = pointwise ◌==◌ a.bricks b.bricks && pointwise (pointwise ◌==◌) a.clients b.clients

@@ -14,7 +14,7 @@ use Rattle.graph_build.specs.declared.infos.Info.{Info}
 use Rattle.graph_build.specs.declared.infos.Role.{Role}
 use Rattle.graph_build.specs.declared.infos.Role.TheVariants.{Client, Replicate, Distribute, IoCache, IoThreads, Pass}
 use Rattle.graph_build.specs.declared.plans.Plan.{Plan}
-use Rattle.graph_build.specs.declared.plans.SetPlan.{SetPlan}
+use Rattle.fop_types.specs.declared.jobs.SetPlan.{SetPlan}
 use Rattle.graph_build.specs.declared.plans.NodePlan.{NodePlan}
 use Rattle.graph_build.specs.declared.plans.NodeKind.{NodeKind}
 use Rattle.graph_build.specs.declared.plans.NodeKind.TheVariants.{Client as ClientNode, Replicate as ReplicateNode, Distribute as DistributeNode, IoCache as IoCacheNode, IoThreads as IoThreadsNode, Pass as PassNode}

@@ -23,8 +23,8 @@ use volfile::{Volfile, Volume};
 /// It takes time of the order of n log n for n words of the volfile.
 ///
 /// # Errors
-/// `At` exactly where the volfile has no plan, with the first volume that is refused and its kind. `Mem` is
-/// want of memory.
+/// `At` exactly where the volfile has no plan, with the first volume that is refused and its kind. `Mem`
+/// where it runs out of memory.
 pub fn build(alloc: Global, v: &Volfile, bricks: &[BrickLine]) -> Result<Plan, PlanError>
     requires small { length v.now.volumes ≤ 256 }
     requires few { length bricks.now ≤ 60 }

@@ -1,8 +1,8 @@
 use std::alloc::AllocError;
 
 /// Why a volume is refused in a plan. Of the kinds that hold of one volume the first in this order is
-/// told, and `Unused` after all others of all volumes.
-#[derive(Debug, Clone, Copy, PartialEq, Eq)]
+/// reported, and `Unused` after all others of all volumes.
+#[derive(Clone, Copy, PartialEq, Eq)]
 pub enum PlanKind {
     /// No plan has the type.
     UnknownKind,
@@ -29,10 +29,10 @@ pub enum PlanKind {
 }
 
 /// Why a volfile has no plan. `volume` is the place of the volume that is refused, from 0.
-#[derive(Debug, Clone, Copy, PartialEq, Eq)]
+#[derive(Clone, Copy, PartialEq, Eq)]
 pub enum PlanError {
     At { volume: u16, kind: PlanKind },
-    /// Want of memory.
+    /// Out of memory.
     Mem,
 }
 

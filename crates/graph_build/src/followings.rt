@@ -2,7 +2,8 @@ ghost use Rattle.std.specs.Prelude.{◌≡◌, not};
 ghost use Rattle.std.specs.List.{list_all, list_any};
 ghost use Rattle.graph_build.specs.Follows.{has_brick as has_brick_of, is_new as is_new_over, is_same_set as is_same_set_as, sets_follow as follow_sets};
 
-use crate::plans::{Plan, SetPlan};
+use crate::plans::Plan;
+use fop_types::SetPlan;
 
 /// Whether a plan may follow an older one: the old sets come first, with the same bricks, order and client
 /// names, and the later sets have bricks that no old set has.

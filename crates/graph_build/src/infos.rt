@@ -1,7 +1,7 @@
 use fop_types::Seq;
 
 // What a volume is: a client of a brick, an io-cache of so many pages, or one that hands fops through.
-#[derive(Debug, Clone, Copy, PartialEq, Eq)]
+#[derive(Clone, Copy)]
 pub(crate) enum Role {
     Client(u8),
     Replicate,
@@ -14,7 +14,7 @@ pub(crate) enum Role {
 // What stands in a tree of volumes: the number of volumes on its longest path; whether all that it has are
 // clients and pass-through volumes over one; whether there is a distribute volume, an io-cache, and an
 // io-cache or io-threads.
-#[derive(Debug, Clone, Copy, PartialEq, Eq)]
+#[derive(Clone, Copy)]
 pub(crate) struct Tree {
     pub depth: u16,
     pub plain: bool,
@@ -27,7 +27,7 @@ pub(crate) struct Tree {
 //
 // What is known of a volume: its role, the places of its subvolumes, the place of the client, replicate or
 // distribute volume to which the way down from it leads, and the tree of which it is the top.
-#[derive(Debug, Drop, PartialEq, Eq)]
+#[derive(Drop)]
 pub(crate) struct Info {
     pub role: Role,
     pub below: Seq<u8>,

@@ -64,7 +64,7 @@ impl Known {
         self.used[place as usize]
     }
 
-    // Adds a volume of this role over those at these places, or tells which rule does not hold of it.
+    // Adds a volume of this role over those at these places, or says which rule does not hold of it.
     pub(crate) fn add(&mut self, role: Role, below: Seq<u8>) -> Result<Option<PlanKind>, AllocError>
         requires room { length self.old < 256 }
         ensures ok { IfOk result (λ no. MatchOption no (added (info_below self.old role below) self.old ≡ Ok self.new)

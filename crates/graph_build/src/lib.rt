@@ -9,11 +9,11 @@
 //! ```
 //!
 //! [`build`] goes over the volumes once. Of each it learns its role, what stands below it and whether a
-//! rule is broken, from what is known of the volumes that it names, which all stand before it; marks tell
+//! rule is broken, from what is known of the volumes that it names, which all stand before it; marks show
 //! which volumes are used and which bricks are taken. A set is a replicate volume, or a client below none;
 //! sets stand in the order of the distribute volume's subvolumes, and without one there is one set. Then
 //! the nodes are laid out in the file's order, each node that is put in directly behind what it was put in
-//! for. [`follows`] tells whether one plan may come after another in a graph switch.
+//! for. [`follows`] says whether one plan may come after another in a graph switch.
 //!
 //! The script's reader plans each volfile by [`build`]; graphs are made from its plans.
 #![tactic(auto)]
@@ -23,6 +23,7 @@ mod errors;
 mod followings;
 mod infos;
 mod known;
+mod laws;
 mod marks;
 mod nodes;
 mod options;
@@ -36,11 +37,6 @@ mod volumes;
 pub use builds::build;
 pub use errors::{PlanError, PlanKind};
 pub use followings::follows;
-pub use plans::{NodeKind, NodePlan, Plan, SetPlan};
-
-#[cfg(test)]
-mod refusal_tests;
-#[cfg(test)]
-mod test_plans;
-#[cfg(test)]
-mod tests;
+pub use fop_types::SetPlan;
+pub use laws::plans_have_sets;
+pub use plans::{NodeKind, NodePlan, Plan};

@@ -6,8 +6,7 @@ ghost use Rattle.graph_build.specs.Plans.{brick_in, bricks_at as bricks_at_place
 
 use crate::infos::{Info, Role};
 use crate::known::bottom_at;
-use crate::plans::SetPlan;
-use fop_types::Seq;
+use fop_types::{Seq, SetPlan};
 use std::alloc::{AllocError, Global};
 use volfile::Volume;
 

@@ -39,7 +39,7 @@ pub(crate) fn known_of(
     Ok(known)
 }
 
-// Adds the volume behind those that are known, or tells which rule does not hold of it.
+// Adds the volume behind those that are known, or says which rule does not hold of it.
 #[tactic(auto, unfolding(crate::specs::PlanRules::info_of))]
 fn add_volume(
     alloc: Global,

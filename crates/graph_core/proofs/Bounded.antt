@@ -10,7 +10,7 @@ use Rattle.fop_types.specs.declared.messages.BrickRep.{BrickRep}
 use Rattle.fop_types.specs.declared.messages.BrickRep.TheVariants as rep
 use Rattle.fop_types.specs.declared.messages.DoneArm.{DoneArm}
 use Rattle.fop_types.specs.declared.messages.DoneArm.TheVariants as done
-use Rattle.fop_types.specs.Flat.{item_named}
+use Rattle.fop_types.specs.Names.{item_named}
 use Rattle.graph_core.specs.declared.fops.Fop.{Fop}
 use Rattle.graph_core.specs.declared.fops.Fop.TheVariants.{Lookup, Stat, Mkdir}
 use Rattle.graph_core.specs.Fops.{Stage, Onward, Suits, first_stage, onward, refused, after_free, after_names, after_meta, after_nothing, after_done}

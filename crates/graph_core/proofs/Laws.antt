@@ -7,10 +7,11 @@ use Rattle.fop_types.specs.declared.contents.Item.{Item}
 use Rattle.fop_types.specs.declared.messages.BrickReq.TheVariants as req
 use Rattle.fop_types.specs.declared.messages.DoneArm.{DoneArm}
 use Rattle.fop_types.specs.declared.messages.DoneArm.TheVariants as done
-use Rattle.fop_types.specs.Flat.{item_named}
-use Rattle.xlator_law.specs.Law.{Slots, no_slots, without, IsWinding, IsStep}
+use Rattle.fop_types.specs.Names.{item_named}
+use Rattle.xlator_law.specs.Law.{Slots, no_slots, without, IsWinding, IsStepFrom, IsStep, Cause}
+use Rattle.xlator_law.specs.Law.Cause.{Enter, Reply}
 use Rattle.xlator_law.specs.declared.step.Step.{Step}
-use Rattle.xlator_law.specs.declared.step.Step.TheVariants.{Wind, Unwind}
+use Rattle.xlator_law.specs.declared.step.Step.TheVariants.{Wind, Wait, Unwind}
 use Rattle.graph_core.specs.declared.fops.Fop.TheVariants.{Lookup, Stat, Mkdir}
 use Rattle.graph_core.specs.declared.items.Job.TheVariants.{Read, Change}
 use Rattle.graph_core.specs.declared.items.JobAnswer.{JobAnswer}
@@ -32,10 +33,7 @@ use Rattle.graph_core.specs.Costs.{cost_at, child_cost, left_of}
 use Rattle.graph_core.specs.Serving.{fop_move, job_answer, find_move, check_by, add_if_free, stat_move, add_move}
 use Rattle.graph_core.specs.Jobs.{job_by, done_arm, done_move, change_move, step_move, read_move}
 use Rattle.graph_core.specs.Nodes.{down_of, local_of, move_of}
-use Rattle.graph_core.specs.Steps.{IsMade}
-
-abbrev waiting : Local → Slots
-waiting l s = s == 0
+use Rattle.graph_core.specs.Steps.{IsMade, promise_of}
 
 -- the move is paid out of this much
 abbrev IsPaid : Node → ℕ → Move → Type 0
@@ -158,23 +156,29 @@ module _ (node : Node) (before : Slots) (most : ℕ) (free : before 0 ≡ false)
     or_false true = refl
     or_false false = refl
 
-  winding : (d : Down) (l : Local) → 1 + child_cost node d + left_of l ≤ most → IsWinding (λ n d. child_cost node d) before most ((0, 0, d) ∷ []) (λ s. s == 0) (left_of l)
+  winding : (d : Down) (l : Local) → 1 + child_cost node d + left_of l ≤ most → IsWinding (promise_of node) before most ((0, 0, d) ∷ []) l
   winding d l paid = record {
     fresh = (free, refl, tt);
-    kept = λ s. kept s (before s) (none s);
+    within = (omega (arith), omega (arith), tt);
     paid = omega (arith, paid);
+    kept = λ s. kept s (before s) (none s);
+    some = (0, refl);
+    going = refl;
+    own = refl;
   }
 
-  move_step : (m : Move) → IsPaid node most m → (s : Step Down Up Local) → IsMade m s → IsStep (λ _ n. n == 0) left_of (λ n d. child_cost node d) before most s
-  move_step (On d l) paid (Wind winds k) made = subst (λ ws. IsWinding (λ n d. child_cost node d) before most ws (λ s. s == 0) (left_of k)) (sym made.0) (subst (λ x. IsWinding (λ n d. child_cost node d) before most ((0, 0, d) ∷ []) (λ s. s == 0) (left_of x)) (sym made.1) (winding d l paid))
+  move_step : (m : Move) → IsPaid node most m → (s : Step Down Up Local) → IsMade m s → IsStepFrom (promise_of node) before most s
+  move_step (On d l) paid (Wind winds k) made = subst (λ ws. IsWinding (promise_of node) before most ws k) (sym made.0) (subst (λ x. IsWinding (promise_of node) before most ((0, 0, d) ∷ []) x) (sym made.1) (winding d l paid))
+  move_step (On d l) paid (Wait k) made = absurd made
   move_step (On d l) paid (Unwind reply) made = absurd made
   move_step (Back u) paid (Wind winds k) made = absurd made
+  move_step (Back u) paid (Wait k) made = absurd made
   move_step (Back u) paid (Unwind reply) made = none
 
-pub entered_step : (node : Node) (d : Down) (s : Step Down Up Local) → IsMade (On (down_of node d) (local_of node d)) s → IsStep (λ _ n. n == 0) left_of (λ n d. child_cost node d) no_slots (cost_at node d) s
+pub entered_step : (node : Node) (d : Down) (s : Step Down Up Local) → IsMade (On (down_of node d) (local_of node d)) s → IsStep (promise_of node) (Enter d) s
 entered_step node d s made = move_step node no_slots (cost_at node d) refl (λ n. refl) (On (down_of node d) (local_of node d)) (paid_in node d) s made
 
-pub resumed_step : (node : Node) (l : Local) (slot : ℕ) (u : Up) (s : Step Down Up Local) → (slot == 0) ≡ true → IsMade (move_of l u) s → IsStep (λ _ n. n == 0) left_of (λ n d. child_cost node d) (without slot (λ n. n == 0)) (left_of l) s
+pub resumed_step : (node : Node) (l : Local) (slot : ℕ) (u : Up) (s : Step Down Up Local) → (slot == 0) ≡ true → IsMade (move_of l u) s → IsStep (promise_of node) (Reply l slot u) s
 resumed_step node l slot u s zero made = move_step node (without slot (λ n. n == 0)) (left_of l) (gone 0) gone (move_of l u) (paid_out node l u) s made where
   pair : (a : Bool) → (a && not a) ≡ false
   pair true = refl

@@ -14,7 +14,8 @@ use Rattle.fop_types.specs.declared.messages.BrickRep.{BrickRep}
 use Rattle.fop_types.specs.declared.messages.BrickRep.TheVariants as rep
 use Rattle.fop_types.specs.declared.messages.DoneArm.{DoneArm}
 use Rattle.fop_types.specs.declared.messages.DoneArm.TheVariants as done
-use Rattle.fop_types.specs.Flat.{item_named, found_answer}
+use Rattle.fop_types.specs.Names.{item_named}
+use Rattle.root_calls.specs.Flat.{found_answer}
 use Rattle.graph_core.specs.declared.fops.Fop.{Fop}
 use Rattle.graph_core.specs.declared.fops.Fop.TheVariants.{Lookup, Stat, Mkdir}
 use Rattle.graph_core.specs.declared.items.JobAnswer.TheVariants as told

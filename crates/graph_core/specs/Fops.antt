@@ -20,7 +20,8 @@ use Rattle.fop_types.specs.declared.messages.BrickRep.TheVariants as rep
 use Rattle.fop_types.specs.declared.messages.DoneArm.{DoneArm}
 use Rattle.fop_types.specs.declared.messages.DoneArm.TheVariants as done
 use Rattle.fop_types.specs.declared.store_ops.StoreOp.TheVariants.{AddName}
-use Rattle.fop_types.specs.Flat.{item_named, found_answer, directory_item}
+use Rattle.fop_types.specs.Names.{item_named}
+use Rattle.root_calls.specs.Flat.{found_answer, directory_item}
 use Rattle.brick_store.specs.Cells.{names_cell, meta_cell}
 use Rattle.graph_core.specs.declared.fops.Fop.{Fop}
 use Rattle.graph_core.specs.declared.fops.Fop.TheVariants.{Lookup, Mkdir, Stat}

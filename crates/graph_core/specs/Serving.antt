@@ -12,7 +12,8 @@ use Rattle.fop_types.specs.declared.cells.Kind.{Kind}
 use Rattle.fop_types.specs.declared.contents.Content.TheVariants.{Bytes, Meta, Names}
 use Rattle.fop_types.specs.declared.contents.Item.{Item}
 use Rattle.fop_types.specs.declared.store_ops.StoreOp.TheVariants.{AddName}
-use Rattle.fop_types.specs.Flat.{item_named, directory_item}
+use Rattle.fop_types.specs.Names.{item_named}
+use Rattle.root_calls.specs.Flat.{directory_item}
 use Rattle.brick_store.specs.Cells.{names_cell, meta_cell}
 use Rattle.graph_core.specs.declared.fops.Fop.{Fop}
 use Rattle.graph_core.specs.declared.fops.Fop.TheVariants.{Lookup, Stat, Mkdir}

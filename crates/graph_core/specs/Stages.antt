@@ -11,7 +11,7 @@ use Rattle.fop_types.specs.declared.flat.FlatAnswer.TheVariants.{Found, Call}
 use Rattle.fop_types.specs.declared.messages.BrickReq.{BrickReq}
 use Rattle.fop_types.specs.declared.messages.BrickRep.{BrickRep}
 use Rattle.fop_types.specs.declared.store_ops.StoreOp.TheVariants.{AddName}
-use Rattle.fop_types.specs.Flat.{directory_item}
+use Rattle.root_calls.specs.Flat.{directory_item}
 use Rattle.brick_store.specs.Cells.{names_cell}
 use Rattle.frame_stack.specs.Stack.{Stack}
 use Rattle.frame_chains.specs.declared.link.Link.{Link}

@@ -268,7 +268,7 @@ pub(crate) fn job_answer(reply: Up) -> JobAnswer
 /// What follows the answer to a job of a fop.
 ///
 /// # Errors
-/// Want of memory.
+/// Out of memory.
 pub(crate) fn fop_move(
     alloc: Global,
     local: FopLocal,

@@ -5,7 +5,7 @@ use fop_types::{AppError, Gfid, Kind, Seq};
 
 /// A file operation that a call sends through the graph, on objects that are named by gfid. `kind` is the
 /// kind that the lookup of the object gave. A name is one component of a path.
-#[derive(Debug, Drop, PartialEq, Eq)]
+#[derive(Drop)]
 pub enum Fop {
     /// Looks for a name in a directory.
     Lookup {

@@ -2,7 +2,7 @@ use crate::fops::Fop;
 use fop_types::{BrickRep, BrickReq, Cell, Content, FopAnswer, StoreOp};
 
 /// A job of a set: one read, or one change, which the set carries out by requests to its brick.
-#[derive(Debug, Drop, PartialEq, Eq)]
+#[derive(Drop)]
 pub enum Job {
     /// Reads a cell: its content is fetched.
     Read {
@@ -18,7 +18,7 @@ pub enum Job {
 
 /// What a set answers to a job. `Failed` comes where a brick answered a request by something else than the
 /// Done that was asked of it.
-#[derive(Debug, Drop, PartialEq, Eq)]
+#[derive(Drop)]
 pub enum JobAnswer {
     Content(Content),
     Changed,
@@ -27,7 +27,7 @@ pub enum JobAnswer {
 
 /// What travels down a graph: a fop from the root to the distribute node, a job from there to the set, and
 /// a request from the set by way of the client to the brick.
-#[derive(Debug, Drop, PartialEq, Eq)]
+#[derive(Drop)]
 pub enum Down {
     Fop(Fop),
     Job(Job),
@@ -35,7 +35,7 @@ pub enum Down {
 }
 
 /// What travels up a graph: a brick's reply, the set's answer to a job, and the answer to the fop.
-#[derive(Debug, Drop, PartialEq, Eq)]
+#[derive(Drop)]
 pub enum Up {
     Brick(BrickRep),
     Job(JobAnswer),

@@ -42,8 +42,6 @@ mod nodes;
 mod paths;
 mod replicate;
 mod steps;
-#[cfg(test)]
-mod tests;
 mod translators;
 mod turns;
 

@@ -3,7 +3,7 @@ use fop_types::{Cell, Gfid, Kind, Seq, StoreOp};
 
 /// What the distribute node keeps of a fop while it waits for a job: the name that is looked for, the kind
 /// of the object that is asked about, a mkdir whose name is checked, or that its name is being added.
-#[derive(Debug, Drop, PartialEq, Eq)]
+#[derive(Drop)]
 pub enum FopLocal {
     Finding {
         name: Seq<u8>,
@@ -23,7 +23,7 @@ pub enum FopLocal {
 
 /// What the replicate node keeps of a job while it waits for a brick: that a content was asked for, a
 /// change that is being marked, one whose op was sent, or that its post was sent.
-#[derive(Debug, Drop, PartialEq, Eq)]
+#[derive(Drop)]
 pub enum JobLocal {
     Reading,
     Marking {
@@ -39,7 +39,7 @@ pub enum JobLocal {
 }
 
 /// What a frame of a graph keeps while it waits, by its translator.
-#[derive(Debug, Drop, PartialEq, Eq)]
+#[derive(Drop)]
 pub enum Local {
     Root,
     Pass,
@@ -50,7 +50,7 @@ pub enum Local {
 
 /// What a translator does next with a frame: it hands one thing on to its child and waits with a local, or
 /// it ends the frame with an answer.
-#[derive(Debug, Drop, PartialEq, Eq)]
+#[derive(Drop)]
 pub enum Move {
     On(Down, Local),
     Back(Up),

@@ -1,6 +1,6 @@
 /// A node of a graph. `passes` are the pass-through nodes that stand between this one and the distribute
 /// node.
-#[derive(Debug, Clone, Copy, PartialEq, Eq)]
+#[derive(Clone, Copy)]
 pub enum Node {
     Root { passes: u16 },
     Pass { passes: u16 },

@@ -49,7 +49,7 @@ impl Path {
     /// client has opened its first connection to brick 0.
     ///
     /// # Errors
-    /// Want of memory.
+    /// Out of memory.
     pub fn new(alloc: Global, graph: u32, passes: u8) -> Result<Path, AllocError>
         ensures { IfOk result (λ p. p ≡ record { graph = graph; passes = passes }) }
     {
@@ -69,7 +69,7 @@ impl Path {
     /// distribute node refuses the fop, which answers it, and no frame stands.
     ///
     /// # Errors
-    /// `Winds` where a further wind was needed and 4,294,967,295 were opened; else want of memory. The
+    /// `Winds` where a further wind was needed and 4,294,967,295 were opened; else out of memory. The
     /// stack's lines tell the winds that were opened before; stack and chain are spent.
     pub fn begin(
         &self,
@@ -117,10 +117,10 @@ impl Path {
     }
 
     /// The bytes that carry a request to the brick under this wind, over the client's connection. The
-    /// request has a spelling and needs no descriptor, and the wind's slot is below 2,147,483,648.
+    /// request has an encoding and needs no descriptor, and the wind's slot is below 2,147,483,648.
     ///
     /// # Errors
-    /// Want of memory. The path is unchanged in any case.
+    /// Out of memory. The path is unchanged in any case.
     pub fn send(
         &mut self,
         alloc: Global,

@@ -19,7 +19,7 @@ fn alone(alloc: Global, cell: Cell) -> Result<Seq<Cell>, AllocError>
 /// The request that a job begins with.
 ///
 /// # Errors
-/// Want of memory.
+/// Out of memory.
 pub(crate) fn first_request(alloc: Global, job: &Job) -> Result<BrickReq, AllocError>
     ensures { IfOk result (λ r. r ≡ first_request job.now) }
 {
@@ -165,7 +165,7 @@ fn done_arm(reply: Up) -> Option<DoneArm>
 /// What follows a reply of the brick to a request of a job.
 ///
 /// # Errors
-/// Want of memory.
+/// Out of memory.
 pub(crate) fn job_move(alloc: Global, local: JobLocal, reply: Up) -> Result<Move, AllocError>
     ensures { IfOk result (λ m. m ≡ job_move local reply) }
 {

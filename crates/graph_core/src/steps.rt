@@ -36,16 +36,9 @@ fn step(alloc: Global, next: Move) -> Result<Step<Down, Up, Local>, AllocError>
 impl<C> Xlator<Down, Up, C> for Node {
     type Local = Local;
 
-    ghost use Rattle.std.specs.Prelude.{◌==◌};
-    ghost use Rattle.graph_core.specs.Costs.{cost_at, child_cost, left_of};
+    ghost use Rattle.graph_core.specs.Steps.{promise_of};
 
-    ghost unanswered = { λ _ s. s == 0 };
-
-    ghost left = { left_of };
-
-    ghost child = { λ node _ down. child_cost node down };
-
-    ghost cost_of = { cost_at };
+    ghost promise = { promise_of };
 
     fn enter(
         &mut self,
@@ -69,6 +62,15 @@ impl<C> Xlator<Down, Up, C> for Node {
         let next = resumed(alloc, local, reply)?;
         let made = step(alloc, next)?;
         Ok(made)
+    }
+
+    fn go_on(
+        &mut self,
+        _alloc: Global,
+        _cx: &mut C,
+        local: Local,
+    ) -> Result<Step<Down, Up, Local>, AllocError> {
+        Ok(Step::Wait(local))
     }
 
     fn cost(&self, fop: &Down) -> u64 {

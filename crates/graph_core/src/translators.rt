@@ -42,7 +42,7 @@ impl Node {
     /// What the node hands on to its only child of what enters it, and what its frame keeps meanwhile.
     ///
     /// # Errors
-    /// Want of memory.
+    /// Out of memory.
     pub(crate) fn entered(self, alloc: Global, down: Down) -> Result<(Down, Local), AllocError>
         ensures down { IfOk result (λ r. r.0 ≡ down_of self down) }
         ensures local { IfOk result (λ r. r.1 ≡ local_of self down) }
@@ -63,7 +63,7 @@ impl Node {
 /// What follows an answer from below, for a frame with this local.
 ///
 /// # Errors
-/// Want of memory.
+/// Out of memory.
 pub(crate) fn resumed(alloc: Global, local: Local, reply: Up) -> Result<Move, AllocError>
     ensures { IfOk result (λ m. m ≡ move_of local reply) }
 {

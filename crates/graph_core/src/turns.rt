@@ -19,7 +19,7 @@ use std::alloc::Global;
 use xlator_law::Stop;
 
 /// How far an answer went up: out at the root, or to a node that hands something on.
-#[derive(Debug, Drop)]
+#[derive(Drop)]
 pub enum Rise {
     Out(Up),
     Turned(Down),
@@ -29,7 +29,7 @@ pub enum Rise {
 /// gives what comes out below the last of them.
 ///
 /// # Errors
-/// `Winds` where a further wind was needed and 4,294,967,295 were opened; else want of memory.
+/// `Winds` where a further wind was needed and 4,294,967,295 were opened; else out of memory.
 pub(crate) fn go_down(
     alloc: Global,
     nodes: &[Node],
@@ -117,7 +117,7 @@ pub(crate) fn go_up(
 }
 
 /// What follows a reply: a further request, or the fop's answer.
-#[derive(Debug, Drop)]
+#[derive(Drop)]
 pub enum Next {
     Ask(BrickReq),
     Answer(FopAnswer),

@@ -15,13 +15,14 @@ use Rattle.fop_types.specs.declared.contents.Attr.{Attr}
 use Rattle.fop_types.specs.declared.contents.Item.{Item}
 use Rattle.fop_types.specs.declared.flat.FlatAnswer.TheVariants as flat
 use Rattle.fop_types.specs.declared.flat.FlatObject.{FlatObject}
-use Rattle.fop_types.specs.declared.flat.FlatOp.TheVariants.{Lookup, Mkdir, Stat}
+use Rattle.root_calls.specs.declared.ops.RootOp.TheVariants.{Lookup, Mkdir, Stat}
 use Rattle.fop_types.specs.declared.messages.BrickRep.TheVariants as rep
 use Rattle.fop_types.specs.declared.messages.BrickReq.TheVariants as req
 use Rattle.fop_types.specs.declared.messages.DoneArm.{DoneArm}
 use Rattle.fop_types.specs.declared.messages.DoneArm.TheVariants as done
-use Rattle.fop_types.specs.Flat.{Files, item_named, flat_answer, names_of}
-use Rattle.fop_types.specs.History.{IsAccepted}
+use Rattle.fop_types.specs.Names.{item_named}
+use Rattle.root_calls.specs.Flat.{Files, flat_answer, names_of}
+use Rattle.root_calls.specs.History.{IsAccepted}
 use Rattle.brick_store.specs.Cells.{Cells, kept_at, names_cell, meta_cell}
 use Rattle.brick_node.specs.Machine.{serve_request, fetch_reply}
 use Rattle.set_files.specs.Kept.{kind_at, names_at, IsKept}

@@ -5,15 +5,15 @@ use Rattle.std.specs.Prelude.{slice_get, reverse, map}
 use Rattle.std.proofs.lemmas.List.{length_push, length-append, length-reverse, length-drop}
 use Rattle.fop_types.specs.declared.answers.Answer.{Answer}
 use Rattle.fop_types.specs.declared.answers.AppError.{AppError}
-use Rattle.fop_types.specs.declared.calls.RootCall.{RootCall}
-use Rattle.fop_types.specs.declared.calls.RootCall.TheVariants as call
-use Rattle.fop_types.specs.declared.calls.RootLine.{RootLine}
+use Rattle.root_calls.specs.declared.calls.RootCall.{RootCall}
+use Rattle.root_calls.specs.declared.calls.RootCall.TheVariants as call
+use Rattle.root_calls.specs.declared.calls.RootLine.{RootLine}
 use Rattle.fop_types.specs.declared.cells.Gfid.{Gfid}
 use Rattle.fop_types.specs.declared.cells.Kind.{Kind}
 use Rattle.fop_types.specs.declared.cells.Kind.TheVariants.{Dir}
 use Rattle.fop_types.specs.declared.flat.FlatAnswer.TheVariants as flat
-use Rattle.fop_types.specs.Flat.{root}
-use Rattle.fop_types.specs.History.{looked_up, makes, at_once, is_done}
+use Rattle.fop_types.specs.Cells.{root}
+use Rattle.root_calls.specs.History.{looked_up, makes, at_once, is_done}
 use Rattle.xlator_law.specs.declared.winds.WindNo.{WindNo}
 use Rattle.graph_core.specs.Fops.{Onward}
 use Rattle.graph_core.specs.Fops.{Onward as onward}

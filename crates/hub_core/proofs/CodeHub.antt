@@ -3,13 +3,13 @@ use Rattle.std.proofs.Common.{◌≡◌, ℕ, ◌+◌, ◌-◌, List, [], ◌∷
 use Rattle.std.specs.Prelude.{slice_get, map, ◌==◌}
 use Rattle.std.proofs.lemmas.List.{append-nil, append_assoc}
 use Rattle.fop_types.specs.declared.answers.AppError.{AppError}
-use Rattle.fop_types.specs.declared.calls.RootLine.{RootLine}
+use Rattle.root_calls.specs.declared.calls.RootLine.{RootLine}
 use Rattle.fop_types.specs.declared.flat.FlatAnswer.TheVariants as flat
 use Rattle.fop_types.specs.declared.messages.BrickRep.{BrickRep}
 use Rattle.fop_types.specs.declared.messages.OutKind.{OutKind}
 use Rattle.fop_types.specs.declared.messages.OutKind.TheVariants as out
 use Rattle.fop_types.specs.declared.messages.Output.{Output}
-use Rattle.fop_types.specs.History.{makes, at_once, is_done}
+use Rattle.root_calls.specs.History.{makes, at_once, is_done}
 use Rattle.wire_messages.specs.Messages.{output_in}
 use Rattle.wire_messages.specs.declared.messages.Message.{Message}
 use Rattle.wire_messages.specs.declared.messages.Message.TheVariants.{Whole, Wrong}

@@ -1,11 +1,11 @@
 -- What the laws of the hub's states say of the numbers and the requests that its code meets.
 use Rattle.std.proofs.Common.{◌≡◌, ℕ, ◌-◌, ◌≤◌, List, Some, None, subst, arith}
 use Rattle.std.specs.Prelude.{slice_get}
-use Rattle.fop_types.specs.declared.calls.RootCall.{RootCall}
-use Rattle.fop_types.specs.declared.calls.RootLine.{RootLine}
+use Rattle.root_calls.specs.declared.calls.RootCall.{RootCall}
+use Rattle.root_calls.specs.declared.calls.RootLine.{RootLine}
 use Rattle.fop_types.specs.declared.cells.Gfid.{Gfid}
 use Rattle.fop_types.specs.declared.cells.Kind.{Kind}
-use Rattle.fop_types.specs.History.{at_once}
+use Rattle.root_calls.specs.History.{at_once}
 use Rattle.wire_xdr.specs.PartText.{IsGfid}
 use Rattle.graph_core.specs.Fops.{refused}
 use Rattle.hub_core.specs.Bounds.{IsSendable, AreFit}

@@ -2,11 +2,11 @@
 use Rattle.std.proofs.Common.{◌≡◌, ℕ, ◌+◌, ◌-◌, ◌<◌, ◌≤◌, List, [], ◌∷◌, Option, Some, None, length, drop, refl, ap, arith}
 use Rattle.std.specs.Prelude.{slice_get, zero, suc}
 use Rattle.fop_types.specs.declared.calls.Path.{Path}
-use Rattle.fop_types.specs.declared.calls.RootCall.{RootCall}
-use Rattle.fop_types.specs.declared.calls.RootCall.TheVariants as call
+use Rattle.root_calls.specs.declared.calls.RootCall.{RootCall}
+use Rattle.root_calls.specs.declared.calls.RootCall.TheVariants as call
 use Rattle.fop_types.specs.declared.cells.Gfid.{Gfid}
 use Rattle.fop_types.specs.declared.cells.Kind.{Kind}
-use Rattle.fop_types.specs.History.{looked_up, front_parts}
+use Rattle.root_calls.specs.History.{looked_up, front_parts}
 use Rattle.graph_core.specs.declared.fops.Fop.TheVariants as fop
 use Rattle.hub_core.specs.Turns.{next_fop, last_fop, rest_after}
 

@@ -1,14 +1,14 @@
 -- What a submission and an arrival leave of a hub's parts, as the program makes them.
 use Rattle.std.proofs.Common.{◌≡◌, ℕ, ◌+◌, ◌-◌, ◌≤◌, List, [], Option, Some, None, IfSome, length, refl, sym, ◌∙◌, ap, subst, arith}
 use Rattle.std.specs.Prelude.{slice_get}
-use Rattle.fop_types.specs.declared.calls.RootCall.{RootCall}
-use Rattle.fop_types.specs.declared.calls.RootCall.TheVariants as call
-use Rattle.fop_types.specs.declared.calls.RootLine.{RootLine}
-use Rattle.fop_types.specs.declared.calls.RootScript.{RootScript}
-use Rattle.fop_types.specs.declared.flat.FlatOp.{FlatOp}
+use Rattle.root_calls.specs.declared.calls.RootCall.{RootCall}
+use Rattle.root_calls.specs.declared.calls.RootCall.TheVariants as call
+use Rattle.root_calls.specs.declared.calls.RootLine.{RootLine}
+use Rattle.root_calls.specs.declared.calls.RootScript.{RootScript}
+use Rattle.root_calls.specs.declared.ops.RootOp.{RootOp}
 use Rattle.fop_types.specs.declared.messages.BrickRep.{BrickRep}
 use Rattle.fop_types.specs.declared.messages.Output.{Output}
-use Rattle.fop_types.specs.History.{makes, at_once}
+use Rattle.root_calls.specs.History.{makes, at_once}
 use Rattle.wire_messages.specs.Messages.{output_in}
 use Rattle.wire_messages.specs.declared.messages.Message.{Message}
 use Rattle.xlator_law.specs.Numbers.{wind_number}
@@ -33,15 +33,15 @@ use Rattle.hub_core.proofs.Fits.{sendable_at}
 
 -- ---- the start
 
-abbrev new_parts : RootScript → Log → List FlatOp → PathState → Stack Local → Parts
+abbrev new_parts : RootScript → Log → List RootOp → PathState → Stack Local → Parts
 new_parts script l ops path frames =
     record { script = script; submitted = 0; made = 0; desk = record { log = l; ops = ops; path = path; frames = frames }; task = None }
 
-pub sound_new : (script : RootScript) (l : Log) (ops : List FlatOp) (path : PathState) (frames : Stack Local) → AreFit script.calls → l ≡ empty_log → ops ≡ [] → path ≡ one_path →
+pub sound_new : (script : RootScript) (l : Log) (ops : List RootOp) (path : PathState) (frames : Stack Local) → AreFit script.calls → l ≡ empty_log → ops ≡ [] → path ≡ one_path →
     frames ≡ empty_stack → IsStackReached frames [] [] → IsSound (new_parts script l ops path frames)
 sound_new script l ops path frames fit l_is ops_is path_is frames_is reached =
     subst (λ (x : Log). IsSound (new_parts script x ops path frames)) (sym l_is)
-    (subst (λ (x : List FlatOp). IsSound (new_parts script empty_log x path frames)) (sym ops_is)
+    (subst (λ (x : List RootOp). IsSound (new_parts script empty_log x path frames)) (sym ops_is)
     (subst (λ (x : PathState). IsSound (new_parts script empty_log [] x frames)) (sym path_is)
     (subst (λ (x : Stack Local). IsSound (new_parts script empty_log [] one_path x)) (sym frames_is) (record {
       reached = Begun _ refl;

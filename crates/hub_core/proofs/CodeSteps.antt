@@ -5,7 +5,7 @@ use Rattle.fop_types.specs.declared.answers.Answer.{Answer}
 use Rattle.fop_types.specs.declared.answers.Answer.TheVariants as answer
 use Rattle.fop_types.specs.declared.answers.FopAnswer.{FopAnswer}
 use Rattle.fop_types.specs.declared.answers.FopAnswer.TheVariants as said
-use Rattle.fop_types.specs.declared.calls.RootLine.{RootLine}
+use Rattle.root_calls.specs.declared.calls.RootLine.{RootLine}
 use Rattle.fop_types.specs.declared.messages.BrickReq.{BrickReq}
 use Rattle.fop_types.specs.declared.messages.BrickRep.{BrickRep}
 use Rattle.xlator_law.specs.declared.winds.WindNo.{WindNo}
@@ -14,7 +14,7 @@ use Rattle.frame_stack.specs.Stack.{Stack, Line}
 use Rattle.frame_chains.specs.declared.link.Link.{Link}
 use Rattle.frame_chains.specs.Links.{ChainState, no_links, last_wind}
 use Rattle.frame_chains.specs.Moves.{IsCut}
-use Rattle.fop_types.specs.History.{looked_up, at_once}
+use Rattle.root_calls.specs.History.{looked_up, at_once}
 use Rattle.wire_xdr.specs.MessageText.{IsReq}
 use Rattle.wire_xdr.specs.PartText.{IsGfid}
 use Rattle.graph_core.specs.declared.fops.Fop.{Fop}

@@ -5,13 +5,13 @@ use Rattle.std.proofs.lemmas.List.{map-append, append-nil, append_assoc, reverse
 use Rattle.fop_types.specs.declared.answers.Answer.{Answer}
 use Rattle.fop_types.specs.declared.answers.FopAnswer.{FopAnswer}
 use Rattle.fop_types.specs.declared.answers.FopAnswer.TheVariants as said
-use Rattle.fop_types.specs.declared.calls.RootLine.{RootLine}
+use Rattle.root_calls.specs.declared.calls.RootLine.{RootLine}
 use Rattle.fop_types.specs.declared.cells.Gfid.{Gfid}
 use Rattle.fop_types.specs.declared.cells.Kind.{Kind}
 use Rattle.fop_types.specs.declared.flat.FlatAnswer.TheVariants as flat
 use Rattle.fop_types.specs.declared.messages.BrickReq.{BrickReq}
 use Rattle.fop_types.specs.declared.messages.BrickRep.{BrickRep}
-use Rattle.fop_types.specs.History.{looked_up, last_op, is_done}
+use Rattle.root_calls.specs.History.{looked_up, last_op, is_done}
 use Rattle.xlator_law.specs.declared.winds.WindNo.{WindNo}
 use Rattle.frame_stack.specs.Moves.{Move}
 use Rattle.frame_stack.specs.Reached.{IsReached as IsStackReached}

@@ -4,9 +4,9 @@ use Rattle.std.specs.Prelude.{slice_get, reverse, map}
 use Rattle.std.proofs.lemmas.List.{map-append, append-nil, append_assoc, reverse-reverse, length-reverse}
 use Rattle.fop_types.specs.declared.answers.Answer.TheVariants as answer
 use Rattle.fop_types.specs.declared.answers.FopAnswer.{FopAnswer}
-use Rattle.fop_types.specs.declared.calls.RootLine.{RootLine}
+use Rattle.root_calls.specs.declared.calls.RootLine.{RootLine}
 use Rattle.fop_types.specs.declared.messages.BrickReq.{BrickReq}
-use Rattle.fop_types.specs.History.{looked_up}
+use Rattle.root_calls.specs.History.{looked_up}
 use Rattle.xlator_law.specs.declared.winds.WindNo.{WindNo}
 use Rattle.frame_stack.specs.Moves.{Move}
 use Rattle.frame_stack.specs.Reached.{IsReached as IsStackReached}

@@ -3,7 +3,7 @@
 use Rattle.std.proofs.Common.{◌≡◌, ℕ, ◌+◌, ◌<◌, List, [], ◌∷◌, ◌++◌, Option, Some, length, refl, sym, ◌∙◌, ap, subst, arith, eq-eqb}
 use Rattle.std.specs.Prelude.{slice_get}
 use Rattle.std.proofs.lemmas.List.{length_push, append-nil}
-use Rattle.fop_types.specs.declared.calls.RootLine.{RootLine}
+use Rattle.root_calls.specs.declared.calls.RootLine.{RootLine}
 use Rattle.fop_types.specs.declared.messages.BrickReq.{BrickReq}
 use Rattle.fop_types.specs.declared.messages.BrickRep.{BrickRep}
 use Rattle.fop_types.specs.declared.messages.BrickRep.TheVariants as rep
@@ -18,7 +18,7 @@ use Rattle.wire_messages.specs.declared.messages.Message.TheVariants.{Whole}
 use Rattle.wire_messages.proofs.ReadBack.{output_read_back}
 use Rattle.brick_node.specs.Machine.{serve_request, cells_of, outputs_of}
 use Rattle.brick_node.specs.Runs.{outputs_of_request, cells_of_request, length_outputs_of_requests}
-use Rattle.brick_node.proofs.Stored.{reply_is_spelled}
+use Rattle.brick_node.proofs.Stored.{reply_is_encoded}
 use Rattle.xlator_law.specs.declared.winds.WindNo.{WindNo}
 use Rattle.xlator_law.specs.Numbers.{wind_number}
 use Rattle.graph_core.specs.Fops.{Onward}
@@ -103,7 +103,7 @@ module _ (s : HubState) (o : List ℕ) (new : List WindNo) (w : Working) (d : Is
   due_read : output_in o ≡ Whole (output_for d.work.answered (wind_number (innermost w.winds)) (asked w.fop w.stage))
   due_read =
       let spelled : IsOutput (output_for d.work.answered (wind_number (innermost w.winds)) (asked w.fop w.stage)) =
-      reply_is_spelled d.work.answered (wind_number (innermost w.winds)) 1 (asked w.fop w.stage) (awaited_fits s w d.reached d.well.fit d.at_work) (omega (arith, d.well.few, one_answered, length-inputs_of s.log.sent)) in
+      reply_is_encoded d.work.answered (wind_number (innermost w.winds)) 1 (asked w.fop w.stage) (awaited_fits s w d.reached d.well.fit d.at_work) (omega (arith, d.well.few, one_answered, length-inputs_of s.log.sent)) in
       ap output_in due ∙ output_read_back (output_for d.work.answered (wind_number (innermost w.winds)) (asked w.fop w.stage)) spelled
 
   -- the call at work goes on after the brick's reply, and what it goes on with keeps the facts

@@ -1,8 +1,8 @@
 -- Each fop and stage of the call at work, with the reply that an honest brick gives it.
 use Rattle.std.proofs.Common.{◌≡◌, ℕ, ◌<◌, List, [], ◌∷◌, Some, length, refl, subst}
 use Rattle.std.specs.Prelude.{slice_get}
-use Rattle.fop_types.specs.declared.calls.RootCall.{RootCall}
-use Rattle.fop_types.specs.declared.calls.RootCall.TheVariants as call
+use Rattle.root_calls.specs.declared.calls.RootCall.{RootCall}
+use Rattle.root_calls.specs.declared.calls.RootCall.TheVariants as call
 use Rattle.fop_types.specs.declared.cells.Kind.TheVariants as kind
 use Rattle.xlator_law.specs.declared.winds.WindNo.{WindNo}
 use Rattle.graph_core.specs.declared.fops.Fop.{Fop}

@@ -6,9 +6,9 @@ use Rattle.std.specs.Cmp.Lexicographic.{pointwise}
 use Rattle.std.proofs.lemmas.Bool.Decides.{nat_tests}
 use Rattle.fop_types.specs.declared.answers.Answer.{Answer}
 use Rattle.fop_types.specs.declared.answers.AppError.{AppError}
-use Rattle.fop_types.specs.declared.calls.RootCall.{RootCall}
-use Rattle.fop_types.specs.declared.calls.RootCall.TheVariants as call
-use Rattle.fop_types.specs.declared.calls.RootLine.{RootLine}
+use Rattle.root_calls.specs.declared.calls.RootCall.{RootCall}
+use Rattle.root_calls.specs.declared.calls.RootCall.TheVariants as call
+use Rattle.root_calls.specs.declared.calls.RootLine.{RootLine}
 use Rattle.fop_types.specs.declared.cells.Gfid.{Gfid}
 use Rattle.fop_types.specs.declared.cells.Kind.{Kind}
 use Rattle.fop_types.specs.declared.cells.Kind.TheVariants.{File, Dir, Link}
@@ -22,14 +22,16 @@ use Rattle.fop_types.specs.declared.messages.DoneArm.{DoneArm}
 use Rattle.fop_types.specs.declared.messages.DoneArm.TheVariants as done
 use Rattle.fop_types.specs.declared.messages.Input.TheVariants.{Request}
 use Rattle.fop_types.specs.declared.messages.OutKind.TheVariants as out
-use Rattle.fop_types.specs.Flat.{root, item_named}
-use Rattle.fop_types.specs.History.{last_part, looked_up, makes, at_once, mkdir_at_once, is_done}
+use Rattle.fop_types.specs.Names.{item_named}
+use Rattle.fop_types.specs.Cells.{root}
+use Rattle.fop_types.specs.Paths.{last_part}
+use Rattle.root_calls.specs.History.{looked_up, makes, at_once, mkdir_at_once, is_done}
 use Rattle.wire_xdr.specs.Xdr.{IsHyper}
 use Rattle.wire_xdr.specs.Order.{Each}
 use Rattle.wire_xdr.specs.PartText.{IsGfid, IsItem, IsItemName, IsMode}
 use Rattle.wire_xdr.specs.MessageText.{IsReq, IsDoneArm, AreFew}
 use Rattle.wire_xdr.specs.WireText.{IsInput, IsOutKind, input_text}
-use Rattle.wire_messages.proofs.ReadBack.{output_is_spelled}
+use Rattle.wire_messages.proofs.ReadBack.{output_is_encoded}
 use Rattle.brick_store.specs.Cells.{names_cell}
 use Rattle.brick_node.specs.Runs.{AreRequests}
 use Rattle.xlator_law.specs.declared.winds.WindNo.{WindNo}
@@ -177,7 +179,7 @@ onward_fits f stage wind rep.BadFd legal = tt
 finds_fitting : (s : HubState) (bytes : List ℕ) (w : Working) (line : RootLine) (goes : Onward) (new : List WindNo) → TakesUp s bytes w line goes new → FindsFitting goes
 finds_fitting s bytes w line goes new taken =
     subst FindsFitting taken.goes_on
-    (onward_fits w.fop w.stage _ taken.replied (subst (IsOutKind true) taken.reply (output_is_spelled bytes taken.output taken.read).0.1))
+    (onward_fits w.fop w.stage _ taken.replied (subst (IsOutKind true) taken.reply (output_is_encoded bytes taken.output taken.read).0.1))
 
 -- ---- what every state keeps
 

@@ -6,18 +6,20 @@ use Rattle.std.proofs.lemmas.List.{length_push, append-nil}
 use Rattle.fop_types.specs.declared.answers.Answer.{Answer}
 use Rattle.fop_types.specs.declared.answers.Answer.TheVariants as answer
 use Rattle.fop_types.specs.declared.answers.AppError.{AppError}
-use Rattle.fop_types.specs.declared.calls.RootCall.{RootCall}
-use Rattle.fop_types.specs.declared.calls.RootCall.TheVariants as call
-use Rattle.fop_types.specs.declared.calls.RootLine.{RootLine}
+use Rattle.root_calls.specs.declared.calls.RootCall.{RootCall}
+use Rattle.root_calls.specs.declared.calls.RootCall.TheVariants as call
+use Rattle.root_calls.specs.declared.calls.RootLine.{RootLine}
 use Rattle.fop_types.specs.declared.cells.Gfid.{Gfid}
 use Rattle.fop_types.specs.declared.cells.Kind.TheVariants as kind
-use Rattle.fop_types.specs.declared.flat.FlatOp.{FlatOp}
-use Rattle.fop_types.specs.declared.flat.FlatOp.TheVariants.{Lookup, Mkdir, Stat}
+use Rattle.root_calls.specs.declared.ops.RootOp.{RootOp}
+use Rattle.root_calls.specs.declared.ops.RootOp.TheVariants.{Lookup, Mkdir, Stat}
 use Rattle.fop_types.specs.declared.history.Entry.{Entry}
 use Rattle.fop_types.specs.declared.messages.BrickReq.{BrickReq}
 use Rattle.fop_types.specs.declared.messages.Input.TheVariants.{Request}
-use Rattle.fop_types.specs.Flat.{Files, flat_answer, flat_after, empty_root, root}
-use Rattle.fop_types.specs.History.{call_numbered, drawn_by, last_part, looked_up, makes, at_once, files_after, files_at, IsAccepted, IsLegalEntry, IsLegalHistory, HasNoEntry}
+use Rattle.fop_types.specs.Cells.{root}
+use Rattle.root_calls.specs.Flat.{Files, flat_answer, flat_after, empty_root}
+use Rattle.fop_types.specs.Paths.{last_part}
+use Rattle.root_calls.specs.History.{call_numbered, drawn_by, looked_up, makes, at_once, files_after, files_at, IsAccepted, IsLegalEntry, IsLegalHistory, HasNoEntry}
 use Rattle.brick_store.specs.Cells.{Cells}
 use Rattle.brick_node.specs.Machine.{cells_of}
 use Rattle.brick_node.specs.Runs.{AreRequests}
@@ -48,10 +50,10 @@ use Rattle.hub_core.proofs.Steps.{sends, replies, enters, entry_of, sent_on}
 
 -- ---- what holds of the history and of the answered requests
 
-abbrev pub files_of : List FlatOp → Files
+abbrev pub files_of : List RootOp → Files
 files_of ops = files_after empty_root ops
 
-pub record IsHonestSoFar (calls : List RootLine) (ops : List FlatOp) (history : List Entry) (replies : List ReplyLine) (answered inputs arrivals : List (List ℕ)) : Type 0 where
+pub record IsHonestSoFar (calls : List RootLine) (ops : List RootOp) (history : List Entry) (replies : List ReplyLine) (answered inputs arrivals : List (List ℕ)) : Type 0 where
   pub requests : AreRequests answered
   pub as_many : length arrivals ≡ length answered
   pub few : HaveAtMost (files_of ops) (length history)
@@ -71,7 +73,7 @@ pub record IsIdle (s : HubState) : Type 0 where
   pub kept : IsKept (files_of s.ops) (cells_of (inputs_of s.log.sent)) (1 + s.made)
 
 -- the call at work has walked, at its places, to the directory that its fop works on
-pub record IsOnItsWay (ops : List FlatOp) (place : ℕ) (w : Working) (c : RootCall) : Type 0 where
+pub record IsOnItsWay (ops : List RootOp) (place : ℕ) (w : Working) (c : RootCall) : Type 0 where
   pub on : Gfid
   pub left : List (List ℕ)
   pub fop_is : w.fop ≡ next_fop c w.drawn place on kind.Dir left
@@ -80,7 +82,7 @@ pub record IsOnItsWay (ops : List FlatOp) (place : ℕ) (w : Working) (c : RootC
   pub free : refused (next_fop c w.drawn place on kind.Dir left) ≡ None
   pub leads : LeadsTo (looked_up c) (files_at ops) root w.places left on
 
-abbrev pub flat_op_of : Fop → FlatOp
+abbrev pub flat_op_of : Fop → RootOp
 flat_op_of (fop.Lookup parent k name) = Lookup parent name
 flat_op_of (fop.Mkdir parent k name mode drawn number) = Mkdir parent name mode drawn
 flat_op_of (fop.Stat gfid k) = Stat gfid
@@ -96,7 +98,7 @@ pub record IsPosting (files : Files) (answered arrivals : List (List ℕ)) (w : 
   pub op_place : ℕ
   pub op_done : IsDoneRequest answered arrivals op_place (change_asked w.fop)
 
-abbrev pub StageIs : List FlatOp → ℕ → (answered arrivals : List (List ℕ)) → Working → Stage → Type 0
+abbrev pub StageIs : List RootOp → ℕ → (answered arrivals : List (List ℕ)) → Working → Stage → Type 0
 StageIs ops bound answered arrivals w Naming = IsKept (files_of ops) (cells_of answered) bound
 StageIs ops bound answered arrivals w Reading = IsKept (files_of ops) (cells_of answered) bound
 StageIs ops bound answered arrivals w Marking = IsReady (files_of ops) (cells_of answered) bound w.fop
@@ -146,7 +148,7 @@ request_later inputs more outputs others place r d = record {
   answered = get_push_old outputs others d.answer_at _ d.answered;
 }
 
-pub backed_later : (ops : List FlatOp) (inputs more outputs others : List (List ℕ)) → IsBackedByBrick ops inputs outputs → IsBackedByBrick ops (inputs ++ more) (outputs ++ others)
+pub backed_later : (ops : List RootOp) (inputs more outputs others : List (List ℕ)) → IsBackedByBrick ops inputs outputs → IsBackedByBrick ops (inputs ++ more) (outputs ++ others)
 backed_later ops inputs more outputs others b k operation h =
     let old : IsBacked inputs outputs operation = b k operation h in
     record {
@@ -208,7 +210,7 @@ module _ (b : HubState) (t : Turning) (winds : List WindLine) (so : SoFar b (inp
   }
 
   -- a change is entered: the files are those after its operation
-  pub honest_enters : (places : List ℕ) (a : Answer) (op : FlatOp) →
+  pub honest_enters : (places : List ℕ) (a : Answer) (op : RootOp) →
       IsKept (flat_after (files_of b.ops) op) (cells_of (inputs_of b.log.sent)) (1 + b.made) →
       IsLegalEntry (calls_of b.calls) (b.ops ++ op ∷ []) (length b.log.history) (entry_of t.number) →
       ((k : ℕ) (entry : Entry) → slice_get b.log.history k ≡ Some entry → entry.call < t.number) →
@@ -237,7 +239,7 @@ module _ (b : HubState) (t : Turning) (winds : List WindLine) (so : SoFar b (inp
 
 -- ---- a fop is sent in a turn, or refused
 
-first_kept : (f : Fop) (ops : List FlatOp) (bound : ℕ) (answered arrivals : List (List ℕ)) (w : Working) → IsKept (files_of ops) (cells_of answered) bound → StageIs ops bound answered arrivals w (first_stage f)
+first_kept : (f : Fop) (ops : List RootOp) (bound : ℕ) (answered arrivals : List (List ℕ)) (w : Working) → IsKept (files_of ops) (cells_of answered) bound → StageIs ops bound answered arrivals w (first_stage f)
 first_kept (fop.Lookup parent k name) ops bound answered arrivals w kept = kept
 first_kept (fop.Mkdir parent k name mode drawn number) ops bound answered arrivals w kept = kept
 first_kept (fop.Stat gfid k) ops bound answered arrivals w kept = kept

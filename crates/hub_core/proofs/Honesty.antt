@@ -5,7 +5,7 @@ use Rattle.std.proofs.lemmas.Bool.Decides.{nat_tests}
 use Rattle.std.proofs.lemmas.Bool.{ltb-true}
 use Rattle.std.proofs.lemmas.List.{append-nil, take-append-le, length-append}
 use Rattle.std.proofs.Math.Seq.{take-append_seam}
-use Rattle.fop_types.specs.declared.calls.RootLine.{RootLine}
+use Rattle.root_calls.specs.declared.calls.RootLine.{RootLine}
 use Rattle.fop_types.specs.declared.messages.Output.{Output}
 use Rattle.wire_xdr.specs.WireText.{output_text}
 use Rattle.wire_messages.specs.Messages.{input_in, output_in}
@@ -13,7 +13,7 @@ use Rattle.wire_messages.specs.declared.messages.Message.TheVariants.{Whole}
 use Rattle.wire_messages.proofs.ReadBack.{output_read_back}
 use Rattle.brick_node.specs.Machine.{outputs_for, cells_of, outputs_of}
 use Rattle.brick_node.specs.Runs.{IsRequest, AreRequests, outputs_of_push, outputs_of_request, length_outputs_of_requests}
-use Rattle.brick_node.proofs.Stored.{reply_is_spelled}
+use Rattle.brick_node.proofs.Stored.{reply_is_encoded}
 use Rattle.xlator_law.specs.declared.winds.WindNo.{WindNo}
 use Rattle.hub_core.specs.declared.logs.HubEvent.{HubEvent}
 use Rattle.hub_core.specs.declared.logs.HubEvent.TheVariants.{Submit, Arrive}
@@ -141,7 +141,7 @@ counts_request s t bytes is well r o h =
     let one : output_text expected ≡ o = cc in
     record {
       output = expected;
-      read = ap output_in (sym one) ∙ output_read_back expected (reply_is_spelled inputs r.wind r.graph r.req r.legal (omega (arith, well.few, size)));
+      read = ap output_in (sym one) ∙ output_read_back expected (reply_is_encoded inputs r.wind r.graph r.req r.legal (omega (arith, well.few, size)));
       more = omega (arith, size);
     }
 

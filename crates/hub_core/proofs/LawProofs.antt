@@ -4,10 +4,10 @@ use Rattle.std.specs.Prelude.{slice_get, nat_lt}
 use Rattle.std.proofs.lemmas.List.{length_push, append-nil}
 use Rattle.fop_types.specs.declared.answers.Answer.TheVariants as answer
 use Rattle.fop_types.specs.declared.answers.AppError.{AppError}
-use Rattle.fop_types.specs.declared.calls.RootLine.{RootLine}
+use Rattle.root_calls.specs.declared.calls.RootLine.{RootLine}
 use Rattle.fop_types.specs.declared.cells.Kind.TheVariants as kind
-use Rattle.fop_types.specs.Flat.{root}
-use Rattle.fop_types.specs.History.{call_numbered, looked_up, makes, at_once, files_at, IsLegalHistory, HasNoEntry, IsLawfulAnswer}
+use Rattle.fop_types.specs.Cells.{root}
+use Rattle.root_calls.specs.History.{call_numbered, looked_up, makes, at_once, files_at, IsLegalHistory, HasNoEntry, IsLawfulAnswer}
 use Rattle.brick_node.specs.Machine.{cells_of, outputs_of}
 use Rattle.brick_node.specs.Runs.{length_outputs_of_requests}
 use Rattle.set_files.specs.Kept.{names_at, IsKept}

@@ -7,29 +7,30 @@ use Rattle.std.proofs.Math.Seq.{take-length}
 use Rattle.fop_types.specs.declared.answers.Answer.{Answer}
 use Rattle.fop_types.specs.declared.answers.Answer.TheVariants.{Done, Stat as StatOf, App, Count, Bytes, List as ListOf, Io}
 use Rattle.fop_types.specs.declared.answers.AppError.{AppError}
-use Rattle.fop_types.specs.declared.calls.RootCall.{RootCall}
+use Rattle.root_calls.specs.declared.calls.RootCall.{RootCall}
 use Rattle.fop_types.specs.declared.cells.Gfid.{Gfid}
 use Rattle.fop_types.specs.declared.cells.Kind.{Kind}
-use Rattle.fop_types.specs.declared.flat.FlatOp.{FlatOp}
-use Rattle.fop_types.specs.declared.flat.FlatOp.TheVariants.{Lookup}
+use Rattle.root_calls.specs.declared.ops.RootOp.{RootOp}
+use Rattle.root_calls.specs.declared.ops.RootOp.TheVariants.{Lookup}
 use Rattle.fop_types.specs.declared.flat.FlatAnswer.{FlatAnswer}
 use Rattle.fop_types.specs.declared.flat.FlatAnswer.TheVariants as flat
 use Rattle.fop_types.specs.declared.history.Entry.{Entry}
-use Rattle.fop_types.specs.Flat.{Files, flat_answer, flat_after, empty_root, root}
-use Rattle.fop_types.specs.History.{call_numbered, drawn_by, looked_up, last_op, at_once, files_after, files_at, IsLegalEntry, IsLegalHistory, Walk, walk, after_lookup, HasNoEntry, is_change, is_done, IsDoneAt, IsReadAt, IsAnswerAt, IsAnswered, AreBetween, IsLawfulAnswer}
-use Rattle.fop_types.specs.History.Walk.{Reached, Stopped}
+use Rattle.fop_types.specs.Cells.{root}
+use Rattle.root_calls.specs.Flat.{Files, flat_answer, flat_after, empty_root}
+use Rattle.root_calls.specs.History.{call_numbered, drawn_by, looked_up, last_op, at_once, files_after, files_at, IsLegalEntry, IsLegalHistory, Walk, walk, after_lookup, HasNoEntry, is_change, is_done, IsDoneAt, IsReadAt, IsAnswerAt, IsAnswered, AreBetween, IsLawfulAnswer}
+use Rattle.root_calls.specs.History.Walk.{Reached, Stopped}
 use Rattle.hub_core.proofs.Lists.{get_push_old, get_push_cases, get_below}
 
 -- ---- the files after operations that grow
 
-pub files_push : (files : Files) (ops : List FlatOp) (op : FlatOp) → files_after files (ops ++ op ∷ []) ≡ flat_after (files_after files ops) op
+pub files_push : (files : Files) (ops : List RootOp) (op : RootOp) → files_after files (ops ++ op ∷ []) ≡ flat_after (files_after files ops) op
 files_push files [] op = refl
 files_push files (o ∷ ops) op = files_push (flat_after files o) ops op
 
-pub files_now : (ops : List FlatOp) → files_at ops (length ops) ≡ files_after empty_root ops
+pub files_now : (ops : List RootOp) → files_at ops (length ops) ≡ files_after empty_root ops
 files_now ops = ap (files_after empty_root) (take-length ops)
 
-pub files_before : (ops : List FlatOp) (op : FlatOp) (place : ℕ) → place ≤ length ops → files_at (ops ++ op ∷ []) place ≡ files_at ops place
+pub files_before : (ops : List RootOp) (op : RootOp) (place : ℕ) → place ≤ length ops → files_at (ops ++ op ∷ []) place ≡ files_at ops place
 files_before ops op place le = ap (files_after empty_root) (take-append-le place ops (op ∷ []) le)
 
 -- ---- places
@@ -90,11 +91,11 @@ bool_later : {P Q P' Q' : Type 0} → (P → P') → (Q → Q') → (b : Bool) �
 bool_later f g true h = f h
 bool_later f g false h = g h
 
-module _ (ops : List FlatOp) (op : FlatOp) (history : List Entry) (entry : Entry) (as_many : length ops ≡ length history) (number : ℕ) (other : entry.call ≢ number) where
+module _ (ops : List RootOp) (op : RootOp) (history : List Entry) (entry : Entry) (as_many : length ops ≡ length history) (number : ℕ) (other : entry.call ≢ number) where
   none_later : HasNoEntry history number → HasNoEntry (history ++ entry ∷ []) number
   none_later none k e h = elim (get_push_cases history entry k e h) [ inl old ↦ none k e old | inr new ↦ subst (λ (x : Entry). x.call ≢ number) new.1 other ]
 
-  answer_later : (o : FlatOp) (place : ℕ) (answer : Answer) → place ≤ length ops → IsAnswerAt ops history number o place answer → IsAnswerAt (ops ++ op ∷ []) (history ++ entry ∷ []) number o place answer
+  answer_later : (o : RootOp) (place : ℕ) (answer : Answer) → place ≤ length ops → IsAnswerAt ops history number o place answer → IsAnswerAt (ops ++ op ∷ []) (history ++ entry ∷ []) number o place answer
   answer_later o place answer le h = bool_later
       (λ (d : IsDoneAt ops history number o place answer). let r : IsDoneAt (ops ++ op ∷ []) (history ++ entry ∷ []) number o place answer = record {
         from_one = d.from_one;
@@ -108,18 +109,18 @@ module _ (ops : List FlatOp) (op : FlatOp) (history : List Entry) (entry : Entry
       } in r)
       (is_change o && is_done answer) h
 
-  reached_later : (o : Gfid → FlatOp) (answer : Answer) (gfid : Gfid) (places : List ℕ) → AreAtMost places (length ops) →
+  reached_later : (o : Gfid → RootOp) (answer : Answer) (gfid : Gfid) (places : List ℕ) → AreAtMost places (length ops) →
       IsAnswered (Reached gfid places) ops history number o answer → IsAnswered (Reached gfid places) (ops ++ op ∷ []) (history ++ entry ∷ []) number o answer
   reached_later o answer gfid [] most h = h
   reached_later o answer gfid (place ∷ []) most h = answer_later (o gfid) place answer most.0 h
   reached_later o answer gfid (place ∷ next ∷ places) most h = h
 
-  stopped_later : (o : Gfid → FlatOp) (answer : Answer) (error : AppError) (places : List ℕ) →
+  stopped_later : (o : Gfid → RootOp) (answer : Answer) (error : AppError) (places : List ℕ) →
       IsAnswered (Stopped error places) ops history number o answer → IsAnswered (Stopped error places) (ops ++ op ∷ []) (history ++ entry ∷ []) number o answer
   stopped_later o answer error [] h = (h.0, none_later h.1)
   stopped_later o answer error (place ∷ places) h = h
 
-  looked_later : (o : Gfid → FlatOp) (answer : Answer) (places : List ℕ) (more more' : Gfid → Walk) →
+  looked_later : (o : Gfid → RootOp) (answer : Answer) (places : List ℕ) (more more' : Gfid → Walk) →
       ((g : Gfid) → IsAnswered (more g) ops history number o answer → IsAnswered (more' g) (ops ++ op ∷ []) (history ++ entry ∷ []) number o answer) →
       (a : FlatAnswer) → IsAnswered (after_lookup a places more) ops history number o answer → IsAnswered (after_lookup a places more') (ops ++ op ∷ []) (history ++ entry ∷ []) number o answer
   looked_later o answer places more more' each (flat.Found gfid kind) h = each gfid h
@@ -131,7 +132,7 @@ module _ (ops : List FlatOp) (op : FlatOp) (history : List Entry) (entry : Entry
   looked_later o answer places more more' each (flat.Call (ListOf items)) h = h
   looked_later o answer places more more' each (flat.Call (Io error)) h = h
 
-  answered_later : (names : List (List ℕ)) (directory : Gfid) (places : List ℕ) (o : Gfid → FlatOp) (answer : Answer) → AreAtMost places (length ops) →
+  answered_later : (names : List (List ℕ)) (directory : Gfid) (places : List ℕ) (o : Gfid → RootOp) (answer : Answer) → AreAtMost places (length ops) →
       IsAnswered (walk names (files_at ops) directory places) ops history number o answer → IsAnswered (walk names (files_at (ops ++ op ∷ [])) directory places) (ops ++ op ∷ []) (history ++ entry ∷ []) number o answer
   answered_later [] directory places o answer most h = reached_later o answer directory places most h
   answered_later (name ∷ names) directory [] o answer most h = h
@@ -145,12 +146,12 @@ module _ (ops : List FlatOp) (op : FlatOp) (history : List Entry) (entry : Entry
   lawful_later calls (Some error) c places answer most h = record { no_place = h.no_place; answered = h.answered; no_entry = none_later h.no_entry }
 
 -- a reply but for the bounds of its places
-pub record IsAnsweredCall (calls : List RootCall) (ops : List FlatOp) (history : List Entry) (number : ℕ) (places : List ℕ) (answer : Answer) : Type 0 where
+pub record IsAnsweredCall (calls : List RootCall) (ops : List RootOp) (history : List Entry) (number : ℕ) (places : List ℕ) (answer : Answer) : Type 0 where
   pub call : RootCall
   pub asked : call_numbered calls number ≡ Some call
   pub answered : IsLawfulAnswer (at_once call) calls ops history number call places answer
 
-pub answered_call_later : (calls : List RootCall) (ops : List FlatOp) (op : FlatOp) (history : List Entry) (entry : Entry) (number : ℕ) (places : List ℕ) (answer : Answer) →
+pub answered_call_later : (calls : List RootCall) (ops : List RootOp) (op : RootOp) (history : List Entry) (entry : Entry) (number : ℕ) (places : List ℕ) (answer : Answer) →
     length ops ≡ length history → entry.call ≢ number → AreAtMost places (length ops) → IsAnsweredCall calls ops history number places answer →
     IsAnsweredCall calls (ops ++ op ∷ []) (history ++ entry ∷ []) number places answer
 answered_call_later calls ops op history entry number places answer as_many other most a = record {
@@ -161,7 +162,7 @@ answered_call_later calls ops op history entry number places answer as_many othe
 
 -- ---- answers of a call whose walk is known
 
-module _ (calls : List RootCall) (ops : List FlatOp) (history : List Entry) (number : ℕ) (c : RootCall) (asked_is : call_numbered calls number ≡ Some c) (some : at_once c ≡ None) where
+module _ (calls : List RootCall) (ops : List RootOp) (history : List Entry) (number : ℕ) (c : RootCall) (asked_is : call_numbered calls number ≡ Some c) (some : at_once c ≡ None) where
   lawful : (places : List ℕ) (a : Answer) → IsAnswered (walk (looked_up c) (files_at ops) root places) ops history number (λ found. last_op c found (drawn_by calls number)) a →
       IsAnsweredCall calls ops history number places a
   lawful places a h = record { call = c; asked = asked_is; answered = subst (λ (e : Option AppError). IsLawfulAnswer e calls ops history number c places a) (sym some) h }
@@ -183,7 +184,7 @@ module _ (calls : List RootCall) (ops : List FlatOp) (history : List Entry) (num
 pub legal_start : (calls : List RootCall) → IsLegalHistory calls [] []
 legal_start calls = record { as_many = refl; distinct = λ i j e h k. absurd cc; legal = λ place e h. absurd cc }
 
-pub legal_later : (calls : List RootCall) (ops : List FlatOp) (op : FlatOp) (history : List Entry) (entry : Entry) → ((k : ℕ) (e : Entry) → slice_get history k ≡ Some e → e.call < entry.call) →
+pub legal_later : (calls : List RootCall) (ops : List RootOp) (op : RootOp) (history : List Entry) (entry : Entry) → ((k : ℕ) (e : Entry) → slice_get history k ≡ Some e → e.call < entry.call) →
     IsLegalHistory calls ops history → IsLegalEntry calls (ops ++ op ∷ []) (length history) entry → IsLegalHistory calls (ops ++ op ∷ []) (history ++ entry ∷ [])
 legal_later calls ops op history entry below legal new = record {
   as_many = omega (arith, length_push ops op, length_push history entry, legal.as_many);

@@ -3,15 +3,16 @@ use Rattle.std.proofs.Common.{◌≡◌, ℕ, ◌+◌, List, [], ◌∷◌, ◌+
 use Rattle.fop_types.specs.declared.answers.Answer.TheVariants as answer
 use Rattle.fop_types.specs.declared.answers.AppError.{AppError}
 use Rattle.fop_types.specs.declared.calls.Path.{Path}
-use Rattle.fop_types.specs.declared.calls.RootCall.{RootCall}
-use Rattle.fop_types.specs.declared.calls.RootCall.TheVariants as call
+use Rattle.root_calls.specs.declared.calls.RootCall.{RootCall}
+use Rattle.root_calls.specs.declared.calls.RootCall.TheVariants as call
 use Rattle.fop_types.specs.declared.cells.Gfid.{Gfid}
 use Rattle.fop_types.specs.declared.cells.Kind.{Kind}
 use Rattle.fop_types.specs.declared.cells.Kind.TheVariants as kind
 use Rattle.fop_types.specs.declared.flat.FlatAnswer.TheVariants as flat
-use Rattle.fop_types.specs.declared.flat.FlatOp.TheVariants.{Lookup}
-use Rattle.fop_types.specs.Flat.{Files, flat_answer, root}
-use Rattle.fop_types.specs.History.{looked_up, files_at}
+use Rattle.root_calls.specs.declared.ops.RootOp.TheVariants.{Lookup}
+use Rattle.fop_types.specs.Cells.{root}
+use Rattle.root_calls.specs.Flat.{Files, flat_answer}
+use Rattle.root_calls.specs.History.{looked_up, files_at}
 use Rattle.brick_store.specs.Cells.{Cells}
 use Rattle.brick_node.specs.Machine.{cells_of}
 use Rattle.set_files.specs.Kept.{kind_at, IsKept}

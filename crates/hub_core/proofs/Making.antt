@@ -4,18 +4,20 @@ use Rattle.std.specs.Prelude.{slice_get}
 use Rattle.fop_types.specs.declared.answers.Answer.TheVariants as answer
 use Rattle.fop_types.specs.declared.answers.AppError.{AppError}
 use Rattle.fop_types.specs.declared.calls.Path.{Path}
-use Rattle.fop_types.specs.declared.calls.RootCall.{RootCall}
-use Rattle.fop_types.specs.declared.calls.RootCall.TheVariants as call
+use Rattle.root_calls.specs.declared.calls.RootCall.{RootCall}
+use Rattle.root_calls.specs.declared.calls.RootCall.TheVariants as call
 use Rattle.fop_types.specs.declared.cells.Gfid.{Gfid}
 use Rattle.fop_types.specs.declared.cells.Kind.TheVariants as kind
 use Rattle.fop_types.specs.declared.flat.FlatAnswer.TheVariants as flat
-use Rattle.fop_types.specs.declared.flat.FlatOp.{FlatOp}
-use Rattle.fop_types.specs.declared.flat.FlatOp.TheVariants.{Mkdir}
+use Rattle.root_calls.specs.declared.ops.RootOp.{RootOp}
+use Rattle.root_calls.specs.declared.ops.RootOp.TheVariants.{Mkdir}
 use Rattle.fop_types.specs.declared.messages.BrickRep.TheVariants as rep
 use Rattle.fop_types.specs.declared.messages.BrickReq.{BrickReq}
 use Rattle.fop_types.specs.declared.messages.DoneArm.TheVariants as done
-use Rattle.fop_types.specs.Flat.{Files, flat_answer, flat_after, root}
-use Rattle.fop_types.specs.History.{drawn_by, last_part, looked_up, last_op, makes, files_at, IsAccepted}
+use Rattle.fop_types.specs.Cells.{root}
+use Rattle.root_calls.specs.Flat.{Files, flat_answer, flat_after}
+use Rattle.fop_types.specs.Paths.{last_part}
+use Rattle.root_calls.specs.History.{drawn_by, looked_up, last_op, makes, files_at, IsAccepted}
 use Rattle.brick_store.specs.Cells.{Cells, names_cell}
 use Rattle.brick_node.specs.Machine.{Served, serve_request, op_served, cells_of}
 use Rattle.set_files.specs.Kept.{IsKept}
@@ -143,7 +145,7 @@ module _ (s : HubState) (o : List ℕ) (new : List WindNo) (w : Working) (d : Is
               (done_now s o new w d (change_asked w.fop) (ap (asked w.fop) stage_is) replied);
         })
 
-    abbrev op_now : FlatOp
+    abbrev op_now : RootOp
     op_now = last_op d.work.line.call (object_of w.fop) w.drawn
 
     op_is : op_now ≡ Mkdir on name mode w.drawn
@@ -168,7 +170,7 @@ module _ (s : HubState) (o : List ℕ) (new : List WindNo) (w : Working) (d : Is
         subst (λ (x : Cells). IsKept (flat_after files (flat_op_of w.fop)) x w.drawn.lo) (sym same)
         (counts (flat_after files (flat_op_of w.fop)) cells w.drawn.lo (names_cell on ∷ []) f.kept).post_kept in
         let kept : IsKept (flat_after files op_now) cells_now (1 + s.made) =
-        subst (λ (x : FlatOp). IsKept (flat_after files x) cells_now (1 + s.made)) (ap flat_op_of fop_is ∙ sym op_is)
+        subst (λ (x : RootOp). IsKept (flat_after files x) cells_now (1 + s.made)) (ap flat_op_of fop_is ∙ sym op_is)
         (subst (IsKept (flat_after files (flat_op_of w.fop)) cells_now) d.work.low posted) in
         let accepted : IsAccepted (flat_answer (files_at (s.ops ++ op_now ∷ []) n) (Mkdir on name mode (drawn_by (calls_of s.calls) w.call))) =
         rw (before n (omega arith), now s o new w d counted) (subst (λ (d : Gfid). IsAccepted (flat_answer files (Mkdir on name mode d))) drawn_is (accepts f.accepted)) in

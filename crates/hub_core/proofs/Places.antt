@@ -7,9 +7,9 @@ use Rattle.hub_core.specs.declared.logs.SentLine.{SentLine}
 use Rattle.hub_core.specs.declared.logs.HubEvent.{HubEvent}
 use Rattle.hub_core.specs.declared.logs.HubEvent.TheVariants.{Submit, Arrive}
 use Rattle.hub_core.specs.Kept.{AreBelow}
-use Rattle.fop_types.specs.History.{AreBetween, objects_made, makes}
-use Rattle.fop_types.specs.declared.calls.RootCall.{RootCall}
-use Rattle.fop_types.specs.declared.calls.RootLine.{RootLine}
+use Rattle.root_calls.specs.History.{AreBetween, objects_made, makes}
+use Rattle.root_calls.specs.declared.calls.RootCall.{RootCall}
+use Rattle.root_calls.specs.declared.calls.RootLine.{RootLine}
 use Rattle.hub_core.specs.Journal.{places_of, calls_of, count_below, events_before, submits_of, arrivals_of, inputs_of}
 
 pub count_below_push : (bound : ℕ) (numbers : List ℕ) (n : ℕ) → bound ≤ n → count_below bound (numbers ++ n ∷ []) ≡ count_below bound numbers

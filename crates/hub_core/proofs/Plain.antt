@@ -4,9 +4,10 @@ use Rattle.fop_types.specs.declared.cells.Gfid.{Gfid}
 use Rattle.fop_types.specs.declared.contents.Item.{Item}
 use Rattle.fop_types.specs.declared.flat.FlatObject.{FlatObject}
 use Rattle.fop_types.specs.declared.flat.FlatObject.TheVariants.{File, Directory}
-use Rattle.fop_types.specs.declared.flat.FlatOp.{FlatOp}
-use Rattle.fop_types.specs.declared.flat.FlatOp.TheVariants.{Lookup, Mkdir, Stat}
-use Rattle.fop_types.specs.Flat.{Files, object_at, empty_root, root, directory_item, flat_answer, flat_after}
+use Rattle.root_calls.specs.declared.ops.RootOp.{RootOp}
+use Rattle.root_calls.specs.declared.ops.RootOp.TheVariants.{Lookup, Mkdir, Stat}
+use Rattle.fop_types.specs.Cells.{root}
+use Rattle.root_calls.specs.Flat.{Files, object_at, empty_root, directory_item, flat_answer, flat_after}
 use Rattle.set_files.proofs.Changed.{changed, either_way, with_name_if, objects_after}
 use Rattle.set_files.proofs.Starts.{object_start}
 
@@ -23,7 +24,7 @@ plain_named None item has = has
 plain_named (Some (File bytes mode attrs)) item has = has
 plain_named (Some (Directory names mode attrs removed)) item has = has
 
-pub plain_after : (files : Files) (op : FlatOp) → ArePlain files → ArePlain (flat_after files op)
+pub plain_after : (files : Files) (op : RootOp) → ArePlain files → ArePlain (flat_after files op)
 plain_after files (Lookup parent name) all = all
 plain_after files (Mkdir parent name mode drawn) all =
     either_way (flat_answer files (Mkdir parent name mode drawn)) ArePlain (changed files parent name mode drawn) files

@@ -3,7 +3,7 @@
 use Rattle.std.proofs.Common.{◌≡◌, ℕ, ◌-◌, List, Option, Some, None, Bool, true, false, cond, length, refl, sym, ◌∙◌, ap, subst}
 use Rattle.std.specs.Prelude.{slice_get, ◌==◌}
 use Rattle.std.proofs.lemmas.Bool.{eqb-true}
-use Rattle.fop_types.specs.declared.calls.RootLine.{RootLine}
+use Rattle.root_calls.specs.declared.calls.RootLine.{RootLine}
 use Rattle.fop_types.specs.declared.messages.BrickRep.{BrickRep}
 use Rattle.fop_types.specs.declared.messages.OutKind.{OutKind}
 use Rattle.fop_types.specs.declared.messages.OutKind.TheVariants as out
@@ -16,7 +16,7 @@ use Rattle.xlator_law.specs.Numbers.{wind_number}
 use Rattle.graph_core.specs.Fops.{Onward, onward as onward_of}
 use Rattle.hub_core.specs.Turns.{HubState, Working, IsReached, AreNew, start_of, submit_call, submit_winds, arrived, arrived_by, arrived_with, arrive_winds, onward_winds, after_bytes, after_message, after_output, after_reply, ignored, innermost, line_of}
 use Rattle.hub_core.specs.Turns.IsReached.{Begun, Submitted, Arrived}
-use Rattle.fop_types.specs.History.{at_once}
+use Rattle.root_calls.specs.History.{at_once}
 
 -- bytes that arrive are the reply that the call at work waits for, and it goes on
 pub record TakesUp (s : HubState) (bytes : List ℕ) (w : Working) (line : RootLine) (goes : Onward) (new : List WindNo) : Type 0 where

@@ -3,12 +3,12 @@
 use Rattle.std.proofs.Common.{◌≡◌, ℕ, ◌+◌, ◌-◌, ◌<◌, ◌≤◌, List, [], ◌∷◌, ◌++◌, Some, None, Bool, false, length, sym, ◌∙◌, ap, subst, arith}
 use Rattle.std.specs.Prelude.{if◌then◌else◌}
 use Rattle.fop_types.specs.declared.answers.Answer.{Answer}
-use Rattle.fop_types.specs.declared.calls.RootCall.{RootCall}
+use Rattle.root_calls.specs.declared.calls.RootCall.{RootCall}
 use Rattle.fop_types.specs.declared.cells.Gfid.{Gfid}
 use Rattle.fop_types.specs.declared.flat.FlatAnswer.TheVariants as flat
 use Rattle.fop_types.specs.declared.messages.BrickReq.{BrickReq}
-use Rattle.fop_types.specs.Flat.{Files}
-use Rattle.fop_types.specs.History.{call_numbered, at_once, files_at, is_done, HasNoEntry}
+use Rattle.root_calls.specs.Flat.{Files}
+use Rattle.root_calls.specs.History.{call_numbered, at_once, files_at, is_done, HasNoEntry}
 use Rattle.brick_store.specs.Cells.{Cells}
 use Rattle.brick_node.specs.Machine.{serve_request, cells_of}
 use Rattle.set_files.specs.Kept.{names_at, IsKept}

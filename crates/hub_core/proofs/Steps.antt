@@ -6,18 +6,18 @@ use Rattle.std.proofs.lemmas.List.{length-reverse}
 use Rattle.fop_types.specs.declared.answers.Answer.{Answer}
 use Rattle.fop_types.specs.declared.answers.Answer.TheVariants as answer
 use Rattle.fop_types.specs.declared.answers.AppError.{AppError}
-use Rattle.fop_types.specs.declared.calls.RootCall.{RootCall}
-use Rattle.fop_types.specs.declared.calls.RootCall.TheVariants as call
-use Rattle.fop_types.specs.declared.calls.RootLine.{RootLine}
+use Rattle.root_calls.specs.declared.calls.RootCall.{RootCall}
+use Rattle.root_calls.specs.declared.calls.RootCall.TheVariants as call
+use Rattle.root_calls.specs.declared.calls.RootLine.{RootLine}
 use Rattle.fop_types.specs.declared.cells.Gfid.{Gfid}
 use Rattle.fop_types.specs.declared.cells.Kind.{Kind}
 use Rattle.fop_types.specs.declared.cells.Kind.TheVariants.{Dir}
 use Rattle.fop_types.specs.declared.flat.FlatAnswer.TheVariants as flat
-use Rattle.fop_types.specs.declared.flat.FlatOp.{FlatOp}
+use Rattle.root_calls.specs.declared.ops.RootOp.{RootOp}
 use Rattle.fop_types.specs.declared.history.Entry.{Entry}
 use Rattle.fop_types.specs.declared.messages.Input.TheVariants.{Request}
-use Rattle.fop_types.specs.Flat.{root}
-use Rattle.fop_types.specs.History.{looked_up, at_once, is_done, last_op, makes}
+use Rattle.fop_types.specs.Cells.{root}
+use Rattle.root_calls.specs.History.{looked_up, at_once, is_done, last_op, makes}
 use Rattle.wire_xdr.specs.WireText.{input_text}
 use Rattle.xlator_law.specs.declared.winds.WindNo.{WindNo}
 use Rattle.xlator_law.specs.Numbers.{wind_number}
@@ -60,7 +60,7 @@ sends b t winds w = record b { log = record b.log { sent = b.log.sent ++ request
 abbrev pub replies : HubState → Turning → List WindLine → List ℕ → Answer → HubState
 replies b t winds places a = record b { log = record b.log { replies = b.log.replies ++ reply_line t places a ∷ []; winds = winds }; working = None }
 
-abbrev pub enters : HubState → Turning → List WindLine → List ℕ → Answer → FlatOp → HubState
+abbrev pub enters : HubState → Turning → List WindLine → List ℕ → Answer → RootOp → HubState
 enters b t winds places a op = record b {
   log = record b.log {
     replies = b.log.replies ++ reply_line t places a ∷ [];
@@ -81,7 +81,7 @@ pub data Step (b : HubState) (t : Turning) (places : List ℕ) (after : HubState
       after ≡ sends b t winds w → Step b t places after
   Replies : (winds : List WindLine) → (more : List ℕ) → (a : Answer) → PlacesFollow places (length b.log.history) more →
       after ≡ replies b t winds more a → Step b t places after
-  Enters : (winds : List WindLine) → (more : List ℕ) → (a : Answer) → (op : FlatOp) → more ≡ places ++ (length b.log.history + 1) ∷ [] →
+  Enters : (winds : List WindLine) → (more : List ℕ) → (a : Answer) → (op : RootOp) → more ≡ places ++ (length b.log.history + 1) ∷ [] →
       after ≡ enters b t winds more a op → Step b t places after
 
 -- ---- every turn is a step

@@ -2,7 +2,7 @@
 -- may still make, and only a lookup finds.
 use Rattle.std.proofs.Common.{◌≡◌, ℕ, ◌+◌, ◌≤◌, List, [], ◌∷◌, ◌++◌, Option, Some, None, true, false, length, refl, subst, arith}
 use Rattle.fop_types.specs.declared.answers.AppError.{AppError}
-use Rattle.fop_types.specs.declared.calls.RootLine.{RootLine}
+use Rattle.root_calls.specs.declared.calls.RootLine.{RootLine}
 use Rattle.fop_types.specs.declared.cells.Kind.TheVariants.{Dir}
 use Rattle.fop_types.specs.declared.contents.Content.TheVariants.{Bytes, Meta, Names}
 use Rattle.fop_types.specs.declared.contents.Item.{Item}
@@ -11,8 +11,10 @@ use Rattle.fop_types.specs.declared.messages.BrickRep.{BrickRep}
 use Rattle.fop_types.specs.declared.messages.BrickRep.TheVariants as rep
 use Rattle.fop_types.specs.declared.messages.DoneArm.{DoneArm}
 use Rattle.fop_types.specs.declared.messages.DoneArm.TheVariants as done
-use Rattle.fop_types.specs.Flat.{root, item_named, found_answer}
-use Rattle.fop_types.specs.History.{looked_up, at_once}
+use Rattle.fop_types.specs.Names.{item_named}
+use Rattle.fop_types.specs.Cells.{root}
+use Rattle.root_calls.specs.Flat.{found_answer}
+use Rattle.root_calls.specs.History.{looked_up, at_once}
 use Rattle.xlator_law.specs.declared.winds.WindNo.{WindNo}
 use Rattle.graph_core.specs.declared.fops.Fop.{Fop}
 use Rattle.graph_core.specs.declared.fops.Fop.TheVariants.{Lookup, Mkdir, Stat}

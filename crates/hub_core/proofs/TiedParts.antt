@@ -2,7 +2,7 @@
 -- entry with its reply.
 use Rattle.std.proofs.Common.{◌≡◌, ℕ, ◌+◌, ◌-◌, ◌<◌, ◌≤◌, List, [], ◌∷◌, ◌++◌, Some, true, false, length, refl, ◌∙◌, ap, subst, arith, ◌⊎◌, inl, inr}
 use Rattle.std.specs.Prelude.{slice_get, map}
-use Rattle.fop_types.specs.declared.calls.RootLine.{RootLine}
+use Rattle.root_calls.specs.declared.calls.RootLine.{RootLine}
 use Rattle.fop_types.specs.declared.history.Entry.{Entry}
 use Rattle.xlator_law.specs.declared.winds.WindNo.{WindNo}
 use Rattle.hub_core.specs.declared.logs.HubEvent.{HubEvent}

@@ -1,6 +1,6 @@
 -- The call that a session may submit.
 use Rattle.std.specs.Prelude.{ℕ, ◌==◌, Option, Some, None, slice_get, if◌then◌else◌}
-use Rattle.fop_types.specs.declared.calls.RootLine.{RootLine}
+use Rattle.root_calls.specs.declared.calls.RootLine.{RootLine}
 use Rattle.hub_core.specs.Turns.{HubState, Working}
 
 -- the next call of the script where no call is at work

@@ -2,9 +2,9 @@
 -- its winds are balanced, that its replies are lawful, and that its changes are on the brick.
 use Rattle.std.specs.Prelude.{◌≡◌, ℕ, zero, suc, ◌+◌, ◌-◌, ◌<◌, ◌≤◌, ◌==◌, nat_lt, Bool, true, false, ◌&&◌, not, List, [], ◌∷◌, Option, Some, None, length, take, slice_get, if◌then◌else◌}
 use Rattle.fop_types.specs.declared.cells.Cell.{Cell}
-use Rattle.fop_types.specs.declared.calls.RootCall.{RootCall}
-use Rattle.fop_types.specs.declared.flat.FlatOp.{FlatOp}
-use Rattle.fop_types.specs.declared.flat.FlatOp.TheVariants.{Lookup, Mkdir, Stat}
+use Rattle.root_calls.specs.declared.calls.RootCall.{RootCall}
+use Rattle.root_calls.specs.declared.ops.RootOp.{RootOp}
+use Rattle.root_calls.specs.declared.ops.RootOp.TheVariants.{Lookup, Mkdir, Stat}
 use Rattle.fop_types.specs.declared.messages.BrickReq.{BrickReq}
 use Rattle.fop_types.specs.declared.messages.BrickReq.TheVariants.{Op, Post}
 use Rattle.fop_types.specs.declared.messages.DoneArm.TheVariants.{Nothing}
@@ -14,9 +14,9 @@ use Rattle.fop_types.specs.declared.messages.OutKind.TheVariants.{Reply}
 use Rattle.fop_types.specs.declared.messages.Output.{Output}
 use Rattle.fop_types.specs.declared.store_ops.StoreOp.{StoreOp}
 use Rattle.fop_types.specs.declared.store_ops.StoreOp.TheVariants.{AddName}
-use Rattle.fop_types.specs.Flat.{directory_item}
-use Rattle.fop_types.specs.History.{IsLawfulReply}
-use Rattle.fop_types.specs.declared.calls.RootLine.{RootLine}
+use Rattle.root_calls.specs.Flat.{directory_item}
+use Rattle.root_calls.specs.History.{IsLawfulReply}
+use Rattle.root_calls.specs.declared.calls.RootLine.{RootLine}
 use Rattle.brick_store.specs.Cells.{names_cell}
 use Rattle.wire_xdr.specs.WireText.{input_text, output_text}
 use Rattle.wire_messages.specs.Messages.{output_in}
@@ -144,24 +144,24 @@ pub record WindsAreBalanced (lines : List WindLine) : Type 0 where
 
 -- ---- replies
 
-pub record IsLawfulLine (calls : List RootLine) (ops : List FlatOp) (log : Log) (reply : ReplyLine) : Type 0 where
+pub record IsLawfulLine (calls : List RootLine) (ops : List RootOp) (log : Log) (reply : ReplyLine) : Type 0 where
   pub lawful :
       IsLawfulReply (calls_of calls) ops log.history (length_at_submit log reply.call) (length_at_reply log reply.event)
       reply.call reply.places reply.answer
   pub own_line : slice_get (places_of calls) (reply.call - 1) ≡ Some (reply.session, reply.line)
 
-abbrev pub AreLawful : List RootLine → List FlatOp → Log → Type 0
+abbrev pub AreLawful : List RootLine → List RootOp → Log → Type 0
 AreLawful calls ops log = (k : ℕ) (reply : ReplyLine) → slice_get log.replies k ≡ Some reply → IsLawfulLine calls ops log reply
 
 -- ---- changes on the brick
 
 -- the op that stands for a change on the brick, and the cells that it alters
-abbrev pub store_op_of : FlatOp → Option StoreOp
+abbrev pub store_op_of : RootOp → Option StoreOp
 store_op_of (Mkdir parent name mode drawn) = Some (AddName parent (directory_item name drawn) mode (Some whole_span))
 store_op_of (Lookup parent name) = None
 store_op_of (Stat gfid) = None
 
-abbrev pub changed_cells : FlatOp → List Cell
+abbrev pub changed_cells : RootOp → List Cell
 changed_cells (Mkdir parent name mode drawn) = names_cell parent ∷ []
 changed_cells (Lookup parent name) = []
 changed_cells (Stat gfid) = []
@@ -175,7 +175,7 @@ pub record IsDoneRequest (journal outputs : List (List ℕ)) (place : ℕ) (req 
   pub answered : slice_get outputs answer_at ≡ Some (output_text (record { taken = taken; kind = Reply wind (Done Nothing) }))
 
 -- the operation's op and then its post, under one change number, are in the journal, each answered Done
-pub record IsBacked (journal outputs : List (List ℕ)) (operation : FlatOp) : Type 0 where
+pub record IsBacked (journal outputs : List (List ℕ)) (operation : RootOp) : Type 0 where
   pub op : StoreOp
   pub op_is : store_op_of operation ≡ Some op
   pub change : ℕ
@@ -185,5 +185,5 @@ pub record IsBacked (journal outputs : List (List ℕ)) (operation : FlatOp) : T
   pub post_done : IsDoneRequest journal outputs post_place (Post change (changed_cells operation) (record { 0 = 0 }))
   pub later : op_place < post_place
 
-abbrev pub IsBackedByBrick : List FlatOp → List (List ℕ) → List (List ℕ) → Type 0
-IsBackedByBrick ops journal outputs = (k : ℕ) (operation : FlatOp) → slice_get ops k ≡ Some operation → IsBacked journal outputs operation
+abbrev pub IsBackedByBrick : List RootOp → List (List ℕ) → List (List ℕ) → Type 0
+IsBackedByBrick ops journal outputs = (k : ℕ) (operation : RootOp) → slice_get ops k ≡ Some operation → IsBacked journal outputs operation

@@ -2,7 +2,7 @@
 -- the call at work.
 use Rattle.std.specs.Prelude.{◌≡◌, ℕ, ◌+◌, ◌-◌, ◌<◌, ◌≤◌, List, [], ◌∷◌, Option, Some, None, true, length, take, slice_get, if◌then◌else◌}
 use Rattle.fop_types.specs.declared.history.Entry.{Entry}
-use Rattle.fop_types.specs.History.{objects_made, drawn_by, AreBetween}
+use Rattle.root_calls.specs.History.{objects_made, drawn_by, AreBetween}
 use Rattle.hub_core.specs.declared.logs.ReplyLine.{ReplyLine}
 use Rattle.hub_core.specs.declared.logs.WindLine.{WindLine}
 use Rattle.xlator_law.specs.declared.winds.WindNo.{WindNo}

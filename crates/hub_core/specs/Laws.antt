@@ -1,8 +1,8 @@
 -- The laws of the hub, over every run of events: what honest arrivals give.
 use Rattle.std.specs.Prelude.{◌≡◌, ◌≤◌, List, None, length}
-use Rattle.fop_types.specs.History.{IsLegalHistory}
-use Rattle.fop_types.specs.declared.calls.RootLine.{RootLine}
-use Rattle.fop_types.specs.declared.flat.FlatOp.{FlatOp}
+use Rattle.root_calls.specs.History.{IsLegalHistory}
+use Rattle.root_calls.specs.declared.calls.RootLine.{RootLine}
+use Rattle.root_calls.specs.declared.ops.RootOp.{RootOp}
 use Rattle.hub_core.specs.declared.logs.Log.{Log}
 use Rattle.hub_core.specs.Journal.{FollowsScript, IsFinished, HasHonestArrivals, WindsAreOnce, WindsAreBalanced, AreLawful, IsBackedByBrick, calls_of, inputs_of, arrivals_of}
 use Rattle.hub_core.specs.Bounds.{AreFit}
@@ -10,7 +10,7 @@ use Rattle.hub_core.specs.Turns.{HubState, IsReached}
 
 -- the log follows the script; its history is legal and its replies are lawful; winds are opened and ended
 -- once at most; every entry's op and post were sent and answered Done
-pub record IsLawfulLog (calls : List RootLine) (ops : List FlatOp) (log : Log) : Type 0 where
+pub record IsLawfulLog (calls : List RootLine) (ops : List RootOp) (log : Log) : Type 0 where
   pub follows : FollowsScript calls log
   pub legal : IsLegalHistory (calls_of calls) ops log.history
   pub lawful : AreLawful calls ops log

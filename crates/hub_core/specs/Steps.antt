@@ -1,7 +1,7 @@
 -- What a submission and an arrival make of a hub. Which winds they open is the frame stack's choice.
 use Rattle.std.specs.Prelude.{◌≡◌, ◌<◌, ℕ, ◌+◌, List, Option, Some, None, length, count_by}
-use Rattle.fop_types.specs.declared.calls.RootLine.{RootLine}
-use Rattle.fop_types.specs.History.{at_once}
+use Rattle.root_calls.specs.declared.calls.RootLine.{RootLine}
+use Rattle.root_calls.specs.History.{at_once}
 use Rattle.xlator_law.specs.declared.winds.WindNo.{WindNo}
 use Rattle.hub_core.specs.declared.logs.WindLine.{WindLine}
 use Rattle.hub_core.specs.Turns.{HubState, AreNew, submit_call, submit_winds, arrived, arrive_winds, after_bytes, line_of}

@@ -3,14 +3,14 @@
 use Rattle.std.specs.Prelude.{◌≡◌, ℕ, ◌+◌, ◌-◌, ◌≤◌, ◌==◌, true, List, [], ◌∷◌, ◌++◌, map, Option, Some, None, length, drop, slice_get, if◌then◌else◌}
 use Rattle.fop_types.specs.declared.answers.AppError.{AppError}
 use Rattle.fop_types.specs.declared.answers.Answer.TheVariants as answer
-use Rattle.fop_types.specs.declared.calls.RootLine.{RootLine}
+use Rattle.root_calls.specs.declared.calls.RootLine.{RootLine}
 use Rattle.fop_types.specs.declared.cells.Kind.TheVariants.{Dir}
 use Rattle.fop_types.specs.declared.messages.BrickRep.{BrickRep}
 use Rattle.fop_types.specs.declared.messages.OutKind.{OutKind}
 use Rattle.fop_types.specs.declared.messages.OutKind.TheVariants as out
 use Rattle.fop_types.specs.declared.messages.Output.{Output}
-use Rattle.fop_types.specs.Flat.{root}
-use Rattle.fop_types.specs.History.{looked_up}
+use Rattle.fop_types.specs.Cells.{root}
+use Rattle.root_calls.specs.History.{looked_up}
 use Rattle.wire_xdr.specs.MessageText.{IsReq}
 use Rattle.wire_messages.specs.declared.messages.Message.{Message}
 use Rattle.wire_messages.specs.declared.messages.Message.TheVariants.{Whole, Wrong}

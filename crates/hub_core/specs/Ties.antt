@@ -1,7 +1,7 @@
 -- Each line of a log is tied to the event that wrote it: a request to the wind that it opened, the end of a
 -- wind to the arrival of its reply, a reply to the end that led to it, and an entry to the reply of its call.
 use Rattle.std.specs.Prelude.{◌≡◌, ℕ, ◌-◌, ◌<◌, true, false, List, Some, slice_get}
-use Rattle.fop_types.specs.declared.calls.RootLine.{RootLine}
+use Rattle.root_calls.specs.declared.calls.RootLine.{RootLine}
 use Rattle.fop_types.specs.declared.history.Entry.{Entry}
 use Rattle.fop_types.specs.declared.messages.BrickReq.{BrickReq}
 use Rattle.fop_types.specs.declared.messages.BrickRep.TheVariants.{Done}

@@ -7,20 +7,21 @@ use Rattle.fop_types.specs.declared.answers.AppError.{AppError}
 use Rattle.fop_types.specs.declared.cells.Gfid.{Gfid}
 use Rattle.fop_types.specs.declared.cells.Kind.{Kind}
 use Rattle.fop_types.specs.declared.cells.Kind.TheVariants.{Dir}
-use Rattle.fop_types.specs.declared.calls.RootCall.{RootCall}
-use Rattle.fop_types.specs.declared.calls.RootCall.TheVariants as call
-use Rattle.fop_types.specs.declared.calls.RootLine.{RootLine}
+use Rattle.root_calls.specs.declared.calls.RootCall.{RootCall}
+use Rattle.root_calls.specs.declared.calls.RootCall.TheVariants as call
+use Rattle.root_calls.specs.declared.calls.RootLine.{RootLine}
 use Rattle.fop_types.specs.declared.flat.FlatAnswer.{FlatAnswer}
 use Rattle.fop_types.specs.declared.flat.FlatAnswer.TheVariants as flat
-use Rattle.fop_types.specs.declared.flat.FlatOp.{FlatOp}
+use Rattle.root_calls.specs.declared.ops.RootOp.{RootOp}
 use Rattle.fop_types.specs.declared.messages.BrickReq.{BrickReq}
 use Rattle.fop_types.specs.declared.messages.BrickRep.{BrickRep}
 use Rattle.fop_types.specs.declared.messages.Input.TheVariants.{Request}
 use Rattle.fop_types.specs.declared.messages.OutKind.{OutKind}
 use Rattle.fop_types.specs.declared.messages.OutKind.TheVariants as out
 use Rattle.fop_types.specs.declared.messages.Output.{Output}
-use Rattle.fop_types.specs.Flat.{root}
-use Rattle.fop_types.specs.History.{last_part, last_op, looked_up, makes, at_once, is_done}
+use Rattle.fop_types.specs.Cells.{root}
+use Rattle.fop_types.specs.Paths.{last_part}
+use Rattle.root_calls.specs.History.{last_op, looked_up, makes, at_once, is_done}
 use Rattle.wire_xdr.specs.WireText.{input_text}
 use Rattle.wire_messages.specs.Messages.{output_in}
 use Rattle.wire_messages.specs.declared.messages.Message.{Message}
@@ -55,7 +56,7 @@ pub record Working : Type 0 where
 pub record HubState : Type 0 where
   pub calls : List RootLine
   pub log : Log
-  pub ops : List FlatOp
+  pub ops : List RootOp
   pub submitted : ℕ
   pub made : ℕ
   pub working : Option Working
@@ -225,7 +226,7 @@ taken_on t log w (onward.Ask stage kept) new = record {
 taken_on t log w (onward.Answer a) new = fop_answered t (with_winds log t.event t.number false w.winds) w a new
 
 -- the operations, with that of the entry that the turn adds
-abbrev pub ops_after : List FlatOp → RootLine → Working → Onward → List FlatOp
+abbrev pub ops_after : List RootOp → RootLine → Working → Onward → List RootOp
 ops_after ops line w (onward.Ask stage kept) = ops
 ops_after ops line w (onward.Answer (flat.Found gfid kind)) = ops
 ops_after ops line w (onward.Answer (flat.Call a)) = if is_done a then ops ++ last_op line.call (object_of w.fop) w.drawn ∷ [] else ops

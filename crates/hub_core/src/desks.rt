@@ -1,7 +1,7 @@
 ghost use Rattle.std.specs.Prelude.{◌≡◌, ◌<◌, ◌≤◌, ◌+◌, ◌∷◌, ◌++◌, [], length, true, None, IsSome, IfSome, OnOk, IfOk, IsErrOf, if◌then◌else◌};
 ghost use Rattle.fop_types.specs.declared.answers.Answer.{Answer};
 ghost use Rattle.fop_types.specs.declared.answers.FopAnswer.TheVariants as said;
-ghost use Rattle.fop_types.specs.History.{at_once, is_done, last_op};
+ghost use Rattle.root_calls.specs.History.{at_once, is_done, last_op};
 ghost use Rattle.wire_xdr.specs.MessageText.{IsReq};
 ghost use Rattle.wire_xdr.specs.PartText.{IsGfid};
 ghost use Rattle.frame_stack.specs.Cells.{taken};
@@ -15,10 +15,11 @@ ghost use Rattle.hub_core.specs.Turns.{with_request, with_reply, entered_if, pla
 
 use crate::logs::{Log, SentLine};
 use crate::tasks::{Task, at_once, is_done, is_io, last_op, next_fop};
-use fop_types::{Answer, BrickRep, BrickReq, FlatOp, FopAnswer, Gfid, Kind, RootLine, Seq};
+use fop_types::{Answer, BrickRep, BrickReq, FopAnswer, Gfid, Kind, Seq};
 use frame_chains::Chain;
 use frame_stack::FrameStack;
 use graph_core::{Local, Next, Path};
+use root_calls::{RootLine, RootOp};
 use std::alloc::{AllocError, Global};
 use xlator_law::{Stop, WindNo};
 
@@ -27,7 +28,7 @@ use xlator_law::{Stop, WindNo};
 #[derive(Drop)]
 pub struct Desk {
     pub log: Log,
-    pub ops: Seq<FlatOp>,
+    pub ops: Seq<RootOp>,
     pub path: Path,
     pub frames: FrameStack<Local>,
 }

@@ -10,9 +10,10 @@ ghost use Rattle.hub_core.specs.Turns.{start_of, innermost};
 use crate::desks::Desk;
 use crate::logs::{HubEvent, Log, SentLine};
 use crate::tasks::Task;
-use fop_types::{BrickRep, FlatOp, Gfid, OutKind, Output, RootLine, RootScript, Seq};
+use fop_types::{BrickRep, Gfid, OutKind, Output, Seq};
 use frame_stack::FrameStack;
 use graph_core::Path;
+use root_calls::{RootLine, RootOp, RootScript};
 use std::alloc::{AllocError, Global};
 use std::marker::Model;
 use std::mem;
@@ -299,7 +300,7 @@ impl Hub {
 
     /// The log and the operations of the history's entries, with nothing copied. The log has opened at most
     /// 4,294,967,295 winds.
-    pub fn into_log(self) -> (Log, Seq<FlatOp>)
+    pub fn into_log(self) -> (Log, Seq<RootOp>)
         ensures log { result.0 ≡ self.log }
         ensures ops { result.1 ≡ self.ops }
         ensures few { openings result.0.winds ≤ 4294967295 }

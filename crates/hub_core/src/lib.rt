@@ -33,8 +33,6 @@ mod log_lines;
 mod logs;
 mod racks;
 mod tasks;
-#[cfg(test)]
-mod tests;
 
 pub use hubs::Hub;
 pub use laws::{ended_logs_are_whole, honest_logs_are_lawful, logs_are_tied};

@@ -3,7 +3,8 @@ ghost use Rattle.hub_core.specs.Tasks.{with_lines, line_in, HaveTurns};
 ghost use Rattle.hub_core.specs.Turns.{empty_log, with_event, with_entry, with_reply};
 
 use crate::logs::{HubEvent, Log, ReplyLine, WindLine};
-use fop_types::{Answer, Entry, RootLine, Seq};
+use fop_types::{Answer, Entry, Seq};
+use root_calls::RootLine;
 use std::alloc::{AllocError, Global};
 use xlator_law::WindNo;
 

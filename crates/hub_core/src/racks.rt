@@ -1,6 +1,7 @@
 use crate::logs::Log;
 use brick_node::Brick;
-use fop_types::{FlatOp, Seq};
+use fop_types::Seq;
+use root_calls::RootOp;
 use std::alloc::Global;
 
 /// What a run leaves: its bricks, each with its journal, its outputs and its store; the log; and the
@@ -9,7 +10,7 @@ use std::alloc::Global;
 pub struct Rack {
     pub bricks: Seq<Brick>,
     pub log: Log,
-    pub ops: Seq<FlatOp>,
+    pub ops: Seq<RootOp>,
 }
 
 impl Rack {

@@ -1,12 +1,13 @@
 ghost use Rattle.std.specs.Prelude.{◌≡◌, ◌+◌, ◌<◌, ◌∷◌, ◌++◌, [], drop, slice_get, IfOk};
 ghost use Rattle.std.specs.Option.{option_copied};
-ghost use Rattle.fop_types.specs.History.{looked_up, front_parts, last_op, at_once, is_done};
+ghost use Rattle.root_calls.specs.History.{looked_up, front_parts, last_op, at_once, is_done};
 ghost use Rattle.wire_xdr.specs.PartText.{IsGfid};
 ghost use Rattle.hub_core.specs.Turns.{next_fop, last_fop, is_io};
 
-use fop_types::{Answer, AppError, FlatOp, Gfid, Kind, Path, RootCall, Seq};
+use fop_types::{Answer, AppError, Gfid, Kind, Path, Seq};
 use frame_chains::Chain;
 use graph_core::Fop;
+use root_calls::{RootCall, RootOp};
 use std::alloc::{AllocError, Global};
 
 /// The call at work: its number, the gfid that was drawn for it, the places of its lookups, the object that
@@ -135,20 +136,20 @@ pub(crate) fn last_op(
     call: &RootCall,
     on: Gfid,
     drawn: Gfid,
-) -> Result<FlatOp, AllocError>
+) -> Result<RootOp, AllocError>
     ensures { IfOk result (λ op. op ≡ last_op call.now on drawn) }
 {
     match call {
         RootCall::Mkdir { path, mode } => {
             let name = Seq::from_bytes(alloc, path.last())?;
-            Ok(FlatOp::Mkdir {
+            Ok(RootOp::Mkdir {
                 parent: on,
                 name,
                 mode: *mode,
                 drawn,
             })
         }
-        RootCall::Stat { path: _ } => Ok(FlatOp::Stat { gfid: on }),
+        RootCall::Stat { path: _ } => Ok(RootOp::Stat { gfid: on }),
     }
 }
 

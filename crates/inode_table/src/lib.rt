@@ -1,17 +1,18 @@
-//! The table of inodes of the mount: which kind each gfid in use has, and which set holds it.
+//! The table of inodes of the mount: the kind and the set of each gfid in use.
 //!
-//! A gfid is in use while an open descriptor or the file operation of an unanswered call names it. The
-//! table has one entry for each, and counts those that name it:
+//! A gfid is in use while an open descriptor names it, or a file operation of a call that has no reply
+//! yet. The table has one entry for each gfid in use, with a reference count:
 //!
 //! ```text
 //!   gfid  ->  Inode { kind, set, held }        held = descriptors and operations that name the gfid
 //! ```
 //!
-//! The graph links what a call names when the call is submitted, and releases it when the call is
-//! answered; the hub does the same for descriptors.
+//! The graph takes a reference with [`InodeTable::link`] for each gfid that a file operation names, when
+//! the operation is submitted, and gives it back with [`InodeTable::release`] when the operation is
+//! answered. The hub does the same for open descriptors. [`InodeTable::get`] is the look-up.
 //!
-//! Each call takes the time of one look-up by hash, however many gfids are in use, and only
-//! [`InodeTable::link`] takes memory.
+//! Contracts see the table as a finite map from gfid to [`Inode`]. Each call is one look-up by hash,
+//! however many gfids are in use, and only [`InodeTable::link`] allocates.
 #![tactic(auto)]
 
 mod inode;

@@ -1,5 +1,7 @@
-ghost use Rattle.std.specs.Prelude.{◌≡◌, [], Some, None, IsSome, OnOk, OnErr};
-ghost use Rattle.inode_table.specs.Inodes.{inode_of, Changes, linked, released, CanLink};
+ghost use Rattle.std.specs.Prelude.{◌≡◌, None, Some, IsSome, OnOk, OnErr};
+ghost use Rattle.std.specs.FinMap as map;
+ghost use Rattle.fop_types.specs.declared.cells.Gfid.{Gfid};
+ghost use Rattle.inode_table.specs.Inodes.{inode_at, linked, with_link, with_release, CanLink};
 
 use crate::inode::Inode;
 use fop_types::{Gfid, Kind};
@@ -7,38 +9,41 @@ use indexmap::IndexMap;
 use std::alloc::{AllocError, Global};
 use std::marker::Model;
 
-/// The gfids in use.
+/// The inodes in use, at most one of each gfid. Contracts see a finite map from gfid to [`Inode`].
 #[derive(Drop)]
 pub struct InodeTable {
     inodes: IndexMap<Gfid, Inode>,
 }
 
 impl Model for InodeTable {
-    ghost use Rattle.std.specs.Prelude.{List};
-    ghost use Rattle.fop_types.specs.declared.cells.Gfid.{Gfid};
-    ghost use Rattle.inode_table.specs.declared.inode.Inode.{Inode};
+    ghost use Rattle.std.specs.FinMap as map;
+    ghost use Rattle.inode_table.specs.Inodes.{Inodes, inodes_code};
 
-    ghost Value = { List (Gfid × Inode) };
+    ghost Value = { Inodes };
 
-    ghost view = { λ t. t.inodes.entries };
+    ghost coded = { inodes_code };
+
+    ghost view = { λ t. map.from_entries t.inodes.entries };
 }
 
 impl InodeTable {
-    /// The table with no gfid in use, which takes no memory.
+    /// An empty table, which allocates nothing.
     pub fn new(alloc: Global) -> InodeTable
-        ensures { result ≡ [] }
+        ensures empty { result ≡ map.empty }
+        ensures none { (gfid : Gfid) → inode_at result gfid ≡ None }
     {
         InodeTable {
             inodes: IndexMap::new(alloc),
         }
     }
 
-    /// Counts one more that names the gfid. The first makes the entry, with this kind and set; a later one
-    /// must name the same kind, and the entry keeps its set. At most 4,294,967,295 may name a gfid. The
-    /// table grows in the allocator that it was made with.
+    /// Takes a reference to an inode: an open descriptor or a file operation names its gfid. The first
+    /// reference makes the entry with this kind and set. A later one must name the same kind, and the
+    /// entry keeps its set. A gfid has at most 4,294,967,295 references. The table grows in the allocator
+    /// that it was made with.
     ///
     /// # Errors
-    /// Want of memory; the table is unchanged. It does not come where the gfid has an entry.
+    /// Out of memory; the table is unchanged. It comes only where the gfid has no entry.
     pub fn link(
         &mut self,
         _alloc: Global,
@@ -46,44 +51,50 @@ impl InodeTable {
         kind: Kind,
         set: u8,
     ) -> Result<(), AllocError>
-        requires { CanLink kind (inode_of self.old gfid) }
-        ensures ok { OnOk result (Changes self.old self.new gfid (Some (linked kind set (inode_of self.old gfid)))) }
+        requires { CanLink kind (inode_at self.old gfid) }
+        ensures ok { OnOk result (self.new ≡ with_link self.old gfid kind set) }
+        ensures entry { OnOk result (inode_at self.new gfid ≡ Some (linked kind set (inode_at self.old gfid))) }
         ensures err { OnErr result (self.new ≡ self.old) }
-        ensures absent { OnErr result (inode_of self.old gfid ≡ None) }
+        ensures absent { OnErr result (inode_at self.old gfid ≡ None) }
     {
         let inode = one_more(kind, set, self.get(gfid));
         self.inodes.insert(gfid, inode)?;
         Ok(())
     }
 
-    /// The entry of a gfid, `None` exactly where it is not in use.
+    /// The inode of a gfid, `None` exactly where the gfid is not in use.
     pub fn get(&self, gfid: Gfid) -> Option<Inode>
-        ensures { result ≡ inode_of self.now gfid }
+        ensures { result ≡ inode_at self.now gfid }
     {
         self.inodes.get(&gfid).copied()
     }
 
-    /// Counts one less that names the gfid, and takes its entry away with the last one. It changes nothing
-    /// where there is no entry, and takes no memory.
+    /// Gives a reference back, and removes the entry with the last one. It changes nothing where the gfid
+    /// has no entry, and allocates nothing.
     pub fn release(&mut self, gfid: Gfid)
-        ensures released { Changes self.old self.new gfid (released (inode_of self.old gfid)) }
-        ensures absent { inode_of self.old gfid ≡ None → self.new ≡ self.old }
+        ensures { self.new ≡ with_release self.old gfid }
     {
         let Some(found) = self.get(gfid) else {
             return;
         };
         if found.held <= 1 {
-            self.inodes.swap_remove(&gfid);
+            self.remove(gfid);
             return;
         }
         let held = found.held - 1;
         self.rewrite(gfid, Inode { held, ..found });
     }
 
+    fn remove(&mut self, gfid: Gfid)
+        ensures { self.new ≡ map.remove self.old gfid }
+    {
+        self.inodes.swap_remove(&gfid);
+    }
+
     // Puts another value in the place of an entry.
     fn rewrite(&mut self, gfid: Gfid, to: Inode)
-        requires { IsSome (inode_of self.old gfid) }
-        ensures { Changes self.old self.new gfid (Some to) }
+        requires { IsSome (inode_at self.old gfid) }
+        ensures { self.new ≡ map.insert self.old gfid to }
     {
         let Some(found) = self.inodes.get_mut(&gfid) else {
             return;
@@ -92,7 +103,7 @@ impl InodeTable {
     }
 }
 
-// The entry with one more that names its gfid.
+// The entry with one more reference.
 fn one_more(kind: Kind, set: u8, found: Option<Inode>) -> Inode
     requires { CanLink kind found }
     ensures { result ≡ linked kind set found }

@@ -17,12 +17,12 @@ use Rattle.io_cache.proofs.Keys.{same_page}
 abbrev same : PageKey → PageKey → Bool
 same a b = is_page a.gfid a.page b
 
--- each page stands once
-abbrev Once : List PageKey → Type 0
+-- each page is in the list once
+abbrev pub Once : List PageKey → Type 0
 Once ks = IsDistinct (λ (a b : PageKey). is_page a.gfid a.page b) ks
 
--- a page does not stand there
-abbrev Lacks : PageKey → List PageKey → Type 0
+-- a page is not in the list
+abbrev pub Lacks : PageKey → List PageKey → Type 0
 Lacks k ks = AllByRecursion (λ y. is_page k.gfid k.page y ≡ false) ks
 
 -- ---- lists of pages
@@ -43,11 +43,11 @@ lacks_itself : (k : PageKey) (ks : List PageKey) → Lacks k (others k ks)
 lacks_itself k [] = tt
 lacks_itself k (x ∷ ks) = (elim (same k x) as (λ (b : Bool). same k x ≡ b → Lacks k (cond (not b) (x ∷ others k ks) (others k ks))) [ true ↦ λ _. lacks_itself k ks | false ↦ λ t. (t, lacks_itself k ks) ]) refl
 
-once_nil : Once []
+pub once_nil : Once []
 unfolding IsDistinct
 once_nil = tt
 
-once_take : (n : ℕ) (ks : List PageKey) → Once ks → Once (take n ks)
+pub once_take : (n : ℕ) (ks : List PageKey) → Once ks → Once (take n ks)
 once_take zero ks h = once_nil
 once_take (suc n) [] h = once_nil
 once_take (suc n) (x ∷ ks) h = IsDistinct-cons _ x (take n ks) (lacks_take x n ks (IsDistinct-head _ x ks h)) (once_take n ks (IsDistinct-tail _ x ks h))
@@ -59,7 +59,7 @@ once_others k (x ∷ ks) h = elim (same k x) as (λ (b : Bool). Once (cond (not 
   | false ↦ IsDistinct-cons _ x (others k ks) (lacks_others x k ks (IsDistinct-head _ x ks h)) (once_others k ks (IsDistinct-tail _ x ks h))
 ]
 
-once_first : (k : PageKey) (ks : List PageKey) → Once ks → Once (k ∷ others k ks)
+pub once_first : (k : PageKey) (ks : List PageKey) → Once ks → Once (k ∷ others k ks)
 once_first k ks h = IsDistinct-cons _ k (others k ks) (lacks_itself k ks) (once_others k ks h)
 
 lacks_rest : (k x : PageKey) (ks : List PageKey) → same k x ≡ true → Once (x ∷ ks) → Lacks k ks
@@ -108,14 +108,14 @@ hit_first k zero ks h is = absurd cc
 hit_first k (suc m) ks h is = ap (λ (l : List PageKey). k ∷ l) (rest_of_hit k m ks h is)
 
 -- ---- the pages of a cache
-removed_is : (g : Gfid) (n : ℕ) (es : List (PageKey × List ℕ)) → Once (map (λ p. p.0) es) → map (λ p. p.0) (remove_entry (is_page g n) es) ≡ others (key g n) (map (λ p. p.0) es)
+pub removed_is : (g : Gfid) (n : ℕ) (es : List (PageKey × List ℕ)) → Once (map (λ p. p.0) es) → map (λ p. p.0) (remove_entry (is_page g n) es) ≡ others (key g n) (map (λ p. p.0) es)
 removed_is g n [] h = refl
 removed_is g n (e ∷ es) h = (elim (is_page g n e.0) as (λ (b : Bool). is_page g n e.0 ≡ b → map (λ p. p.0) (cond b es (e ∷ remove_entry (is_page g n) es)) ≡ cond (not b) (e.0 ∷ others (key g n) (map (λ p. p.0) es)) (others (key g n) (map (λ p. p.0) es))) [
   | true ↦ λ t. sym (others_none (key g n) (map (λ p. p.0) es) (lacks_rest (key g n) e.0 (map (λ p. p.0) es) t h))
   | false ↦ λ t. ap (λ (l : List PageKey). e.0 ∷ l) (removed_is g n es (IsDistinct-tail _ e.0 (map (λ p. p.0) es) h))
 ]) refl
 
-pages_taken : (n : ℕ) (es : List (PageKey × List ℕ)) → map (λ p. p.0) (take n es) ≡ take n (map (λ p. p.0) es)
+pub pages_taken : (n : ℕ) (es : List (PageKey × List ℕ)) → map (λ p. p.0) (take n es) ≡ take n (map (λ p. p.0) es)
 pages_taken zero es = refl
 pages_taken (suc n) [] = refl
 pages_taken (suc n) (e ∷ es) = ap (λ (l : List PageKey). e.0 ∷ l) (pages_taken n es)
@@ -128,7 +128,7 @@ found_if : (test : PageKey → Bool) (es : List (PageKey × List ℕ)) → looku
 found_if test [] h = refl
 found_if test (e ∷ es) h = (elim (test e.0) as (λ (b : Bool). cond b (Some e) (lookup_entry test es) ≡ None → cond b (Some e.1) (lookup test es) ≡ None) [ true ↦ λ t. absurd cc | false ↦ λ t. found_if test es t ]) h
 
-promoted_is : (g : Gfid) (n : ℕ) (es : List (PageKey × List ℕ)) → is_some (lookup (is_page g n) es) ≡ true → map (λ p. p.0) (promoted (is_page g n) es) ≡ key g n ∷ map (λ p. p.0) (remove_entry (is_page g n) es)
+pub promoted_is : (g : Gfid) (n : ℕ) (es : List (PageKey × List ℕ)) → is_some (lookup (is_page g n) es) ≡ true → map (λ p. p.0) (promoted (is_page g n) es) ≡ key g n ∷ map (λ p. p.0) (remove_entry (is_page g n) es)
 promoted_is g n es h = cases (lookup_entry (is_page g n) es) refl
   where
     cases : (o : Option (PageKey × List ℕ)) → lookup_entry (is_page g n) es ≡ o → map (λ p. p.0) (option_map_or (λ e. e ∷ remove_entry (is_page g n) es) o es) ≡ key g n ∷ map (λ p. p.0) (remove_entry (is_page g n) es)

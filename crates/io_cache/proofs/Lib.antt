@@ -4,3 +4,4 @@ pub mod Numbers
 pub mod Reading
 pub mod Dropping
 pub mod LastUsed
+pub mod MostRecent

@@ -2,11 +2,11 @@
 use Rattle.std.proofs.Common.{◌≡◌, ℕ, zero, suc, ◌+◌, ◌-◌, ◌<◌, ◌≤◌, List, [], ◌∷◌, ◌++◌, length, take, drop, refl, ap, sym, ◌∙◌, arith, append_assoc}
 use Rattle.std.specs.List.{range_with_len, flat_map}
 
-pub front : (a b : ℕ) → a < b → range_with_len a (b - a) ≡ a ∷ range_with_len (a + 1) (b - (a + 1))
-front a b h = let e : b - a ≡ suc (b - (a + 1)) = omega (arith, h) in rw e refl
+pub range_first : (a b : ℕ) → a < b → range_with_len a (b - a) ≡ a ∷ range_with_len (a + 1) (b - (a + 1))
+range_first a b h = let e : b - a ≡ suc (b - (a + 1)) = omega (arith, h) in rw e refl
 
-pub no_front : (a : ℕ) → range_with_len a (a - a) ≡ []
-no_front a = let e : a - a ≡ 0 = omega arith in rw e refl
+pub empty_range : (a : ℕ) → range_with_len a (a - a) ≡ []
+empty_range a = let e : a - a ≡ 0 = omega arith in rw e refl
 
 pub range_snoc : (a n b : ℕ) → a + n ≡ b → range_with_len a (n + 1) ≡ range_with_len a n ++ b ∷ []
 range_snoc a zero b h = let e : a ≡ b = omega (arith, h) in rw e refl
@@ -37,4 +37,4 @@ pub cut_more : (f : ℕ → List ℕ) (bytes all : List ℕ) (left skip n end : 
     → bytes ++ take left (drop skip (flat_map f (range_with_len n (end - n)))) ≡ all
     → (bytes ++ take left (drop skip (f n))) ++ take (left - length (take left (drop skip (f n)))) (drop (skip - length (f n)) (flat_map f (range_with_len (n + 1) (end - (n + 1))))) ≡ all
 cut_more f bytes all left skip n end l h =
-    append_assoc bytes (take left (drop skip (f n))) _ ∙ ap (λ (t : List ℕ). bytes ++ t) (sym (cut_append left skip (f n) (flat_map f (range_with_len (n + 1) (end - (n + 1)))))) ∙ rw (front n end l) at h
+    append_assoc bytes (take left (drop skip (f n))) _ ∙ ap (λ (t : List ℕ). bytes ++ t) (sym (cut_append left skip (f n) (flat_map f (range_with_len (n + 1) (end - (n + 1)))))) ∙ rw (range_first n end l) at h

@@ -7,7 +7,7 @@ use Rattle.fop_types.specs.declared.cells.Gfid.{Gfid}
 use Rattle.io_cache.specs.declared.page_key.PageKey.{PageKey}
 use Rattle.io_cache.specs.Pages.{ends_before, is_short, needed_of, all_at, page_at, Held, needed, answer, after_read}
 use Rattle.std.proofs.Math.Seq.{drop-nil, take-nil}
-use Rattle.io_cache.proofs.Numbers.{front, back}
+use Rattle.io_cache.proofs.Numbers.{range_first, back}
 
 module _ (ps : List (PageKey × List ℕ)) (g : Gfid) where
   pub ends_after : (n : ℕ) → ends_before ps g (n + 1) ≡ (ends_before ps g n || is_short ps g n)
@@ -33,7 +33,7 @@ module _ (ps : List (PageKey × List ℕ)) (g : Gfid) where
 
   -- a page that is not past the end is needed, and then the later ones
   pub needs_first : (n end : ℕ) → ends_before ps g n ≡ false → n < end → needed_of ps g (range_with_len n (end - n)) ≡ n ∷ needed_of ps g (range_with_len (n + 1) (end - (n + 1)))
-  needs_first n end h l = rw (front n end l) (rw h refl)
+  needs_first n end h l = rw (range_first n end l) (rw h refl)
 
   -- a short page is the last that is needed
   pub needs_last : (n end : ℕ) → ends_before ps g n ≡ false → is_short ps g n ≡ true → n < end → needed_of ps g (range_with_len n (end - n)) ≡ n ∷ []

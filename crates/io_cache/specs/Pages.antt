@@ -83,7 +83,7 @@ needed c g offset len = needed_of c.pages g (pages_of_range offset len)
 abbrev pub answer : Held → Gfid → ℕ → ℕ → Option (List ℕ)
 answer c g offset len = cond (all_at c.pages g (needed c g offset len)) (Some (take len (drop (offset % 4096) (flat_map (bytes_at c.pages g) (needed c g offset len))))) None
 
--- the pages of g with these numbers go to the front, one after the other
+-- the pages of g with these numbers become the most recently used, one after the other
 abbrev pub used : Gfid → List ℕ → List (PageKey × List ℕ) → List (PageKey × List ℕ)
 used g [] ps = ps
 used g (n ∷ ns) ps = used g ns (promoted (is_page g n) ps)

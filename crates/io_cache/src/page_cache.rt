@@ -1,6 +1,6 @@
 ghost use Rattle.std.specs.Prelude.{◌≡◌, ◌≤◌, ◌<◌, ◌^◌, length, OnOk, OnErr, IfOk};
 ghost use Rattle.io_cache.specs.Pages.{no_pages, answer, after_read, put_page, without_file, AreBelow};
-ghost use Rattle.io_cache.specs.Uses.{HoldsLastUsed};
+ghost use Rattle.io_cache.specs.Uses.{HoldsLastUsed, HoldsMostRecent};
 
 use crate::page_key::PageKey;
 use crate::pages::{PAGE, cut, drop_pages, is_past_end, needed_end, use_pages};
@@ -34,7 +34,7 @@ impl PageCache {
     /// A cache that holds no page yet, and at most `pages` later.
     ///
     /// # Errors
-    /// Want of memory.
+    /// Out of memory.
     pub fn new(alloc: Global, pages: u32) -> Result<PageCache, AllocError>
         requires { 0 < pages }
         ensures { IfOk result (λ c. c ≡ no_pages pages) }
@@ -49,7 +49,7 @@ impl PageCache {
     /// file ends in this page. The cache keeps the allocator that it was made with and grows in it.
     ///
     /// # Errors
-    /// Want of memory, and the cache is unchanged.
+    /// Out of memory, and the cache is unchanged.
     pub fn put(
         &mut self,
         _alloc: Global,
@@ -69,11 +69,11 @@ impl PageCache {
 
     /// Reads at most `len` bytes from `offset` on, each at most 65,536. `None` comes exactly where a
     /// page that the read needs is not held: it needs the pages of its range, but none after a held
-    /// page of fewer than 4,096 bytes, wherever that stands. A read that is answered uses the pages that
+    /// page of fewer than 4,096 bytes, wherever that is. A read that is answered uses the pages that
     /// it needs, by rising number; one that misses uses none. A read of no bytes needs no page.
     ///
     /// # Errors
-    /// Want of memory, and the cache is unchanged.
+    /// Out of memory, and the cache is unchanged.
     pub fn read(
         &mut self,
         alloc: Global,
@@ -124,6 +124,16 @@ impl PageCache {
     /// does nothing; it is there for its contract.
     pub fn holds_the_last_used(&self)
         ensures { HoldsLastUsed self.now }
+    {
+        self.held.len();
+    }
+
+    /// Also across drops of files the held pages are the most recently used: after any puts, hits and
+    /// drops, they are a prefix of all pages in the order of their last use since they were dropped. There
+    /// may be fewer of them than may be held, since a drop does not bring back a page that had to go
+    /// before. The call does nothing; it is there for its contract.
+    pub fn holds_the_most_recent(&self)
+        ensures { HoldsMostRecent self.now }
     {
         self.held.len();
     }

@@ -1,7 +1,7 @@
 use fop_types::Gfid;
 
 /// A page's file and its number there, counted from 0.
-#[derive(Debug, Clone, Copy, PartialEq, Eq, Hash)]
+#[derive(Clone, Copy, PartialEq, Eq, Hash)]
 pub struct PageKey {
     pub gfid: Gfid,
     pub page: u32,

@@ -93,7 +93,7 @@ fn append_part(
 /// At most `len` bytes of the pages from `first` up to `end`, without the first `skip`.
 ///
 /// # Errors
-/// Want of memory.
+/// Out of memory.
 pub(crate) fn cut(
     held: &LruCache<PageKey, Seq<u8>>,
     alloc: Global,

@@ -17,7 +17,7 @@ module _ {T : Type 0} where
   abbrev pub no_tasks : Lanes T
   no_tasks = lanes [] [] [] []
 
-  -- the task stands last in the list of its priority, and the other lists stay
+  -- the task is last in the list of its priority, and the other lists stay
   abbrev pub pushed : Priority → T → Lanes T → Lanes T
   pushed High task q = record q { high = q.high ++ task ∷ [] }
   pushed Normal task q = record q { normal = q.normal ++ task ∷ [] }

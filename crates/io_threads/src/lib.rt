@@ -10,8 +10,8 @@
 //! Within a queue tasks are taken in the order in which they came. A task of a lower priority is taken
 //! only where every higher queue is empty. A push and a pop take the same time however many tasks wait.
 //!
-//! Called by the graph, which pushes each fop that is handed down through an io-threads node, and pops
-//! one each time that it runs a task of the node.
+//! Called by the graph, which pushes each fop that goes down through an io-threads node, and pops one each
+//! time that it runs a task of the node.
 #![tactic(auto)]
 
 mod priority;

@@ -1,5 +1,5 @@
 /// How soon a task is to be taken: every waiting task of a higher priority goes first.
-#[derive(Debug, Clone, Copy, PartialEq, Eq)]
+#[derive(Clone, Copy)]
 pub enum Priority {
     /// Lookups and calls that only read what an object is.
     High,

@@ -24,7 +24,7 @@ impl<T> Model for Queues<T> {
 }
 
 impl<T> Queues<T> {
-    /// Four empty queues, which take no memory.
+    /// Four empty queues, which allocate nothing.
     pub fn new(alloc: Global) -> Queues<T>
         ensures { result ≡ no_tasks }
     {
@@ -40,7 +40,7 @@ impl<T> Queues<T> {
     /// made with and grow in it.
     ///
     /// # Errors
-    /// Want of memory hands the task back, and the queues are unchanged.
+    /// Out of memory: the task comes back, and the queues are unchanged.
     pub fn push(
         &mut self,
         _alloc: Global,
@@ -79,7 +79,7 @@ impl<T> Queues<T> {
     }
 }
 
-// Hands the task back where memory is wanting.
+// Gives the task back where it runs out of memory.
 fn put_last<T>(queue: &mut VecDeque<T>, task: T) -> Result<(), (T, AllocError)>
     ensures ok { OnOk result (queue.new.items ≡ queue.old.items ++ task ∷ []) }
     ensures err { OnErr result (queue.new.items ≡ queue.old.items) }

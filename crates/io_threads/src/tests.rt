@@ -1,20 +1,24 @@
 use super::*;
 use std::test::*;
 
+const PUSHED: [(Priority, u32); 5] = [
+    (Priority::Least, 1),
+    (Priority::Normal, 2),
+    (Priority::Low, 3),
+    (Priority::Normal, 4),
+    (Priority::High, 5),
+];
+
 // The tasks come by priority, and those of one priority by age.
 #[test]
 fn basic(rt: HostRuntime) -> Result<(), Fail> {
     let mut queues = Queues::new(rt.alloc());
-    assert_eq!(rt; queues.push(rt.alloc(), Priority::Least, 1u32), Ok(()));
-    assert_eq!(rt; queues.push(rt.alloc(), Priority::Normal, 2), Ok(()));
-    assert_eq!(rt; queues.push(rt.alloc(), Priority::Low, 3), Ok(()));
-    assert_eq!(rt; queues.push(rt.alloc(), Priority::Normal, 4), Ok(()));
-    assert_eq!(rt; queues.pop(), Some(2));
-    assert_eq!(rt; queues.push(rt.alloc(), Priority::High, 5), Ok(()));
-    assert_eq!(rt; queues.pop(), Some(5));
-    assert_eq!(rt; queues.pop(), Some(4));
-    assert_eq!(rt; queues.pop(), Some(3));
-    assert_eq!(rt; queues.pop(), Some(1));
-    assert_eq!(rt; queues.pop(), None);
+    for (priority, task) in &PUSHED {
+        assert!(rt; queues.push(rt.alloc(), *priority, *task).is_ok());
+    }
+    for task in [5, 2, 4, 3, 1] {
+        assert!(rt; queues.pop() == Some(task));
+    }
+    assert!(rt; queues.pop().is_none());
     Ok(())
 }

@@ -55,19 +55,19 @@ zeros_same xs l all = same_lists xs (replicate 64 0) (l ∙ sym (length-replicat
 pub same_zeros : (xs : List ℕ) → xs ≡ replicate 64 0 → All (λ byte. byte ≡ 0) xs
 same_zeros xs e = subst (λ (zs : List ℕ). All (λ byte. byte ≡ 0) zs) (sym e) (All-replicate (λ byte. byte ≡ 0) 64 0 refl)
 
-told : (P : Type 0) (m : ℕ) → (m ≡ 0 → P) → (P → m ≡ 0) → MatchBool (not (eqb m 0)) (P → ⊥) P
-told P zero same none = same refl
-told P (suc m) same none =
+by_mask : (P : Type 0) (m : ℕ) → (m ≡ 0 → P) → (P → m ≡ 0) → MatchBool (not (eqb m 0)) (P → ⊥) P
+by_mask P zero same none = same refl
+by_mask P (suc m) same none =
     let apart : P → ⊥ = λ p. absurd (omega (arith, none p)) in
     subst (λ (b : Bool). MatchBool (not b) (P → ⊥) P) (sym (ne_eqb (suc m) 0 (λ e. absurd (omega arith)))) apart
 
 -- what the test of two vectors says
-pub told_apart : (xs ys : List ℕ) → length xs ≡ 64 → length ys ≡ 64 → MatchBool (not (eqb (lane_mask xs ys) 0)) (xs ≢ ys) (xs ≡ ys)
-told_apart xs ys l m = told (xs ≡ ys) (lane_mask xs ys) (mask_zero xs ys l m) (zero_mask xs ys l m)
+pub apart_by_mask : (xs ys : List ℕ) → length xs ≡ 64 → length ys ≡ 64 → MatchBool (not (eqb (lane_mask xs ys) 0)) (xs ≢ ys) (xs ≡ ys)
+apart_by_mask xs ys l m = by_mask (xs ≡ ys) (lane_mask xs ys) (mask_zero xs ys l m) (zero_mask xs ys l m)
 
 -- what the test of a vector against zeros says
-pub told_zero : (xs : List ℕ) → length xs ≡ 64 → IsTrue (eqb (lane_mask xs (replicate 64 0)) 0) ↔ All (λ byte. byte ≡ 0) xs
-told_zero xs l = (
+pub zero_by_mask : (xs : List ℕ) → length xs ≡ 64 → IsTrue (eqb (lane_mask xs (replicate 64 0)) 0) ↔ All (λ byte. byte ≡ 0) xs
+zero_by_mask xs l = (
   λ t. same_zeros xs (mask_zero xs (replicate 64 0) l (length-replicate {A = ℕ} 64 0) (eqb-true _ 0 t)),
   λ z. eq-eqb _ 0 (zero_mask xs (replicate 64 0) l (length-replicate {A = ℕ} 64 0) (zeros_same xs l z)),
 )

@@ -8,8 +8,8 @@
 //! ```
 //!
 //! Self heal asks this of each block of a file before it sends the block to a sink. The scans work on
-//! vectors of 64 lanes; `plain` has the same two calls byte by byte, as the definition's program.
-//! Nothing here takes memory.
+//! vectors of 64 lanes; `plain` has the same two calls byte by byte, as a reference.
+//! Nothing here allocates.
 #![tactic(auto)]
 
 mod lanes;

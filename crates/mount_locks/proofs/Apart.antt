@@ -5,7 +5,7 @@ use Rattle.std.specs.Cmp.{nat_eq_equiv}
 use Rattle.fop_types.specs.declared.cells.Gfid.{Gfid}
 use Rattle.mount_locks.specs.declared.request.Request.{Request}
 use Rattle.mount_locks.specs.Rule.{held, waiting, is_gfid, names, shares, conflicts, any_conflicts, granted_now, without, Turned, turn, grant_in_order, released, AreApart}
-use Rattle.mount_locks.proofs.Lists.{any-append, any_same, any_or, none, and_flip, or_false, not_false, any_cond, any_left, filter-append, filter_swap, nil_end, joined}
+use Rattle.queue_index.proofs.Lists.{any-append, any_same, any_or, none, and_flip, or_false, not_false, any_cond, any_left, filter-append, filter_swap, nil_end, joined}
 
 -- ---- to conflict goes both ways
 pub eq_flip : (a b : ℕ) → (a == b) ≡ (b == a)

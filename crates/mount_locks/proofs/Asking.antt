@@ -3,22 +3,23 @@ use Rattle.std.proofs.Common.{◌≡◌, ℕ, Bool, true, false, ◌||◌, cond,
 use Rattle.std.specs.List.{list_any}
 use Rattle.std.specs.Ordering.{nat_cmp, is_eq}
 use Rattle.fop_types.specs.declared.cells.Gfid.{Gfid}
-use Rattle.queue_index.specs.Queue.{item_at, items}
+use Rattle.queue_index.specs.Queue.{item_at, items, is_at_number}
 use Rattle.mount_locks.specs.declared.request.Request.{Request}
 use Rattle.mount_locks.specs.declared.request.Held.{Held}
 use Rattle.mount_locks.specs.Rule.{held, waiting, granted_now, request_of, answer, Turned, turn, asked, extended, AreApart}
-use Rattle.mount_locks.specs.Walks.{turned_of, blocks, AreBlocked, AreUnpassed, IsSettled, is_due, is_at_number, turn_at}
-use Rattle.mount_locks.proofs.Lists.{any-append, or_false, or_true, nil_end}
+use Rattle.mount_locks.specs.Walks.{turned_of, blocks, AreBlocked, AreUnpassed, IsSettled, is_due, turn_at}
+use Rattle.queue_index.proofs.Lists.{any-append, or_false, or_true, nil_end}
 use Rattle.mount_locks.proofs.Apart.{apart_turn, apart_waiting}
-use Rattle.mount_locks.proofs.Numbered.{Rise, all_below}
+use Rattle.queue_index.proofs.Numbers.{Rise}
+use Rattle.mount_locks.proofs.Numbered.{all_below}
 use Rattle.mount_locks.proofs.Turns.{queue_here, due_at}
 use Rattle.mount_locks.proofs.Blocked.{AreBlockedBut, is_among, ends}
 use Rattle.mount_locks.proofs.Passed.{at_end, end_unpassed}
 
--- what the request makes of the queue: what is asked, and what it is told
-pub record IsIn (queue : List Request) (granted : Bool) (gs : List (ℕ × Request)) (told : Held) : Type 0 where
+-- what the request makes of the queue: what is asked, and the answer
+pub record IsIn (queue : List Request) (granted : Bool) (gs : List (ℕ × Request)) (reply : Held) : Type 0 where
   pub queue_is : items gs ≡ queue
-  pub told_is : told ≡ answer granted
+  pub answer_is : reply ≡ answer granted
   pub settled : IsSettled gs
 
 one_number : (n m : ℕ) → is_among (m ∷ []) n ≡ false → is_eq (nat_cmp n m) ≡ false
@@ -49,15 +50,15 @@ asked_is q call gs together =
     ∙ pick_last (granted_now (held q ++ []) (waiting q) r) q r (call ∷ []) []
     ∙ ap (λ (g : Bool). q ++ record r { granted = g } ∷ []) test
 
-pub asked_in : (es fs gs : List (ℕ × Request)) (n call : ℕ) (own ids : List Gfid) (together : Bool) (told : Held) → own ≡ ids → fs ≡ es ++ (n, request_of call own together) ∷ [] → Rise fs → IsSettled es → gs ≡ turn_at fs n → told ≡ answer (is_at_number (is_due fs) fs n) → AreUnpassed gs → IsIn (asked (items es) (request_of call ids together)) (granted_now (held (items es)) (waiting (items es)) (request_of call ids together)) gs told
-asked_in es fs gs n call own ids together told same added s settled turned held_is unpassed =
+pub asked_in : (es fs gs : List (ℕ × Request)) (n call : ℕ) (own ids : List Gfid) (together : Bool) (reply : Held) → own ≡ ids → fs ≡ es ++ (n, request_of call own together) ∷ [] → Rise fs → IsSettled es → gs ≡ turn_at fs n → reply ≡ answer (is_at_number (is_due fs) fs n) → AreUnpassed gs → IsIn (asked (items es) (request_of call ids together)) (granted_now (held (items es)) (waiting (items es)) (request_of call ids together)) gs reply
+asked_in es fs gs n call own ids together reply same added s settled turned held_is unpassed =
     let r = request_of call ids together in
     let is : fs ≡ es ++ (n, r) ∷ [] = added ∙ ap (λ (l : List Gfid). es ++ (n, request_of call l together) ∷ []) same in
     let t : Rise (es ++ (n, r) ∷ []) = subst (λ (l : List (ℕ × Request)). Rise l) is s in
     let end : gs ≡ turn_at (es ++ (n, r) ∷ []) n = turned ∙ ap (λ (l : List (ℕ × Request)). turn_at l n) is in
     record {
       queue_is = ap (λ (l : List (ℕ × Request)). items l) end ∙ queue_here es (n, r) [] [] t ∙ asked_is (items es) call ids together;
-      told_is = held_is ∙ ap (λ (l : List (ℕ × Request)). answer (is_at_number (is_due l) l n)) is ∙ ap answer (due_at es (n, r) [] t) ∙ ap (λ (l : List Request). answer (granted_now l (waiting (items es)) r)) (nil_end (held (items es)));
+      answer_is = held_is ∙ ap (λ (l : List (ℕ × Request)). answer (is_at_number (is_due l) l n)) is ∙ ap answer (due_at es (n, r) [] t) ∙ ap (λ (l : List Request). answer (granted_now l (waiting (items es)) r)) (nil_end (held (items es)));
       settled = subst (λ (l : List (ℕ × Request)). IsSettled l) (sym end) (settled_here es n r [] refl t (subst (λ (l : List Request). AreApart (held l)) (sym (nil_end (items es))) settled.apart) (end_blocked es n r settled.blocked) (subst (λ (l : List (ℕ × Request)). AreUnpassed l) end unpassed));
     }
 
@@ -74,14 +75,14 @@ pick_first : (g : Bool) (q : List Request) (r : Request) (c d : List ℕ) → (c
 pick_first true q r c d = refl
 pick_first false q r c d = refl
 
-pub extended_in : (es fs gs : List (ℕ × Request)) (n call : ℕ) (own ids : List Gfid) (told : Held) → own ≡ ids → fs ≡ (n, request_of call own false) ∷ es → Rise fs → IsSettled es → gs ≡ turn_at fs n → told ≡ answer (is_at_number (is_due fs) fs n) → AreUnpassed gs → IsIn (extended (items es) (request_of call ids false)) (granted_now (held (items es)) [] (request_of call ids false)) gs told
-extended_in es fs gs n call own ids told same added s settled turned held_is unpassed =
+pub extended_in : (es fs gs : List (ℕ × Request)) (n call : ℕ) (own ids : List Gfid) (reply : Held) → own ≡ ids → fs ≡ (n, request_of call own false) ∷ es → Rise fs → IsSettled es → gs ≡ turn_at fs n → reply ≡ answer (is_at_number (is_due fs) fs n) → AreUnpassed gs → IsIn (extended (items es) (request_of call ids false)) (granted_now (held (items es)) [] (request_of call ids false)) gs reply
+extended_in es fs gs n call own ids reply same added s settled turned held_is unpassed =
     let r = request_of call ids false in
     let is : fs ≡ (n, r) ∷ es = added ∙ ap (λ (l : List Gfid). (n, request_of call l false) ∷ es) same in
     let t : Rise ((n, r) ∷ es) = subst (λ (l : List (ℕ × Request)). Rise l) is s in
     let end : gs ≡ turn_at ((n, r) ∷ es) n = turned ∙ ap (λ (l : List (ℕ × Request)). turn_at l n) is in
     record {
       queue_is = ap (λ (l : List (ℕ × Request)). items l) end ∙ queue_here [] (n, r) es [] t ∙ pick_first (granted_now (held (items es)) [] r) (items es) r (call ∷ []) [];
-      told_is = held_is ∙ ap (λ (l : List (ℕ × Request)). answer (is_at_number (is_due l) l n)) is ∙ ap answer (due_at [] (n, r) es t);
+      answer_is = held_is ∙ ap (λ (l : List (ℕ × Request)). answer (is_at_number (is_due l) l n)) is ∙ ap answer (due_at [] (n, r) es t);
       settled = subst (λ (l : List (ℕ × Request)). IsSettled l) (sym end) (settled_here [] n r es refl t settled.apart (front_blocked es n r settled.blocked) (subst (λ (l : List (ℕ × Request)). AreUnpassed l) end unpassed));
     }

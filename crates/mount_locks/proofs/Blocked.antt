@@ -8,9 +8,9 @@ use Rattle.mount_locks.specs.declared.request.Request.{Request}
 use Rattle.mount_locks.specs.Keys.{marked}
 use Rattle.mount_locks.specs.Rule.{conflicts}
 use Rattle.mount_locks.specs.Walks.{blocks, is_blocked, AreBlocked, is_due, turn_of, turn_at, call_of, call_at, with_call, turns, calls_of}
-use Rattle.mount_locks.proofs.Lists.{decided}
+use Rattle.queue_index.proofs.Lists.{decided}
 use Rattle.mount_locks.proofs.Apart.{eq_flip}
-use Rattle.mount_locks.proofs.Numbered.{number_is}
+use Rattle.queue_index.proofs.Numbers.{number_is}
 
 -- each request that waits is blocked, but those of some numbers
 abbrev pub AreBlockedBut : (ℕ → Bool) → List (ℕ × Request) → Type 0

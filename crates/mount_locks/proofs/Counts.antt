@@ -2,13 +2,13 @@
 use Rattle.std.proofs.Common.{◌≡◌, ℕ, ◌+◌, ◌<◌, ◌≤◌, suc, Bool, true, false, not, cond, List, [], ◌∷◌, ◌++◌, Some, refl, sym, ap, ◌∙◌, arith, subst, length}
 use Rattle.std.specs.List.{AllByRecursion}
 use Rattle.std.specs.Ordering.{nat_cmp, is_eq}
-use Rattle.queue_index.specs.Queue.{item_at, items, without, changed_at}
+use Rattle.queue_index.specs.Queue.{item_at, items, without, changed_at, passes, is_at_number}
 use Rattle.queue_index.proofs.Entries.{at_is}
 use Rattle.mount_locks.specs.declared.request.Request.{Request}
 use Rattle.mount_locks.specs.Keys.{marked}
 use Rattle.mount_locks.specs.Rule.{waiting}
-use Rattle.mount_locks.specs.Walks.{passes, is_at_number}
-use Rattle.mount_locks.proofs.Numbered.{Rise, number_is, head_first, tail_rises, changed_none, without_none}
+use Rattle.queue_index.proofs.Numbers.{Rise, number_is, head_first, tail_rises}
+use Rattle.mount_locks.proofs.Numbered.{changed_none, without_none}
 
 more : (b : Bool) (x : Request) (k : ℕ) (us vs : List Request) → length us ≡ length vs + k → length (cond b (x ∷ us) us) ≡ length (cond b (x ∷ vs) vs) + k
 more true x k us vs i = omega (arith, i)

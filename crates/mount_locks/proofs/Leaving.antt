@@ -5,35 +5,22 @@ use Rattle.std.specs.Ordering.{nat_cmp, is_eq}
 use Rattle.std.specs.BTreeSet as sorted
 use Rattle.std.specs.BTreeSet.{BTreeSet}
 use Rattle.queue_index.specs.declared.key.Key.{Key}
-use Rattle.queue_index.specs.Queue.{item_at, items, numbers, touches, touching}
+use Rattle.queue_index.specs.Queue.{item_at, items, numbers, touches, touching, passes, is_at_number}
 use Rattle.queue_index.proofs.Entries.{founds, found_in}
 use Rattle.mount_locks.specs.declared.request.Request.{Request}
 use Rattle.mount_locks.specs.Keys.{call_key, keys_of}
 use Rattle.mount_locks.specs.Rule.{held, waiting, without, Turned, grant_in_order, released, AreApart}
-use Rattle.mount_locks.specs.Walks.{turned_of, passes, is_at_number, meets, blocks, AreBlocked, AreUnpassed, IsSettled, turns, calls_of, meets_number, meets_at, is_rival}
-use Rattle.mount_locks.proofs.Lists.{any_rest, none, or_false, filter_map_is, all_filter, all_pass}
+use Rattle.mount_locks.specs.Walks.{turned_of, blocks, AreBlocked, AreUnpassed, IsSettled, turns, calls_of}
+use Rattle.queue_index.specs.Rivals.{is_rival, conflicts as by_keys}
+use Rattle.queue_index.proofs.Lists.{any_rest, none, or_false, filter_map_is, all_filter, all_pass}
 use Rattle.mount_locks.proofs.Apart.{apart_fewer, apart_released}
-use Rattle.mount_locks.proofs.Touches.{touches_call, no_conflict}
-use Rattle.mount_locks.proofs.Numbered.{Rise, was_there, filter_numbers, number_in, fewer_rise, set_is}
+use Rattle.mount_locks.proofs.Touches.{touches_call, no_conflict, keys_meet}
+use Rattle.queue_index.proofs.Numbers.{Rise, was_there, number_in, fewer_rise, set_is}
+use Rattle.mount_locks.proofs.Numbered.{filter_numbers}
 use Rattle.mount_locks.proofs.Counts.{all_granted}
 use Rattle.mount_locks.proofs.Turns.{walked}
 use Rattle.mount_locks.proofs.Blocked.{AreBlockedBut, skip, ends}
 use Rattle.mount_locks.proofs.Passed.{left_unpassed}
-
--- ---- the rivals that are found
-meets_all : (q : ℕ) (p : ℕ × Request → Bool) (es fs : List (ℕ × Request)) → AllByRecursion (λ e. item_at e.0 es ≡ Some e.1) fs → list_any (meets_at es q) (numbers (filter p fs)) ≡ list_any (λ r. passes (λ _. meets r.gfids r.shared) q (item_at q es)) (items (filter p fs))
-meets_all q p es [] h = refl
-meets_all q p es (e ∷ fs) h = elim (p e) as (λ (b : Bool). list_any (meets_at es q) (numbers (cond b (e ∷ filter p fs) (filter p fs))) ≡ list_any (λ r. passes (λ _. meets r.gfids r.shared) q (item_at q es)) (items (cond b (e ∷ filter p fs) (filter p fs)))) [
-  | true ↦ ap (λ (o : Option Request). meets_number es q o || list_any (meets_at es q) (numbers (filter p fs))) h.0 ∙ ap (λ (b : Bool). passes (λ _. meets e.1.gfids e.1.shared) q (item_at q es) || b) (meets_all q p es fs h.1)
-  | false ↦ meets_all q p es fs h.1
-]
-
-through : (q : ℕ) (rs : List Request) (o : Option Request) → list_any (λ r. passes (λ _. meets r.gfids r.shared) q o) rs ≡ passes (λ _ s. list_any (λ r. meets r.gfids r.shared s) rs) q o
-through q rs None = none rs
-through q rs (Some s) = refl
-
-pub rivals_are : (k : Key) (es : List (ℕ × Request)) (ns : List ℕ) (q : ℕ) (b : Bool) → Rise es → ns ≡ numbers (touching keys_of k es) → b ≡ list_any (meets_at es q) ns → b ≡ is_at_number (λ _. is_rival k es) es q
-rivals_are k es ns q b s all is = is ∙ ap (list_any (meets_at es q)) all ∙ meets_all q (λ e. touches keys_of k e.1) es es (founds es s) ∙ through q (items (touching keys_of k es)) (item_at q es)
 
 -- ---- who stays
 abbrev pub stays : Key → ℕ × Request → Bool
@@ -52,16 +39,16 @@ passed : (t : Request → Bool) (es : List (ℕ × Request)) (n : ℕ) (r : Requ
 passed t es n r is = found_in (λ m x. t x ≡ true) n r (filter (λ e. t e.1) es) (all_pass (λ (e : ℕ × Request). t e.1) es) is
 
 -- ---- who is blocked still
-rival_none : (n : ℕ) (r : Request) (es : List (ℕ × Request)) → list_any (λ x. meets x.gfids x.shared r) (items es) ≡ false → list_any (blocks n r) es ≡ false
+rival_none : (n : ℕ) (r : Request) (es : List (ℕ × Request)) → list_any (λ x. by_keys keys_of x r) (items es) ≡ false → list_any (blocks n r) es ≡ false
 rival_none n r [] h = refl
 rival_none n r (e ∷ es) h =
-    let two = or_false (meets e.1.gfids e.1.shared r) (list_any (λ x. meets x.gfids x.shared r) (items es)) h in
-    ap (λ (b : Bool). (b && (nat_lt e.0 n || e.1.granted)) || list_any (blocks n r) es) (no_conflict e.1 r two.0) ∙ rival_none n r es two.1
+    let two = or_false (by_keys keys_of e.1 r) (list_any (λ x. by_keys keys_of x r) (items es)) h in
+    ap (λ (b : Bool). (b && (nat_lt e.0 n || e.1.granted)) || list_any (blocks n r) es) (no_conflict e.1 r (sym (keys_meet e.1 r) ∙ two.0)) ∙ rival_none n r es two.1
 
-left_blocked : (k : Key) (es : List (ℕ × Request)) → Rise es → AreBlocked es → AreBlockedBut (is_at_number (λ _. is_rival k es) es) (filter (stays k) es)
+left_blocked : (k : Key) (es : List (ℕ × Request)) → Rise es → AreBlocked es → AreBlockedBut (is_at_number (λ _. is_rival keys_of k es) es) (filter (stays k) es)
 left_blocked k es s blocked = λ n r is waits out.
     let back = was_there (stays k) es n r s is in
-    let apart : is_rival k es r ≡ false = sym (ap (λ (o : Option Request). passes (λ _. is_rival k es) n o) back) ∙ out in
+    let apart : is_rival keys_of k es r ≡ false = sym (ap (λ (o : Option Request). passes (λ _. is_rival keys_of k es) n o) back) ∙ out in
     any_rest (blocks n r) (λ e. touches keys_of k e.1) es (blocked n r back waits) (rival_none n r (touching keys_of k es) apart)
 
 -- a number that is gone has no turn
@@ -81,20 +68,20 @@ turned_by es fs ns ms ks a b =
     ap (λ (l : List (ℕ × Request)). turned_of (items l) (calls_of fs ms)) (sym a.0 ∙ b.0)
     ∙ ap (λ (c : List ℕ). turned_of (items (turns fs ks)) c) (sym a.1 ∙ b.1)
 
-left_is : (call : ℕ) (k : Key) (es : List (ℕ × Request)) (ks : List ℕ) → k ≡ call_key call → Rise es → AreBlocked es → ks ≡ numbers (filter (λ e. is_rival k es e.1) es) → IsLeft call es (filter (stays k) es) ks
+left_is : (call : ℕ) (k : Key) (es : List (ℕ × Request)) (ks : List ℕ) → k ≡ call_key call → Rise es → AreBlocked es → ks ≡ numbers (filter (λ e. is_rival keys_of k es e.1) es) → IsLeft call es (filter (stays k) es) ks
 left_is call k es ks key s blocked found =
     let fs = filter (stays k) es in
     let rest = left_blocked k es s blocked in
     let one = skip (numbers es) (is_at_number (λ _ r. not (touches keys_of k r)) es) fs (gone_idle k es s) in
     let all : filter (is_at_number (λ _ r. not (touches keys_of k r)) es) (numbers es) ≡ numbers fs = filter_numbers (λ _ r. not (touches keys_of k r)) es es (founds es s) in
-    let two = skip (numbers es) (is_at_number (λ _. is_rival k es) es) fs rest in
-    let some : filter (is_at_number (λ _. is_rival k es) es) (numbers es) ≡ ks = filter_numbers (λ _. is_rival k es) es es (founds es s) ∙ sym found in
+    let two = skip (numbers es) (is_at_number (λ _. is_rival keys_of k es) es) fs rest in
+    let some : filter (is_at_number (λ _. is_rival keys_of k es) es) (numbers es) ≡ ks = filter_numbers (λ _. is_rival keys_of k es) es es (founds es s) ∙ sym found in
     let to_all = subst (λ (l : List ℕ). (turns fs (numbers es) ≡ turns fs l) × (calls_of fs (numbers es) ≡ calls_of fs l)) all one in
     let to_some = subst (λ (l : List ℕ). (turns fs (numbers es) ≡ turns fs l) × (calls_of fs (numbers es) ≡ calls_of fs l)) some two in
     let order : released call (items es) ≡ turned_of (items (turns fs (numbers fs))) (calls_of fs (numbers fs)) = ap (λ (q : List Request). grant_in_order (turned_of [] []) q) (sym (without_is call k es fs key refl)) ∙ walked fs [] [] (fewer_rise (stays k) es s) in
     record {
       turned = sym (order ∙ turned_by es fs (numbers es) (numbers fs) ks to_all to_some);
-      blocked = ends ks fs (λ n r is waits out. rest n r is waits (sym (number_in (λ e. is_rival k es e.1) n es s) ∙ ap (list_any (λ m. is_eq (nat_cmp n m))) (sym found) ∙ out));
+      blocked = ends ks fs (λ n r is waits out. rest n r is waits (sym (number_in (λ e. is_rival keys_of k es e.1) n es s) ∙ ap (list_any (λ m. is_eq (nat_cmp n m))) (sym found) ∙ out));
     }
 
 pub record IsReleased (call : ℕ) (es gs : List (ℕ × Request)) (calls : List ℕ) : Type 0 where
@@ -102,15 +89,15 @@ pub record IsReleased (call : ℕ) (es gs : List (ℕ × Request)) (calls : List
   pub calls_are : calls ≡ (released call (items es)).calls
   pub settled : IsSettled gs
 
-pub released_is : (call : ℕ) (k l : Key) (es seen fs gs : List (ℕ × Request)) (found : BTreeSet ℕ) (calls : List ℕ) → k ≡ call_key call → l ≡ call_key call → Rise es → IsSettled es → seen ≡ es → ((q : ℕ) → sorted.contains nat_cmp found q ≡ is_at_number (λ _. is_rival k seen) seen q) → sorted.IsOrdered nat_cmp found → fs ≡ filter (stays l) es → gs ≡ turns fs found.keys → calls ≡ calls_of fs found.keys → AreUnpassed gs → IsReleased call es gs calls
-released_is call k l es seen fs gs found calls key again s settled same_seen has rise left turned called unpassed =
-    let out = left_is call k es found.keys key s settled.blocked (set_is (λ e. is_rival k es e.1) found es s rise (λ q. has q ∙ ap (λ (l : List (ℕ × Request)). is_at_number (λ _. is_rival k l) l q) same_seen)) in
+pub released_is : (call : ℕ) (k l : Key) (es seen fs gs : List (ℕ × Request)) (found calls : List ℕ) → k ≡ call_key call → l ≡ call_key call → Rise es → IsSettled es → seen ≡ es → found ≡ numbers (filter (λ e. is_rival keys_of k seen e.1) seen) → fs ≡ filter (stays l) es → gs ≡ turns fs found → calls ≡ calls_of fs found → AreUnpassed gs → IsReleased call es gs calls
+released_is call k l es seen fs gs found calls key again s settled same_seen has left turned called unpassed =
+    let out = left_is call k es found key s settled.blocked (has ∙ ap (λ (l : List (ℕ × Request)). numbers (filter (λ e. is_rival keys_of k l e.1) l)) same_seen) in
     let same : fs ≡ filter (stays k) es = left ∙ ap (λ (j : Key). filter (stays j) es) (again ∙ sym key) in
-    let queue_is : gs ≡ turns (filter (stays k) es) found.keys = turned ∙ ap (λ (f : List (ℕ × Request)). turns f found.keys) same in
+    let queue_is : gs ≡ turns (filter (stays k) es) found = turned ∙ ap (λ (f : List (ℕ × Request)). turns f found) same in
     let queue_items : items gs ≡ (released call (items es)).queue = ap (λ (f : List (ℕ × Request)). items f) queue_is ∙ ap (λ (t : Turned). t.queue) out.turned in
     record {
       queue = queue_items;
-      calls_are = called ∙ ap (λ (f : List (ℕ × Request)). calls_of f found.keys) same ∙ ap (λ (t : Turned). t.calls) out.turned;
+      calls_are = called ∙ ap (λ (f : List (ℕ × Request)). calls_of f found) same ∙ ap (λ (t : Turned). t.calls) out.turned;
       settled = record {
         apart = subst (λ (q : List Request). AreApart (held q)) (sym queue_items) (apart_released call (items es) settled.apart);
         blocked = subst (λ (f : List (ℕ × Request)). AreBlocked f) (sym queue_is) out.blocked;

@@ -1,4 +1,3 @@
-pub mod Lists
 pub mod Apart
 pub mod Touches
 pub mod Numbered
@@ -9,3 +8,5 @@ pub mod Passed
 pub mod Rests
 pub mod Leaving
 pub mod Asking
+pub mod Waiters
+pub mod Once

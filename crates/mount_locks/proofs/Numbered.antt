@@ -11,23 +11,13 @@ use Rattle.std.specs.Cmp.{nat_cmp_total}
 use Rattle.std.proofs.lemmas.Map.Keys.{sorted_head, sorted_tail}
 use Rattle.std.proofs.lemmas.Map.Lookups.{btree_set_from_contains, exact_unsigned}
 use Rattle.queue_index.specs.declared.key.Key.{Key}
-use Rattle.queue_index.specs.Queue.{item_at, numbers, without, changed_at, touches, touching_from}
+use Rattle.queue_index.specs.Queue.{item_at, numbers, without, changed_at, touches, touching_from, passes, is_at_number}
 use Rattle.queue_index.proofs.Entries.{founds, each, found_in, at_is}
 use Rattle.queue_index.proofs.Touching.{numbers_start}
+use Rattle.queue_index.proofs.Numbers.{Rise, head_first, tail_rises, number_in}
 use Rattle.mount_locks.specs.declared.request.Request.{Request}
 use Rattle.mount_locks.specs.Keys.{keys_of, marked}
-use Rattle.mount_locks.specs.Walks.{passes, is_at_number}
-use Rattle.mount_locks.proofs.Lists.{all_middle, all_filter, filter_filter, filter_members, fewer}
-
--- the numbers rise
-abbrev pub Rise : List (ℕ × Request) → Type 0
-Rise es = IsStrictlySortedBy nat_cmp (keys_in es)
-
-less_is : (a b : ℕ) → nat_cmp a b ≡ Less → a < b
-less_is a b h = grind (arith, h)
-
-pub number_is : (a b : ℕ) → is_eq (nat_cmp a b) ≡ true → a ≡ b
-number_is a b h = grind (arith, h)
+use Rattle.queue_index.proofs.Lists.{all_middle, all_filter, filter_filter, filter_members, fewer}
 
 pub same_number : (a b : ℕ) → (a == b) ≡ true → a ≡ b
 same_number a b h = grind (arith, h)
@@ -45,16 +35,6 @@ pub below_apart : (n m : ℕ) → m < n → (n == m) ≡ false
 below_apart n m h = grind (arith, h)
 
 -- ---- what stands before an entry, and after it
-pub keys_after : (n : ℕ) (es : List (ℕ × Request)) → AllByRecursion (λ y. nat_cmp n y ≡ Less) (keys_in es) → AllByRecursion (λ e. n < e.0) es
-keys_after n [] h = tt
-keys_after n (e ∷ es) h = (less_is n e.0 h.0, keys_after n es h.1)
-
-pub head_first : (e : ℕ × Request) (es : List (ℕ × Request)) → Rise (e ∷ es) → AllByRecursion (λ d. e.0 < d.0) es
-head_first e es s = keys_after e.0 es (sorted_head nat_cmp e.0 (keys_in es) s)
-
-pub tail_rises : (e : ℕ × Request) (es : List (ℕ × Request)) → Rise (e ∷ es) → Rise es
-tail_rises e es s = sorted_tail nat_cmp e.0 (keys_in es) s
-
 pub all_below : (pre : List (ℕ × Request)) (e : ℕ × Request) (post : List (ℕ × Request)) → Rise (pre ++ e ∷ post) → AllByRecursion (λ d. d.0 < e.0) pre
 all_below [] e post s = tt
 all_below (d ∷ pre) e post s = (all_middle (λ (x : ℕ × Request). d.0 < x.0) pre e post (head_first d (pre ++ e ∷ post) s), all_below pre e post (tail_rises d (pre ++ e ∷ post) s))
@@ -81,13 +61,6 @@ keys_middle [] post n r s = refl
 keys_middle (e ∷ pre) post n r s = ap (λ (l : List ℕ). e.0 ∷ l) (keys_middle pre post n r s)
 
 -- ---- the numbers of entries that pass
-pub any_numbers : (p : ℕ → Request → Bool) (q : ℕ × Request → Bool) (es fs : List (ℕ × Request)) → AllByRecursion (λ e. item_at e.0 es ≡ Some e.1) fs → list_any (is_at_number p es) (numbers (filter q fs)) ≡ list_any (λ e. q e && p e.0 e.1) fs
-any_numbers p q es [] h = refl
-any_numbers p q es (e ∷ fs) h = elim (q e) as (λ (b : Bool). list_any (is_at_number p es) (numbers (cond b (e ∷ filter q fs) (filter q fs))) ≡ ((b && p e.0 e.1) || list_any (λ e. q e && p e.0 e.1) fs)) [
-  | true ↦ ap (λ (o : Option Request). passes p e.0 o || list_any (is_at_number p es) (numbers (filter q fs))) h.0 ∙ ap (λ (b : Bool). p e.0 e.1 || b) (any_numbers p q es fs h.1)
-  | false ↦ any_numbers p q es fs h.1
-]
-
 first_number : (b : Bool) (e : ℕ × Request) (l : List (ℕ × Request)) → cond b (e.0 ∷ numbers l) (numbers l) ≡ numbers (cond b (e ∷ l) l)
 first_number true e l = refl
 first_number false e l = refl
@@ -100,58 +73,6 @@ filter_numbers p es (e ∷ fs) h =
     ∙ first_number (p e.0 e.1) e (filter (λ e. p e.0 e.1) fs)
 
 -- ---- whether a number is among them
-low_apart : (q n : ℕ) → q < n → is_eq (nat_cmp q n) ≡ false
-low_apart q n h = grind (arith, h)
-
-none_above : (p : ℕ × Request → Bool) (q : ℕ) (es : List (ℕ × Request)) → AllByRecursion (λ e. q < e.0) es → list_any (λ n. is_eq (nat_cmp q n)) (numbers (filter p es)) ≡ false
-none_above p q [] h = refl
-none_above p q (e ∷ es) h = elim (p e) as (λ (b : Bool). list_any (λ n. is_eq (nat_cmp q n)) (numbers (cond b (e ∷ filter p es) (filter p es))) ≡ false) [
-  | true ↦ ap (λ (b : Bool). b || list_any (λ n. is_eq (nat_cmp q n)) (numbers (filter p es))) (low_apart q e.0 h.0) ∙ none_above p q es h.1
-  | false ↦ none_above p q es h.1
-]
-
-pub number_in : (p : ℕ × Request → Bool) (q : ℕ) (es : List (ℕ × Request)) → Rise es → list_any (λ n. is_eq (nat_cmp q n)) (numbers (filter p es)) ≡ is_at_number (λ n r. p (n, r)) es q
-number_in p q [] s = refl
-number_in p q (e ∷ es) s = at_one (is_eq (nat_cmp q e.0)) refl (p e) refl (number_in p q es (tail_rises e es s))
-  where
-    at_one : (b : Bool) → is_eq (nat_cmp q e.0) ≡ b → (c : Bool) → p e ≡ c → list_any (λ n. is_eq (nat_cmp q n)) (numbers (filter p es)) ≡ passes (λ n r. p (n, r)) q (item_at q es) → list_any (λ n. is_eq (nat_cmp q n)) (numbers (cond (p e) (e ∷ filter p es) (filter p es))) ≡ passes (λ n r. p (n, r)) q (cond (is_eq (nat_cmp q e.0)) (Some e.1) (item_at q es))
-    at_one true t true u on =
-        ap (λ (b : Bool). list_any (λ n. is_eq (nat_cmp q n)) (numbers (cond b (e ∷ filter p es) (filter p es)))) u
-        ∙ ap (λ (b : Bool). b || list_any (λ n. is_eq (nat_cmp q n)) (numbers (filter p es))) t
-        ∙ sym (ap (λ (n : ℕ). p (n, e.1)) (number_is q e.0 t) ∙ u)
-        ∙ ap (λ (b : Bool). passes (λ n r. p (n, r)) q (cond b (Some e.1) (item_at q es))) (sym t)
-    at_one true t false u on =
-        ap (λ (b : Bool). list_any (λ n. is_eq (nat_cmp q n)) (numbers (cond b (e ∷ filter p es) (filter p es)))) u
-        ∙ none_above p q es (subst (λ (n : ℕ). AllByRecursion (λ d. n < d.0) es) (sym (number_is q e.0 t)) (head_first e es s))
-        ∙ sym (ap (λ (n : ℕ). p (n, e.1)) (number_is q e.0 t) ∙ u)
-        ∙ ap (λ (b : Bool). passes (λ n r. p (n, r)) q (cond b (Some e.1) (item_at q es))) (sym t)
-    at_one false t true u on =
-        ap (λ (b : Bool). list_any (λ n. is_eq (nat_cmp q n)) (numbers (cond b (e ∷ filter p es) (filter p es)))) u
-        ∙ ap (λ (b : Bool). b || list_any (λ n. is_eq (nat_cmp q n)) (numbers (filter p es))) t
-        ∙ on
-        ∙ ap (λ (b : Bool). passes (λ n r. p (n, r)) q (cond b (Some e.1) (item_at q es))) (sym t)
-    at_one false t false u on =
-        ap (λ (b : Bool). list_any (λ n. is_eq (nat_cmp q n)) (numbers (cond b (e ∷ filter p es) (filter p es)))) u
-        ∙ on
-        ∙ ap (λ (b : Bool). passes (λ n r. p (n, r)) q (cond b (Some e.1) (item_at q es))) (sym t)
-
-fewer_less : (n : ℕ) (p : ℕ × Request → Bool) (es : List (ℕ × Request)) → AllByRecursion (λ y. nat_cmp n y ≡ Less) (keys_in es) → AllByRecursion (λ y. nat_cmp n y ≡ Less) (keys_in (filter p es))
-fewer_less n p [] h = tt
-fewer_less n p (e ∷ es) h = elim (p e) as (λ (b : Bool). AllByRecursion (λ y. nat_cmp n y ≡ Less) (keys_in (cond b (e ∷ filter p es) (filter p es)))) [ true ↦ (h.0, fewer_less n p es h.1) | false ↦ fewer_less n p es h.1 ]
-
-pub fewer_rise : (p : ℕ × Request → Bool) (es : List (ℕ × Request)) → Rise es → Rise (filter p es)
-unfolding IsStrictlySortedBy
-fewer_rise p [] s = tt
-fewer_rise p (e ∷ es) s = elim (p e) as (λ (b : Bool). IsStrictlySortedBy nat_cmp (keys_in (cond b (e ∷ filter p es) (filter p es)))) [ true ↦ (fewer_less e.0 p es s.0, fewer_rise p es s.1) | false ↦ fewer_rise p es s.1 ]
-
--- a set of numbers that has those of the entries that pass, and no others
-pub set_is : (p : ℕ × Request → Bool) (found : BTreeSet ℕ) (es : List (ℕ × Request)) → Rise es → sorted.IsOrdered nat_cmp found → ((q : ℕ) → sorted.contains nat_cmp found q ≡ is_at_number (λ n r. p (n, r)) es q) → found.keys ≡ numbers (filter p es)
-set_is p found es s t h = btree_set_from_contains nat_cmp_total found (record { keys = numbers (filter p es) }) t (fewer_rise p es s) (λ q. h q ∙ sym (number_in p q es s)) exact_unsigned
-
--- an entry that stays was there before
-pub was_there : (t : ℕ × Request → Bool) (es : List (ℕ × Request)) (n : ℕ) (r : Request) → Rise es → item_at n (filter t es) ≡ Some r → item_at n es ≡ Some r
-was_there t es n r s is = found_in (λ m x. item_at m es ≡ Some x) n r (filter t es) (all_filter (λ (e : ℕ × Request). item_at e.0 es ≡ Some e.1) t es (founds es s)) is
-
 -- ---- the first entry that has a key
 pub first_touches : (k : Key) (m : ℕ) (ms : List ℕ) (es : List (ℕ × Request)) → Rise es → numbers (touching_from keys_of k 0 es) ≡ m ∷ ms → is_at_number (λ _ r. touches keys_of k r) es m ≡ true
 first_touches k m ms es s is =

@@ -4,15 +4,16 @@ use Rattle.std.specs.List.{list_any, filter, AllByRecursion}
 use Rattle.std.specs.Ordering.{nat_cmp, is_eq}
 use Rattle.std.proofs.lemmas.Bool.{and_parts, leb-true}
 use Rattle.queue_index.specs.declared.key.Key.{Key}
-use Rattle.queue_index.specs.Queue.{item_at, numbers, changed_at, touches, touching_from}
+use Rattle.queue_index.specs.Queue.{item_at, numbers, changed_at, touches, touching_from, passes, is_at_number}
 use Rattle.queue_index.proofs.Entries.{founds, each}
 use Rattle.mount_locks.specs.declared.request.Request.{Request}
 use Rattle.mount_locks.specs.Keys.{keys_of, marked}
 use Rattle.mount_locks.specs.Rule.{conflicts}
-use Rattle.mount_locks.specs.Walks.{bars, passes, is_at_number, blocks, is_blocked, keeps, is_kept, passes_by, is_passed, AreUnpassed, is_due, turn_of, turn_at}
-use Rattle.mount_locks.proofs.Lists.{any-append, any_same, any_or, any_left, or_false, or_true}
+use Rattle.mount_locks.specs.Walks.{bars, blocks, is_blocked, keeps, is_kept, passes_by, is_passed, AreUnpassed, is_due, turn_of, turn_at}
+use Rattle.queue_index.proofs.Lists.{any-append, any_same, any_or, any_left, or_false, or_true}
 use Rattle.mount_locks.proofs.Apart.{conflicts_flip}
-use Rattle.mount_locks.proofs.Numbered.{Rise, number_is, same_number, was_there}
+use Rattle.queue_index.proofs.Numbers.{Rise, number_is, was_there}
+use Rattle.mount_locks.proofs.Numbered.{same_number}
 use Rattle.mount_locks.proofs.Blocked.{unchanged}
 
 -- ---- what is looked at is all that blocks

@@ -5,11 +5,12 @@ use Rattle.fop_types.specs.declared.cells.Gfid.{Gfid}
 use Rattle.queue_index.specs.declared.key.Key.{Key}
 use Rattle.queue_index.specs.Places.{is_key, has_key}
 use Rattle.queue_index.specs.Queue.{touches}
+use Rattle.queue_index.specs.Rivals.{meets_key, conflicts as by_keys}
 use Rattle.mount_locks.specs.declared.request.Request.{Request}
 use Rattle.mount_locks.specs.Rule.{is_gfid, names, shares, conflicts, request_of}
 use Rattle.mount_locks.specs.Keys.{call_key, gfid_key, mode_of, keys_of}
 use Rattle.mount_locks.specs.Walks.{bars, is_on, meets, keeps, is_kept}
-use Rattle.mount_locks.proofs.Lists.{any_same, any_or, any_and, any_when, any_swap, any_map, and_flip, and_true}
+use Rattle.queue_index.proofs.Lists.{any_same, any_or, any_and, any_when, any_swap, any_map, and_flip, and_true}
 use Rattle.mount_locks.proofs.Apart.{eq_flip, gfid_flip, shares_flip}
 
 -- ---- the two sorts of keys never meet
@@ -44,7 +45,7 @@ gfid_gfids g a b gs =
 pub touches_gfid : (g : Gfid) (a : Bool) (r : Request) → touches keys_of (gfid_key g a) r ≡ (names r.gfids g && same_mode a r.shared)
 touches_gfid g a r = gfid_gfids g a r.shared r.gfids
 
--- ---- those alone, and the shared ones where one alone asks
+-- ---- the exclusive ones, and the shared ones where an exclusive one asks
 two_modes : (h together s : Bool) → ((h && same_mode false s) || (not together && (h && same_mode true s))) ≡ (h && not (together && s))
 two_modes true true true = refl
 two_modes true true false = refl
@@ -79,8 +80,8 @@ any_on g together call n es =
     ∙ any_or (bars_by (gfid_key g false) together call n) (λ e. not together && bars_by (gfid_key g true) together call n e) es
     ∙ ap (λ (b : Bool). list_any (bars_by (gfid_key g false) together call n) es || b) (any_when (not together) (bars_by (gfid_key g true) together call n) es)
 
-pub barred_alone : (g : Gfid) (together : Bool) (call n : ℕ) (k : Key) (es : List (ℕ × Request)) → k ≡ gfid_key g false → true ≡ list_any (bars_by k together call n) es → true ≡ list_any (λ e. is_on g together e.1 && bars together call n e.0 e.1) es
-barred_alone g together call n k es is h = sym (any_on g together call n es ∙ ap (λ (b : Bool). b || (not together && list_any (bars_by (gfid_key g true) together call n) es)) (ap (λ (t : Key). list_any (bars_by t together call n) es) (sym is) ∙ sym h))
+pub barred_exclusive : (g : Gfid) (together : Bool) (call n : ℕ) (k : Key) (es : List (ℕ × Request)) → k ≡ gfid_key g false → true ≡ list_any (bars_by k together call n) es → true ≡ list_any (λ e. is_on g together e.1 && bars together call n e.0 e.1) es
+barred_exclusive g together call n k es is h = sym (any_on g together call n es ∙ ap (λ (b : Bool). b || (not together && list_any (bars_by (gfid_key g true) together call n) es)) (ap (λ (t : Key). list_any (bars_by t together call n) es) (sym is) ∙ sym h))
 
 pub barred_none : (g : Gfid) (together : Bool) (call n : ℕ) (k : Key) (es : List (ℕ × Request)) → k ≡ gfid_key g false → false ≡ list_any (bars_by k together call n) es → together ≡ true → false ≡ list_any (λ e. is_on g together e.1 && bars together call n e.0 e.1) es
 barred_none g together call n k es is h t =
@@ -130,3 +131,14 @@ no_conflict e r h = meet_bools (e.call == r.call) (e.shared && r.shared) (shares
 
 pub any_meets : (gs : List Gfid) (together : Bool) (s : Request) → list_any (λ g. is_on g together s) gs ≡ meets gs together s
 any_meets gs together s = any_and (names s.gfids) (not (together && s.shared)) gs
+
+-- ---- two requests conflict by their keys where they meet
+on_mode : (b : Bool) (g : Gfid) (s : Request) → meets_key keys_of (gfid_key g b) s ≡ is_on g b s
+on_mode true g s = on_modes g true s
+on_mode false g s = ap (λ (x : Bool). touches keys_of (gfid_key g false) s || x) (or_nothing (touches keys_of (gfid_key g true) s)) ∙ on_modes g false s
+
+pub keys_meet : (r s : Request) → by_keys keys_of r s ≡ meets r.gfids r.shared s
+keys_meet r s =
+    any_map (λ k. meets_key keys_of k s) (λ g. gfid_key g r.shared) r.gfids
+    ∙ any_same (λ g. meets_key keys_of (gfid_key g r.shared) s) (λ g. is_on g r.shared s) r.gfids (λ g. on_mode r.shared g s)
+    ∙ any_meets r.gfids r.shared s

@@ -3,15 +3,16 @@ use Rattle.std.proofs.Common.{◌≡◌, ℕ, ◌<◌, Bool, true, false, not, �
 use Rattle.std.specs.List.{AllByRecursion}
 use Rattle.std.specs.Ordering.{nat_cmp}
 use Rattle.std.specs.List.Sorted.{IsStrictlySortedBy}
-use Rattle.queue_index.specs.Queue.{item_at, items, numbers, changed_at}
+use Rattle.queue_index.specs.Queue.{item_at, items, numbers, changed_at, passes, is_at_number}
 use Rattle.queue_index.proofs.Entries.{founds}
 use Rattle.mount_locks.specs.declared.request.Request.{Request}
 use Rattle.mount_locks.specs.Keys.{marked}
 use Rattle.mount_locks.specs.Rule.{held, waiting, shares, conflicts, any_conflicts, granted_now, Turned, turn, grant_in_order}
-use Rattle.mount_locks.specs.Walks.{turned_of, blocks, is_blocked, is_due, passes, is_at_number, turn_of, turn_at, call_of, call_at, with_call, turns, calls_of}
-use Rattle.mount_locks.proofs.Lists.{any-append, any_cond, and_true, nil_end, all_middle}
+use Rattle.mount_locks.specs.Walks.{turned_of, blocks, is_blocked, is_due, turn_of, turn_at, call_of, call_at, with_call, turns, calls_of}
+use Rattle.queue_index.proofs.Lists.{any-append, any_cond, and_true, nil_end, all_middle}
 use Rattle.mount_locks.proofs.Apart.{free_is}
-use Rattle.mount_locks.proofs.Numbered.{Rise, all_below, all_above, changed_middle, keys_middle, equal_itself}
+use Rattle.queue_index.proofs.Numbers.{Rise}
+use Rattle.mount_locks.proofs.Numbered.{all_below, all_above, changed_middle, keys_middle, equal_itself}
 
 -- ---- what blocks a request at its place
 below_blocks : (n : ℕ) (r : Request) (es : List (ℕ × Request)) → AllByRecursion (λ e. e.0 < n) es → is_blocked es n r ≡ any_conflicts (items es) r

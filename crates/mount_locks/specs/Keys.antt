@@ -1,12 +1,12 @@
--- What the requests are found by: their call, and each of their gfids, those alone apart from the shared
--- ones.
+-- What the requests are found by: their call, by name only (mode 2), and each of their gfids, exclusive
+-- (mode 0) or shared (mode 1).
 use Rattle.std.specs.Prelude.{ℕ, Bool, true, false, List, ◌∷◌, map}
 use Rattle.fop_types.specs.declared.cells.Gfid.{Gfid}
 use Rattle.queue_index.specs.declared.key.Key.{Key}
 use Rattle.mount_locks.specs.declared.request.Request.{Request}
 
 abbrev pub call_key : ℕ → Key
-call_key call = record { kind = 0; hi = 0; lo = call; mode = 0 }
+call_key call = record { kind = 0; hi = 0; lo = call; mode = 2 }
 
 abbrev pub mode_of : Bool → ℕ
 mode_of true = 1

@@ -1,8 +1,8 @@
--- The queue of requests for holds, and which of them are granted. A request stands in the queue from
+-- The queue of requests for holds, and which of them are granted. A request is in the queue from
 -- the time that it is asked until its call is released, and is granted or waits. So the queue is two
 -- lists, both in queue order: the requests that are held and those that wait.
-use Rattle.std.specs.Prelude.{◌≡◌, ℕ, Bool, true, false, not, ◌&&◌, ◌||◌, ◌==◌, List, [], ◌∷◌, ◌++◌, if◌then◌else◌}
-use Rattle.std.specs.List.{list_any, filter}
+use Rattle.std.specs.Prelude.{◌≡◌, ℕ, Bool, true, false, not, ◌&&◌, ◌||◌, ◌==◌, List, [], ◌∷◌, ◌++◌, if◌then◌else◌, map}
+use Rattle.std.specs.List.{list_any, filter, AllByRecursion}
 use Rattle.fop_types.specs.declared.cells.Gfid.{Gfid}
 use Rattle.mount_locks.specs.declared.request.Request.{Request}
 use Rattle.mount_locks.specs.declared.request.Held.{Held}
@@ -22,11 +22,11 @@ is_gfid a b = (a.hi == b.hi) && (a.lo == b.lo)
 abbrev pub names : List Gfid → Gfid → Bool
 names gfids g = list_any (λ x. is_gfid x g) gfids
 
--- a gfid stands in both lists
+-- a gfid is in both lists
 abbrev pub shares : List Gfid → List Gfid → Bool
 shares a b = list_any (names a) b
 
--- two requests of different calls conflict where they name a common gfid and one of the two is alone
+-- two requests of different calls conflict where they name a common gfid and one of the two is exclusive
 abbrev pub conflicts : Request → Request → Bool
 conflicts a b = not (a.call == b.call) && (not (a.shared && b.shared) && shares a.gfids b.gfids)
 
@@ -82,3 +82,29 @@ released call queue = grant_in_order (record { queue = []; calls = [] }) (withou
 abbrev pub AreApart : List Request → Type 0
 AreApart [] = Unit {0}
 AreApart (a ∷ rest) = (any_conflicts rest a ≡ false) × AreApart rest
+
+-- Each request that waits is kept waiting by the rule: it conflicts with a hold, or with a request that
+-- waits and is before it.
+abbrev pub WaitersAreBlocked : List Request → Type 0
+WaitersAreBlocked queue = (earlier : List Request) (r : Request) (later : List Request) → queue ≡ earlier ++ r ∷ later → r.granted ≡ false → granted_now (held queue) (waiting earlier) r ≡ false
+
+-- the calls of the requests
+abbrev pub calls_in : List Request → List ℕ
+calls_in queue = map (λ r. r.call) queue
+
+abbrev pub is_among : ℕ → List ℕ → Bool
+is_among c cs = list_any (λ d. c == d) cs
+
+-- no call is among them twice
+abbrev pub AreDifferent : List ℕ → Type 0
+AreDifferent [] = Unit {0}
+AreDifferent (c ∷ cs) = (is_among c cs ≡ false) × AreDifferent cs
+
+-- The calls of a queue are those of its extensions and then those that asked. None asked twice, and each
+-- extension is of a call that asked.
+pub record AskOnce (calls : List ℕ) : Type 0 where
+  pub extensions : List ℕ
+  pub asks : List ℕ
+  pub whole : calls ≡ extensions ++ asks
+  pub once : AreDifferent asks
+  pub known : AllByRecursion (λ c. is_among c asks ≡ true) extensions

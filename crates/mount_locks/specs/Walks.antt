@@ -11,20 +11,12 @@ use Rattle.mount_locks.specs.Keys.{keys_of, marked}
 abbrev pub turned_of : List Request → List ℕ → Turned
 turned_of queue calls = record { queue = queue; calls = calls }
 
--- whether the entry of a number is there and passes
-abbrev pub passes : (ℕ → Request → Bool) → ℕ → Option Request → Bool
-passes p n None = false
-passes p n (Some r) = p n r
-
-abbrev pub is_at_number : (ℕ → Request → Bool) → List (ℕ × Request) → ℕ → Bool
-is_at_number p es n = passes p n (item_at n es)
-
--- whether s of number m is of another call, and stands before the number n or, where one alone asks, is
+-- whether s of number m is of another call, and is before the number n or, where an exclusive one asks, is
 -- granted
 abbrev pub bars : Bool → ℕ → ℕ → ℕ → Request → Bool
 bars together call n m s = not (s.call == call) && (nat_lt m n || (not together && s.granted))
 
--- whether s names a gfid, and s or one that asks for it, together with others or alone, is alone
+-- whether s names a gfid, and s or one that asks for it, together with others or not, is exclusive
 abbrev pub is_on : Gfid → Bool → Request → Bool
 is_on g together s = names s.gfids g && not (together && s.shared)
 
@@ -32,29 +24,29 @@ is_on g together s = names s.gfids g && not (together && s.shared)
 abbrev pub meets : List Gfid → Bool → Request → Bool
 meets gs together s = shares s.gfids gs && not (together && s.shared)
 
--- whether an entry stands in the way of a request at a number: the two conflict, and the entry stands
--- before it or is granted
+-- whether an entry blocks a request at a number: the two conflict, and the entry is before it or is
+-- granted
 abbrev pub blocks : ℕ → Request → ℕ × Request → Bool
 blocks n r e = conflicts e.1 r && (nat_lt e.0 n || e.1.granted)
 
 abbrev pub is_blocked : List (ℕ × Request) → ℕ → Request → Bool
 is_blocked es n r = list_any (blocks n r) es
 
--- the same of what is looked at: of what stands behind a shared request, nothing
+-- the same of what is looked at: of what is behind a shared request, nothing
 abbrev pub keeps : ℕ → Request → ℕ × Request → Bool
 keeps n r e = conflicts e.1 r && (nat_lt e.0 n || (not r.shared && e.1.granted))
 
 abbrev pub is_kept : List (ℕ × Request) → ℕ → Request → Bool
 is_kept es n r = list_any (keeps n r) es
 
--- whether an entry conflicts with a request at a number, stands behind it and is granted
+-- whether an entry conflicts with a request at a number, is behind it and is granted
 abbrev pub passes_by : ℕ → Request → ℕ × Request → Bool
 passes_by n r e = conflicts e.1 r && (not (nat_lt e.0 n) && e.1.granted)
 
 abbrev pub is_passed : List (ℕ × Request) → ℕ → Request → Bool
 is_passed es n r = list_any (passes_by n r) es
 
--- no shared request that waits is passed, since only an extension comes before others, and is alone
+-- no shared request that waits is passed, since only an extension comes before others, and is exclusive
 abbrev pub AreUnpassed : List (ℕ × Request) → Type 0
 AreUnpassed es = (n : ℕ) (r : Request) → item_at n es ≡ Some r → r.granted ≡ false → r.shared ≡ true → is_passed es n r ≡ false
 
@@ -101,15 +93,3 @@ turns es (n ∷ ns) = turns (turn_at es n) ns
 abbrev pub calls_of : List (ℕ × Request) → List ℕ → List ℕ
 calls_of es [] = []
 calls_of es (n ∷ ns) = with_call (call_at es n) (calls_of (turn_at es n) ns)
-
--- whether the request of one number conflicts with that of another, where their calls differ
-abbrev pub meets_number : List (ℕ × Request) → ℕ → Option Request → Bool
-meets_number es q None = false
-meets_number es q (Some r) = is_at_number (λ _. meets r.gfids r.shared) es q
-
-abbrev pub meets_at : List (ℕ × Request) → ℕ → ℕ → Bool
-meets_at es q n = meets_number es q (item_at n es)
-
--- the same of the request of a number and one that has a key
-abbrev pub is_rival : Key → List (ℕ × Request) → Request → Bool
-is_rival k es s = list_any (λ r. meets r.gfids r.shared s) (items (touching keys_of k es))

@@ -1,11 +1,11 @@
 ghost use Rattle.std.specs.Prelude.{◌≡◌, [], true, false, OnOk, OnErr, IfOk, length, ◌∷◌, ◌==◌};
-ghost use Rattle.mount_locks.specs.Rule.{held, waiting, request_of, granted_now, answer, asked, extended, without, released, AreApart};
+ghost use Rattle.mount_locks.specs.Rule.{held, waiting, request_of, granted_now, answer, asked, extended, without, released, AreApart, WaitersAreBlocked, calls_in, is_among, AskOnce};
 
 use crate::queue::RequestQueue;
 use crate::request::{Held, Request, call_key};
-use crate::rivals::rivals_of;
 use crate::walk::{forget, grant, settle};
 use fop_types::{Gfid, Seq};
+use queue_index::rivals_of;
 use std::alloc::{AllocError, Global};
 use std::marker::Model;
 
@@ -29,7 +29,7 @@ impl Model for MountLocks {
 }
 
 impl MountLocks {
-    /// The empty queue, which takes no memory.
+    /// The empty queue. It allocates nothing.
     pub fn new(alloc: Global) -> MountLocks
         ensures { result ≡ [] }
     {
@@ -38,19 +38,27 @@ impl MountLocks {
         }
     }
 
-    /// No two holds conflict, at any time. The call does nothing; it is there for its contract.
+    /// No two holds conflict, at any time. The call does nothing: its contract exports this.
     pub fn holds_are_apart(&self)
         ensures { AreApart (held self.now) }
     {
         let _ = &self.queue;
     }
 
-    /// Asks for a hold on some gfids, shared or alone, at the end of the queue. It is `Granted` exactly
+    /// Each request that waits conflicts with a hold, or with a request before it that waits. Extensions are
+    /// before all requests that were asked. The call does nothing: its contract exports this.
+    pub fn waiting_are_blocked(&self)
+        ensures { WaitersAreBlocked self.now }
+    {
+        self.queue.numbers_rise();
+    }
+
+    /// Asks for a hold on some gfids, shared or exclusive, at the end of the queue. It is `Granted` exactly
     /// where no granted and no earlier waiting request conflicts with it; else it waits. A call asks when it
     /// neither holds nor waits.
     ///
     /// # Errors
-    /// Want of memory; the queue is unchanged.
+    /// Out of memory, or the numbers of the queue are used up (`queue_index`). The queue is unchanged.
     pub fn ask(
         &mut self,
         alloc: Global,
@@ -60,6 +68,7 @@ impl MountLocks {
     ) -> Result<Held, AllocError>
         ensures answer { IfOk result (λ h. h ≡ answer (granted_now (held self.old) (waiting self.old) (request_of call gfids.now shared))) }
         ensures ok { OnOk result (self.new ≡ asked self.old (request_of call gfids.now shared)) }
+        ensures once { OnOk result (is_among call (calls_in self.old) ≡ false → AskOnce (calls_in self.old) → AskOnce (calls_in self.new)) }
         ensures err { OnErr result (self.new ≡ self.old) }
     {
         let gfids = Seq::from_vec(Vec::from_slice(alloc, gfids)?);
@@ -75,15 +84,16 @@ impl MountLocks {
         Ok(held)
     }
 
-    /// Extends the hold of a call by one gfid alone, before all waiting requests. It is `Granted` exactly
+    /// Extends the hold of a call by one gfid, exclusive, before all waiting requests. It is `Granted` exactly
     /// where no granted request of another call conflicts with it; else it waits. A call extends when it
     /// holds.
     ///
     /// # Errors
-    /// Want of memory; the queue is unchanged.
+    /// Out of memory, or the numbers of the queue are used up (`queue_index`). The queue is unchanged.
     pub fn extend(&mut self, alloc: Global, call: u32, gfid: Gfid) -> Result<Held, AllocError>
         ensures answer { IfOk result (λ h. h ≡ answer (granted_now (held self.old) [] (request_of call (gfid ∷ []) false))) }
         ensures ok { OnOk result (self.new ≡ extended self.old (request_of call (gfid ∷ []) false)) }
+        ensures once { OnOk result (is_among call (calls_in self.old) ≡ true → AskOnce (calls_in self.old) → AskOnce (calls_in self.new)) }
         ensures err { OnErr result (self.new ≡ self.old) }
     {
         let mut gfids = Seq::new(alloc);
@@ -104,10 +114,11 @@ impl MountLocks {
     /// in queue order. It gives the calls of those, in that order.
     ///
     /// # Errors
-    /// Want of memory; the queue is unchanged.
+    /// Out of memory. The queue is unchanged.
     pub fn release(&mut self, alloc: Global, call: u32) -> Result<Vec<u32>, AllocError>
         ensures calls { IfOk result (λ calls. calls.items ≡ (released call self.old).calls) }
         ensures ok { OnOk result (self.new ≡ (released call self.old).queue) }
+        ensures once { OnOk result (AskOnce (calls_in self.old) → AskOnce (calls_in self.new)) }
         ensures err { OnErr result (self.new ≡ self.old) }
     {
         self.queue.numbers_rise();
@@ -119,11 +130,12 @@ impl MountLocks {
     }
 
     /// Takes all requests of a call out of the queue where nobody waits. It is false, with nothing changed,
-    /// exactly where somebody waits. It takes no memory.
+    /// exactly where somebody waits. It allocates nothing.
     pub fn release_done(&mut self, call: u32) -> bool
         ensures nobody { result ≡ (length (waiting self.old) == 0) }
         ensures done { result ≡ true → self.new ≡ without call self.old }
         ensures kept { result ≡ false → self.new ≡ self.old }
+        ensures once { result ≡ true → AskOnce (calls_in self.old) → AskOnce (calls_in self.new) }
     {
         if self.queue.has_waiting() {
             return false;

@@ -2,10 +2,9 @@ ghost use Rattle.std.specs.Prelude.{◌≡◌, [], ◌∷◌, ◌++◌, length, 
 ghost use Rattle.std.specs.Map.{keys_of as keys_in};
 ghost use Rattle.std.specs.Ordering.{nat_cmp};
 ghost use Rattle.std.specs.List.Sorted.{IsStrictlySortedBy};
-ghost use Rattle.queue_index.specs.Queue.{items, without, changed_at};
+ghost use Rattle.queue_index.specs.Queue.{items, without, changed_at, is_at_number};
 ghost use Rattle.mount_locks.specs.Keys.{marked};
 ghost use Rattle.mount_locks.specs.Rule.{waiting};
-ghost use Rattle.mount_locks.specs.Walks.{is_at_number};
 
 use crate::request::Request;
 use queue_index::KeyedQueue;
@@ -34,7 +33,7 @@ impl Model for RequestQueue {
 }
 
 impl RequestQueue {
-    /// The empty queue, which takes no memory.
+    /// The empty queue. It allocates nothing.
     pub(crate) fn new(alloc: Global) -> RequestQueue
         ensures { result ≡ [] }
     {
@@ -51,7 +50,7 @@ impl RequestQueue {
         &self.requests
     }
 
-    /// The numbers rise. The call does nothing; it is there for its contract.
+    /// The numbers rise. The call does nothing: its contract exports this.
     pub(crate) fn numbers_rise(&self)
         ensures { IsStrictlySortedBy nat_cmp (keys_in self.now) }
     {
@@ -71,7 +70,9 @@ impl RequestQueue {
         ensures added { IfOk result (λ n. self.new ≡ self.old ++ (n, request) ∷ []) }
         ensures err { OnErr result (self.new ≡ self.old) }
     {
-        let number = self.requests.push_back(request)?;
+        let Ok(number) = self.requests.push_back(request) else {
+            return Err(AllocError);
+        };
         self.requests.len();
         self.waiting += 1;
         Ok(number)
@@ -83,7 +84,9 @@ impl RequestQueue {
         ensures added { IfOk result (λ n. self.new ≡ (n, request) ∷ self.old) }
         ensures err { OnErr result (self.new ≡ self.old) }
     {
-        let number = self.requests.push_front(request)?;
+        let Ok(number) = self.requests.push_front(request) else {
+            return Err(AllocError);
+        };
         self.requests.len();
         self.waiting += 1;
         Ok(number)
@@ -99,7 +102,7 @@ impl RequestQueue {
         self.waiting -= 1;
     }
 
-    /// Takes the request of a number out, where there is one. It takes no memory.
+    /// Takes the request of a number out, where there is one. It allocates nothing.
     pub(crate) fn remove(&mut self, number: u64)
         ensures { self.new ≡ without number self.old }
     {

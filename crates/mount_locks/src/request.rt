@@ -1,17 +1,17 @@
 ghost use Rattle.std.specs.Prelude.{◌≡◌};
-ghost use Rattle.mount_locks.specs.Rule.{conflicts, shares, answer};
+ghost use Rattle.mount_locks.specs.Rule.{answer};
 ghost use Rattle.mount_locks.specs.Keys.{call_key, gfid_key};
 
 use fop_types::{Gfid, Seq};
-use queue_index::{Key, Keyed};
+use queue_index::{EXCLUSIVE, Key, Keyed, NAME, SHARED};
 
 const CALLS: u8 = 0;
 
 const GFIDS: u8 = 1;
 
-/// One request for a hold: the call that asked, the gfids, whether it holds them shared or alone, and
+/// One request for a hold: the call that asked, the gfids, whether it holds them shared or exclusive, and
 /// whether it is granted or waits.
-#[derive(Debug, Drop)]
+#[derive(Drop)]
 pub struct Request {
     pub call: u32,
     pub gfids: Seq<Gfid>,
@@ -20,7 +20,7 @@ pub struct Request {
 }
 
 /// The answer to a request: it is granted at once, or it waits until a release grants it.
-#[derive(Debug, Clone, Copy, PartialEq, Eq)]
+#[derive(Clone, Copy, PartialEq, Eq)]
 pub enum Held {
     Granted,
     Waiting,
@@ -37,33 +37,6 @@ impl Held {
     }
 }
 
-impl Request {
-    /// True exactly where the two are of different calls, name a common gfid, and one of the two is alone.
-    pub fn conflicts(&self, other: &Request) -> bool
-        ensures { result ≡ conflicts self.now other.now }
-    {
-        if self.call == other.call {
-            return false;
-        }
-        if self.shared && other.shared {
-            return false;
-        }
-        shares(self.gfids.as_slice(), other.gfids.as_slice())
-    }
-}
-
-// True exactly where a gfid stands in both.
-fn shares(one: &[Gfid], other: &[Gfid]) -> bool
-    ensures { result ≡ shares one.now other.now }
-{
-    for gfid in other {
-        if one.contains(gfid) {
-            return true;
-        }
-    }
-    false
-}
-
 /// The key of the requests of a call.
 pub(crate) fn call_key(call: u32) -> Key
     ensures { result ≡ call_key call }
@@ -72,15 +45,15 @@ pub(crate) fn call_key(call: u32) -> Key
         kind: CALLS,
         hi: 0,
         lo: u64::from(call),
-        mode: 0,
+        mode: NAME,
     }
 }
 
-/// The key of the requests that name a gfid, of those alone or of the shared ones.
+/// The key of the requests that name a gfid, of the exclusive ones or of the shared ones.
 pub(crate) fn gfid_key(gfid: Gfid, shared: bool) -> Key
     ensures { result ≡ gfid_key gfid shared }
 {
-    let mode = if shared { 1 } else { 0 };
+    let mode = if shared { SHARED } else { EXCLUSIVE };
     Key {
         kind: GFIDS,
         hi: gfid.hi,

@@ -10,62 +10,38 @@ const FILE: Gfid = Gfid { hi: 0, lo: 3 };
 
 const LINK: Gfid = Gfid { hi: 0, lo: 4 };
 
-// Two shared holds stand side by side; one alone waits for both, a later shared one waits behind it, and
-// the release of the last shared hold grants the one alone.
+// A call, the gfids that it asks for, whether shared, and the answer.
+const ASKS: [(u32, &[Gfid], bool, Held); 6] = [
+    (1, &[ROOT, DIR, FILE], false, Held::Granted),
+    (2, &[ROOT], true, Held::Waiting),
+    (3, &[DIR, FILE], false, Held::Waiting),
+    (4, &[ROOT, DIR], true, Held::Waiting),
+    (5, &[FILE], true, Held::Waiting),
+    (6, &[LINK], false, Held::Granted),
+];
+
+// A call that extends its hold, the gfid, and the answer.
+const EXTENSIONS: [(u32, Gfid, Held); 2] = [(6, LINK, Held::Granted), (6, ROOT, Held::Waiting)];
+
+// A call that is released, and the calls that this grants.
+const RELEASES: [(u32, &[u32]); 3] = [(1, &[6, 3]), (6, &[2]), (3, &[4, 5])];
+
+// One call holds three gfids exclusive; others wait for some of them, and one extends its hold before all
+// that wait. Each release grants in queue order, and once nobody waits `release_done` does.
 #[test]
 fn basic(rt: HostRuntime) -> Result<(), Fail> {
-    let mut locks = MountLocks::new(rt.alloc());
-    assert_eq!(rt; locks.ask(rt.alloc(), 1, &[DIR], true), Ok(Held::Granted));
-    assert_eq!(rt; locks.ask(rt.alloc(), 2, &[DIR], true), Ok(Held::Granted));
-    assert_eq!(rt; locks.ask(rt.alloc(), 3, &[DIR], false), Ok(Held::Waiting));
-    assert_eq!(rt; locks.ask(rt.alloc(), 4, &[DIR], true), Ok(Held::Waiting));
-    assert_eq!(rt; locks.ask(rt.alloc(), 5, &[FILE], false), Ok(Held::Granted));
-    assert!(rt; !locks.release_done(5));
-    assert_eq!(rt; locks.release(rt.alloc(), 1)?.as_slice(), [].as_slice());
-    assert_eq!(rt; locks.release(rt.alloc(), 2)?.as_slice(), [3u32].as_slice());
-    assert_eq!(rt; locks.release(rt.alloc(), 3)?.as_slice(), [4u32].as_slice());
-    assert!(rt; locks.release_done(4));
-    Ok(())
-}
-
-// An extension stands before all that wait: the directory goes to the call that extends, though another
-// asked for it before.
-#[test]
-fn extension_before_waiting(rt: HostRuntime) -> Result<(), Fail> {
-    let mut locks = MountLocks::new(rt.alloc());
-    assert_eq!(rt; locks.ask(rt.alloc(), 1, &[ROOT], false), Ok(Held::Granted));
-    assert_eq!(rt; locks.ask(rt.alloc(), 2, &[DIR], true), Ok(Held::Granted));
-    assert_eq!(rt; locks.ask(rt.alloc(), 3, &[DIR], false), Ok(Held::Waiting));
-    assert_eq!(rt; locks.extend(rt.alloc(), 1, DIR), Ok(Held::Waiting));
-    assert_eq!(rt; locks.release(rt.alloc(), 2)?.as_slice(), [1u32].as_slice());
-    assert_eq!(rt; locks.release(rt.alloc(), 1)?.as_slice(), [3u32].as_slice());
-    Ok(())
-}
-
-// One alone has three gfids. Behind it wait a shared one on the root, one alone on the other two, and
-// shared ones on a gfid of each. Its release grants, in queue order, the extension and the one alone; the
-// shared ones follow as these are released.
-#[test]
-fn grants_in_queue_order(rt: HostRuntime) -> Result<(), Fail> {
     let alloc = rt.alloc();
     let mut locks = MountLocks::new(alloc);
-    assert_eq!(rt;
-        locks.ask(alloc, 1, &[ROOT, DIR, FILE], false),
-        Ok(Held::Granted)
-    );
-    assert_eq!(rt; locks.ask(alloc, 2, &[ROOT], true), Ok(Held::Waiting));
-    assert_eq!(rt; locks.ask(alloc, 3, &[DIR, FILE], false), Ok(Held::Waiting));
-    assert_eq!(rt; locks.ask(alloc, 4, &[ROOT, DIR], true), Ok(Held::Waiting));
-    assert_eq!(rt; locks.ask(alloc, 5, &[FILE], true), Ok(Held::Waiting));
-    assert_eq!(rt; locks.ask(alloc, 6, &[LINK], false), Ok(Held::Granted));
-    assert_eq!(rt; locks.extend(alloc, 6, LINK), Ok(Held::Granted));
-    assert_eq!(rt; locks.extend(alloc, 6, ROOT), Ok(Held::Waiting));
-    assert_eq!(rt; locks.release(alloc, 1)?.as_slice(), [6u32, 3].as_slice());
-    assert_eq!(rt; locks.release(alloc, 6)?.as_slice(), [2u32].as_slice());
+    for (call, gfids, shared, held) in &ASKS {
+        assert!(rt; locks.ask(alloc, *call, gfids, *shared)? == *held);
+    }
+    for (call, gfid, held) in &EXTENSIONS {
+        assert!(rt; locks.extend(alloc, *call, *gfid)? == *held);
+    }
     assert!(rt; !locks.release_done(2));
-    assert_eq!(rt; locks.release(alloc, 3)?.as_slice(), [4u32, 5].as_slice());
+    for (call, granted) in &RELEASES {
+        assert!(rt; locks.release(alloc, *call)?.as_slice() == *granted);
+    }
     assert!(rt; locks.release_done(2));
-    assert!(rt; locks.release_done(4));
-    assert!(rt; locks.release_done(5));
     Ok(())
 }

@@ -2,10 +2,10 @@
 ghost use Rattle.std.specs.Prelude.{◌≡◌, ◌≤◌, ◌&&◌, [], length, not};
 ghost use Rattle.std.specs.List.{list_any, filter};
 ghost use Rattle.std.specs.Vec.{vec_capacity};
-ghost use Rattle.queue_index.specs.Queue.{touches};
+ghost use Rattle.queue_index.specs.Queue.{touches, is_at_number};
 ghost use Rattle.mount_locks.specs.Rule.{request_of, answer};
 ghost use Rattle.mount_locks.specs.Keys.{keys_of};
-ghost use Rattle.mount_locks.specs.Walks.{bars, is_on, is_at_number, is_kept, AreUnpassed, is_due, turn_at, call_at, turns, calls_of};
+ghost use Rattle.mount_locks.specs.Walks.{bars, is_on, is_kept, AreUnpassed, is_due, turn_at, call_at, turns, calls_of};
 
 use crate::queue::RequestQueue;
 use crate::request::{Held, Request, gfid_key};
@@ -13,8 +13,8 @@ use fop_types::Gfid;
 use queue_index::{Key, KeyedQueue};
 use std::collections::BTreeSet;
 
-/// Whether a request is of another call than this one, and stands before a number or, where one alone
-/// asks, is granted.
+/// Whether a request is of another call than this one, and is before a number or, where an
+/// exclusive one asks, is granted.
 fn is_bar(queue: &KeyedQueue<Request>, other: u64, call: u32, shared: bool, number: u64) -> bool
     ensures { result ≡ is_at_number (bars shared call number) queue.now other }
 {
@@ -42,7 +42,7 @@ fn is_barred(queue: &KeyedQueue<Request>, key: Key, call: u32, shared: bool, num
     false
 }
 
-/// The same of some request that names a gfid and is alone, or is shared where one alone asks.
+/// The same of some request that names a gfid and is exclusive, or is shared where an exclusive one asks.
 fn is_barred_on(
     queue: &KeyedQueue<Request>,
     gfid: Gfid,
@@ -61,8 +61,8 @@ fn is_barred_on(
     is_barred(queue, gfid_key(gfid, true), call, shared, number)
 }
 
-/// Whether a request at a number is kept from its turn: one that conflicts with it stands before it or,
-/// where it is alone, is granted.
+/// Whether a request at a number is kept from its turn: one that conflicts with it is before it or,
+/// where it is exclusive, is granted.
 fn is_kept(
     queue: &KeyedQueue<Request>,
     number: u64,
@@ -125,7 +125,7 @@ pub(crate) fn settle(queue: &mut RequestQueue, number: u64) -> Held
 }
 
 /// Gives the requests of some numbers their turns, by rising number, and notes the calls that are granted.
-/// It takes no memory.
+/// It allocates nothing.
 pub(crate) fn grant(queue: &mut RequestQueue, mut numbers: BTreeSet<u64>, calls: &mut Vec<u32>)
     requires unpassed { AreUnpassed queue.old }
     requires none { calls.old.items ≡ [] }
@@ -142,7 +142,7 @@ pub(crate) fn grant(queue: &mut RequestQueue, mut numbers: BTreeSet<u64>, calls:
     }
 }
 
-/// Takes the requests that have a key out. It takes no memory.
+/// Takes the requests that have a key out. It allocates nothing.
 pub(crate) fn forget(queue: &mut RequestQueue, key: Key)
     ensures { queue.new ≡ filter (λ e. not (touches keys_of key e.1)) queue.old }
 {

@@ -2,4 +2,3 @@ pub mod Counted
 pub mod Limits
 pub mod Running
 pub mod Serving
-pub mod Spoken

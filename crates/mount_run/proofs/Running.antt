@@ -1,7 +1,7 @@
 -- A world in which nothing is enabled has run its script lawfully.
 use Rattle.std.proofs.Common.{◌≡◌, ℕ, ◌≤◌, List, [], ◌∷◌, Option, Some, None, false, length, take, refl, sym, ◌∙◌, ap, subst, arith, zero, suc}
 use Rattle.std.specs.Prelude.{slice_get, is_some, count_by, not}
-use Rattle.fop_types.specs.declared.calls.RootLine.{RootLine}
+use Rattle.root_calls.specs.declared.calls.RootLine.{RootLine}
 use Rattle.brick_node.specs.Machine.{outputs_of}
 use Rattle.hub_core.specs.declared.racks.Rack.{Rack}
 use Rattle.hub_core.specs.Journal.{inputs_of, arrivals_of, IsBackedByBrick, WindsAreBalanced}
@@ -89,7 +89,7 @@ module _ (calls : List RootLine) (s : WorldState) (fits : AreFit calls) (same : 
     honest = rw r.log run.honest;
     journal = s.journal;
     bricks = r.bricks;
-    front = rw r.log run.journal;
+    prefix = rw r.log run.journal;
     written = written;
     legal = rw (r.log, r.ops, sym same) whole.0.legal;
     lawful = rw (r.log, r.ops, sym same) whole.0.lawful;

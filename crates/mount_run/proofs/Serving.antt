@@ -1,22 +1,23 @@
 -- The calls that are run can be sent, and are no more than the script's.
 use Rattle.std.proofs.Common.{◌≡◌, ℕ, ◌+◌, ◌≤◌, List, [], ◌∷◌, ◌++◌, Option, Some, None, Bool, true, false, length, refl, subst, arith}
-use Rattle.std.specs.List.{list_all}
+use Rattle.std.specs.List.{list_all, AllByRecursion}
 use Rattle.std.specs.Prelude.{nat_le, ◌&&◌, not, codes}
 use Rattle.volfile.specs.TextLines.{is_text}
 use Rattle.std.proofs.lemmas.List.{length_push}
 use Rattle.std.proofs.lemmas.Bool.Decides.{nat_tests}
 use Rattle.fop_types.specs.declared.calls.Call.{Call}
 use Rattle.fop_types.specs.declared.calls.Call.TheVariants.{Mkdir, Rmdir, Create, Unlink, Rename, Open, Stat, List as ListOf, Chmod, Truncate, SetAttr, GetAttr, DelAttr, Read, Write, Seek, Close}
-use Rattle.fop_types.specs.declared.calls.RootCall.{RootCall}
-use Rattle.fop_types.specs.declared.calls.RootCall.TheVariants as root
-use Rattle.fop_types.specs.declared.calls.RootLine.{RootLine}
+use Rattle.root_calls.specs.declared.calls.RootCall.{RootCall}
+use Rattle.root_calls.specs.declared.calls.RootCall.TheVariants as root
+use Rattle.root_calls.specs.declared.calls.RootLine.{RootLine}
 use Rattle.script_lang.specs.declared.scripts.Script.{Script}
 use Rattle.script_lang.specs.declared.scripts.Phase.{Phase}
 use Rattle.script_lang.specs.declared.scripts.CallLine.{CallLine}
 use Rattle.script_lang.specs.WordForms.{is_component, is_component_byte}
 use Rattle.hub_core.specs.Bounds.{IsComponent, AreComponents, IsSendable, AreSendable, AreFit}
-use Rattle.mount_run.specs.Limits.{IsSpoken, AreSpoken, ArePhasesSpoken, IsWithinLimits}
+use Rattle.script_lang.specs.Accepted.{HasBounds, IsPhase, IsAccepted}
 use Rattle.mount_run.specs.Checks.{calls_in}
+use Rattle.mount_run.proofs.Limits.{few_calls}
 use Rattle.mount_run.specs.Served.{root_call, with_root_call, root_lines, root_phases, calls_to_run}
 
 least : (n : ℕ) → nat_le 1 n ≡ true → 1 ≤ n
@@ -41,24 +42,24 @@ components : (parts : List (List ℕ)) → list_all is_component parts ≡ true 
 components [] h = tt
 components (part ∷ parts) h = (let both = both_of (is_component part) (list_all is_component parts) h in (component part both.0, components parts both.1))
 
-root_name : (c : Call) (r : RootCall) → IsSpoken c → root_call c ≡ Some r → IsSendable r
-root_name (Mkdir path mode) r spoken h = (let same : root.Mkdir path mode ≡ r = cc in subst IsSendable same (components path.parts spoken.0, spoken.1))
-root_name (Stat path) r spoken h = (let same : root.Stat path ≡ r = cc in subst IsSendable same (components path.parts spoken))
-root_name (Rmdir path) r spoken h = absurd cc
-root_name (Create fd path mode) r spoken h = absurd cc
-root_name (Unlink path) r spoken h = absurd cc
-root_name (Rename path target) r spoken h = absurd cc
-root_name (Open fd path) r spoken h = absurd cc
-root_name (ListOf path) r spoken h = absurd cc
-root_name (Chmod path mode) r spoken h = absurd cc
-root_name (Truncate path size) r spoken h = absurd cc
-root_name (SetAttr path attr) r spoken h = absurd cc
-root_name (GetAttr path name) r spoken h = absurd cc
-root_name (DelAttr path name) r spoken h = absurd cc
-root_name (Read fd count) r spoken h = absurd cc
-root_name (Write fd bytes) r spoken h = absurd cc
-root_name (Seek fd offset) r spoken h = absurd cc
-root_name (Close fd) r spoken h = absurd cc
+root_name : (c : Call) (r : RootCall) → HasBounds c → root_call c ≡ Some r → IsSendable r
+root_name (Mkdir path mode) r bounds h = (let same : root.Mkdir path mode ≡ r = cc in subst IsSendable same (components path.parts bounds.0, bounds.1))
+root_name (Stat path) r bounds h = (let same : root.Stat path ≡ r = cc in subst IsSendable same (components path.parts bounds))
+root_name (Rmdir path) r bounds h = absurd cc
+root_name (Create fd path mode) r bounds h = absurd cc
+root_name (Unlink path) r bounds h = absurd cc
+root_name (Rename path target) r bounds h = absurd cc
+root_name (Open fd path) r bounds h = absurd cc
+root_name (ListOf path) r bounds h = absurd cc
+root_name (Chmod path mode) r bounds h = absurd cc
+root_name (Truncate path size) r bounds h = absurd cc
+root_name (SetAttr path attr) r bounds h = absurd cc
+root_name (GetAttr path name) r bounds h = absurd cc
+root_name (DelAttr path name) r bounds h = absurd cc
+root_name (Read fd count) r bounds h = absurd cc
+root_name (Write fd bytes) r bounds h = absurd cc
+root_name (Seek fd offset) r bounds h = absurd cc
+root_name (Close fd) r bounds h = absurd cc
 
 sendable_push : (done : List RootLine) (line : RootLine) → AreSendable done → IsSendable line.call → AreSendable (done ++ line ∷ [])
 sendable_push [] line all one = (one, tt)
@@ -68,14 +69,14 @@ sendable_with : (done : List RootLine) (line : CallLine) (o : Option RootCall) �
 sendable_with done line None all one = all
 sendable_with done line (Some r) all one = sendable_push done _ all (one r refl)
 
-sendable_lines : (done : List RootLine) (lines : List CallLine) → AreSpoken lines → AreSendable done → AreSendable (root_lines done lines)
-sendable_lines done [] spoken all = all
-sendable_lines done (line ∷ lines) spoken all =
-    sendable_lines (with_root_call done line (root_call line.call)) lines spoken.1 (sendable_with done line (root_call line.call) all (λ r. root_name line.call r spoken.0))
+sendable_lines : (done : List RootLine) (lines : List CallLine) → AllByRecursion (λ line. HasBounds line.call) lines → AreSendable done → AreSendable (root_lines done lines)
+sendable_lines done [] bounds all = all
+sendable_lines done (line ∷ lines) bounds all =
+    sendable_lines (with_root_call done line (root_call line.call)) lines bounds.1 (sendable_with done line (root_call line.call) all (λ r. root_name line.call r bounds.0))
 
-sendable_phases : (done : List RootLine) (phases : List Phase) → ArePhasesSpoken phases → AreSendable done → AreSendable (root_phases done phases)
-sendable_phases done [] spoken all = all
-sendable_phases done (p ∷ phases) spoken all = sendable_phases (root_lines done p.calls) phases spoken.1 (sendable_lines done p.calls spoken.0 all)
+sendable_phases : (bricks volfiles : ℕ) (done : List RootLine) (phases : List Phase) → AllByRecursion (IsPhase bricks volfiles) phases → AreSendable done → AreSendable (root_phases done phases)
+sendable_phases bricks volfiles done [] bounds all = all
+sendable_phases bricks volfiles done (p ∷ phases) bounds all = sendable_phases bricks volfiles (root_lines done p.calls) phases bounds.1 (sendable_lines done p.calls bounds.0.calls all)
 
 few_with : (done : List RootLine) (line : CallLine) (o : Option RootCall) → length (with_root_call done line o) ≤ length done + 1
 few_with done line None = omega arith
@@ -98,6 +99,9 @@ few_phases done (p ∷ phases) =
 run_few : (script : Script) → calls_in script.phases ≤ 4096 → length (calls_to_run script) ≤ 4096
 run_few script few = (let all : length (calls_to_run script) ≤ 0 + calls_in script.phases = few_phases [] script.phases in omega (arith, all, few))
 
--- the calls of a script that was read are those that a hub takes
-pub run_fit : (script : Script) → IsWithinLimits script → AreFit (calls_to_run script)
-run_fit script limits = record { few = run_few script limits.calls; sendable = sendable_phases [] script.phases limits.spoken tt }
+-- the calls of an accepted script are those that a hub takes
+pub run_fit : (script : Script) → IsAccepted script → AreFit (calls_to_run script)
+run_fit script limits = record {
+  few = run_few script (few_calls script limits);
+  sendable = sendable_phases (length script.bricks) (length script.volfiles) [] script.phases limits.phases tt;
+}

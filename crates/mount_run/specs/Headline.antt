@@ -1,8 +1,8 @@
 -- The headline: for every script, the replies written are those of one plain file system at the written
 -- places of one written history that holds each acknowledged change once, and every wind is ended once.
 use Rattle.std.specs.Prelude.{◌≡◌, ℕ, List, [], ◌∷◌, Ok, length, take}
-use Rattle.fop_types.specs.History.{IsLegalHistory}
-use Rattle.fop_types.specs.declared.calls.RootLine.{RootLine}
+use Rattle.root_calls.specs.History.{IsLegalHistory}
+use Rattle.root_calls.specs.declared.calls.RootLine.{RootLine}
 use Rattle.brick_node.specs.Machine.{outputs_of}
 use Rattle.hub_core.specs.Journal.{FollowsScript, IsFinished, HasHonestArrivals, WindsAreBalanced, AreLawful, IsBackedByBrick, calls_of, inputs_of}
 use Rattle.hub_core.specs.Ties.{IsTied}
@@ -20,10 +20,10 @@ pub record IsLawfulRun (calls : List RootLine) (names : Names) (report : List �
   pub follows : FollowsScript calls rack.log
   pub finished : IsFinished calls rack.log
   pub honest : HasHonestArrivals rack.log
-  -- there is one brick; its journal is a front of the bytes that the log sent to it
+  -- there is one brick; its journal is a prefix of the bytes that the log sent to it
   pub journal : List (List ℕ)
   pub bricks : rack.bricks ≡ journal ∷ []
-  pub front : journal ≡ take (length journal) (inputs_of rack.log.sent)
+  pub prefix : journal ≡ take (length journal) (inputs_of rack.log.sent)
   -- the bytes are the report of the log
   pub written : report ≡ report_text (report_of names rack.log)
   -- one legal history, lawful replies, balanced winds, and each change on the brick

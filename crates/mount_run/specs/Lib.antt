@@ -1,6 +1,7 @@
 pub mod Checks
 pub mod Commands
 pub mod Headline
+pub mod Heads
 pub mod Limits
 pub mod Outcomes
 pub mod Plans

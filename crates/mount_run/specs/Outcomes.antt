@@ -1,4 +1,4 @@
--- When each status of the top call comes, and what was written. Where the source and the sink tell their
+-- When each status of the top call comes, and what was written. Where the source and the sink show their
 -- bytes, the text is what was read and the bytes written are named.
 use Rattle.std.specs.Prelude.{◌≡◌, ℕ, List, [], Option, Some, None, Ok, Err, IfSome, ◌⊎◌}
 use Rattle.std.specs.Io.KnownBytes.{Appends}
@@ -22,21 +22,21 @@ use Rattle.mount_run.specs.declared.refusals.Refusal.{Refusal}
 abbrev pub empty_rack : Rack
 empty_rack = record { bricks = []; log = empty_log; ops = [] }
 
--- the text that was read, where the source told its bytes
+-- the text that was read, where the source shows its bytes
 abbrev pub IsRead : Option (List ℕ) → List ℕ → Type 0
-IsRead told text = IfSome told (λ bytes. text ≡ bytes)
+IsRead known text = IfSome known (λ bytes. text ≡ bytes)
 
 -- a text was read that the command accepts as this
-pub record IsAccepted (command : Command) (told : Option (List ℕ)) (read : Accepted) : Type 0 where
+pub record IsAccepted (command : Command) (known : Option (List ℕ)) (read : Accepted) : Type 0 where
   pub text : List ℕ
-  pub is_text : IsRead told text
+  pub is_text : IsRead known text
   pub verdict : verdict_of command text ≡ Ok read
 
 -- the text that was read is refused by the command, for this as the first
 abbrev pub IsRefused : Command → Option (List ℕ) → Refusal → Type 0
-IsRefused command told refusal = IfSome told (λ text. verdict_of command text ≡ Err refusal)
+IsRefused command known refusal = IfSome known (λ text. verdict_of command text ≡ Err refusal)
 
--- the script was run, and its report was written: the whole of it, or a front and not all
+-- the script was run, and its report was written: the whole of it, or a prefix and not all
 pub record IsWritten (script : Script) (taken taken_after : Option (List ℕ)) (rack : Rack) : Type 0 where
   pub report : List ℕ
   pub run : IsLawfulRun (calls_to_run script) (names_of script) report rack
@@ -48,79 +48,79 @@ pub record IsCutShort (script : Script) (taken taken_after : Option (List ℕ)) 
   pub wrote : WrotePrefix taken taken_after report
 
 -- a script was run, and its whole report was written
-pub record Ran (told taken taken_after : Option (List ℕ)) (rack : Rack) : Type 0 where
+pub record Ran (known taken taken_after : Option (List ℕ)) (rack : Rack) : Type 0 where
   pub text : List ℕ
   pub report : List ℕ
-  pub read : IsRead told text
+  pub read : IsRead known text
   pub headline : Headline text report rack
   pub wrote : Appends taken taken_after report
 
 -- a script was checked, and its one line was written
-pub record Checked (told taken taken_after : Option (List ℕ)) (rack : Rack) : Type 0 where
+pub record Checked (known taken taken_after : Option (List ℕ)) (rack : Rack) : Type 0 where
   pub text : List ℕ
   pub read : Accepted
-  pub is_text : IsRead told text
+  pub is_text : IsRead known text
   pub accepted_as : accepted text ≡ Ok read
   pub wrote : Appends taken taken_after (check_text read.script)
   pub empty : rack ≡ empty_rack
 
 -- the text is accepted for a run, events lead from the start of its calls to a world without winds for a
 -- further fop, and the rack is as before a run
-pub record WindsRanOut (told : Option (List ℕ)) (rack : Rack) : Type 0 where
+pub record WindsRanOut (known : Option (List ℕ)) (rack : Rack) : Type 0 where
   pub text : List ℕ
   pub read : Accepted
-  pub is_text : IsRead told text
+  pub is_text : IsRead known text
   pub accepted_as : for_a_run (accepted text) ≡ Ok read
   pub run_out : HasRun (world_start (calls_to_run read.script)) IsOutOfWinds
   pub empty : rack ≡ empty_rack
 
--- a run alone needs winds
+-- only a run needs winds
 abbrev pub RanOutOfWinds : Option Command → Option (List ℕ) → Rack → Type 0
-RanOutOfWinds None told rack = ⊥
-RanOutOfWinds (Some Check) told rack = ⊥
-RanOutOfWinds (Some (Run seed)) told rack = WindsRanOut told rack
+RanOutOfWinds None known rack = ⊥
+RanOutOfWinds (Some Check) known rack = ⊥
+RanOutOfWinds (Some (Run seed)) known rack = WindsRanOut known rack
 
 -- what each command did, where it ended well
 abbrev pub Succeeded : Option Command → Option (List ℕ) → Option (List ℕ) → Option (List ℕ) → Rack → Type 0
-Succeeded None told taken taken_after rack = ⊥
-Succeeded (Some Check) told taken taken_after rack = Checked told taken taken_after rack
-Succeeded (Some (Run seed)) told taken taken_after rack = Ran told taken taken_after rack
+Succeeded None known taken taken_after rack = ⊥
+Succeeded (Some Check) known taken taken_after rack = Checked known taken taken_after rack
+Succeeded (Some (Run seed)) known taken taken_after rack = Ran known taken taken_after rack
 
 -- the text was refused, by the first refusal of the command, and its one line was written
-pub record Refused (command : Command) (told taken taken_after : Option (List ℕ)) (rack : Rack) : Type 0 where
+pub record Refused (command : Command) (known taken taken_after : Option (List ℕ)) (rack : Rack) : Type 0 where
   pub refusal : Refusal
-  pub first : IsRefused command told refusal
+  pub first : IsRefused command known refusal
   pub wrote : Appends taken taken_after (fault_text refusal)
   pub empty : rack ≡ empty_rack
 
 abbrev pub RefusedBy : Option Command → Option (List ℕ) → Option (List ℕ) → Option (List ℕ) → Rack → Type 0
-RefusedBy None told taken taken_after rack = ⊥
-RefusedBy (Some command) told taken taken_after rack = Refused command told taken taken_after rack
+RefusedBy None known taken taken_after rack = ⊥
+RefusedBy (Some command) known taken taken_after rack = Refused command known taken taken_after rack
 
--- a front of what is to be written was, and not all of it: of a report, of the line of a check, or of the
+-- a prefix of what is to be written was, and not all of it: of a report, of the line of a check, or of the
 -- line of a refusal
-pub record RanUnwritten (told taken taken_after : Option (List ℕ)) (rack : Rack) : Type 0 where
+pub record RanUnwritten (known taken taken_after : Option (List ℕ)) (rack : Rack) : Type 0 where
   pub text : List ℕ
   pub report : List ℕ
-  pub read : IsRead told text
+  pub read : IsRead known text
   pub headline : Headline text report rack
   pub wrote : WrotePrefix taken taken_after report
 
-pub record CheckedUnwritten (told taken taken_after : Option (List ℕ)) (rack : Rack) : Type 0 where
+pub record CheckedUnwritten (known taken taken_after : Option (List ℕ)) (rack : Rack) : Type 0 where
   pub text : List ℕ
   pub read : Accepted
-  pub is_text : IsRead told text
+  pub is_text : IsRead known text
   pub accepted_as : accepted text ≡ Ok read
   pub wrote : WrotePrefix taken taken_after (check_text read.script)
   pub empty : rack ≡ empty_rack
 
-pub record RefusedUnwritten (command : Command) (told taken taken_after : Option (List ℕ)) (rack : Rack) : Type 0 where
+pub record RefusedUnwritten (command : Command) (known taken taken_after : Option (List ℕ)) (rack : Rack) : Type 0 where
   pub refusal : Refusal
-  pub first : IsRefused command told refusal
+  pub first : IsRefused command known refusal
   pub wrote : WrotePrefix taken taken_after (fault_text refusal)
   pub empty : rack ≡ empty_rack
 
 abbrev pub Unwritten : Option Command → Option (List ℕ) → Option (List ℕ) → Option (List ℕ) → Rack → Type 0
-Unwritten None told taken taken_after rack = ⊥
-Unwritten (Some Check) told taken taken_after rack = CheckedUnwritten told taken taken_after rack ⊎ RefusedUnwritten Check told taken taken_after rack
-Unwritten (Some (Run seed)) told taken taken_after rack = RanUnwritten told taken taken_after rack ⊎ RefusedUnwritten (Run seed) told taken taken_after rack
+Unwritten None known taken taken_after rack = ⊥
+Unwritten (Some Check) known taken taken_after rack = CheckedUnwritten known taken taken_after rack ⊎ RefusedUnwritten Check known taken taken_after rack
+Unwritten (Some (Run seed)) known taken taken_after rack = RanUnwritten known taken taken_after rack ⊎ RefusedUnwritten (Run seed) known taken taken_after rack

@@ -33,7 +33,7 @@ line_of (Some volume) = volume.line
 abbrev pub volume_line : Volfile → ℕ → ℕ
 volume_line volfile number = line_of (slice_get volfile.volumes number)
 
--- want of memory is no plan and no refusal, and never what is planned
+-- out of memory is no plan and no refusal, and never what is planned
 abbrev pub plan_then : {A : Type 0} → Result Plan PlanError → Volfile → (Plan → Result A Refusal) → Result A Refusal
 plan_then (Ok plan) volfile more = more plan
 plan_then (Err (fault.At volume kind)) volfile more = Err (OfPlan (volume_line volfile volume) kind)

@@ -54,7 +54,7 @@ names_of script = record {
   brick = first_brick script.bricks;
 }
 
--- an item of a list has its name and kind alone
+-- an item of a list shows its name and kind only
 abbrev pub shown_item : Item → List ℕ × Kind
 shown_item item = (item.name, item.kind)
 
@@ -103,7 +103,7 @@ shown_call names reply = record {
 abbrev pub shown_entry : Entry → ℕ × ℕ
 shown_entry entry = (entry.call, entry.part)
 
--- with one session the replies stand in the order of their calls
+-- with one session the replies are in the order of their calls
 abbrev pub report_of : Names → Log → Report
 report_of names log = record {
   calls = map (shown_call names) log.replies;

@@ -3,9 +3,9 @@
 use Rattle.std.specs.Prelude.{ℕ, nat_le, ◌==◌, ◌||◌, not, Bool, List, [], ◌∷◌, ◌++◌, Option, Some, None, is_none, Result, Ok, Err, length, codes, if◌then◌else◌}
 use Rattle.fop_types.specs.declared.calls.Call.{Call}
 use Rattle.fop_types.specs.declared.calls.Call.TheVariants.{Mkdir, Rmdir, Create, Unlink, Rename, Open, Stat, List as ListOf, Chmod, Truncate, SetAttr, GetAttr, DelAttr, Read, Write, Seek, Close}
-use Rattle.fop_types.specs.declared.calls.RootCall.{RootCall}
-use Rattle.fop_types.specs.declared.calls.RootCall.TheVariants as root
-use Rattle.fop_types.specs.declared.calls.RootLine.{RootLine}
+use Rattle.root_calls.specs.declared.calls.RootCall.{RootCall}
+use Rattle.root_calls.specs.declared.calls.RootCall.TheVariants as root
+use Rattle.root_calls.specs.declared.calls.RootLine.{RootLine}
 use Rattle.volfile.specs.TextLines.{is_text}
 use Rattle.volfile.specs.declared.volumes.Volume.{Volume}
 use Rattle.script_lang.specs.declared.errors.ScriptKind.TheVariants.{Later}
@@ -62,19 +62,19 @@ calls_to_run script = root_phases [] script.phases
 -- ---- the statements that are not served
 -- a volume of another type than a client; every volume, where the script has more than one brick
 abbrev pub is_unserved_volume : Bool → Volume → Bool
-is_unserved_volume alone v = not alone || not (is_text v.kind (codes "protocol/client"))
+is_unserved_volume one_brick v = not one_brick || not (is_text v.kind (codes "protocol/client"))
 
 abbrev pub unserved_volume : Bool → List Volume → Option ℕ
-unserved_volume alone [] = None
-unserved_volume alone (v ∷ volumes) = if is_unserved_volume alone v then Some v.line else unserved_volume alone volumes
+unserved_volume one_brick [] = None
+unserved_volume one_brick (v ∷ volumes) = if is_unserved_volume one_brick v then Some v.line else unserved_volume one_brick volumes
 
 abbrev pub or_else : Option ℕ → Option ℕ → Option ℕ
 or_else (Some line) other = Some line
 or_else None other = other
 
 abbrev pub unserved_volfile : Bool → List NamedVolfile → Option ℕ
-unserved_volfile alone [] = None
-unserved_volfile alone (v ∷ volfiles) = or_else (unserved_volume alone v.volfile.volumes) (unserved_volfile alone volfiles)
+unserved_volfile one_brick [] = None
+unserved_volfile one_brick (v ∷ volfiles) = or_else (unserved_volume one_brick v.volfile.volumes) (unserved_volfile one_brick volfiles)
 
 -- a call of a second session, or one that the hub does not take
 abbrev pub unserved_call : List CallLine → Option ℕ

@@ -19,7 +19,7 @@ fn count_calls(phases: &[Phase]) -> usize
 /// The line that `check` writes for an accepted script.
 ///
 /// # Errors
-/// Want of memory.
+/// Out of memory.
 pub fn check_line(alloc: Global, script: &Script) -> Result<Vec<u8>, AllocError>
     requires { calls_in script.now.phases ≤ 4096 }
     ensures { IfOk result (λ text. text.items ≡ check_text script.now) }

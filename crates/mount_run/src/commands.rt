@@ -5,7 +5,7 @@ ghost use Rattle.mount_run.specs.Commands.{check_with, command_of, run_with};
 use xl_base::decimal;
 
 /// A command of the program: to read and plan a script, or to run it too, by a seed below 2^64.
-#[derive(Debug, Clone, Copy, PartialEq, Eq)]
+#[derive(Clone, Copy)]
 pub enum Command {
     Check,
     Run(u64),

@@ -10,12 +10,14 @@
 //! ```
 //!
 //! `top` is the whole of it over any source and sink, and its contract carries the headline. What is here
-//! looks at the first word, and tells the cause of a status on standard error.
+//! looks at the first word, and explains a status other than 0 on standard error.
 #![tactic(auto)]
 
 mod checks;
 mod commands;
+mod head_sinks;
 mod mains;
+mod meanings;
 mod plans;
 mod readings;
 mod refusals;
@@ -26,8 +28,6 @@ mod tops;
 
 use std::process::ExitCode;
 
-#[cfg(test)]
-mod path_tests;
 #[cfg(test)]
 mod tests;
 

@@ -1,6 +1,7 @@
 ghost use Rattle.std.specs.Prelude.{◌≡◌, ◌≤◌, [], Ok, Err, length, IfOk, IsErrOf};
 ghost use Rattle.std.specs.List.{All};
-ghost use Rattle.mount_run.specs.Limits.{IsSmall, IsWithinLimits};
+ghost use Rattle.script_lang.specs.Accepted.{IsAccepted as KeepsLimits};
+ghost use Rattle.mount_run.specs.Limits.{IsSmall};
 ghost use Rattle.mount_run.specs.Plans.{after_action, after_controls, after_phases, switched, plans_of, volume_line as line_of_volume, with_plans, accepted};
 ghost use Rattle.mount_run.specs.declared.readings.NotRead.TheVariants as not_read;
 ghost use Rattle.mount_run.specs.declared.refusals.Refusal.{Refusal};
@@ -16,7 +17,7 @@ use std::alloc::Global;
 use volfile::Volfile;
 
 /// A text as it was accepted: its script, with the plan of each of its volfiles in order.
-#[derive(Debug, Drop, PartialEq, Eq)]
+#[derive(Drop)]
 pub struct Accepted {
     pub script: Script,
     pub plans: Seq<Plan>,
@@ -126,7 +127,7 @@ fn follow_phases(plans: &[Plan], first: u8, phases: &[Phase]) -> Result<u8, u32>
 // A script with its plans, if its switches follow.
 #[tactic(auto, using(crate::proofs::Limits::all_small))]
 fn plan(alloc: Global, script: Script) -> Result<Accepted, NotRead>
-    requires { IsWithinLimits script }
+    requires { KeepsLimits script }
     ensures accepted { IfOk result (λ a. with_plans script (plans_of [] script.volfiles script.bricks) ≡ Ok a) }
     ensures same { IfOk result (λ a. a.script ≡ script) }
     ensures refused { (refusal : Refusal) → IsErrOf result (not_read.Refused refusal) → with_plans script (plans_of [] script.volfiles script.bricks) ≡ Err refusal }
@@ -148,11 +149,10 @@ fn plan(alloc: Global, script: Script) -> Result<Accepted, NotRead>
 ///
 /// # Errors
 /// `Refused` with the first refusal: the grammar's by line, then those of plans in the order of volfiles,
-/// then those of followings by line. `Mem` is want of memory.
-#[tactic(auto, using(crate::proofs::Limits::parsed_limits))]
+/// then those of followings by line. `Mem` is out of memory.
 pub fn accept(alloc: Global, text: &[u8]) -> Result<Accepted, NotRead>
     requires { length text.now ≤ 2097152 }
-    ensures limits { IfOk result (λ a. IsWithinLimits a.script) }
+    ensures limits { IfOk result (λ a. KeepsLimits a.script) }
     ensures accepted { IfOk result (λ a. accepted text.now ≡ Ok a) }
     ensures refused { (refusal : Refusal) → IsErrOf result (not_read.Refused refusal) → accepted text.now ≡ Err refusal }
     ensures no_fault { IsErrOf result not_read.Fault → ⊥ }

@@ -1,5 +1,5 @@
 ghost use Rattle.std.specs.Prelude.{◌≡◌, ◌<◌, ◌≤◌, ◌-◌, ◌^◌, Ok, Err, length, IfOk, IsErrOf};
-ghost use Rattle.mount_run.specs.Limits.{IsWithinLimits};
+ghost use Rattle.script_lang.specs.Accepted.{IsAccepted as KeepsLimits};
 ghost use Rattle.mount_run.specs.Outcomes.{IsAccepted, IsRefused};
 ghost use Rattle.mount_run.specs.Served.{verdict_of};
 ghost use Rattle.mount_run.specs.declared.readings.NotRead.TheVariants as not_read;
@@ -16,8 +16,8 @@ use xl_base::{ReadError, Source, read_all};
 // The bytes of a script, at most.
 const LIMIT: usize = 2097152;
 
-/// Why no script was read: the source failed, the text is refused, or want of memory.
-#[derive(Debug, Clone, Copy, PartialEq, Eq)]
+/// Why no script was read: the source failed, the text is refused, or out of memory.
+#[derive(Clone, Copy)]
 pub enum NotRead {
     Fault,
     Refused(Refusal),
@@ -39,7 +39,7 @@ impl From<AllocError> for NotRead {
 fn judge(alloc: Global, command: Command, text: &[u8]) -> Result<Accepted, NotRead>
     requires { length text.now ≤ 2097152 }
     ensures accepted { IfOk result (λ a. verdict_of command text.now ≡ Ok a) }
-    ensures limits { IfOk result (λ a. IsWithinLimits a.script) }
+    ensures limits { IfOk result (λ a. KeepsLimits a.script) }
     ensures refused { (refusal : Refusal) → IsErrOf result (not_read.Refused refusal) → verdict_of command text.now ≡ Err refusal }
     ensures no_fault { IsErrOf result not_read.Fault → ⊥ }
 {
@@ -62,7 +62,7 @@ fn judge(alloc: Global, command: Command, text: &[u8]) -> Result<Accepted, NotRe
 ///
 /// # Errors
 /// `Fault` only where the source's count of faults rose in this call; `Refused` with the first refusal of
-/// the text; `Mem` is want of memory.
+/// the text; `Mem` is out of memory.
 pub fn read_script<S: Source>(
     alloc: Global,
     command: Command,
@@ -70,7 +70,7 @@ pub fn read_script<S: Source>(
 ) -> Result<Accepted, NotRead>
     requires { S.faults source.old < 2 ^ 64 - 1 }
     ensures accepted { IfOk result (λ read. IsAccepted command (S.left source.old) read) }
-    ensures limits { IfOk result (λ read. IsWithinLimits read.script) }
+    ensures limits { IfOk result (λ read. KeepsLimits read.script) }
     ensures refused { (refusal : Refusal) → IsErrOf result (not_read.Refused refusal) → IsRefused command (S.left source.old) refusal }
     ensures fault { IsErrOf result not_read.Fault → S.faults source.old < S.faults source.new }
 {

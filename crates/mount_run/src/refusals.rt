@@ -6,10 +6,10 @@ use script_lang::ScriptKind;
 use std::alloc::{AllocError, Global};
 use volfile::VolKind;
 
-/// Why a text is refused, with the line that is told: the script's grammar, a following or this stage of
-/// the program refuses the line, where a text that is too long has the line 0; or a volfile has no plan,
-/// with the line of the volume.
-#[derive(Debug, Clone, Copy, PartialEq, Eq)]
+/// Why a text is refused, with the line that is reported. `OfScript`: the grammar, a following or what a run
+/// serves so far refuses the line; a text that is too long has the line 0. `OfPlan`: a volfile has no plan,
+/// and the line is that of the volume.
+#[derive(Clone, Copy)]
 pub enum Refusal {
     OfScript { line: u32, kind: ScriptKind },
     OfPlan { line: u32, kind: PlanKind },
@@ -93,7 +93,7 @@ fn fault(alloc: Global, line: u32, name: &[u8]) -> Result<Vec<u8>, AllocError>
 /// The line that is written for a refusal.
 ///
 /// # Errors
-/// Want of memory.
+/// Out of memory.
 pub fn fault_line(alloc: Global, refusal: Refusal) -> Result<Vec<u8>, AllocError>
     ensures { IfOk result (λ text. text.items ≡ fault_text refusal) }
 {

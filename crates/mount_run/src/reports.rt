@@ -9,7 +9,7 @@ use std::alloc::{AllocError, Global};
 use volfile::Volume;
 
 /// The names that a script gives to what a report shows: its session, its graph, its set and its brick.
-#[derive(Debug, Drop, PartialEq, Eq)]
+#[derive(Drop)]
 pub struct Names {
     pub session: Seq<u8>,
     pub graph: Seq<u8>,
@@ -47,7 +47,7 @@ fn first_volume_name(alloc: Global, volumes: &[Volume]) -> Result<Seq<u8>, Alloc
 /// The names of a script of one session and one client.
 ///
 /// # Errors
-/// Want of memory.
+/// Out of memory.
 pub fn script_names(alloc: Global, script: &Script) -> Result<Names, AllocError>
     ensures { IfOk result (λ names. names ≡ names_of script.now) }
 {
@@ -261,7 +261,7 @@ fn ended(winds: &[WindLine]) -> usize
 /// opened and ended, each less than 2^32, with the script's names in place of numbers.
 ///
 /// # Errors
-/// Want of memory.
+/// Out of memory.
 pub fn report_of(alloc: Global, names: &Names, log: &Log) -> Result<Report, AllocError>
     requires opened { count_by (λ line. line.opened) log.now.winds < 2 ^ 32 }
     requires ended { count_by (λ line. not line.opened) log.now.winds < 2 ^ 32 }

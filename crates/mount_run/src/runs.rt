@@ -1,6 +1,6 @@
 ghost use Rattle.std.specs.Prelude.{◌≡◌, IfOk, IsErrOf, OnErr};
 ghost use Rattle.mount_run.specs.Headline.{IsLawfulRun};
-ghost use Rattle.mount_run.specs.Limits.{IsWithinLimits};
+ghost use Rattle.script_lang.specs.Accepted.{IsAccepted as KeepsLimits};
 ghost use Rattle.mount_run.specs.Reports.{names_of};
 ghost use Rattle.mount_run.specs.Served.{calls_to_run};
 ghost use Rattle.world_core.specs.Worlds.{world_start, HasRun, IsOutOfWinds};
@@ -18,10 +18,10 @@ use xlator_law::Stop;
 /// the rack, and gives the report's text.
 ///
 /// # Errors
-/// `Winds` only where the events of the run come to more than 4,294,967,295 winds; else want of memory.
+/// `Winds` only where the events of the run come to more than 4,294,967,295 winds; else out of memory.
 /// After both the rack is as it was.
 pub fn run_script(alloc: Global, script: &Script, rack: &mut Rack) -> Result<Vec<u8>, Stop>
-    requires { IsWithinLimits script.now }
+    requires { KeepsLimits script.now }
     ensures ran { IfOk result (λ report. IsLawfulRun (calls_to_run script.now) (names_of script.now) report.items rack.new) }
     ensures winds { IsErrOf result Stop.Winds → HasRun (world_start (calls_to_run script.now)) IsOutOfWinds }
     ensures kept { OnErr result (rack.new ≡ rack.old) }

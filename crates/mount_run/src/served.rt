@@ -1,7 +1,8 @@
 ghost use Rattle.std.specs.Prelude.{◌≡◌, is_some, IfOk};
 ghost use Rattle.mount_run.specs.Served.{root_call as root_call_of, root_lines as lines_with, root_phases as phases_with, calls_to_run, is_unserved_volume as is_more, unserved_volume, unserved_volfile, unserved_call, unserved_control, unserved_phase, earlier as earlier_of, or_else as or_else_of, first_unserved};
 
-use fop_types::{Call, RootCall, RootLine, RootScript, Seq};
+use fop_types::{Call, Seq};
+use root_calls::{RootCall, RootLine, RootScript};
 use script_lang::{CallLine, ControlLine, NamedVolfile, Phase, Script};
 use std::alloc::{AllocError, Global};
 use volfile::{Volume, is_same};
@@ -61,7 +62,7 @@ fn root_lines(
 /// The calls of a script that the hub serves, in the order of their lines.
 ///
 /// # Errors
-/// Want of memory.
+/// Out of memory.
 pub fn calls(alloc: Global, script: &Script) -> Result<RootScript, AllocError>
     ensures { IfOk result (λ s. s.calls ≡ calls_to_run script.now) }
 {
@@ -72,17 +73,17 @@ pub fn calls(alloc: Global, script: &Script) -> Result<RootScript, AllocError>
     Ok(RootScript { calls: all })
 }
 
-fn is_unserved_volume(alone: bool, volume: &Volume) -> bool
-    ensures { result ≡ is_more alone volume.now }
+fn is_unserved_volume(one_brick: bool, volume: &Volume) -> bool
+    ensures { result ≡ is_more one_brick volume.now }
 {
-    !alone || !is_same(volume.kind.as_slice(), b"protocol/client")
+    !one_brick || !is_same(volume.kind.as_slice(), b"protocol/client")
 }
 
-fn volume_line(alone: bool, volumes: &[Volume]) -> Option<u32>
-    ensures { result ≡ unserved_volume alone volumes.now }
+fn volume_line(one_brick: bool, volumes: &[Volume]) -> Option<u32>
+    ensures { result ≡ unserved_volume one_brick volumes.now }
 {
     for volume in volumes {
-        if is_unserved_volume(alone, volume) {
+        if is_unserved_volume(one_brick, volume) {
             return Some(volume.line);
         }
     }
@@ -98,11 +99,11 @@ fn or_else(line: Option<u32>, other: Option<u32>) -> Option<u32>
     }
 }
 
-fn volfile_line(alone: bool, volfiles: &[NamedVolfile]) -> Option<u32>
-    ensures { result ≡ unserved_volfile alone volfiles.now }
+fn volfile_line(one_brick: bool, volfiles: &[NamedVolfile]) -> Option<u32>
+    ensures { result ≡ unserved_volfile one_brick volfiles.now }
 {
     for named in volfiles {
-        match volume_line(alone, named.volfile.volumes.as_slice()) {
+        match volume_line(one_brick, named.volfile.volumes.as_slice()) {
             Some(line) => return Some(line),
             None => {}
         }
@@ -169,9 +170,9 @@ fn phase_line(phases: &[Phase]) -> Option<u32>
 pub fn first_later(script: &Script) -> Option<u32>
     ensures { result ≡ first_unserved script.now }
 {
-    let alone = script.bricks.len() <= 1;
+    let one_brick = script.bricks.len() <= 1;
     or_else(
-        volfile_line(alone, script.volfiles.as_slice()),
+        volfile_line(one_brick, script.volfiles.as_slice()),
         phase_line(script.phases.as_slice()),
     )
 }

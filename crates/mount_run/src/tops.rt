@@ -3,7 +3,7 @@ ghost use Rattle.std.specs.String.{string_bytes};
 ghost use Rattle.std.specs.Io.KnownBytes.{Appends};
 ghost use Rattle.xl_base.specs.Writes.{WrotePrefix};
 ghost use Rattle.mount_run.specs.Checks.{calls_in, check_text};
-ghost use Rattle.mount_run.specs.Limits.{IsWithinLimits};
+ghost use Rattle.script_lang.specs.Accepted.{IsAccepted as KeepsLimits};
 ghost use Rattle.mount_run.specs.Commands.{command_of};
 ghost use Rattle.mount_run.specs.Refusals.{fault_text};
 ghost use Rattle.mount_run.specs.Outcomes.{empty_rack, IsWritten, IsCutShort, Succeeded, RefusedBy, Unwritten, RanOutOfWinds};
@@ -28,7 +28,7 @@ use xlator_law::Stop;
 /// The words are those after the program's name. The result is the status: 0 the command was carried out
 /// and its text was written; 1 the script is refused and its one fault line was written; 2 the words are
 /// no command, and nothing was read or written; 3 the source failed, and nothing was written; 4 the sink
-/// failed, and a front of the text was written; 5 want of memory, and nothing was written; 7 the run needed
+/// failed, and a prefix of the text was written; 5 out of memory, and nothing was written; 7 the run needed
 /// a further wind where 4,294,967,295 were opened, and nothing was written. The rack must be empty; after a
 /// run that came to its end it holds the brick and the log of the run, and else it is empty still.
 pub fn top<S: Source, K: Sink>(
@@ -60,6 +60,7 @@ pub fn top<S: Source, K: Sink>(
 }
 
 // Carries out a command.
+#[tactic(auto, using(crate::proofs::Limits::few_calls))]
 fn carry_out<S: Source, K: Sink>(
     alloc: Global,
     command: Command,
@@ -129,7 +130,7 @@ fn check_read<K: Sink>(alloc: Global, script: &Script, sink: &mut K) -> u8
 // Runs a script and writes its report.
 fn run_read<K: Sink>(alloc: Global, script: &Script, sink: &mut K, rack: &mut Rack) -> u8
     requires sink { K.faults sink.old < 2 ^ 64 - 1 }
-    requires limits { IsWithinLimits script.now }
+    requires limits { KeepsLimits script.now }
     ensures statuses { (result ≡ 0) ⊎ ((result ≡ 4) ⊎ ((result ≡ 5) ⊎ (result ≡ 7))) }
     ensures ran { result ≡ 0 → IsWritten script.now (K.taken sink.old) (K.taken sink.new) rack.new }
     ensures write_fault { result ≡ 4 → (K.faults sink.old < K.faults sink.new) × IsCutShort script.now (K.taken sink.old) (K.taken sink.new) rack.new }

@@ -1,5 +1,8 @@
 pub mod Orders
 pub mod Steps
 pub mod Found
+pub mod Lists
 pub mod Entries
+pub mod Numbers
 pub mod Touching
+pub mod Contention

@@ -1,4 +1,4 @@
 pub mod Places
 pub mod Queue
 pub mod Whole
-pub mod Visits
+pub mod Rivals

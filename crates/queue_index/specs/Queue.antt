@@ -1,6 +1,6 @@
 -- A queue of entries with rising numbers, and which of them have a key. An entry is a number and an item;
--- `keys` tells the keys of an item.
-use Rattle.std.specs.Prelude.{ℕ, ◌+◌, ◌-◌, ◌^◌, Bool, not, ◌==◌, nat_lt, nat_le, ◌&&◌, cond, List, map, length, slice_get, Option, Some, None}
+-- `keys` gives the keys of an item.
+use Rattle.std.specs.Prelude.{ℕ, ◌+◌, ◌-◌, ◌^◌, Bool, not, ◌==◌, nat_lt, nat_le, ◌&&◌, cond, false, List, map, length, slice_get, Option, Some, None}
 use Rattle.std.specs.List.{filter}
 use Rattle.std.specs.Map.{lookup}
 use Rattle.std.specs.Ordering.{nat_cmp}
@@ -32,6 +32,14 @@ module _ {T : Type 0} where
   abbrev pub changed_at : (T → T) → ℕ → List (ℕ × T) → List (ℕ × T)
   changed_at change n es = map (λ e. cond (n == e.0) (e.0, change e.1) e) es
 
+  -- whether the entry of a number is there and passes a test
+  abbrev pub passes : (ℕ → T → Bool) → ℕ → Option T → Bool
+  passes p n None = false
+  passes p n (Some x) = p n x
+
+  abbrev pub is_at_number : (ℕ → T → Bool) → List (ℕ × T) → ℕ → Bool
+  is_at_number p es n = passes p n (item_at n es)
+
   abbrev pub after_entry : Option (ℕ × T) → ℕ
   after_entry None = 2 ^ 63
   after_entry (Some e) = e.0 + 1
@@ -39,6 +47,18 @@ module _ {T : Type 0} where
   abbrev pub before_entry : Option (ℕ × T) → ℕ
   before_entry None = 2 ^ 63
   before_entry (Some e) = e.0 - 1
+
+  -- whether an entry that may be there has a number
+  abbrev pub has_number : ℕ → Option (ℕ × T) → Bool
+  has_number n None = false
+  has_number n (Some e) = e.0 == n
+
+  -- whether the numbers at the end are used up, and those at the front
+  abbrev pub is_end_used : List (ℕ × T) → Bool
+  is_end_used es = has_number (2 ^ 64 - 2) (slice_get es (length es - 1))
+
+  abbrev pub is_front_used : List (ℕ × T) → Bool
+  is_front_used es = has_number 0 (slice_get es 0)
 
   -- the number of an entry that is put at the end, and of one that is put at the front
   abbrev pub number_after : List (ℕ × T) → ℕ

@@ -1,4 +1,4 @@
--- What a queue keeps: a place stands exactly where the entry of its number has its key, and the numbers
+-- What a queue keeps: there is a place exactly where the entry of its number has its key, and the numbers
 -- rise and are small.
 use Rattle.std.specs.Prelude.{◌≡◌, ℕ, ◌≤◌, ◌+◌, ◌^◌, Bool, false, List, Option, Some, None}
 use Rattle.std.specs.BTreeSet.{BTreeSet, contains}

@@ -9,7 +9,7 @@ use crate::place::{Place, add_places, remove_places};
 use std::alloc::AllocError;
 use std::collections::{BTreeMap, BTreeSet};
 
-/// Puts an entry of a new number in, with its places. At want of memory nothing stays.
+/// Puts an entry of a new number in, with its places. Where memory runs out nothing stays.
 pub(crate) fn add_entry<T: Keyed + Drop>(
     held: &mut BTreeMap<u64, T>,
     places: &mut BTreeSet<Place>,

@@ -3,7 +3,7 @@ ghost use Rattle.queue_index.specs.declared.key.Key.{Key};
 
 use crate::key::Key;
 
-/// An entry of a [`KeyedQueue`](crate::KeyedQueue): it tells its keys, and has a mark that may be set.
+/// An entry of a [`KeyedQueue`](crate::KeyedQueue): it has keys, and a mark that may be set.
 pub trait Keyed {
     // The keys of an entry.
     ghost keys: { Self → List Key };

@@ -3,15 +3,20 @@
 //! ```text
 //!   entries, by rising number         places, by key and then by number
 //!
-//!     6: request of owner 3            (gfid 2, shared) 6
-//!     8: request of owner 5            (gfid 2, sole)   8
-//!     9: request of owner 7            (owner 3) 6, (owner 5) 8, (owner 7) 9, ..
+//!     6: request of owner 3            (gfid 2, exclusive) 8
+//!     8: request of owner 5            (gfid 2, shared)    6
+//!     9: request of owner 7            (owner 3, name) 6, (owner 5, name) 8, (owner 7, name) 9, ..
 //! ```
 //!
-//! An entry keeps its number as long as it stands. New entries go to the end, or to the front. Each entry
-//! has a place for each of its keys, so whoever asks for a key walks over the entries of that key alone.
-//! With n entries, one that has k keys is put in and taken out in time of the order k log n, and whether
-//! an entry of some key stands before a number is found in time of the order log n.
+//! An entry keeps its number as long as it is in the queue. New entries go to the end, or to the front. Each
+//! entry has a place for each of its keys, so whoever asks for a key walks over the entries of that key
+//! alone. A key names a thing and says whether its entry has the thing exclusive, shared, or by name only.
+//! Two entries conflict where they have a thing in common, neither by name only, and one of the two has it
+//! exclusive.
+//!
+//! With n entries, one that has k keys is put in and taken out in time of the order k log n, whether an
+//! entry of some key comes before a number is found in time of the order log n, and each entry that
+//! conflicts with another in time of the order log n for each thing that they have in common.
 //!
 //! Called by the tables of locks and holds.
 #![tactic(auto)]
@@ -20,11 +25,12 @@ mod entry;
 mod key;
 mod keyed;
 mod place;
+mod push_error;
 mod queue;
+mod rivals;
 
-pub use key::Key;
+pub use key::{EXCLUSIVE, Key, NAME, SHARED};
 pub use keyed::Keyed;
+pub use push_error::PushError;
 pub use queue::KeyedQueue;
-
-#[cfg(test)]
-mod tests;
+pub use rivals::rivals_of;

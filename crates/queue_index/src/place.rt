@@ -10,14 +10,14 @@ use std::alloc::{AllocError, Global};
 use std::collections::BTreeSet;
 
 /// That the entry of a number has a key. Places go by key and then by number, so the entries of one key
-/// stand together, in the order of the queue.
-#[derive(Debug, Clone, Copy, PartialEq, Eq, PartialOrd, Ord)]
+/// are together, in the order of the queue.
+#[derive(Clone, Copy, PartialEq, Eq, PartialOrd, Ord)]
 pub(crate) struct Place {
     pub(crate) key: Key,
     pub(crate) number: u64,
 }
 
-/// Puts the places of an entry in. At want of memory none stays.
+/// Puts the places of an entry in. Where memory runs out none stays.
 pub(crate) fn add_places<T: Keyed>(
     places: &mut BTreeSet<Place>,
     item: &T,
@@ -47,7 +47,7 @@ pub(crate) fn remove_places<T: Keyed>(places: &mut BTreeSet<Place>, item: &T, nu
     }
 }
 
-/// The first number from `from` on at which the key stands.
+/// The first number from `from` on at which the key is.
 pub(crate) fn first_place(places: &BTreeSet<Place>, key: Key, from: u64) -> Option<u64>
     ensures first { IfSome result (IsFirst places.now key from) }
     ensures none { IfNone result (IsNone places.now key from) }

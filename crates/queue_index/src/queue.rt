@@ -1,19 +1,24 @@
-ghost use Rattle.std.specs.Prelude.{◌≡◌, ◌<◌, ◌≤◌, ◌+◌, ◌^◌, ℕ, [], ◌∷◌, ◌++◌, OnOk, OnErr, IfOk, IfSome, IfNone, None, option_copied, length};
+ghost use Rattle.std.specs.Prelude.{◌≡◌, ◌↔◌, IsErrOf, true, ◌<◌, ◌≤◌, ◌+◌, ◌^◌, ℕ, [], ◌∷◌, ◌++◌, OnErr, IfOk, IfSome, IfNone, None, option_copied, length};
 ghost use Rattle.std.specs.Map.{keys_of};
 ghost use Rattle.std.specs.Ordering.{nat_cmp};
 ghost use Rattle.std.specs.List.{list_any};
 ghost use Rattle.std.specs.List.Sorted.{IsStrictlySortedBy};
-ghost use Rattle.queue_index.specs.Queue.{item_at, items, numbers, before, without, changed_at, touches, touching, touching_from, number_after, number_before};
+ghost use Rattle.queue_index.specs.Queue.{item_at, items, numbers, before, without, changed_at, touches, touching, touching_from, number_after, number_before, is_end_used, is_front_used};
 
 use crate::entry::add_entry;
 use crate::key::Key;
 use crate::keyed::Keyed;
 use crate::place::{Place, first_place, remove_places};
+use crate::push_error::PushError;
 use std::alloc::{AllocError, Global};
 use std::collections::{BTreeMap, BTreeSet};
 use std::marker::Model;
 
+// The number of the first entry of an empty queue: as many numbers are free before it as after it.
 const MIDDLE: u64 = 9223372036854775808;
+
+// The last number that an entry may have.
+const LAST: u64 = 18446744073709551614;
 
 /// A queue of entries that are found by keys. Contracts see its entries, each with its number, by rising
 /// number.
@@ -35,7 +40,7 @@ impl<T: Keyed> Model for KeyedQueue<T> {
 }
 
 impl<T: Keyed + Drop> KeyedQueue<T> {
-    /// The empty queue, which takes no memory.
+    /// The empty queue. It allocates nothing.
     pub fn new(alloc: Global) -> KeyedQueue<T>
         ensures { result ≡ [] }
     {
@@ -45,7 +50,7 @@ impl<T: Keyed + Drop> KeyedQueue<T> {
         }
     }
 
-    /// The numbers rise. The call does nothing; it is there for its contract.
+    /// The numbers rise. The call does nothing: its contract exports this.
     pub fn numbers_rise(&self)
         ensures { IsStrictlySortedBy nat_cmp (keys_of self.now) }
     {
@@ -66,51 +71,61 @@ impl<T: Keyed + Drop> KeyedQueue<T> {
         self.held.get(&number)
     }
 
-    /// Puts an entry at the end, and gives its number: one more than that of the last entry, and 2^63 where
-    /// the queue is empty.
+    /// Puts an entry at the end, and returns its number: one more than that of the last entry, and 2^63
+    /// where the queue is empty.
     ///
     /// # Errors
-    /// Want of memory, or the last entry has the number 2^64 - 2. The queue is unchanged.
-    pub fn push_back(&mut self, item: T) -> Result<u64, AllocError>
+    /// `Numbers` exactly where the last entry has the number 2^64 - 2, and else `Memory` where memory runs
+    /// out. The queue is unchanged.
+    pub fn push_back(&mut self, item: T) -> Result<u64, PushError>
         ensures added { IfOk result (λ n. self.new ≡ self.old ++ (n, item) ∷ []) }
         ensures number { IfOk result (λ n. n ≡ number_after self.old) }
+        ensures numbers { IsErrOf result PushError.Numbers ↔ is_end_used self.old ≡ true }
         ensures err { OnErr result (self.new ≡ self.old) }
     {
         let number = match self.held.last_key_value() {
             None => MIDDLE,
-            Some((last, _)) => *last + 1,
+            Some((last, _)) => {
+                if *last == LAST {
+                    return Err(PushError::Numbers);
+                }
+                *last + 1
+            }
         };
-        if number == u64::MAX {
-            return Err(AllocError);
-        }
-        add_entry(&mut self.held, &mut self.places, number, item)?;
+        let Ok(()) = add_entry(&mut self.held, &mut self.places, number, item) else {
+            return Err(PushError::Memory);
+        };
         Ok(number)
     }
 
-    /// Puts an entry at the front, and gives its number: one less than that of the first entry, and 2^63
+    /// Puts an entry at the front, and returns its number: one less than that of the first entry, and 2^63
     /// where the queue is empty.
     ///
     /// # Errors
-    /// Want of memory, or the first entry has the number 0. The queue is unchanged.
-    pub fn push_front(&mut self, item: T) -> Result<u64, AllocError>
+    /// `Numbers` exactly where the first entry has the number 0, and else `Memory` where memory runs out.
+    /// The queue is unchanged.
+    pub fn push_front(&mut self, item: T) -> Result<u64, PushError>
         ensures added { IfOk result (λ n. self.new ≡ (n, item) ∷ self.old) }
         ensures number { IfOk result (λ n. n ≡ number_before self.old) }
+        ensures numbers { IsErrOf result PushError.Numbers ↔ is_front_used self.old ≡ true }
         ensures err { OnErr result (self.new ≡ self.old) }
     {
         let number = match self.held.first_key_value() {
             None => MIDDLE,
             Some((first, _)) => {
                 if *first == 0 {
-                    return Err(AllocError);
+                    return Err(PushError::Numbers);
                 }
                 *first - 1
             }
         };
-        add_entry(&mut self.held, &mut self.places, number, item)?;
+        let Ok(()) = add_entry(&mut self.held, &mut self.places, number, item) else {
+            return Err(PushError::Memory);
+        };
         Ok(number)
     }
 
-    /// Takes the entry of a number out, where there is one. It takes no memory.
+    /// Takes the entry of a number out, where there is one. It allocates nothing.
     pub fn remove(&mut self, number: u64)
         ensures { self.new ≡ without number self.old }
     {
@@ -147,7 +162,7 @@ impl<T: Keyed + Drop> KeyedQueue<T> {
     /// The numbers of all entries that have the key, rising.
     ///
     /// # Errors
-    /// Want of memory.
+    /// Out of memory.
     pub fn numbers_of(&self, alloc: Global, key: Key) -> Result<Vec<u64>, AllocError>
         ensures { IfOk result (λ ns. ns.items ≡ numbers (touching T.keys key self.now)) }
     {
@@ -183,7 +198,7 @@ impl<T: Keyed + Drop> KeyedQueue<T> {
     /// The numbers of all entries, rising.
     ///
     /// # Errors
-    /// Want of memory.
+    /// Out of memory.
     pub fn all_numbers(&self, alloc: Global) -> Result<Vec<u64>, AllocError>
         ensures { IfOk result (λ ns. ns.items ≡ numbers self.now) }
     {

@@ -16,7 +16,7 @@ digits_onto_nil : (n : ℕ) → digits 8 false n ≡ digits_onto 64 8 false n []
 unfolding digits
 digits_onto_nil n = refl
 
--- what stands behind the digits may be put there later
+-- what comes after the digits may be appended later
 digits_onto_append : (k n : ℕ) (acc : List ℕ) → digits_onto k 8 false n acc ≡ digits_onto k 8 false n [] ++ acc
 digits_onto_append zero n acc = refl
 digits_onto_append (suc k) n acc = by (n / 8 == 0) (λ (tail : List ℕ). digits_onto_append k (n / 8) tail)
@@ -28,10 +28,10 @@ digits_onto_append (suc k) n acc = by (n / 8 == 0) (λ (tail : List ℕ). digits
     by true rest = refl
     by false rest = rest (g ∷ acc) ∙ sym (append_assoc (digits_onto k 8 false (n / 8) []) (g ∷ []) acc) ∙ ap (λ (t : List ℕ). t ++ acc) (sym (rest (g ∷ [])))
 
--- room for more digits than the number has changes nothing
-digits_onto_room : (k n : ℕ) (acc : List ℕ) → n < 8 ^ suc k → digits_onto (suc (suc k)) 8 false n acc ≡ digits_onto (suc k) 8 false n acc
-digits_onto_room zero n acc h = digits_onto_last 1 n acc (omega arith) ∙ sym (digits_onto_last 0 n acc (omega arith))
-digits_onto_room (suc k) n acc h = by (n / 8 == 0) (digits_onto_room k (n / 8) (digit_glyph false (n % 8) ∷ acc) (omega (arith, pow-suc 8 (suc k))))
+-- a limit of more digits than the number has changes nothing
+digits_onto_more : (k n : ℕ) (acc : List ℕ) → n < 8 ^ suc k → digits_onto (suc (suc k)) 8 false n acc ≡ digits_onto (suc k) 8 false n acc
+digits_onto_more zero n acc h = digits_onto_last 1 n acc (omega arith) ∙ sym (digits_onto_last 0 n acc (omega arith))
+digits_onto_more (suc k) n acc h = by (n / 8 == 0) (digits_onto_more k (n / 8) (digit_glyph false (n % 8) ∷ acc) (omega (arith, pow-suc 8 (suc k))))
   where
     g : ℕ
     g = digit_glyph false (n % 8)
@@ -56,7 +56,7 @@ octal_step n low high =
     let one : g ≡ 48 + n % 8 = glyph_of_digit (n % 8) (omega arith) in
     digits_onto_nil n ∙ digits_onto_step 63 n [] some
     ∙ digits_onto_append 63 (n / 8) (g ∷ [])
-    ∙ ap (λ (t : List ℕ). t ++ g ∷ []) (sym (digits_onto_room 62 (n / 8) [] (omega arith)) ∙ sym (digits_onto_nil (n / 8)))
+    ∙ ap (λ (t : List ℕ). t ++ g ∷ []) (sym (digits_onto_more 62 (n / 8) [] (omega arith)) ∙ sym (digits_onto_nil (n / 8)))
     ∙ ap (λ (d : ℕ). digits 8 false (n / 8) ++ d ∷ []) one
 
 -- the last digit comes after the others

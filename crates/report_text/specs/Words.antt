@@ -1,4 +1,4 @@
--- The words of a report that stand for one value: numbers, cells, kinds and causes.
+-- The words of a report for single values: numbers, cells, kinds and causes.
 use Rattle.std.specs.Prelude.{ℕ, zero, suc, ◌/◌, ◌%◌, List, [], ◌∷◌, ◌++◌, codes, flat_map, false}
 use Rattle.std.specs.Fmt.{decimal, digit_glyph}
 use Rattle.fop_types.specs.declared.cells.Gfid.{Gfid}

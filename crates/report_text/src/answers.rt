@@ -3,7 +3,7 @@ use fop_types::{AppError, Kind, Seq};
 
 /// The answer of a call. A list's item has its name and kind. A list without items is `Count(0)`: the
 /// two have one text, so no report that is read has the other.
-#[derive(Debug, Drop, PartialEq, Eq)]
+#[derive(Drop)]
 pub enum ReportAnswer {
     Done,
     Count(u32),

@@ -4,7 +4,7 @@ use fop_types::Seq;
 /// One call: its number, its session, its line in the script, the places of its file operations in
 /// the history and its answer. An operation that was not answered, or was answered by an I/O error,
 /// has no place.
-#[derive(Debug, Drop, PartialEq, Eq)]
+#[derive(Drop)]
 pub struct ReportCall {
     pub call: u32,
     pub session: Seq<u8>,

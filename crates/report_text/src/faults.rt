@@ -3,7 +3,7 @@ use fop_types::{Cell, Seq};
 /// Why a set could not serve: lost quorum, split brain, or bricks that answered a fault. A lost brick
 /// has the number of its last connection when it was found to be out, and a fault the place in its
 /// brick's journal, counted from 1, of the request that failed.
-#[derive(Debug, Drop, PartialEq, Eq)]
+#[derive(Drop)]
 pub enum ReportIo {
     Quorum {
         set: Seq<u8>,
@@ -23,7 +23,7 @@ pub enum ReportIo {
 /// What a brick showed of a cell in split brain: whether its copy is there, the marks that no post has
 /// lowered, a counter of accusations for each replica of its set, one to five, and the number of the
 /// last change in its copy.
-#[derive(Debug, Drop, PartialEq, Eq)]
+#[derive(Drop)]
 pub struct ReportRow {
     pub cell: Cell,
     pub brick: Seq<u8>,

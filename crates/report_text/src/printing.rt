@@ -8,7 +8,7 @@ use std::alloc::{AllocError, Global};
 /// The text of a report: each line with single spaces and a line feed, and nothing else.
 ///
 /// # Errors
-/// Want of memory.
+/// Out of memory.
 #[tactic(auto, unfolding(crate::specs::ReportText::report_text))]
 pub fn print(alloc: Global, report: &Report) -> Result<Vec<u8>, AllocError>
     ensures { IfOk result (λ text. text.items ≡ report_text report.now) }

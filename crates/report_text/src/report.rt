@@ -5,7 +5,7 @@ use fop_types::{Cell, Seq, SkipCause};
 /// What a run did: its calls by rising number, the call and part of each entry of the history, each
 /// copy of a cell with the brick it came from and the brick it went to, each cell that a heal
 /// skipped, and the graphs by rising number. Sessions, bricks and sets have their names.
-#[derive(Debug, Drop, PartialEq, Eq)]
+#[derive(Drop)]
 pub struct Report {
     pub calls: Seq<ReportCall>,
     pub history: Seq<(u32, u8)>,

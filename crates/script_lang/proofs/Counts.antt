@@ -1,5 +1,5 @@
 -- Words that are too many or too few.
-use Rattle.std.proofs.Common.{◌≡◌, ℕ, ◌≤◌, ◌<◌, List, [], ◌∷◌, length, map, Result, Err, refl, arith}
+use Rattle.std.proofs.Common.{◌≡◌, ℕ, ◌≤◌, ◌<◌, List, [], ◌∷◌, length, map, Err, refl, arith}
 use Rattle.script_lang.specs.CallText.{call_at, misfit}
 use Rattle.script_lang.specs.ControlText.{action_at, no_action, before_at, after_at}
 use Rattle.script_lang.specs.StatementText.{brick_read, call_read}

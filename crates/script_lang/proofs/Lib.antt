@@ -1,5 +1,8 @@
+pub mod Accepted
+pub mod ControlBounds
 pub mod Counts
+pub mod Gives
 pub mod Modes
 pub mod Parts
-pub mod RoomKept
 pub mod TextRead
+pub mod WordBounds

@@ -1,6 +1,6 @@
 -- The parts between slashes, one at a time.
 use Rattle.std.proofs.Common.{◌≡◌, ℕ, suc, ◌+◌, ◌<◌, ◌≤◌, ◌==◌, true, false, cond, List, [], ◌∷◌, ◌++◌, append_assoc, length, length-drop, take, drop, ap, sym, refl, ◌∙◌, arith}
-use Rattle.std.proofs.lemmas.List.{drop-drop, take_rest}
+use Rattle.std.proofs.lemmas.List.{drop-drop}
 use Rattle.volfile.specs.TextLines.{parts_between, onto_first, front_len}
 use Rattle.script_lang.specs.WordForms.{is_slash}
 

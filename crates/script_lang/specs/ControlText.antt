@@ -1,6 +1,6 @@
 -- The controls of a script: the words behind `control` give what is done and when, or the kind of refusal.
 -- Bricks and volfiles are named by their numbers in the lists of what was defined.
-use Rattle.std.specs.Prelude.{ℕ, ◌||◌, ◌&&◌, nat_le, not, Bool, true, false, if◌then◌else◌, List, [], ◌∷◌, codes, Option, Some, None, Result, Ok, Err}
+use Rattle.std.specs.Prelude.{ℕ, ◌||◌, ◌&&◌, Bool, true, false, if◌then◌else◌, List, [], ◌∷◌, codes, Option, Some, None, Result, Ok, Err}
 use Rattle.volfile.specs.TextLines.{is_text, is_name}
 use Rattle.fop_types.specs.declared.messages.Proc.{Proc}
 use Rattle.script_lang.specs.WordForms.{number_at, proc_at, place_of}

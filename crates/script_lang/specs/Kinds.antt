@@ -1,9 +1,9 @@
--- The order in which the kinds of refusal are told that hold of one line.
+-- The order in which the kinds of refusal that hold of one line are reported.
 use Rattle.std.specs.Prelude.{ℕ, nat_le, if◌then◌else◌}
 use Rattle.script_lang.specs.declared.errors.ScriptKind.{ScriptKind}
 use Rattle.script_lang.specs.declared.errors.ScriptKind.TheVariants.{BadByte, LongLine, Unexpected, WordCount, BadWord, Repeated, Unknown, TooMany, TwoGreat, Unclosed, NoStart, NotFollowing, TooLong, Vol, Later}
 
--- the place of a kind among those that hold of one line; the last are told where none of these holds
+-- the place of a kind among those that hold of one line; the last are reported where none of these holds
 abbrev pub order : ScriptKind → ℕ
 order BadByte = 0
 order LongLine = 1

@@ -1,3 +1,4 @@
+pub mod Accepted
 pub mod CallText
 pub mod ControlText
 pub mod Kinds

@@ -1,13 +1,12 @@
 -- The grammar of a script, as a function of its bytes. What was read so far is a draft of the script, and
 -- inside a volfile what was read of that. A line gives what is read after it, or the first kind of
 -- refusal that holds of it. A text gives its script, or the first line that is refused.
-use Rattle.std.specs.Prelude.{◌≡◌, ℕ, ◌+◌, ◌==◌, nat_le, not, Bool, true, false, if◌then◌else◌, List, [], ◌∷◌, ◌++◌, length, codes, Option, Some, None, Result, Ok, Err}
+use Rattle.std.specs.Prelude.{◌≡◌, ℕ, ◌==◌, nat_le, not, Bool, true, false, if◌then◌else◌, List, [], ◌∷◌, ◌++◌, length, codes, Option, Some, None, Result, Ok, Err}
 use Rattle.std.specs.List.{list_all}
-use Rattle.volfile.specs.TextLines.{lines_of, words_of, is_blank, is_text_byte, is_text}
+use Rattle.volfile.specs.TextLines.{lines_of, line_after, words_of, is_blank, is_text_byte, is_text}
 use Rattle.volfile.specs.VolfileText.{Reading as VolReading, line_read as vol_line_read}
 use Rattle.volfile.specs.declared.errors.VolKind.{VolKind}
 use Rattle.volfile.specs.declared.errors.VolKind.TheVariants.{Unclosed as VolUnclosed, Empty as VolEmpty}
-use Rattle.volfile.specs.declared.volumes.Volfile.{Volfile}
 use Rattle.volfile.specs.declared.volumes.Volume.{Volume}
 use Rattle.script_lang.specs.StatementText.{statement, phases_read}
 use Rattle.script_lang.specs.declared.errors.ScriptKind.{ScriptKind}
@@ -102,13 +101,13 @@ read_on (Ok r) number rest = rest r
 -- the lines behind the line with this number
 abbrev pub lines_read : List (List ℕ) → Reading → ℕ → Result Script ScriptError
 lines_read [] r number = text_ended r number
-lines_read (line ∷ rest) r number = read_on (line_read r (number + 1) line) (number + 1) (λ s. lines_read rest s (number + 1))
+lines_read (line ∷ rest) r number = read_on (line_read r (line_after number) line) (line_after number) (λ s. lines_read rest s (line_after number))
 
 -- what a text says
 abbrev pub parsed : List ℕ → Result Script ScriptError
 parsed text = lines_read (lines_of text) nothing_said 0
 
--- a result that is this one, but for want of memory
+-- a result that is this one, but for running out of memory
 abbrev pub IsButForMemory : {A : Type 0} → Result A ScriptError → Result A ScriptError → Type 0
 IsButForMemory (Ok a) wanted = wanted ≡ Ok a
 IsButForMemory (Err (At line kind)) wanted = wanted ≡ Err (At line kind)

@@ -1,6 +1,6 @@
 -- The statements of a script: the words of a statement, and what was read before it, give what was read
 -- after it, or the first kind of refusal.
-use Rattle.std.specs.Prelude.{ℕ, ◌+◌, ◌==◌, ◌&&◌, ◌||◌, nat_le, not, Bool, true, false, if◌then◌else◌, List, [], ◌∷◌, ◌++◌, length, codes, Option, Some, None, is_some, Result, Ok, Err}
+use Rattle.std.specs.Prelude.{ℕ, ◌+◌, ◌&&◌, ◌||◌, nat_le, not, Bool, true, false, if◌then◌else◌, List, [], ◌∷◌, ◌++◌, length, codes, Option, Some, None, is_some, Result, Ok, Err}
 use Rattle.std.specs.List.{list_any}
 use Rattle.volfile.specs.TextLines.{is_text, is_name, is_visible_word}
 use Rattle.volfile.specs.VolfileText.{nothing_read}

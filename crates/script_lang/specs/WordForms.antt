@@ -1,7 +1,7 @@
 -- The forms of words in a script: paths, modes, numbers, data, names of attributes and of procedures, and
 -- names of what was defined before. `None` where a word has not the form. Paths and their components are
 -- those of POSIX.1-2017, over visible bytes alone.
-use Rattle.std.specs.Prelude.{ℕ, suc, ◌+◌, ◌-◌, ◌*◌, ◌==◌, ◌&&◌, ◌||◌, nat_le, not, Bool, true, false, if◌then◌else◌, List, [], ◌∷◌, length, take, drop, replicate, codes, Option, Some, None}
+use Rattle.std.specs.Prelude.{ℕ, suc, ◌+◌, ◌-◌, ◌*◌, ◌==◌, ◌&&◌, nat_le, not, Bool, if◌then◌else◌, List, [], ◌∷◌, length, take, drop, replicate, codes, Option, Some, None}
 use Rattle.std.specs.List.{list_all, starts_with}
 use Rattle.std.specs.Option.{option_map}
 use Rattle.xl_base.specs.Words.{decimal_of, hex_of}

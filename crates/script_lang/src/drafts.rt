@@ -6,7 +6,7 @@ use fop_types::Seq;
 use volfile::VolfileReader;
 
 // Which part of the script was begun last: its bricks, its volfiles, the `start`, or its phases.
-#[derive(Debug, Clone, Copy, PartialEq, Eq)]
+#[derive(Clone, Copy)]
 pub enum Part {
     Bricks,
     Volfiles,
@@ -17,7 +17,7 @@ pub enum Part {
 // What was read of a script so far. `phases` are those that have ended, `calls` and `controls` those of
 // the phase that is read, `call_count` is the number of `do` lines in all phases, and `is_great` says
 // whether the phase that is read has a heal or a switch.
-#[derive(Debug, Drop)]
+#[derive(Drop)]
 pub struct Draft {
     pub part: Part,
     pub bricks: Few<BrickLine>,
@@ -31,7 +31,15 @@ pub struct Draft {
     pub is_great: bool,
 }
 
-// What was read of a text so far, inside a volfile with its name and what was read of it.
+// The volfile whose lines are read: its name in the script, and what was read of it.
+#[derive(Drop)]
+pub struct Inside {
+    pub name: Seq<u8>,
+    pub reader: VolfileReader,
+}
+
+// What was read of a text so far, as contracts see it; the code keeps a draft, and the volfile where it is
+// inside one.
 #[derive(Drop)]
 pub enum Reading {
     InScript(Draft),

@@ -1,10 +1,10 @@
 use std::alloc::AllocError;
 use volfile::VolKind;
 
-/// Why a line of a script is refused. Of the kinds that hold of one line the first in this order is told;
+/// Why a line of a script is refused. Of the kinds that hold of one line the first in this order is reported;
 /// inside a volfile `LongLine` comes first and then the volfile's own kinds. `TooLong`, `NotFollowing` and
 /// `Later` are no answers of `parse`: the program's top call gives them.
-#[derive(Debug, Clone, Copy, PartialEq, Eq)]
+#[derive(Clone, Copy, PartialEq, Eq)]
 pub enum ScriptKind {
     /// A byte outside 32 to 126, tab and carriage return stands outside a volfile or a comment.
     BadByte,
@@ -39,10 +39,10 @@ pub enum ScriptKind {
 }
 
 /// Why a script is refused. `line` is the number of the first line that is refused, from 1.
-#[derive(Debug, Clone, Copy, PartialEq, Eq)]
+#[derive(Clone, Copy, PartialEq, Eq)]
 pub enum ScriptError {
     At { line: u32, kind: ScriptKind },
-    /// Want of memory.
+    /// Out of memory.
     Mem,
 }
 

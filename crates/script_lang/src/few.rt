@@ -15,7 +15,7 @@ pub trait Named {
 }
 
 // A list of at most 64 items, so that a byte numbers them.
-#[derive(Debug, Drop)]
+#[derive(Drop)]
 pub struct Few<T> {
     items: Seq<T>,
 }

@@ -27,7 +27,7 @@ impl ScriptKind {
         }
     }
 
-    // Of two kinds that hold of one line the one that is told.
+    // Of two kinds that hold of one line the one that is reported.
     pub(crate) fn or_earlier(self, other: ScriptKind) -> ScriptKind
         ensures { result ≡ earlier_of self other }
     {

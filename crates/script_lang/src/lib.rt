@@ -35,6 +35,7 @@ mod errors;
 mod fd_calls;
 mod few;
 mod kinds;
+mod laws;
 mod numbers;
 mod parses;
 mod path_calls;
@@ -47,10 +48,6 @@ mod statements;
 mod words;
 
 pub use errors::{ScriptError, ScriptKind};
+pub use laws::accepted_scripts_keep_limits;
 pub use parses::parse;
 pub use scripts::{Action, BrickLine, CallLine, ControlLine, NamedVolfile, Phase, Script, When};
-
-#[cfg(test)]
-mod call_tests;
-#[cfg(test)]
-mod tests;

@@ -1,7 +1,9 @@
-ghost use Rattle.std.specs.Prelude.{◌≡◌, ◌≤◌, length, IfOk};
+ghost use Rattle.std.specs.Prelude.{◌≡◌, IfOk};
+ghost use Rattle.script_lang.specs.Accepted.{IsAccepted};
 ghost use Rattle.script_lang.specs.ScriptText.{IsButForMemory, has_start as has_start_part, nothing_said, parsed, script_of, text_ended};
+ghost use Rattle.script_lang.specs.declared.drafts.Reading.TheVariants.{InScript};
 
-use crate::drafts::{Draft, Part, Reading};
+use crate::drafts::{Draft, Inside, Part};
 use crate::errors::{ScriptError, ScriptKind};
 use crate::few::Few;
 use crate::phase_lines::phases_of;
@@ -9,39 +11,55 @@ use crate::readings::with_line;
 use crate::scripts::Script;
 use fop_types::Seq;
 use std::alloc::{AllocError, Global};
-use volfile::first_line;
+use volfile::{first_line, line_after};
 
-/// The script that a text of at most 2,097,152 bytes says.
+/// The script that a text is.
 ///
 /// Each byte is looked at a few times, and words are copied once. A name is looked for among the at most
-/// 60 bricks, 16 volfiles or 64 sessions that were read.
+/// 60 bricks, 16 volfiles or 64 sessions that were read. The script keeps its limits: `IsAccepted` lists them.
 ///
 /// # Errors
 /// `At` with the first line that is refused, and of the kinds that hold of it the first, in the order of
-/// [`ScriptKind`]; where the text ends too early the line is the number of lines. `Mem` is want of memory.
+/// [`ScriptKind`]; where the text ends too early the line is the number of lines. Lines beyond 4,294,967,295
+/// all have that number. `Mem` where it runs out of memory.
 pub fn parse(alloc: Global, text: &[u8]) -> Result<Script, ScriptError>
-    requires { length text.now ≤ 2097152 }
+    ensures exact { IsButForMemory result (parsed text.now) }
+    ensures keeps { IfOk result (λ script. IsAccepted script) }
+{
+    match lines_of(alloc, text) {
+        Ok(script) => Ok(script),
+        Err(e) => Err(e),
+    }
+}
+
+fn lines_of(alloc: Global, text: &[u8]) -> Result<Script, ScriptError>
     ensures { IsButForMemory result (parsed text.now) }
 {
-    let mut reading = nothing_read(alloc);
+    let mut draft = nothing_read(alloc);
+    let mut inside: Option<Inside> = None;
     let mut number: u32 = 0;
     let mut at = 0;
     while at < text.len() {
         let line = first_line(text, at);
-        number += 1;
-        match with_line(alloc, reading, number, line)? {
-            Ok(next) => reading = next,
-            Err(kind) => return Err(ScriptError::At { line: number, kind }),
+        number = line_after(number);
+        if let Some(kind) = with_line(alloc, &mut draft, &mut inside, number, line)? {
+            return Err(ScriptError::At { line: number, kind });
         }
         at += line.len() + 1;
     }
-    finish(reading, number)
+    if inside.is_some() {
+        return Err(ScriptError::At {
+            line: number,
+            kind: ScriptKind::Unclosed,
+        });
+    }
+    finish(draft, number)
 }
 
-fn nothing_read(alloc: Global) -> Reading
-    ensures { result ≡ nothing_said }
+fn nothing_read(alloc: Global) -> Draft
+    ensures { InScript result ≡ nothing_said }
 {
-    Reading::InScript(Draft {
+    Draft {
         part: Part::Bricks,
         bricks: Few::new(alloc),
         volfiles: Few::new(alloc),
@@ -52,29 +70,21 @@ fn nothing_read(alloc: Global) -> Reading
         controls: Seq::new(alloc),
         call_count: 0,
         is_great: false,
-    })
+    }
 }
 
-// The text ends at the line with this number.
-fn finish(reading: Reading, number: u32) -> Result<Script, ScriptError>
-    ensures { IsButForMemory result (text_ended reading number) }
+// The text ends at the line with this number, outside a volfile.
+fn finish(draft: Draft, number: u32) -> Result<Script, ScriptError>
+    ensures { IsButForMemory result (text_ended (InScript draft) number) }
 {
-    match reading {
-        Reading::InScript(draft) => {
-            if !has_start(draft.part) {
-                return Err(ScriptError::At {
-                    line: number,
-                    kind: ScriptKind::NoStart,
-                });
-            }
-            let script = script(draft)?;
-            Ok(script)
-        }
-        Reading::InVolfile(_, _, _) => Err(ScriptError::At {
+    if !has_start(draft.part) {
+        return Err(ScriptError::At {
             line: number,
-            kind: ScriptKind::Unclosed,
-        }),
+            kind: ScriptKind::NoStart,
+        });
     }
+    let script = script(draft)?;
+    Ok(script)
 }
 
 fn script(draft: Draft) -> Result<Script, AllocError>

@@ -1,37 +1,60 @@
-ghost use Rattle.std.specs.Prelude.{◌≡◌, map, IfOk};
-ghost use Rattle.script_lang.specs.StatementText.{call_added, call_read, call_said, control_added, control_read, is_great_action, new_phase, phases_with};
+ghost use Rattle.std.specs.Prelude.{◌≡◌, ◌<◌, [], map, IfOk, OnOk};
+ghost use Rattle.script_lang.specs.Rooms.{Leaves};
+ghost use Rattle.script_lang.specs.StatementText.{call_added, call_read, call_said, control_added, control_read, is_great_action, new_phase, phases_read, phases_with, with_call as call_put};
+ghost use Rattle.script_lang.specs.declared.drafts.Reading.TheVariants.{InScript};
 
 use crate::calls::call_of;
 use crate::controls::control_of;
-use crate::drafts::{Draft, Part, Reading};
+use crate::drafts::{Draft, Part};
 use crate::errors::ScriptKind;
 use crate::fd_calls::Said;
 use crate::scripts::{Action, CallLine, ControlLine, Phase, When};
-use crate::statements::Read;
+use crate::statements::Refused;
 use fop_types::{Call, Seq};
 use std::alloc::{AllocError, Global};
+use std::mem;
 use volfile::is_name;
 
 // Ends the phase that is read, if there is one, and begins the next.
-pub(crate) fn with_phase(alloc: Global, draft: Draft) -> Result<Read, AllocError>
-    ensures { IfOk result (λ read. read ≡ new_phase draft) }
+pub(crate) fn with_phase(alloc: Global, draft: &mut Draft) -> Refused
+    ensures { IfOk result (λ no. Leaves (new_phase draft.old) no (InScript draft.new)) }
 {
-    let phases = phases_of(draft.part, draft.phases, draft.calls, draft.controls)?;
-    if phases.len() >= 4096 {
-        return Ok(Err(ScriptKind::TooMany));
+    end_phase(alloc, draft)?;
+    if draft.phases.len() >= 4096 {
+        return Ok(Some(ScriptKind::TooMany));
     }
-    Ok(Ok(Reading::InScript(Draft {
-        part: Part::Phases,
-        bricks: draft.bricks,
-        volfiles: draft.volfiles,
-        start: draft.start,
-        sessions: draft.sessions,
-        phases,
-        calls: Seq::new(alloc),
-        controls: Seq::new(alloc),
-        call_count: draft.call_count,
-        is_great: false,
-    })))
+    draft.part = Part::Phases;
+    draft.is_great = false;
+    Ok(None)
+}
+
+// Puts the phase that is read, if there is one, behind those that have ended.
+fn end_phase(alloc: Global, draft: &mut Draft) -> Result<(), AllocError>
+    ensures { OnOk result (draft.new ≡ record draft.old { phases = phases_read draft.old; calls = []; controls = [] }) }
+{
+    let calls = mem::replace(&mut draft.calls, Seq::new(alloc));
+    let controls = mem::replace(&mut draft.controls, Seq::new(alloc));
+    put_phase(draft.part, &mut draft.phases, calls, controls)?;
+    Ok(())
+}
+
+fn put_phase(
+    part: Part,
+    phases: &mut Seq<Phase>,
+    calls: Seq<CallLine>,
+    controls: Seq<ControlLine>,
+) -> Result<(), AllocError>
+    ensures { OnOk result (phases.new ≡ phases_with part phases.old calls controls) }
+{
+    match part {
+        Part::Bricks => Ok(()),
+        Part::Volfiles => Ok(()),
+        Part::Start => Ok(()),
+        Part::Phases => {
+            phases.push(Phase { calls, controls })?;
+            Ok(())
+        }
+    }
 }
 
 // The phases that have ended, and the one that is read, if there is one.
@@ -43,30 +66,18 @@ pub(crate) fn phases_of(
 ) -> Result<Seq<Phase>, AllocError>
     ensures { IfOk result (λ all. all ≡ phases_with part phases calls controls) }
 {
-    match part {
-        Part::Bricks => Ok(phases),
-        Part::Volfiles => Ok(phases),
-        Part::Start => Ok(phases),
-        Part::Phases => {
-            let mut all = phases;
-            all.push(Phase { calls, controls })?;
-            Ok(all)
-        }
-    }
+    let mut all = phases;
+    put_phase(part, &mut all, calls, controls)?;
+    Ok(all)
 }
 
 // What follows `do`.
-pub(crate) fn add_call(
-    alloc: Global,
-    draft: Draft,
-    number: u32,
-    words: &[&[u8]],
-) -> Result<Read, AllocError>
-    ensures { IfOk result (λ read. read ≡ call_read draft number (map (λ w. w.now) words.now)) }
+pub(crate) fn add_call(alloc: Global, draft: &mut Draft, number: u32, words: &[&[u8]]) -> Refused
+    ensures { IfOk result (λ no. Leaves (call_read draft.old number (map (λ w. w.now) words.now)) no (InScript draft.new)) }
 {
     match words {
-        [] => Ok(Err(ScriptKind::WordCount)),
-        [_session] => Ok(Err(ScriptKind::WordCount)),
+        [] => Ok(Some(ScriptKind::WordCount)),
+        [_session] => Ok(Some(ScriptKind::WordCount)),
         [session, word, rest @ ..] => {
             let said = call_of(alloc, word, rest)?;
             with_said(alloc, draft, number, session, said)
@@ -74,14 +85,8 @@ pub(crate) fn add_call(
     }
 }
 
-fn with_said(
-    alloc: Global,
-    draft: Draft,
-    number: u32,
-    session: &[u8],
-    said: Said,
-) -> Result<Read, AllocError>
-    ensures { IfOk result (λ read. read ≡ call_said draft number session.now said) }
+fn with_said(alloc: Global, draft: &mut Draft, number: u32, session: &[u8], said: Said) -> Refused
+    ensures { IfOk result (λ no. Leaves (call_said draft.old number session.now said) no (InScript draft.new)) }
 {
     match said {
         Ok(call) => {
@@ -89,67 +94,73 @@ fn with_said(
                 let place = draft.sessions.place(session);
                 with_call(alloc, draft, number, session, place, call)
             } else {
-                Ok(Err(ScriptKind::BadWord))
+                Ok(Some(ScriptKind::BadWord))
             }
         }
-        Err(kind) => Ok(Err(kind)),
+        Err(kind) => Ok(Some(kind)),
     }
 }
 
 // A call of the session that has this place, or of the next one.
 fn with_call(
     alloc: Global,
-    mut draft: Draft,
+    draft: &mut Draft,
     number: u32,
     name: &[u8],
     place: Option<u8>,
     call: Call,
-) -> Result<Read, AllocError>
-    ensures { IfOk result (λ read. read ≡ call_added draft number name.now place call) }
+) -> Refused
+    ensures { IfOk result (λ no. Leaves (call_added draft.old number name.now place call) no (InScript draft.new)) }
 {
     if draft.call_count >= 4096 {
-        return Ok(Err(ScriptKind::TooMany));
+        return Ok(Some(ScriptKind::TooMany));
     }
-    let session = match place {
-        Some(session) => session,
+    match place {
+        Some(session) => {
+            put_call(draft, number, session, call)?;
+            Ok(None)
+        }
         None => {
-            let count = draft.sessions.len();
-            if count >= 64 {
-                return Ok(Err(ScriptKind::TooMany));
+            let session = draft.sessions.len();
+            if session >= 64 {
+                return Ok(Some(ScriptKind::TooMany));
             }
             draft.sessions.push(Seq::from_bytes(alloc, name)?)?;
-            count as u8
+            put_call(draft, number, session as u8, call)?;
+            Ok(None)
         }
-    };
+    }
+}
+
+fn put_call(draft: &mut Draft, number: u32, session: u8, call: Call) -> Result<(), AllocError>
+    requires { draft.old.call_count < 4096 }
+    ensures { OnOk result (draft.new ≡ call_put draft.old number session call) }
+{
     draft.calls.push(CallLine {
         line: number,
         session,
         call,
     })?;
     draft.call_count += 1;
-    Ok(Ok(Reading::InScript(draft)))
+    Ok(())
 }
 
 // What follows `control`.
-pub(crate) fn add_control(draft: Draft, number: u32, words: &[&[u8]]) -> Result<Read, AllocError>
-    ensures { IfOk result (λ read. read ≡ control_read draft number (map (λ w. w.now) words.now)) }
+pub(crate) fn add_control(draft: &mut Draft, number: u32, words: &[&[u8]]) -> Refused
+    ensures { IfOk result (λ no. Leaves (control_read draft.old number (map (λ w. w.now) words.now)) no (InScript draft.new)) }
 {
     let said = control_of(&draft.bricks, &draft.volfiles, words);
     with_control(draft, number, said)
 }
 
-fn with_control(
-    mut draft: Draft,
-    number: u32,
-    said: Result<(When, Action), ScriptKind>,
-) -> Result<Read, AllocError>
-    ensures { IfOk result (λ read. read ≡ control_added draft number said) }
+fn with_control(draft: &mut Draft, number: u32, said: Result<(When, Action), ScriptKind>) -> Refused
+    ensures { IfOk result (λ no. Leaves (control_added draft.old number said) no (InScript draft.new)) }
 {
     match said {
         Ok((when, action)) => {
             let is_great = action.is_great();
             if is_great && draft.is_great {
-                return Ok(Err(ScriptKind::TwoGreat));
+                return Ok(Some(ScriptKind::TwoGreat));
             }
             draft.is_great = draft.is_great || is_great;
             draft.controls.push(ControlLine {
@@ -157,9 +168,9 @@ fn with_control(
                 when,
                 action,
             })?;
-            Ok(Ok(Reading::InScript(draft)))
+            Ok(None)
         }
-        Err(kind) => Ok(Err(kind)),
+        Err(kind) => Ok(Some(kind)),
     }
 }
 

@@ -1,7 +1,9 @@
-ghost use Rattle.std.specs.Prelude.{◌≡◌, ◌<◌, map, length, IfOk};
+ghost use Rattle.std.specs.Prelude.{◌≡◌, None, map, IfOk};
+ghost use Rattle.script_lang.specs.Rooms.{Leaves, reading_of};
 ghost use Rattle.script_lang.specs.StatementText.{brick_added, brick_read, has_words, is_brick_used, phase_begun, said_in, said_in_phases, said_of_volfiles, start_read, started, statement as statement_read, volfile_begun, volfile_named};
+ghost use Rattle.script_lang.specs.declared.drafts.Reading.TheVariants.{InScript};
 
-use crate::drafts::{Draft, Part, Reading};
+use crate::drafts::{Draft, Inside, Part};
 use crate::errors::ScriptKind;
 use crate::phase_lines::{add_call, add_control, with_phase};
 use crate::places::volfile_of;
@@ -11,74 +13,79 @@ use fop_types::Seq;
 use std::alloc::{AllocError, Global};
 use volfile::{VolfileReader, is_name, is_visible_word};
 
-// What is read after a line, or the kind of refusal.
-pub(crate) type Read = Result<Reading, ScriptKind>;
+// Why a line is refused, if it is.
+pub(crate) type Refused = Result<Option<ScriptKind>, AllocError>;
 
-// A line of these words.
+// A line of these words, outside a volfile.
 pub(crate) fn statement(
     alloc: Global,
-    draft: Draft,
+    draft: &mut Draft,
+    inside: &mut Option<Inside>,
     number: u32,
     words: &[&[u8]],
-) -> Result<Read, AllocError>
-    ensures { IfOk result (λ read. read ≡ statement_read draft number (map (λ w. w.now) words.now)) }
+) -> Refused
+    requires { inside.old ≡ None }
+    ensures { IfOk result (λ no. Leaves (statement_read draft.old number (map (λ w. w.now) words.now)) no (reading_of draft.new inside.new)) }
 {
     match words {
-        [] => Ok(Ok(Reading::InScript(draft))),
-        [word, rest @ ..] => said(alloc, draft, number, word, rest),
+        [] => Ok(None),
+        [word, rest @ ..] => said(alloc, draft, inside, number, word, rest),
     }
 }
 
 // The statement that may stand there by what was begun last.
 fn said(
     alloc: Global,
-    draft: Draft,
+    draft: &mut Draft,
+    inside: &mut Option<Inside>,
     number: u32,
     word: &[u8],
     rest: &[&[u8]],
-) -> Result<Read, AllocError>
-    ensures { IfOk result (λ read. read ≡ said_in draft.part draft number word.now (map (λ w. w.now) rest.now)) }
+) -> Refused
+    requires { inside.old ≡ None }
+    ensures { IfOk result (λ no. Leaves (said_in draft.old.part draft.old number word.now (map (λ w. w.now) rest.now)) no (reading_of draft.new inside.new)) }
 {
     match draft.part {
         Part::Bricks => {
             if is_word(word, b"brick") {
                 brick(alloc, draft, rest)
             } else {
-                definition(alloc, draft, word, rest)
+                definition(alloc, draft, inside, word, rest)
             }
         }
-        Part::Volfiles => definition(alloc, draft, word, rest),
+        Part::Volfiles => definition(alloc, draft, inside, word, rest),
         Part::Start => {
             if is_word(word, b"phase") {
                 phase(alloc, draft, rest)
             } else {
-                Ok(Err(ScriptKind::Unexpected))
+                Ok(Some(ScriptKind::Unexpected))
             }
         }
         Part::Phases => in_phases(alloc, draft, number, word, rest),
     }
 }
 
-fn definition(alloc: Global, draft: Draft, word: &[u8], rest: &[&[u8]]) -> Result<Read, AllocError>
-    ensures { IfOk result (λ read. read ≡ said_of_volfiles draft word.now (map (λ w. w.now) rest.now)) }
+fn definition(
+    alloc: Global,
+    draft: &mut Draft,
+    inside: &mut Option<Inside>,
+    word: &[u8],
+    rest: &[&[u8]],
+) -> Refused
+    requires { inside.old ≡ None }
+    ensures { IfOk result (λ no. Leaves (said_of_volfiles draft.old word.now (map (λ w. w.now) rest.now)) no (reading_of draft.new inside.new)) }
 {
     if is_word(word, b"volfile") {
-        volfile(alloc, draft, rest)
+        volfile(alloc, draft, inside, rest)
     } else if is_word(word, b"start") {
         Ok(start(draft, rest))
     } else {
-        Ok(Err(ScriptKind::Unexpected))
+        Ok(Some(ScriptKind::Unexpected))
     }
 }
 
-fn in_phases(
-    alloc: Global,
-    draft: Draft,
-    number: u32,
-    word: &[u8],
-    rest: &[&[u8]],
-) -> Result<Read, AllocError>
-    ensures { IfOk result (λ read. read ≡ said_in_phases draft number word.now (map (λ w. w.now) rest.now)) }
+fn in_phases(alloc: Global, draft: &mut Draft, number: u32, word: &[u8], rest: &[&[u8]]) -> Refused
+    ensures { IfOk result (λ no. Leaves (said_in_phases draft.old number word.now (map (λ w. w.now) rest.now)) no (InScript draft.new)) }
 {
     if is_word(word, b"phase") {
         phase(alloc, draft, rest)
@@ -87,46 +94,47 @@ fn in_phases(
     } else if is_word(word, b"control") {
         add_control(draft, number, rest)
     } else {
-        Ok(Err(ScriptKind::Unexpected))
+        Ok(Some(ScriptKind::Unexpected))
     }
 }
 
-fn brick(alloc: Global, draft: Draft, words: &[&[u8]]) -> Result<Read, AllocError>
-    ensures { IfOk result (λ read. read ≡ brick_read draft (map (λ w. w.now) words.now)) }
+fn brick(alloc: Global, draft: &mut Draft, words: &[&[u8]]) -> Refused
+    ensures { IfOk result (λ no. Leaves (brick_read draft.old (map (λ w. w.now) words.now)) no (InScript draft.new)) }
 {
     match words {
-        [] => Ok(Err(ScriptKind::WordCount)),
-        [_name] => Ok(Err(ScriptKind::WordCount)),
-        [_name, _host] => Ok(Err(ScriptKind::WordCount)),
+        [] => Ok(Some(ScriptKind::WordCount)),
+        [_name] => Ok(Some(ScriptKind::WordCount)),
+        [_name, _host] => Ok(Some(ScriptKind::WordCount)),
         [name, host, path] => with_brick(alloc, draft, name, host, path),
-        [_name, _host, _path, _more, _rest @ ..] => Ok(Err(ScriptKind::WordCount)),
+        [_name, _host, _path, _more, _rest @ ..] => Ok(Some(ScriptKind::WordCount)),
     }
 }
 
 #[tactic(auto, unfolding(crate::specs::StatementText::brick_added))]
-fn with_brick(
-    alloc: Global,
-    mut draft: Draft,
-    name: &[u8],
-    host: &[u8],
-    path: &[u8],
-) -> Result<Read, AllocError>
-    ensures { IfOk result (λ read. read ≡ brick_added draft name.now host.now path.now) }
+fn with_brick(alloc: Global, draft: &mut Draft, name: &[u8], host: &[u8], path: &[u8]) -> Refused
+    ensures { IfOk result (λ no. Leaves (brick_added draft.old name.now host.now path.now) no (InScript draft.new)) }
 {
     if !(is_name(name) && is_visible_word(host) && is_visible_word(path)) {
-        return Ok(Err(ScriptKind::BadWord));
+        return Ok(Some(ScriptKind::BadWord));
     }
     if is_used(draft.bricks.as_slice(), name, host, path) {
-        return Ok(Err(ScriptKind::Repeated));
+        return Ok(Some(ScriptKind::Repeated));
     }
     if draft.bricks.len() >= 60 {
-        return Ok(Err(ScriptKind::TooMany));
+        return Ok(Some(ScriptKind::TooMany));
     }
+    let brick = brick_line(alloc, name, host, path)?;
+    draft.bricks.push(brick)?;
+    Ok(None)
+}
+
+fn brick_line(alloc: Global, name: &[u8], host: &[u8], path: &[u8]) -> Result<BrickLine, AllocError>
+    ensures { IfOk result (λ brick. brick ≡ record { name = name.now; host = host.now; path = path.now }) }
+{
     let name = Seq::from_bytes(alloc, name)?;
     let host = Seq::from_bytes(alloc, host)?;
     let path = Seq::from_bytes(alloc, path)?;
-    draft.bricks.push(BrickLine { name, host, path })?;
-    Ok(Ok(Reading::InScript(draft)))
+    Ok(BrickLine { name, host, path })
 }
 
 // Whether the name or the pair of host and path was used. There are at most 60 bricks to look at.
@@ -148,64 +156,78 @@ fn is_brick(brick: &BrickLine, name: &[u8], host: &[u8], path: &[u8]) -> bool
         || (is_word(brick.host.as_slice(), host) && is_word(brick.path.as_slice(), path))
 }
 
-fn volfile(alloc: Global, draft: Draft, words: &[&[u8]]) -> Result<Read, AllocError>
-    ensures { IfOk result (λ read. read ≡ volfile_begun draft (map (λ w. w.now) words.now)) }
+fn volfile(
+    alloc: Global,
+    draft: &mut Draft,
+    inside: &mut Option<Inside>,
+    words: &[&[u8]],
+) -> Refused
+    requires { inside.old ≡ None }
+    ensures { IfOk result (λ no. Leaves (volfile_begun draft.old (map (λ w. w.now) words.now)) no (reading_of draft.new inside.new)) }
 {
     match words {
-        [] => Ok(Err(ScriptKind::WordCount)),
-        [name] => with_volfile(alloc, draft, name),
-        [_name, _more, _rest @ ..] => Ok(Err(ScriptKind::WordCount)),
+        [] => Ok(Some(ScriptKind::WordCount)),
+        [name] => with_volfile(alloc, draft, inside, name),
+        [_name, _more, _rest @ ..] => Ok(Some(ScriptKind::WordCount)),
     }
 }
 
-fn with_volfile(alloc: Global, mut draft: Draft, name: &[u8]) -> Result<Read, AllocError>
-    ensures { IfOk result (λ read. read ≡ volfile_named draft name.now) }
+fn with_volfile(
+    alloc: Global,
+    draft: &mut Draft,
+    inside: &mut Option<Inside>,
+    name: &[u8],
+) -> Refused
+    requires { inside.old ≡ None }
+    ensures { IfOk result (λ no. Leaves (volfile_named draft.old name.now) no (reading_of draft.new inside.new)) }
 {
     if !is_name(name) {
-        return Ok(Err(ScriptKind::BadWord));
+        return Ok(Some(ScriptKind::BadWord));
     }
     if draft.volfiles.place(name).is_some() {
-        return Ok(Err(ScriptKind::Repeated));
+        return Ok(Some(ScriptKind::Repeated));
     }
     if draft.volfiles.len() >= 16 {
-        return Ok(Err(ScriptKind::TooMany));
+        return Ok(Some(ScriptKind::TooMany));
     }
-    draft.part = Part::Volfiles;
     let name = Seq::from_bytes(alloc, name)?;
-    Ok(Ok(Reading::InVolfile(draft, name, VolfileReader::new(alloc))))
+    let reader = VolfileReader::new(alloc);
+    draft.part = Part::Volfiles;
+    *inside = Some(Inside { name, reader });
+    Ok(None)
 }
 
-fn start(draft: Draft, words: &[&[u8]]) -> Read
-    ensures { result ≡ start_read draft (map (λ w. w.now) words.now) }
+fn start(draft: &mut Draft, words: &[&[u8]]) -> Option<ScriptKind>
+    ensures { Leaves (start_read draft.old (map (λ w. w.now) words.now)) result (InScript draft.new) }
 {
     match words {
-        [] => Err(ScriptKind::WordCount),
+        [] => Some(ScriptKind::WordCount),
         [name] => {
             let volfile = volfile_of(&draft.volfiles, name);
             with_start(draft, volfile)
         }
-        [_name, _more, _rest @ ..] => Err(ScriptKind::WordCount),
+        [_name, _more, _rest @ ..] => Some(ScriptKind::WordCount),
     }
 }
 
-fn with_start(mut draft: Draft, volfile: Result<u8, ScriptKind>) -> Read
-    ensures { result ≡ started draft volfile }
+fn with_start(draft: &mut Draft, volfile: Result<u8, ScriptKind>) -> Option<ScriptKind>
+    ensures { Leaves (started draft.old volfile) result (InScript draft.new) }
 {
     match volfile {
         Ok(volfile) => {
             draft.part = Part::Start;
             draft.start = volfile;
-            Ok(Reading::InScript(draft))
+            None
         }
-        Err(kind) => Err(kind),
+        Err(kind) => Some(kind),
     }
 }
 
-fn phase(alloc: Global, draft: Draft, words: &[&[u8]]) -> Result<Read, AllocError>
-    ensures { IfOk result (λ read. read ≡ phase_begun draft (map (λ w. w.now) words.now)) }
+fn phase(alloc: Global, draft: &mut Draft, words: &[&[u8]]) -> Refused
+    ensures { IfOk result (λ no. Leaves (phase_begun draft.old (map (λ w. w.now) words.now)) no (InScript draft.new)) }
 {
     match words {
         [] => with_phase(alloc, draft),
-        [_more, _rest @ ..] => Ok(Err(ScriptKind::WordCount)),
+        [_more, _rest @ ..] => Ok(Some(ScriptKind::WordCount)),
     }
 }

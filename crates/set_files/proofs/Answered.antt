@@ -1,7 +1,8 @@
 -- The flat file system's answers, as the copies of a kept pair's cells give them.
 use Rattle.std.proofs.Common.{◌≡◌, ◌∙◌, ℕ, List, Option, Some, None, refl, ap, subst}
 use Rattle.std.proofs.lemmas.List.Elements.{All-contains, All-from_recursion}
-use Rattle.fop_types.specs.Flat.{Files, object_at, item_named, flat_answer, entry_error, found_answer, absent_answer, answer_or, stat_answer, names_of}
+use Rattle.fop_types.specs.Names.{item_named}
+use Rattle.root_calls.specs.Flat.{Files, object_at, flat_answer, entry_error, found_answer, absent_answer, answer_or, stat_answer, names_of}
 use Rattle.fop_types.specs.declared.answers.AppError.{AppError}
 use Rattle.fop_types.specs.declared.cells.Gfid.{Gfid}
 use Rattle.fop_types.specs.declared.cells.Kind.{Kind}
@@ -10,7 +11,7 @@ use Rattle.fop_types.specs.declared.contents.Content.{Content}
 use Rattle.fop_types.specs.declared.contents.Item.{Item}
 use Rattle.fop_types.specs.declared.flat.FlatObject.{FlatObject}
 use Rattle.fop_types.specs.declared.flat.FlatObject.TheVariants.{File, Directory}
-use Rattle.fop_types.specs.declared.flat.FlatOp.TheVariants.{Lookup, Mkdir, Stat}
+use Rattle.root_calls.specs.declared.ops.RootOp.TheVariants.{Lookup, Mkdir, Stat}
 use Rattle.fop_types.specs.declared.flat.FlatAnswer.TheVariants.{Found}
 use Rattle.brick_store.specs.Cells.{Cells, kept_at, copy_of, copy_with, names_cell, meta_cell, items_of}
 use Rattle.set_files.specs.Shown.{Shows, IsShown, IsShownAt}

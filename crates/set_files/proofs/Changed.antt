@@ -4,8 +4,9 @@ use Rattle.std.proofs.Common.{◌≡◌, ◌∙◌, ℕ, Bool, true, false, List
 use Rattle.std.specs.Prelude.{nat_lt, if◌then◌else◌}
 use Rattle.std.specs.Ordering.{is_eq}
 use Rattle.fop_types.specs.Orders.{gfid_cmp}
-use Rattle.fop_types.specs.Flat.{Files, object_at, with_object, item_named, with_item, names_of, with_name, named_in, where_done, directory_item, new_directory, flat_after, flat_answer, entry_error, absent_answer, answer_or}
-use Rattle.fop_types.specs.History.{IsAccepted}
+use Rattle.fop_types.specs.Names.{item_named, with_item}
+use Rattle.root_calls.specs.Flat.{Files, object_at, with_object, names_of, with_name, named_in, where_done, directory_item, new_directory, flat_after, flat_answer, entry_error, absent_answer, answer_or}
+use Rattle.root_calls.specs.History.{IsAccepted}
 use Rattle.fop_types.specs.declared.answers.Answer.TheVariants.{Done, Stat as StatOf, App, Count, Bytes as BytesOf, List as ListOf, Io}
 use Rattle.fop_types.specs.declared.answers.AppError.TheVariants.{Enoent, Enametoolong}
 use Rattle.fop_types.specs.declared.cells.Gfid.{Gfid}
@@ -13,7 +14,7 @@ use Rattle.fop_types.specs.declared.contents.Attr.{Attr}
 use Rattle.fop_types.specs.declared.contents.Item.{Item}
 use Rattle.fop_types.specs.declared.flat.FlatObject.{FlatObject}
 use Rattle.fop_types.specs.declared.flat.FlatObject.TheVariants.{File, Directory}
-use Rattle.fop_types.specs.declared.flat.FlatOp.TheVariants.{Mkdir}
+use Rattle.root_calls.specs.declared.ops.RootOp.TheVariants.{Mkdir}
 use Rattle.fop_types.specs.declared.flat.FlatAnswer.{FlatAnswer}
 use Rattle.fop_types.specs.declared.flat.FlatAnswer.TheVariants.{Call, Found}
 use Rattle.set_files.specs.Kept.{names_at}

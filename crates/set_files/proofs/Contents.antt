@@ -4,21 +4,15 @@ use Rattle.std.specs.declared.cmp.Ordering.{Ordering}
 use Rattle.std.specs.declared.cmp.Ordering.TheVariants.{Less, Equal, Greater}
 use Rattle.std.specs.Ordering.{is_eq, ordering_then}
 use Rattle.fop_types.specs.Orders.{gfid_cmp, cell_cmp}
-use Rattle.fop_types.specs.Flat.{Files, object_at, with_object}
+use Rattle.root_calls.specs.Flat.{Files, object_at, with_object}
 use Rattle.fop_types.specs.declared.cells.Gfid.{Gfid}
 use Rattle.fop_types.specs.declared.cells.Cell.{Cell}
 use Rattle.fop_types.specs.declared.contents.Content.{Content}
 use Rattle.fop_types.specs.declared.flat.FlatObject.{FlatObject}
-use Rattle.fop_types.proofs.MapLemmas.{lookup-put_same, lookup-put_other, gfid_exact, gfid_cmp_total, cell_exact, cell_cmp_total, apart}
-use Rattle.brick_store.specs.declared.kept.Kept.{Kept}
-use Rattle.brick_store.specs.Cells.{Cells, kept_at, kept_or_nothing, with_kept, names_cell, meta_cell}
+use Rattle.fop_types.proofs.MapLemmas.{lookup-put_same, lookup-put_other, gfid_exact, gfid_cmp_total, cell_exact, apart}
+use Rattle.brick_store.specs.Cells.{Cells, names_cell, meta_cell}
+pub use Rattle.brick_store.proofs.Copies.{kept_same, kept_other}
 use Rattle.set_files.specs.Shown.{data_cell, IsShown, IsShownAt, content_at}
-
-pub kept_same : (cells : Cells) (c : Cell) (k : Kept) → kept_at (with_kept cells c k) c ≡ k
-kept_same cells c k = ap kept_or_nothing (lookup-put_same cell_cmp cell_exact cell_cmp_total cells c k)
-
-pub kept_other : (cells : Cells) (c q : Cell) (k : Kept) → is_eq (cell_cmp q c) ≡ false → kept_at (with_kept cells c k) q ≡ kept_at cells q
-kept_other cells c q k off = ap kept_or_nothing (lookup-put_other cell_cmp cell_exact cell_cmp_total cells c q k off)
 
 pub object_same : (files : Files) (g : Gfid) (o : FlatObject) → object_at (with_object files g o) g ≡ Some o
 object_same files g o = lookup-put_same gfid_cmp gfid_exact gfid_cmp_total files g o

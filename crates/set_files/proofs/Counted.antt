@@ -2,7 +2,7 @@
 use Rattle.std.proofs.Common.{◌≡◌, ◌∙◌, ℕ, false, List, [], ◌∷◌, Option, Some, None, refl, sym, ap, arith, ◌⊎◌, inl, inr}
 use Rattle.std.specs.Ordering.{is_eq}
 use Rattle.fop_types.specs.Orders.{cell_cmp}
-use Rattle.fop_types.specs.Flat.{Files, object_at}
+use Rattle.root_calls.specs.Flat.{Files, object_at}
 use Rattle.fop_types.specs.declared.cells.Cell.{Cell}
 use Rattle.fop_types.specs.declared.contents.Content.{Content}
 use Rattle.brick_store.specs.declared.kept.Kept.{Kept}

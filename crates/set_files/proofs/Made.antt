@@ -3,7 +3,9 @@ use Rattle.std.proofs.Common.{◌≡◌, ◌≢◌, ◌∙◌, ◌<◌, ℕ, fal
 use Rattle.std.specs.List.{AllByRecursion}
 use Rattle.std.specs.Ordering.{is_eq}
 use Rattle.fop_types.specs.Orders.{gfid_cmp}
-use Rattle.fop_types.specs.Flat.{Files, object_at, root, item_named, with_item, directory_item}
+use Rattle.fop_types.specs.Names.{item_named, with_item}
+use Rattle.fop_types.specs.Cells.{root}
+use Rattle.root_calls.specs.Flat.{Files, object_at, directory_item}
 use Rattle.fop_types.specs.declared.cells.Gfid.{Gfid}
 use Rattle.fop_types.specs.declared.cells.Kind.{Kind}
 use Rattle.fop_types.specs.declared.cells.Kind.TheVariants as kind
@@ -12,7 +14,8 @@ use Rattle.fop_types.specs.declared.contents.Item.{Item}
 use Rattle.fop_types.specs.declared.contents.Span.{Span}
 use Rattle.fop_types.specs.declared.flat.FlatObject.{FlatObject}
 use Rattle.fop_types.specs.declared.flat.FlatObject.TheVariants.{Directory}
-use Rattle.brick_store.specs.Cells.{Cells, kept_at, names_cell, meta_cell, name_added, items_of}
+use Rattle.brick_store.specs.Cells.{Cells, kept_at, names_cell, meta_cell, items_of}
+use Rattle.brick_store.specs.code.Adding.{name_added}
 use Rattle.set_files.specs.Shown.{Shows, IsShownAt, IsShownDirectory, content_at, data_cell}
 use Rattle.set_files.specs.Kept.{kind_of, kind_at, names_at, Leads, AreRising, AreWhole, IsDrawn, AreDrawn, IsKept}
 use Rattle.set_files.specs.Laws.{MkdirsAreShown}

@@ -9,7 +9,7 @@ use Rattle.std.specs.Cmp.{tied_back}
 use Rattle.std.specs.Cmp.Lexicographic.{slice_cmp, pointwise, texts_ties, nat_list_cmp_total}
 use Rattle.std.proofs.lemmas.Cmp.{tied_itself}
 use Rattle.fop_types.specs.declared.contents.Item.{Item}
-use Rattle.fop_types.specs.Flat.{item_named, with_item}
+use Rattle.fop_types.specs.Names.{item_named, with_item}
 use Rattle.set_files.specs.Kept.{AreOnce, AreRising, IsBefore}
 
 -- ---- what holds of each name

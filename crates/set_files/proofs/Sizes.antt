@@ -4,14 +4,16 @@ use Rattle.std.specs.Prelude.{nat_lt}
 use Rattle.std.proofs.lemmas.Bool.Decides.{nat_tests}
 use Rattle.std.proofs.lemmas.List.Elements.{All-contains, All-contains_itself, All-from_recursion, recursion_from_All}
 use Rattle.std.specs.List.{AllByRecursion, Contains}
-use Rattle.fop_types.specs.Flat.{Files, object_at, empty_root, root, with_item, names_of, directory_item, flat_after, flat_answer}
-use Rattle.fop_types.specs.History.{IsAccepted}
+use Rattle.fop_types.specs.Names.{with_item}
+use Rattle.fop_types.specs.Cells.{root}
+use Rattle.root_calls.specs.Flat.{Files, object_at, empty_root, names_of, directory_item, flat_after, flat_answer}
+use Rattle.root_calls.specs.History.{IsAccepted}
 use Rattle.fop_types.specs.declared.cells.Gfid.{Gfid}
 use Rattle.fop_types.specs.declared.contents.Item.{Item}
 use Rattle.fop_types.specs.declared.flat.FlatObject.{FlatObject}
 use Rattle.fop_types.specs.declared.flat.FlatObject.TheVariants.{File, Directory}
-use Rattle.fop_types.specs.declared.flat.FlatOp.{FlatOp}
-use Rattle.fop_types.specs.declared.flat.FlatOp.TheVariants.{Lookup, Mkdir, Stat}
+use Rattle.root_calls.specs.declared.ops.RootOp.{RootOp}
+use Rattle.root_calls.specs.declared.ops.RootOp.TheVariants.{Lookup, Mkdir, Stat}
 use Rattle.set_files.specs.Kept.{names_at}
 use Rattle.set_files.specs.Laws.{HaveAtMost, AreFew, Makes, AreMade}
 use Rattle.set_files.proofs.Answered.{names_by_copy}
@@ -19,7 +21,7 @@ use Rattle.set_files.proofs.Changed.{IsOpen, open_where_accepted, changed, eithe
 use Rattle.set_files.proofs.Names.{each_with_item, each_other, length_with_item}
 use Rattle.set_files.proofs.Starts.{names_start, object_start}
 
-few_after : (files : Files) (op : FlatOp) (most : ℕ) → HaveAtMost files most → HaveAtMost (flat_after files op) (most + 1)
+few_after : (files : Files) (op : RootOp) (most : ℕ) → HaveAtMost files most → HaveAtMost (flat_after files op) (most + 1)
 few_after files (Lookup parent name) most few = λ g. (let n = few g in omega (arith, n))
 few_after files (Mkdir parent name mode drawn) most few =
     let before : HaveAtMost files (most + 1) = (λ g. (let n = few g in omega (arith, n))) in
@@ -46,7 +48,7 @@ few_law = record {
 -- ---- where names come from
 
 -- P, which holds of each name and of the one that an operation makes, holds of each name after it
-pub each_after : (P : Item → Type 0) (files : Files) (op : FlatOp) → ((g : Gfid) → AllByRecursion P (names_at files g)) → ((item : Item) → Makes op item → P item) →
+pub each_after : (P : Item → Type 0) (files : Files) (op : RootOp) → ((g : Gfid) → AllByRecursion P (names_at files g)) → ((item : Item) → Makes op item → P item) →
     (g : Gfid) → AllByRecursion P (names_at (flat_after files op) g)
 each_after P files (Lookup parent name) all new = all
 each_after P files (Mkdir parent name mode drawn) all new =
@@ -74,7 +76,7 @@ contains_named None item x has = inl has
 contains_named (Some (File bytes mode attrs)) item x has = inl has
 contains_named (Some (Directory names mode attrs removed)) item x has = contains_with_item names item x has
 
-made_after : (files : Files) (op : FlatOp) (g : Gfid) (x : Item) → Contains (names_at (flat_after files op) g) x → Contains (names_at files g) x ⊎ Makes op x
+made_after : (files : Files) (op : RootOp) (g : Gfid) (x : Item) → Contains (names_at (flat_after files op) g) x → Contains (names_at files g) x ⊎ Makes op x
 made_after files (Lookup parent name) g x has = inl has
 made_after files (Mkdir parent name mode drawn) g x has =
     let Q : Gfid → Option FlatObject → Type 0 = (λ q o. Contains (names_of o) x → Contains (names_at files q) x ⊎ (x ≡ directory_item name drawn)) in

@@ -3,7 +3,8 @@ use Rattle.std.proofs.Common.{◌≡◌, ◌∙◌, false, [], Some, None, refl,
 use Rattle.std.specs.List.{AllByRecursion}
 use Rattle.std.specs.Ordering.{is_eq}
 use Rattle.fop_types.specs.Orders.{gfid_cmp}
-use Rattle.fop_types.specs.Flat.{object_at, empty_root, root}
+use Rattle.fop_types.specs.Cells.{root}
+use Rattle.root_calls.specs.Flat.{object_at, empty_root}
 use Rattle.fop_types.specs.declared.cells.Gfid.{Gfid}
 use Rattle.fop_types.specs.declared.contents.Content.TheVariants.{Meta, Names}
 use Rattle.brick_store.specs.declared.kept.Kept.{Kept}

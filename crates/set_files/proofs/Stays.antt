@@ -1,14 +1,16 @@
 -- What an operation leaves: objects that are there, with their kinds, and all but the parent and the new one.
 use Rattle.std.proofs.Common.{◌≡◌, ◌∙◌, Bool, true, false, Option, Some, None, refl, sym, ap, subst}
-use Rattle.fop_types.specs.Flat.{object_at, directory_item, flat_answer}
+use Rattle.root_calls.specs.Flat.{object_at, directory_item, flat_answer}
 use Rattle.fop_types.specs.declared.cells.Gfid.{Gfid}
 use Rattle.fop_types.specs.declared.cells.Kind.{Kind}
 use Rattle.fop_types.specs.declared.cells.Kind.TheVariants as kind
 use Rattle.fop_types.specs.declared.contents.Item.{Item}
 use Rattle.fop_types.specs.declared.flat.FlatObject.{FlatObject}
 use Rattle.fop_types.specs.declared.flat.FlatObject.TheVariants.{File, Directory}
-use Rattle.fop_types.specs.declared.flat.FlatOp.TheVariants.{Lookup, Mkdir, Stat}
-use Rattle.brick_store.specs.Cells.{Cells, kept_at, names_cell, meta_cell, name_added, takes_name, directory_added}
+use Rattle.root_calls.specs.declared.ops.RootOp.TheVariants.{Lookup, Mkdir, Stat}
+use Rattle.brick_store.specs.Cells.{Cells, kept_at, names_cell, meta_cell}
+use Rattle.brick_store.specs.code.Adding.{name_added, takes_name, directory_added}
+use Rattle.brick_store.proofs.Adding.{added_by_steps}
 use Rattle.set_files.specs.Kept.{kind_of, kind_at}
 use Rattle.set_files.specs.Laws.{ObjectsStay, OthersAreLeft}
 use Rattle.set_files.proofs.Answered.{is_directory}
@@ -44,7 +46,8 @@ others_law files cells change parent name mode drawn span = record {
       (changed files parent name mode drawn) files
       (changed_other files parent name mode drawn other (gfids_apart other drawn not_drawn) (gfids_apart other parent not_parent)) refl);
   cells_left = λ after other fits not_parent not_meta not_names. (subst (λ (c : Cells). kept_at c other ≡ kept_at cells other)
-      (added_where_fit (takes_name (kept_at cells (names_cell parent)).content name) (name_added cells change parent (directory_item name drawn) mode span) after fits)
+      (added_where_fit (takes_name (kept_at cells (names_cell parent)).content name) (name_added cells change parent (directory_item name drawn) mode span) after
+      (sym (added_by_steps cells change parent (directory_item name drawn) mode span) ∙ fits))
       (others_stay cells change parent (directory_item name drawn) mode span other
       (cells_apart other (names_cell parent) not_parent) (cells_apart other (meta_cell drawn) not_meta) (cells_apart other (names_cell drawn) not_names)));
 }

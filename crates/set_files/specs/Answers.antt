@@ -3,7 +3,8 @@
 -- name is asked of a directory: whether the parent is one is decided by its kind, before anything is read.
 -- The order of errors is that of the flat file system.
 use Rattle.std.specs.Prelude.{ℕ, Bool, List, Option, Some, None, length, nat_lt, if◌then◌else◌}
-use Rattle.fop_types.specs.Flat.{item_named, answer_or, found_answer, absent_answer}
+use Rattle.fop_types.specs.Names.{item_named}
+use Rattle.root_calls.specs.Flat.{answer_or, found_answer, absent_answer}
 use Rattle.fop_types.specs.declared.answers.Answer.TheVariants.{Stat as StatOf, App}
 use Rattle.fop_types.specs.declared.answers.AppError.{AppError}
 use Rattle.fop_types.specs.declared.answers.AppError.TheVariants.{Enoent, Enametoolong}

@@ -4,7 +4,9 @@ use Rattle.std.specs.List.{AllByRecursion}
 use Rattle.std.specs.Ordering.{nat_cmp}
 use Rattle.std.specs.declared.cmp.Ordering.TheVariants.{Less}
 use Rattle.std.specs.Cmp.Lexicographic.{slice_cmp}
-use Rattle.fop_types.specs.Flat.{Files, object_at, names_of, item_named, root}
+use Rattle.fop_types.specs.Names.{item_named}
+use Rattle.fop_types.specs.Cells.{root}
+use Rattle.root_calls.specs.Flat.{Files, object_at, names_of}
 use Rattle.fop_types.specs.declared.cells.Gfid.{Gfid}
 use Rattle.fop_types.specs.declared.cells.Kind.{Kind}
 use Rattle.fop_types.specs.declared.cells.Kind.TheVariants as kind

@@ -2,8 +2,10 @@
 -- makes of it, and what the answers are worth. Ours.
 use Rattle.std.specs.Prelude.{◌≡◌, ◌≢◌, ◌<◌, ◌≤◌, ◌+◌, ◌⊎◌, ℕ, Bool, List, Option, Some, None, length}
 use Rattle.std.specs.List.{Contains}
-use Rattle.fop_types.specs.Flat.{Files, object_at, empty_root, root, item_named, directory_item, flat_answer, flat_after}
-use Rattle.fop_types.specs.History.{IsAccepted}
+use Rattle.fop_types.specs.Names.{item_named}
+use Rattle.fop_types.specs.Cells.{root}
+use Rattle.root_calls.specs.Flat.{Files, object_at, empty_root, directory_item, flat_answer, flat_after}
+use Rattle.root_calls.specs.History.{IsAccepted}
 use Rattle.fop_types.specs.declared.cells.Cell.{Cell}
 use Rattle.fop_types.specs.declared.cells.Gfid.{Gfid}
 use Rattle.fop_types.specs.declared.cells.Kind.{Kind}
@@ -14,8 +16,8 @@ use Rattle.fop_types.specs.declared.contents.Item.{Item}
 use Rattle.fop_types.specs.declared.contents.Span.{Span}
 use Rattle.fop_types.specs.declared.flat.FlatAnswer.TheVariants.{Found}
 use Rattle.fop_types.specs.declared.flat.FlatObject.TheVariants.{Directory}
-use Rattle.fop_types.specs.declared.flat.FlatOp.{FlatOp}
-use Rattle.fop_types.specs.declared.flat.FlatOp.TheVariants.{Lookup, Mkdir, Stat}
+use Rattle.root_calls.specs.declared.ops.RootOp.{RootOp}
+use Rattle.root_calls.specs.declared.ops.RootOp.TheVariants.{Lookup, Mkdir, Stat}
 use Rattle.fop_types.specs.declared.store_ops.StoreOp.TheVariants.{AddName}
 use Rattle.brick_store.specs.Cells.{Cells, kept_at, copy_of, names_cell, meta_cell, items_of, root_alone, marked, posted, applied}
 use Rattle.set_files.specs.Kept.{kind_at, names_at, IsKept}
@@ -120,7 +122,7 @@ RootIsThere = (files : Files) (cells : Cells) (bound : ℕ) → IsKept files cel
 -- under any operation, accepted or not, what is there stays there, with its kind
 abbrev pub ObjectsStay : Type 0
 ObjectsStay =
-    (files : Files) (cells : Cells) (bound : ℕ) (op : FlatOp) (gfid : Gfid) (k : Kind) → IsKept files cells bound →
+    (files : Files) (cells : Cells) (bound : ℕ) (op : RootOp) (gfid : Gfid) (k : Kind) → IsKept files cells bound →
     kind_at files gfid ≡ Some k → kind_at (flat_after files op) gfid ≡ Some k
 
 -- a mkdir leaves every object but the parent and the new one as it is, and every cell but the parent's names
@@ -145,12 +147,12 @@ HaveAtMost files most = (g : Gfid) → length (names_at files g) ≤ most
 -- 255 bytes. A copy of names has as many as its directory: they are the same.
 pub record AreFew : Type 0 where
   pub start : HaveAtMost empty_root 0
-  pub step : (files : Files) (op : FlatOp) (most : ℕ) → HaveAtMost files most → HaveAtMost (flat_after files op) (most + 1)
+  pub step : (files : Files) (op : RootOp) (most : ℕ) → HaveAtMost files most → HaveAtMost (flat_after files op) (most + 1)
   pub short : (files : Files) (parent : Gfid) (name : List ℕ) (mode : ℕ) (drawn : Gfid) → IsAccepted (flat_answer files (Mkdir parent name mode drawn)) → length name ≤ 255
   pub copied : (files : Files) (cells : Cells) (bound : ℕ) (g : Gfid) → IsKept files cells bound → items_of (kept_at cells (names_cell g)).content ≡ names_at files g
 
 -- the name that an operation makes
-abbrev pub Makes : FlatOp → Item → Type 0
+abbrev pub Makes : RootOp → Item → Type 0
 Makes (Lookup parent name) item = ⊥
 Makes (Mkdir parent name mode drawn) item = item ≡ directory_item name drawn
 Makes (Stat gfid) item = ⊥
@@ -160,5 +162,5 @@ Makes (Stat gfid) item = ⊥
 -- made holds of each that is listed.
 pub record AreMade : Type 0 where
   pub start : (g : Gfid) (item : Item) → Contains (names_at empty_root g) item → ⊥
-  pub step : (files : Files) (op : FlatOp) (g : Gfid) (item : Item) → Contains (names_at (flat_after files op) g) item →
+  pub step : (files : Files) (op : RootOp) (g : Gfid) (item : Item) → Contains (names_at (flat_after files op) g) item →
       Contains (names_at files g) item ⊎ Makes op item

@@ -1,8 +1,7 @@
 -- What the cells of a set with one brick show of a flat file system. A directory stands in two cells: its
 -- mode and attributes in one, its names in the other. There are no files so far. Ours.
 use Rattle.std.specs.Prelude.{◌≡◌, ℕ, Bool, List, Option, Some, None}
-use Rattle.fop_types.specs.Flat.{Files, object_at}
-use Rattle.fop_types.specs.declared.cells.Aspect.TheVariants as aspect
+use Rattle.root_calls.specs.Flat.{Files, object_at}
 use Rattle.fop_types.specs.declared.cells.Cell.{Cell}
 use Rattle.fop_types.specs.declared.cells.Gfid.{Gfid}
 use Rattle.fop_types.specs.declared.contents.Attr.{Attr}
@@ -13,9 +12,7 @@ use Rattle.fop_types.specs.declared.contents.Span.{Span}
 use Rattle.fop_types.specs.declared.flat.FlatObject.{FlatObject}
 use Rattle.fop_types.specs.declared.flat.FlatObject.TheVariants.{File, Directory}
 use Rattle.brick_store.specs.Cells.{Cells, kept_at, meta_cell, names_cell}
-
-abbrev pub data_cell : Gfid → Cell
-data_cell gfid = record { gfid = gfid; aspect = aspect.Data }
+pub use Rattle.fop_types.specs.Cells.{data_cell}
 
 -- what the copy of a cell holds, where the cell is present
 abbrev pub content_at : Cells → Cell → Option Content

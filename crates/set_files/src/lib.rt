@@ -27,6 +27,3 @@ pub use laws::{
     free_names_are_taken, listed_are_found, metadata_answers, mkdirs_are_shown, names_answer,
     names_are_few, names_are_made, objects_stay, others_are_left, root_is_there, start_is_kept,
 };
-
-#[cfg(test)]
-mod tests;

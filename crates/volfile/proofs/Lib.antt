@@ -1,3 +1,4 @@
+pub mod Alike
 pub mod LastValues
 pub mod PartLemmas
 pub mod Places

@@ -104,7 +104,7 @@ pub part_cut : (line rest : List ℕ) (at n : ℕ) → rest ≡ drop at line →
 part_cut line rest at n is len short =
     ap words_of (sym is) ∙ word_cut rest n len short ∙ ap (λ l. with_word (take n rest) (words_of l)) (behind line rest at n is short)
 
--- what stands before a comment is a front of the line
+-- what stands before a comment is a prefix of the line
 pub comment_front : (line : List ℕ) (inside : Bool) → take (length (before_comment inside line)) line ≡ before_comment inside line
 comment_front [] inside = refl
 comment_front (b ∷ bs) inside =

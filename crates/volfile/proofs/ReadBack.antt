@@ -152,9 +152,9 @@ leads_volume v vs n h typed =
     )
 
 -- ---- the same but for line numbers
-bare_append : (vs ws : List Volume) → without_lines (vs ++ ws) ≡ without_lines vs ++ without_lines ws
-bare_append [] ws = refl
-bare_append (v ∷ vs) ws = ap (λ l. without_line v ∷ l) (bare_append vs ws)
+pub without_append : (vs ws : List Volume) → without_lines (vs ++ ws) ≡ without_lines vs ++ without_lines ws
+without_append [] ws = refl
+without_append (v ∷ vs) ws = ap (λ l. without_line v ∷ l) (without_append vs ws)
 
 place_bare : (vs : List Volume) (q : List ℕ) → place_of q (without_lines vs) ≡ place_of q vs
 place_bare [] q = refl
@@ -171,7 +171,7 @@ all_same : (p q : List ℕ → Bool) → ((w : List ℕ) → p w ≡ q w) → (w
 all_same p q e [] = refl
 all_same p q e (w ∷ ws) = ap (λ t. t && list_all p ws) (e w) ∙ ap (λ t. q w && t) (all_same p q e ws)
 
-block_moved : (before now : List Volume) (v : Volume) → without_lines before ≡ without_lines now → IsBlock before v → IsBlock now v
+pub block_moved : (before now : List Volume) (v : Volume) → without_lines before ≡ without_lines now → IsBlock before v → IsBlock now v
 block_moved before now v e h = record {
   name = h.name;
   fresh = sym (same_place before now e v.name) ∙ h.fresh;
@@ -187,7 +187,7 @@ volumes_moved [] before now e h = tt
 volumes_moved (v ∷ vs) before now e h = (
   block_moved before now v e h.0,
   h.1,
-  volumes_moved vs (before ++ v ∷ []) (now ++ v ∷ []) (bare_append before (v ∷ []) ∙ ap (λ l. l ++ without_line v ∷ []) e ∙ sym (bare_append now (v ∷ []))) h.2,
+  volumes_moved vs (before ++ v ∷ []) (now ++ v ∷ []) (without_append before (v ∷ []) ∙ ap (λ l. l ++ without_line v ∷ []) e ∙ sym (without_append now (v ∷ []))) h.2,
 )
 
 -- ---- all volumes
@@ -197,7 +197,7 @@ leads_volumes [] now n h = ([], n, refl, λ rest. ap (λ l. lines_read (lines_of
 leads_volumes (v ∷ vs) now n h =
     let first = leads_volume v now n h.0 h.1 in
     let w : Volume = record v { line = first.0 } in
-    let same : without_lines (now ++ v ∷ []) ≡ without_lines (now ++ w ∷ []) = bare_append now (v ∷ []) ∙ sym (bare_append now (w ∷ [])) in
+    let same : without_lines (now ++ v ∷ []) ≡ without_lines (now ++ w ∷ []) = without_append now (v ∷ []) ∙ sym (without_append now (w ∷ [])) in
     let later = leads_volumes vs (now ++ w ∷ []) first.1 (volumes_moved vs (now ++ v ∷ []) (now ++ w ∷ []) same h.2) in (
       w ∷ later.0,
       later.1,

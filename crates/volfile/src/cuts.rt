@@ -93,7 +93,7 @@ pub(crate) fn add_words<'a>(found: &mut Vec<&'a [u8]>, line: &'a [u8]) -> Result
 /// the line's length and copies no byte.
 ///
 /// # Errors
-/// Want of memory.
+/// Out of memory.
 pub fn words(alloc: Global, line: &[u8]) -> Result<Vec<&[u8]>, AllocError>
     ensures { IfOk result (λ found. map (λ w. w.now) found.items ≡ words_of line.now) }
 {

@@ -50,7 +50,7 @@ impl Defined {
         self.volumes.len()
     }
 
-    // Adds a volume. Want of memory hands it back.
+    // Adds a volume. Where memory runs out it comes back in the error.
     pub(crate) fn push(&mut self, alloc: Global, volume: Volume) -> Result<(), AllocFailed<Volume>>
         requires fresh { place_of volume.name self.old ≡ None }
         ensures ok { OnOk result (self.new ≡ self.old ++ volume ∷ []) }

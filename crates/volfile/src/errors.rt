@@ -1,8 +1,8 @@
 use std::alloc::AllocError;
 
 /// Why a line of a volfile is refused. Of the kinds that hold of one line the first in this order is
-/// told.
-#[derive(Debug, Clone, Copy, PartialEq, Eq)]
+/// reported.
+#[derive(Clone, Copy, PartialEq, Eq)]
 pub enum VolKind {
     /// A byte outside 32 to 126, tab and carriage return stands outside a comment.
     BadByte,
@@ -32,10 +32,10 @@ pub enum VolKind {
 
 /// Why a volfile is refused. `line` is the number of the first line that is refused, from 1; where the
 /// text ends too early it is the number of lines. Numbers stand still at 4294967295.
-#[derive(Debug, Clone, Copy, PartialEq, Eq)]
+#[derive(Clone, Copy, PartialEq, Eq)]
 pub enum VolError {
     At { line: u32, kind: VolKind },
-    /// Want of memory.
+    /// Out of memory.
     Mem,
 }
 

@@ -41,7 +41,7 @@ impl Held {
         }
     }
 
-    // Reads a line, and tells why it is refused, if it is.
+    // Reads a line, and says why it is refused, if it is.
     #[tactic(auto, unfolding(crate::specs::VolfileText::line_read))]
     pub(crate) fn read(
         &mut self,

@@ -14,7 +14,7 @@
 //! ```
 //!
 //! [`parse`] reads a whole text by [`VolfileReader`], which takes it line by line, as a script does with
-//! the volfiles inside it. [`print`] writes a volfile in its one spelling, and [`parse`] of that gives the
+//! the volfiles inside it. [`print`] writes a volfile in its one form, and [`parse`] of that gives the
 //! same volumes but for line numbers. [`first_line`], [`words`], [`is_name`] and [`is_visible_word`] are
 //! what the script's grammar shares with this one.
 //!
@@ -43,6 +43,3 @@ pub use parses::parse;
 pub use prints::print;
 pub use readers::VolfileReader;
 pub use volumes::{OptionLine, Volfile, Volume, option_value};
-
-#[cfg(test)]
-mod tests;

@@ -43,7 +43,7 @@ impl VolumeNames {
     /// Gives a name this number, in place of the one that it had.
     ///
     /// # Errors
-    /// Want of memory, and nothing is changed.
+    /// Out of memory, and nothing is changed.
     pub fn add(&mut self, alloc: Global, name: &[u8], place: usize) -> Result<(), AllocError>
         ensures ok { OnOk result ((other : List ℕ) → place_in self.new other ≡ (if is_text other name.now then Some place else place_in self.old other)) }
         ensures err { OnErr result (self.new ≡ self.old) }

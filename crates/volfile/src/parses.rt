@@ -14,7 +14,7 @@ use std::alloc::Global;
 ///
 /// # Errors
 /// `At` exactly where the text is none, with the first line that is refused and its kind; `Unclosed` and
-/// `Empty` have the number of lines. `Mem` is want of memory.
+/// `Empty` have the number of lines. `Mem` where it runs out of memory.
 pub fn parse(alloc: Global, text: &[u8]) -> Result<Volfile, VolError>
     ensures ok { IfOk result (λ v. parsed text.now ≡ Ok v) }
     ensures form { IfOk result (λ v. IsVolfile v) }

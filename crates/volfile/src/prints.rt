@@ -8,11 +8,11 @@ use crate::volumes::{OptionLine, Volfile, Volume};
 use fop_types::Seq;
 use std::alloc::{AllocError, Global};
 
-/// The one spelling of a volfile, in time and memory of its length. The volfile is, but for line numbers,
+/// The one form of a volfile, in time and memory of its length. The volfile is, but for line numbers,
 /// one that [`parse`](crate::parse) gives, and `parse` of the text gives its volumes but for line numbers.
 ///
 /// # Errors
-/// Want of memory.
+/// Out of memory.
 pub fn print(alloc: Global, v: &Volfile) -> Result<Vec<u8>, AllocError>
     requires volfile { IsVolfile v.now }
     ensures text { IfOk result (λ text. text.items ≡ volumes_text v.now.volumes) }

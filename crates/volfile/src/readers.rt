@@ -40,11 +40,11 @@ impl VolfileReader {
     }
 
     /// Reads one line, given without its line feed. `number` is its number, which a volume that begins
-    /// here and a refusal tell.
+    /// here and a refusal have.
     ///
     /// # Errors
     /// `At` with this number exactly where the line is refused, with the first kind that holds of it.
-    /// `Mem` is want of memory. After either nothing is changed.
+    /// `Mem` where it runs out of memory. After either nothing is changed.
     pub fn line(&mut self, alloc: Global, number: u32, line: &[u8]) -> Result<(), VolError>
         ensures ok { OnOk result (line_read self.old number line.now ≡ Ok self.new) }
         ensures refused { (place : ℕ) (kind : Kind) → IsErrOf result (At place kind) → (place ≡ number) × (line_read self.old number line.now ≡ Err kind) }

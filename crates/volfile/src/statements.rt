@@ -79,7 +79,7 @@ pub(crate) fn begins_subvolumes(word: &[u8], block: &Volume) -> bool
     is_same(word, b"subvolumes") && block.subvolumes.is_empty()
 }
 
-// What the statements in a block do to it: each is given the words behind its first, and tells why it is
+// What the statements in a block do to it: each is given the words behind its first, and says why it is
 // refused, if it is.
 impl Volume {
     pub(crate) fn give_type(

@@ -6,7 +6,7 @@ use crate::forms::is_same;
 use fop_types::Seq;
 
 /// An option of a volume.
-#[derive(Debug, Drop, PartialEq, Eq)]
+#[derive(Drop)]
 pub struct OptionLine {
     pub key: Seq<u8>,
     pub value: Seq<u8>,
@@ -15,7 +15,7 @@ pub struct OptionLine {
 /// A volume of a volfile: one translator of a graph. `line` is the number of its `volume` line, from 1;
 /// `kind` its type, as `cluster/replicate`; `options` all of its option lines in order, of which the last
 /// with a key counts; `subvolumes` the names of what stands below it.
-#[derive(Debug, Drop, PartialEq, Eq)]
+#[derive(Drop)]
 pub struct Volume {
     pub line: u32,
     pub name: Seq<u8>,
@@ -25,7 +25,7 @@ pub struct Volume {
 }
 
 /// A volfile: its volumes in order, each above those that it names. The last one is the top.
-#[derive(Debug, Drop, PartialEq, Eq)]
+#[derive(Drop)]
 pub struct Volfile {
     pub volumes: Seq<Volume>,
 }

@@ -1,16 +1,16 @@
--- A spelling is read as its value alone, and what is read as a value is its spelling.
+-- An encoding is read as its value alone, and what is read as a value is its encoding.
 use Rattle.std.proofs.Common.{inl, inr, ◌≡◌, ◌≢◌, ◌<◌, ◌≤◌, ◌∷◌, ◌∙◌, ◌++◌, ◌+◌, ◌-◌, ◌^◌, ◌==◌, min, ℕ, Bool, true, false, true≢false, sym, refl, ap, subst, List, [], length, drop, arith, append-nil, length-append, Result, Ok, Err, if◌then◌else◌}
 use Rattle.std.proofs.lemmas.Bool.{eqb-true, eqb-false, eq-eqb}
 use Rattle.std.proofs.lemmas.List.{nil_from_length}
 use Rattle.fop_types.specs.declared.messages.Input.{Input}
 use Rattle.fop_types.specs.declared.messages.Output.{Output}
-use Rattle.wire_xdr.specs.declared.faults.Fault.{Fault}
-use Rattle.wire_xdr.specs.declared.faults.Fault.TheVariants as fault
+use Rattle.wire_xdr.specs.declared.decode.faults.Fault.{Fault}
+use Rattle.wire_xdr.specs.declared.decode.faults.Fault.TheVariants as fault
 use Rattle.wire_xdr.specs.declared.decoded.Decoded.{Decoded}
 use Rattle.wire_xdr.specs.declared.decoded.Decoded.TheVariants.{Front, Bad}
-use Rattle.wire_xdr.specs.Decoding.{decoded_by}
-use Rattle.wire_xdr.specs.Reading.{Reading}
-use Rattle.wire_xdr.specs.MessageReading.{input_at, output_at}
+use Rattle.wire_xdr.specs.code.Decoding.{decoded_by}
+use Rattle.wire_xdr.specs.code.Parsers.{Parser}
+use Rattle.wire_xdr.specs.code.MessageParsers.{input_at, output_at}
 use Rattle.wire_xdr.specs.WireText.{input_text, IsInputOf, IsInput, output_text, IsOutputOf, IsOutput, IsDecoded}
 use Rattle.wire_xdr.proofs.Laws.{IsLaw}
 use Rattle.wire_xdr.proofs.QuadLaws.{Says}
@@ -42,7 +42,7 @@ whole_at n used x y is = by_case (used == n) refl
         let made : Wrong used ≡ Whole x = sym (ap (λ (c : Bool). if c then Whole y else Wrong used) e) ∙ is in
         absurd (true≢false (sym (ap is_whole made)))
 
-module _ {A : Type 0} (F : Bool → A → Type 0) (text : A → List ℕ) (m : ℕ) (read : Reading A) (law : IsLaw m (Says F text) read) (small : m < 2 ^ 32) where
+module _ {A : Type 0} (F : Bool → A → Type 0) (text : A → List ℕ) (m : ℕ) (read : Parser A) (law : IsLaw m (Says F text) read) (small : m < 2 ^ 32) where
   read_back : (x : A) → F true x → message_of (length (text x)) (decoded_by (length (text x)) (read (text x))) ≡ Whole x
   read_back x legal =
       let said : Says F text true x (text x) = record { legal = legal; is = refl } in
@@ -52,41 +52,41 @@ module _ {A : Type 0} (F : Bool → A → Type 0) (text : A → List ℕ) (m : �
       ap (λ (r : Result (A × List ℕ) Fault). message_of (length (text x)) (decoded_by (length (text x)) r)) took
       ∙ whole_of (length (text x)) (min (length (text x) - 0) 4294967295) x used
 
-  spelled_by : (bytes : List ℕ) (x : A) (r : Result (A × List ℕ) Fault) → read bytes ≡ r → message_of (length bytes) (decoded_by (length bytes) r) ≡ Whole x → F true x × (bytes ≡ text x)
-  spelled_by bytes x (Ok (y, rest)) e is =
+  encoded_by : (bytes : List ℕ) (x : A) (r : Result (A × List ℕ) Fault) → read bytes ≡ r → message_of (length bytes) (decoded_by (length bytes) r) ≡ Whole x → F true x × (bytes ≡ text x)
+  encoded_by bytes x (Ok (y, rest)) e is =
       let w = whole_at (length bytes) (min (length bytes - length rest) 4294967295) x y is in
       let a = law.again bytes rest y e in
       let s : length bytes ≡ length a.text + length rest = ap length a.is ∙ length-append a.text rest in
       let fits : length a.text ≤ m = law.fits y a.text (law.loose y a.text a.said) in
       let none : rest ≡ [] = nil_from_length rest (omega (arith, w.0, s, fits, small)) in
-      let spelled : bytes ≡ text y = a.is ∙ ap (λ (l : List ℕ). a.text ++ l) none ∙ append-nil a.text ∙ a.said.is in
-      (subst (F true) w.1 a.said.legal, spelled ∙ ap text w.1)
-  spelled_by bytes x (Err (fault.Wrong left)) e is = absurd (true≢false (sym (ap is_whole is)))
-  spelled_by bytes x (Err fault.Short) e is = absurd (true≢false (sym (ap is_whole is)))
-  spelled_by bytes x (Err (fault.Memory error)) e is = absurd (true≢false (sym (ap is_whole is)))
+      let encoded : bytes ≡ text y = a.is ∙ ap (λ (l : List ℕ). a.text ++ l) none ∙ append-nil a.text ∙ a.said.is in
+      (subst (F true) w.1 a.said.legal, encoded ∙ ap text w.1)
+  encoded_by bytes x (Err (fault.Wrong left)) e is = absurd (true≢false (sym (ap is_whole is)))
+  encoded_by bytes x (Err fault.Short) e is = absurd (true≢false (sym (ap is_whole is)))
+  encoded_by bytes x (Err (fault.Memory error)) e is = absurd (true≢false (sym (ap is_whole is)))
 
-  spelled : (bytes : List ℕ) (x : A) → message_of (length bytes) (decoded_by (length bytes) (read bytes)) ≡ Whole x → F true x × (bytes ≡ text x)
-  spelled bytes x is = spelled_by bytes x (read bytes) refl is
+  encoded : (bytes : List ℕ) (x : A) → message_of (length bytes) (decoded_by (length bytes) (read bytes)) ≡ Whole x → F true x × (bytes ≡ text x)
+  encoded bytes x is = encoded_by bytes x (read bytes) refl is
 
 -- the two kinds of message
 pub input_read_back : (x : Input) → IsInput x → input_in (input_text x) ≡ Whole x
 unfolding input_in
 input_read_back x legal = read_back IsInputOf input_text 500000004 input_at input_law (omega arith) x legal
 
-pub input_is_spelled : (bytes : List ℕ) (x : Input) → input_in bytes ≡ Whole x → IsInput x × (bytes ≡ input_text x)
+pub input_is_encoded : (bytes : List ℕ) (x : Input) → input_in bytes ≡ Whole x → IsInput x × (bytes ≡ input_text x)
 unfolding input_in
-input_is_spelled bytes x is = spelled IsInputOf input_text 500000004 input_at input_law (omega arith) bytes x is
+input_is_encoded bytes x is = encoded IsInputOf input_text 500000004 input_at input_law (omega arith) bytes x is
 
 pub output_read_back : (x : Output) → IsOutput x → output_in (output_text x) ≡ Whole x
 unfolding output_in
 output_read_back x legal = read_back IsOutputOf output_text 600000012 output_at output_law (omega arith) x legal
 
-pub output_is_spelled : (bytes : List ℕ) (x : Output) → output_in bytes ≡ Whole x → IsOutput x × (bytes ≡ output_text x)
+pub output_is_encoded : (bytes : List ℕ) (x : Output) → output_in bytes ≡ Whole x → IsOutput x × (bytes ≡ output_text x)
 unfolding output_in
-output_is_spelled bytes x is = spelled IsOutputOf output_text 600000012 output_at output_law (omega arith) bytes x is
+output_is_encoded bytes x is = encoded IsOutputOf output_text 600000012 output_at output_law (omega arith) bytes x is
 
 pub messages_are_read_back : MessagesReadBack
-messages_are_read_back = ((input_read_back, input_is_spelled), (output_read_back, output_is_spelled))
+messages_are_read_back = ((input_read_back, input_is_encoded), (output_read_back, output_is_encoded))
 
 -- what a decoder's answer says of all the bytes
 longer : {A : Type 0} (text : A → List ℕ) (bytes : List ℕ) (value : A) (used : ℕ) → bytes ≡ text value ++ drop used bytes → used ≡ length (text value) → used ≢ length bytes → 1 ≤ length (drop used bytes)
@@ -101,8 +101,8 @@ message_says Is text bytes (Front value used) f = by_case (used == length bytes)
   where
     by_case : (b : Bool) → (used == length bytes) ≡ b → IsSaid Is text bytes (message_of (length bytes) (Front value used))
     by_case true e =
-        let all : drop used bytes ≡ [] = none_after (drop used bytes) f.spelled in
-        rw e (f.legal, f.spelled ∙ ap (λ (l : List ℕ). text value ++ l) all ∙ append-nil (text value))
+        let all : drop used bytes ≡ [] = none_after (drop used bytes) f.encoded in
+        rw e (f.legal, f.encoded ∙ ap (λ (l : List ℕ). text value ++ l) all ∙ append-nil (text value))
       where
         none_after : (rest : List ℕ) → bytes ≡ text value ++ rest → rest ≡ []
         none_after rest is =
@@ -112,6 +112,6 @@ message_says Is text bytes (Front value used) f = by_case (used == length bytes)
         let other : used ≢ length bytes = eqb-false used (length bytes) e in
         rw e (record {
           none = λ x h is. other (f.used_is ∙ ap (λ (y : _). length (text y)) (sym (f.only x [] h (is ∙ sym (append-nil (text x))))) ∙ sym (ap length is));
-          place_is = inr (record { value = value; legal = f.legal; after = drop used bytes; is = f.spelled; more = longer text bytes value used f.spelled f.used_is other; place_is = sym f.used_is });
+          place_is = inr (record { value = value; legal = f.legal; after = drop used bytes; is = f.encoded; more = longer text bytes value used f.encoded f.used_is other; place_is = sym f.used_is });
         })
 message_says Is text bytes (Bad error) f = record { none = λ x h is. f.none x [] h (is ∙ sym (append-nil (text x))); place_is = inl f.place_is }

@@ -12,7 +12,7 @@ use Rattle.fop_types.specs.declared.cells.Cell.{Cell}
 use Rattle.wire_xdr.specs.Xdr.{list}
 use Rattle.wire_xdr.specs.Order.{Each, Follows, Rises, RisesFrom}
 use Rattle.wire_xdr.specs.PartText.{IsGfid, cell_text, IsCell, AreCells}
-use Rattle.wire_xdr.specs.PartReading.{gfid_of, aspect_of, first_cell, last_but, next_gfid, after_aspect, least_after, cell_at, rising_cell, cells_at}
+use Rattle.wire_xdr.specs.code.PartParsers.{gfid_of, aspect_of, first_cell, last_but, next_gfid, after_aspect, least_after, cell_at, rising_cell, cells_at}
 use Rattle.wire_xdr.proofs.Names.{Three, Below, Same, Above, three_ways, cmp_less, cmp_same, cmp_more, eq_same, eq_less, eq_more}
 use Rattle.wire_xdr.proofs.Laws.{IsLaw, weaker}
 use Rattle.wire_xdr.proofs.QuadLaws.{Says, IsBetween, relegal}

@@ -3,7 +3,7 @@ use Rattle.std.proofs.Common.{◌≡◌, ◌<◌, ◌≤◌, ◌∷◌, ◌∙�
 use Rattle.wire_xdr.specs.Xdr.{unit, texts, list}
 use Rattle.wire_xdr.specs.Order.{Each, Follows, RisesFrom}
 use Rattle.std.specs.declared.cmp.Ordering.{Ordering}
-use Rattle.wire_xdr.specs.Reading.{Reading, chain, done, one, two, three, four, between_at, items_at, list_at}
+use Rattle.wire_xdr.specs.code.Parsers.{Parser, chain, done, one, two, three, four, between_at, items_at, list_at}
 use Rattle.wire_xdr.proofs.Laws.{IsLaw, Then, Nothing, chain_law, done_law, restated, weaker}
 use Rattle.wire_xdr.proofs.QuadLaws.{Says, IsBetween, between_law, relegal}
 
@@ -39,7 +39,7 @@ pub record Made4 {A B C E D : Type 0} (FA : Bool → A → Type 0) (FB : A → B
   pub said_e : FE a b c o e
   pub made : y ≡ make a b c e
 
-pub one_law : {A D : Type 0} {m : ℕ} {FA : Bool → A → Type 0} {tA : A → List ℕ} {rA : Reading A} (make : A → D) (text : D → List ℕ) → ((o : Bool) (a : A) → FA o a → text (make a) ≡ tA a)
+pub one_law : {A D : Type 0} {m : ℕ} {FA : Bool → A → Type 0} {tA : A → List ℕ} {rA : Parser A} (make : A → D) (text : D → List ℕ) → ((o : Bool) (a : A) → FA o a → text (make a) ≡ tA a)
     → IsLaw m (Says FA tA) rA → IsLaw m (Says (Made1 FA make) text) (one make rA)
 one_law {A = A} {D = D} {m = m} {FA = FA} {tA = tA} make text joins la = weaker (m + 0) m (omega arith) (restated into from (chain_law la (λ a t h. done_law (make a))))
   where
@@ -52,14 +52,14 @@ one_law {A = A} {D = D} {m = m} {FA = FA} {tA = tA} make text joins la = weaker 
     from : (o : Bool) (y : D) (t : List ℕ) → Says (Made1 FA make) text o y t → Then (Says FA tA) (λ (a : A). Nothing (make a)) o y t
     from o y t h = let l = h.legal in record {
       first = l.a;
-      front = tA l.a;
+      prefix = tA l.a;
       back = [];
       said = record { legal = l.said_a; is = refl };
       rest = record { value = l.made; is = refl };
       is = h.is ∙ ap text l.made ∙ joins o l.a l.said_a ∙ sym (append-nil (tA l.a));
     }
 
-pub two_law : {A B D : Type 0} {mA mB : ℕ} {FA : Bool → A → Type 0} {FB : A → Bool → B → Type 0} {tA : A → List ℕ} {tB : B → List ℕ} {rA : Reading A} {rB : A → Reading B}
+pub two_law : {A B D : Type 0} {mA mB : ℕ} {FA : Bool → A → Type 0} {FB : A → Bool → B → Type 0} {tA : A → List ℕ} {tB : B → List ℕ} {rA : Parser A} {rB : A → Parser B}
     (make : A → B → D) (text : D → List ℕ) → ((o : Bool) (a : A) (b : B) → FA o a → FB a o b → text (make a b) ≡ tA a ++ tB b)
     → IsLaw mA (Says FA tA) rA → ((a : A) → FA false a → IsLaw mB (Says (FB a) tB) (rB a)) → IsLaw (mA + mB) (Says (Made2 FA FB make) text) (two make rA rB)
 two_law {A = A} {B = B} {D = D} {mA = mA} {mB = mB} {FA = FA} {FB = FB} {tA = tA} {tB = tB} make text joins la lb =
@@ -76,15 +76,15 @@ two_law {A = A} {B = B} {D = D} {mA = mA} {mB = mB} {FA = FA} {FB = FB} {tA = tA
     from o y t h = let l = h.legal in
         record {
           first = l.a;
-          front = tA l.a;
+          prefix = tA l.a;
           back = tB l.b;
           said = record { legal = l.said_a; is = refl };
-          rest = record { first = l.b; front = tB l.b; back = []; said = record { legal = l.said_b; is = refl }; rest = record { value = l.made; is = refl }; is = sym (append-nil (tB l.b)) };
+          rest = record { first = l.b; prefix = tB l.b; back = []; said = record { legal = l.said_b; is = refl }; rest = record { value = l.made; is = refl }; is = sym (append-nil (tB l.b)) };
           is = h.is ∙ ap text l.made ∙ joins o l.a l.b l.said_a l.said_b;
         }
 
 pub three_law : {A B C D : Type 0} {mA mB mC : ℕ} {FA : Bool → A → Type 0} {FB : A → Bool → B → Type 0} {FC : A → B → Bool → C → Type 0} {tA : A → List ℕ} {tB : B → List ℕ} {tC : C → List ℕ}
-    {rA : Reading A} {rB : A → Reading B} {rC : A → B → Reading C} (make : A → B → C → D) (text : D → List ℕ) → ((o : Bool) (a : A) (b : B) (c : C) → FA o a → FB a o b → FC a b o c → text (make a b c) ≡ tA a ++ (tB b ++ tC c))
+    {rA : Parser A} {rB : A → Parser B} {rC : A → B → Parser C} (make : A → B → C → D) (text : D → List ℕ) → ((o : Bool) (a : A) (b : B) (c : C) → FA o a → FB a o b → FC a b o c → text (make a b c) ≡ tA a ++ (tB b ++ tC c))
     → IsLaw mA (Says FA tA) rA → ((a : A) → FA false a → IsLaw mB (Says (FB a) tB) (rB a)) → ((a : A) (b : B) → FA false a → FB a false b → IsLaw mC (Says (FC a b) tC) (rC a b))
     → IsLaw (mA + (mB + mC)) (Says (Made3 FA FB FC make) text) (three make rA rB rC)
 three_law {A = A} {B = B} {C = C} {D = D} {FA = FA} {FB = FB} {FC = FC} {tA = tA} {tB = tB} {tC = tC} make text joins la lb lc =
@@ -102,7 +102,7 @@ three_law {A = A} {B = B} {C = C} {D = D} {FA = FA} {FB = FB} {FC = FC} {tA = tA
     from o y h = record { a = h.a; b = (h.b, h.c); said_a = h.said_a; said_b = record { a = h.b; b = h.c; said_a = h.said_b; said_b = h.said_c; made = refl }; made = h.made }
 
 pub four_law : {A B C E D : Type 0} {mA mB mC mE : ℕ} {FA : Bool → A → Type 0} {FB : A → Bool → B → Type 0} {FC : A → B → Bool → C → Type 0} {FE : A → B → C → Bool → E → Type 0}
-    {tA : A → List ℕ} {tB : B → List ℕ} {tC : C → List ℕ} {tE : E → List ℕ} {rA : Reading A} {rB : A → Reading B} {rC : A → B → Reading C} {rE : A → B → C → Reading E}
+    {tA : A → List ℕ} {tB : B → List ℕ} {tC : C → List ℕ} {tE : E → List ℕ} {rA : Parser A} {rB : A → Parser B} {rC : A → B → Parser C} {rE : A → B → C → Parser E}
     (make : A → B → C → E → D) (text : D → List ℕ) → ((a : A) (b : B) (c : C) (e : E) → text (make a b c e) ≡ tA a ++ (tB b ++ (tC c ++ tE e)))
     → IsLaw mA (Says FA tA) rA → ((a : A) → FA false a → IsLaw mB (Says (FB a) tB) (rB a)) → ((a : A) (b : B) → FA false a → FB a false b → IsLaw mC (Says (FC a b) tC) (rC a b))
     → ((a : A) (b : B) (c : C) → FA false a → FB a false b → FC a b false c → IsLaw mE (Says (FE a b c) tE) (rE a b c))
@@ -130,7 +130,7 @@ pub record Keyed {D : Type 0} (G : Bool → ℕ → Type 0) (F : ℕ → Bool �
   pub named : G o number
   pub arm : F number o y
 
-pub keyed_law : {D : Type 0} {m : ℕ} {G : Bool → ℕ → Type 0} {F : ℕ → Bool → D → Type 0} {rA : Reading ℕ} {rB : ℕ → Reading D} (key : D → ℕ) (text : D → List ℕ)
+pub keyed_law : {D : Type 0} {m : ℕ} {G : Bool → ℕ → Type 0} {F : ℕ → Bool → D → Type 0} {rA : Parser ℕ} {rB : ℕ → Parser D} (key : D → ℕ) (text : D → List ℕ)
     → ((k : ℕ) (o : Bool) (y : D) → F k o y → key y ≡ k) → IsLaw 4 (Says G unit) rA → ((k : ℕ) → G false k → IsLaw m (Says (F k) text) (rB k))
     → IsLaw (4 + m) (Says (Keyed G F) (λ (y : D). unit (key y) ++ text y)) (chain rA rB)
 keyed_law {D = D} {G = G} {F = F} key text keys la lb = restated into from (chain_law la (λ k t h. lb k h.legal))
@@ -144,7 +144,7 @@ keyed_law {D = D} {G = G} {F = F} key text keys la lb = restated into from (chai
     from : (o : Bool) (y : D) (t : List ℕ) → Says (Keyed G F) (λ (z : D). unit (key z) ++ text z) o y t → Then (Says G unit) (λ (k : ℕ). Says (F k) text) o y t
     from o y t h = let l = h.legal in record {
       first = l.number;
-      front = unit l.number;
+      prefix = unit l.number;
       back = text y;
       said = record { legal = l.named; is = refl };
       rest = record { legal = l.arm; is = refl };
@@ -168,7 +168,7 @@ abbrev pub total : ℕ → ℕ → ℕ
 total m zero = 0
 total m (suc n) = m + total m n
 
-pub items_law : {A : Type 0} {m : ℕ} (item : Option A → ℕ → Reading A) (F : Option A → ℕ → Bool → A → Type 0) (text : A → List ℕ) (Room : Option A → ℕ → Type 0)
+pub items_law : {A : Type 0} {m : ℕ} (item : Option A → ℕ → Parser A) (F : Option A → ℕ → Bool → A → Type 0) (text : A → List ℕ) (Room : Option A → ℕ → Type 0)
     → ((e : Option A) (n : ℕ) → Room e (suc n) → IsLaw m (Says (F e n) text) (item e n)) → ((e : Option A) (n : ℕ) (x : A) → Room e (suc n) → F e n false x → Room (Some x) n)
     → (n : ℕ) (e : Option A) → Room e n → IsLaw (total m n) (Says (Items F e n) (texts text)) (items_at item e n)
 items_law item F text Room each next zero e room = value_law [] (texts text) refl
@@ -179,7 +179,7 @@ items_length : {A : Type 0} (F : Option A → ℕ → Bool → A → Type 0) (n 
 items_length F zero e o xs h = ap length h.made
 items_length F (suc n) e o xs h = ap length h.made ∙ ap suc (items_length F n (Some h.a) o h.b h.said_b)
 
-pub list_law : {A : Type 0} {m : ℕ} (item : Option A → ℕ → Reading A) (F : Option A → ℕ → Bool → A → Type 0) (text : A → List ℕ) (Room : Option A → ℕ → Type 0)
+pub list_law : {A : Type 0} {m : ℕ} (item : Option A → ℕ → Parser A) (F : Option A → ℕ → Bool → A → Type 0) (text : A → List ℕ) (Room : Option A → ℕ → Type 0)
     → ((e : Option A) (n : ℕ) → Room e (suc n) → IsLaw m (Says (F e n) text) (item e n)) → ((e : Option A) (n : ℕ) (x : A) → Room e (suc n) → F e n false x → Room (Some x) n)
     → (least most big : ℕ) → least ≤ most → most < 2 ^ 32 → ((k : ℕ) → k ≤ most → total m k ≤ big) → ((k : ℕ) → k ≤ most → Room None k)
     → IsLaw (4 + big) (Says (Keyed (IsBetween least most) (Items F None)) (list text)) (list_at item least most)

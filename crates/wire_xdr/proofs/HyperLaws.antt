@@ -8,8 +8,8 @@ use Rattle.fop_types.specs.declared.cells.Aspect.TheVariants.{Data, Meta, Entry}
 use Rattle.fop_types.specs.declared.cells.Cell.{Cell}
 use Rattle.wire_xdr.specs.Xdr.{unit, hyper, IsUnit, IsHyper}
 use Rattle.wire_xdr.specs.PartText.{gfid_text, IsGfid, cell_text, IsCell}
-use Rattle.wire_xdr.specs.Reading.{between_at, unit_at, hyper_between, hyper_at}
-use Rattle.wire_xdr.specs.PartReading.{gfid_of, gfid_at, aspect_of, cell_of, cell_between}
+use Rattle.wire_xdr.specs.code.Parsers.{between_at, unit_at, hyper_between, hyper_at}
+use Rattle.wire_xdr.specs.code.PartParsers.{gfid_of, gfid_at, aspect_of, cell_of, cell_between}
 use Rattle.wire_xdr.proofs.Names.{Three, Below, Same, Above, three_ways, eq_same, eq_less, eq_more}
 use Rattle.wire_xdr.proofs.Laws.{IsLaw, weaker}
 use Rattle.wire_xdr.proofs.QuadLaws.{Says, IsBetween, between_law, relegal}

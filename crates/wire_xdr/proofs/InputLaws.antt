@@ -29,10 +29,11 @@ use Rattle.wire_xdr.specs.Order.{Each}
 use Rattle.wire_xdr.specs.PartText.{cell_text, AreCells, content_kind, content_arm, content_text, IsContent, AreAttrs, AreItems}
 use Rattle.wire_xdr.specs.MessageText.{op_number, op_arm, op_text, IsOp, req_number, mask_text, req_arm, req_text, AreFew, IsMask, IsOpenFd, IsReq, row_text, IsRow, done_number, done_arm, done_text, IsDoneArm, rep_number, rep_arm, rep_text, IsRep}
 use Rattle.wire_xdr.specs.WireText.{proc_number, input_kind, input_arm, input_text, IsInputOf, out_number, out_arm, out_text, IsOutKind, output_text, IsOutputOf}
-use Rattle.wire_xdr.specs.Reading.{Reading, chain, any_byte, unit_where, is_between, between_at, bytes_at, list_at, items_at}
-use Rattle.wire_xdr.specs.PartReading.{cells_at, content_arm_at, content_at}
-use Rattle.wire_xdr.specs.MessageReading.{op_arm_at, op_at, few_at, mask_of, mask_at, open_fd_at, req_arm_at, req_at, proc_of, is_failing, proc_at, input_arm_at, input_at, row_of, counter_at, row_alone_at, row_at, done_arm_at, done_at, rep_arm_at, rep_at, out_arm_at, output_of, output_at}
-use Rattle.wire_xdr.proofs.UnitReading.{between_true, between_holds}
+use Rattle.wire_xdr.specs.Limits.{is_between}
+use Rattle.wire_xdr.specs.code.Parsers.{Parser, chain, any_byte, unit_where, between_at, bytes_at, list_at, items_at}
+use Rattle.wire_xdr.specs.code.PartParsers.{cells_at, content_arm_at, content_at}
+use Rattle.wire_xdr.specs.code.MessageParsers.{op_arm_at, op_at, few_at, mask_of, mask_at, open_fd_at, req_arm_at, req_at, proc_of, is_failing, proc_at, input_arm_at, input_at, row_of, counter_at, one_row_at, row_at, done_arm_at, done_at, rep_arm_at, rep_at, out_arm_at, output_of, output_at}
+use Rattle.wire_xdr.proofs.UnitParsers.{between_true, between_holds}
 use Rattle.wire_xdr.proofs.Laws.{IsLaw, weaker}
 use Rattle.wire_xdr.proofs.QuadLaws.{Says, IsBetween, IsTested, between_law, unit_law, relegal, and_true}
 use Rattle.wire_xdr.proofs.FieldLaws.{Made1, Made2, Made3, Made4, one_law, two_law, three_law, four_law, Keyed, keyed_law, IsValue, value_law, Items, total, items_law, list_law}
@@ -43,7 +44,7 @@ use Rattle.wire_xdr.proofs.CellLists.{cells_law, any_cell_law}
 use Rattle.wire_xdr.proofs.PartLaws.{any_all, none_above, flag_law, mode_law, span_law, retext, union_law, OfUnit, OfHyper, OfGfid, OfCell, OfFlag, OfMode, OfSpan, OfOneAttr, attr_law, OfAttrName, attr_name_law, attrs_law, OfOneItem, item_law, OfItemName, item_name_law, items_of_directory_law}
 use Rattle.wire_xdr.proofs.RequestLaws.{req_law}
 
--- the procedure and the number of a told fault
+-- the procedure and the number of a fault that is made
 abbrev pub OfProc : Bool → Proc → Type 0
 OfProc o p = proc_number p ≢ 2
 

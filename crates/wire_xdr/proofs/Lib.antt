@@ -6,7 +6,7 @@ pub mod FieldLaws
 pub mod HyperLaws
 pub mod InputLaws
 pub mod Laws
-pub mod ListReading
+pub mod ListParsers
 pub mod Lists
 pub mod Names
 pub mod OpLaws
@@ -17,6 +17,6 @@ pub mod ReplyLaws
 pub mod RequestLaws
 pub mod Sizes
 pub mod StringLaws
-pub mod StringReading
-pub mod UnitReading
+pub mod StringParsers
+pub mod UnitParsers
 pub mod Writing

@@ -1,4 +1,4 @@
--- How lists that stand one after the other compare.
+-- How lists that follow one another compare.
 use Rattle.std.proofs.Common.{inl, inr, ◌≡◌, ◌<◌, ◌≤◌, ◌∷◌, ◌∙◌, ◌++◌, ◌⊎◌, ◌+◌, ℕ, suc, zero, sym, refl, ap, ap₂, List, [], length, drop, slice_index_or, arith, append_assoc, length-append}
 use Rattle.wire_xdr.specs.Xdr.{IsWhole}
 

@@ -6,7 +6,7 @@ use Rattle.std.specs.declared.cmp.Ordering.TheVariants.{Less, Equal, Greater}
 use Rattle.std.specs.Ordering.{nat_cmp, is_lt, ordering_then}
 use Rattle.std.specs.Cmp.{nat_cmp_is}
 use Rattle.std.specs.Cmp.Lexicographic.{slice_cmp, pointwise}
-use Rattle.wire_xdr.specs.Reading.{is_less, left_of, is_greater, is_free}
+use Rattle.wire_xdr.specs.code.Parsers.{is_less, left_of, is_greater, is_free}
 
 pub data Three (a b : ℕ) : Type 0 where
   Below : a < b → Three a b

@@ -19,8 +19,8 @@ use Rattle.fop_types.specs.declared.contents.Item.{Item}
 use Rattle.wire_xdr.specs.Xdr.{unit, flag, flag_number, opaque, list, IsUnit, IsHyper}
 use Rattle.wire_xdr.specs.Order.{Each, Follows, Rises, RisesFrom}
 use Rattle.wire_xdr.specs.PartText.{gfid_text, IsGfid, cell_text, IsCell, AreCells, span_text, IsSpan, attr_text, IsAttrName, IsAttr, attr_cmp, AreAttrs, is_name_byte, is_volume_byte, IsItemName, kind_number, IsTarget, item_text, IsItem, item_cmp, AreItems, IsMode}
-use Rattle.wire_xdr.specs.Reading.{Reading, chain, between_at, bytes_at, flag_at, any_byte, is_greater, list_at}
-use Rattle.wire_xdr.specs.PartReading.{gfid_of, first_cell, last_but, next_gfid, after_aspect, least_after, cell_at, rising_cell, cells_at, some_span, span_arm_at, span_at, attr_of, attr_name, attr_name_at, attr_after, attr_at, attrs_at, kind_of, kind_at, target_at, item_of, item_name, item_name_at, item_after, item_at, items_of_directory_at, mode_at}
+use Rattle.wire_xdr.specs.code.Parsers.{Parser, chain, between_at, bytes_at, flag_at, any_byte, is_greater, list_at}
+use Rattle.wire_xdr.specs.code.PartParsers.{gfid_of, first_cell, last_but, next_gfid, after_aspect, least_after, cell_at, rising_cell, cells_at, some_span, span_arm_at, span_at, attr_of, attr_name, attr_name_at, attr_after, attr_at, attrs_at, kind_of, kind_at, target_at, item_of, item_name, item_name_at, item_after, item_at, items_of_directory_at, mode_at}
 use Rattle.wire_xdr.proofs.Names.{Three, Below, Same, Above, three_ways, cmp_less, cmp_same, cmp_more, greater_by}
 use Rattle.wire_xdr.proofs.Laws.{IsLaw, weaker, restated}
 use Rattle.wire_xdr.proofs.QuadLaws.{Says, pick, IsBetween, between_law, relegal}
@@ -44,11 +44,11 @@ flag_law = relegal (λ o b h. tt) from (one_law (λ (n : ℕ). n == 1) flag join
 pub mode_law : IsLaw 4 (Says (λ (o : Bool) (m : ℕ). IsMode m) unit) mode_at
 mode_law = relegal (λ o m h. h.high) (λ o m h. record { low = omega arith; high = h }) (between_law 0 511 (omega arith) (omega arith))
 
-pub retext : {A : Type 0} {F : Bool → A → Type 0} {s t : A → List ℕ} {m : ℕ} {read : Reading A} → ((x : A) → s x ≡ t x) → IsLaw m (Says F s) read → IsLaw m (Says F t) read
+pub retext : {A : Type 0} {F : Bool → A → Type 0} {s t : A → List ℕ} {m : ℕ} {read : Parser A} → ((x : A) → s x ≡ t x) → IsLaw m (Says F s) read → IsLaw m (Says F t) read
 retext same law = restated (λ o x t h. record { legal = h.legal; is = h.is ∙ same x }) (λ o x t h. record { legal = h.legal; is = h.is ∙ sym (same x) }) law
 
 -- a union whose arms are known by their numbers
-pub union_law : {D : Type 0} {m : ℕ} {rB : ℕ → Reading D} (least most : ℕ) (key : D → ℕ) (text : D → List ℕ) (F : ℕ → Bool → D → Type 0) (Legal : Bool → D → Type 0)
+pub union_law : {D : Type 0} {m : ℕ} {rB : ℕ → Parser D} (least most : ℕ) (key : D → ℕ) (text : D → List ℕ) (F : ℕ → Bool → D → Type 0) (Legal : Bool → D → Type 0)
     → least ≤ most → most < 2 ^ 32 → ((k : ℕ) (o : Bool) (y : D) → F k o y → key y ≡ k) → ((k : ℕ) (o : Bool) (y : D) → least ≤ k → k ≤ most → F k o y → Legal o y)
     → ((o : Bool) (y : D) → Legal o y → F (key y) o y) → ((o : Bool) (y : D) → Legal o y → (least ≤ key y) × (key y ≤ most)) → ((k : ℕ) → least ≤ k → k ≤ most → IsLaw m (Says (F k) text) (rB k))
     → IsLaw (4 + m) (Says Legal (λ (y : D). unit (key y) ++ text y)) (chain (between_at least most) rB)

@@ -3,15 +3,16 @@ use Rattle.std.proofs.Common.{inl, inr, ◌≡◌, ◌<◌, ◌≤◌, ◌∷◌
 use Rattle.std.specs.Prelude.{nat_lt, nat_le}
 use Rattle.std.specs.List.{list_all}
 use Rattle.byteorder.specs.Endian.{big_number, big_bytes}
-use Rattle.wire_xdr.specs.declared.faults.Fault.{Fault}
-use Rattle.wire_xdr.specs.declared.faults.Fault.TheVariants.{Wrong, Short, Memory}
+use Rattle.wire_xdr.specs.declared.decode.faults.Fault.{Fault}
+use Rattle.wire_xdr.specs.declared.decode.faults.Fault.TheVariants.{Wrong, Short, Memory}
 use Rattle.wire_xdr.specs.Xdr.{unit, IsWhole}
-use Rattle.wire_xdr.specs.Reading.{Reading, after, chain, done, one, quad_of, quad_where, unit_where, is_byte, is_between, between_at}
+use Rattle.wire_xdr.specs.Limits.{is_between}
+use Rattle.wire_xdr.specs.code.Parsers.{Parser, after, chain, done, one, quad_of, quad_where, unit_where, is_byte, between_at}
 use Rattle.wire_xdr.proofs.Lists.{heads, tails, cancel}
-use Rattle.wire_xdr.proofs.Laws.{Spelled, Begins, WrongFrom, CutIn, IsLaw, Then, Nothing, chain_law, done_law, restated, no_value, no_fault, same_value, wrong_is}
-use Rattle.wire_xdr.proofs.UnitReading.{between_holds, between_true}
+use Rattle.wire_xdr.proofs.Laws.{Encoded, Begins, WrongFrom, CutIn, IsLaw, Then, Nothing, chain_law, done_law, restated, no_value, no_fault, same_value, wrong_is}
+use Rattle.wire_xdr.proofs.UnitParsers.{between_holds, between_true}
 
--- a spelling of one value in one way
+-- an encoding of one value in one way
 pub record Says {A : Type 0} (F : Bool → A → Type 0) (text : A → List ℕ) (o : Bool) (x : A) (t : List ℕ) : Type 0 where
   pub legal : F o x
   pub is : t ≡ text x
@@ -40,7 +41,7 @@ answer t quad rest = if t then Ok (quad, rest) else Err (Wrong (4 + length rest)
 
 quad_again_by : (fits loose : List ℕ → Bool) (a b c d : ℕ) (bytes rest x : List ℕ) (t : Bool) → fits (a ∷ b ∷ c ∷ d ∷ []) ≡ t
     → answer t (a ∷ b ∷ c ∷ d ∷ []) bytes ≡ Ok (x, rest)
-    → Spelled (Says (IsQuad fits loose) same true) x (a ∷ b ∷ c ∷ d ∷ bytes) rest
+    → Encoded (Says (IsQuad fits loose) same true) x (a ∷ b ∷ c ∷ d ∷ bytes) rest
 quad_again_by fits loose a b c d bytes rest x true is e =
     let p : ◌≡◌ {A = List ℕ × List ℕ} (a ∷ b ∷ c ∷ d ∷ [], bytes) (x, rest) = cc in
     let px : a ∷ b ∷ c ∷ d ∷ [] ≡ x = ap (λ (r : List ℕ × List ℕ). r.0) p in
@@ -48,7 +49,7 @@ quad_again_by fits loose a b c d bytes rest x true is e =
     record { text = x; said = record { legal = record { size = ap length (sym px); passes = ap fits (sym px) ∙ is }; is = refl }; is = ap₂ (λ (l r : List ℕ). l ++ r) px pr }
 quad_again_by fits loose a b c d bytes rest x false is e = absurd (no_fault _ _ e)
 
-quad_again : (fits loose : List ℕ → Bool) (bytes rest x : List ℕ) → quad_where fits bytes ≡ Ok (x, rest) → Spelled (Says (IsQuad fits loose) same true) x bytes rest
+quad_again : (fits loose : List ℕ → Bool) (bytes rest x : List ℕ) → quad_where fits bytes ≡ Ok (x, rest) → Encoded (Says (IsQuad fits loose) same true) x bytes rest
 quad_again fits loose [] rest x e = absurd (no_fault _ _ e)
 quad_again fits loose (a ∷ []) rest x e = absurd (no_fault _ _ e)
 quad_again fits loose (a ∷ b ∷ []) rest x e = absurd (no_fault _ _ e)
@@ -67,7 +68,7 @@ quad_wrong_by fits loose q0 h0 a b c d bytes left true is e = absurd (no_value _
 quad_wrong_by fits loose q0 h0 a b c d bytes left false is e =
     let p : 4 + length bytes ≡ left = wrong_is {X = List ℕ × List ℕ} _ _ e in
     record {
-      front = [];
+      prefix = [];
       quad = a ∷ b ∷ c ∷ d ∷ [];
       later = bytes;
       is = refl;
@@ -89,7 +90,7 @@ quad_wrong fits loose q0 h0 (a ∷ b ∷ c ∷ d ∷ bytes) left e = quad_wrong_
 
 all_cut : (fits loose : List ℕ → Bool) (q0 : List ℕ) → IsQuad fits loose false q0 → (bytes : List ℕ) → length bytes < 4 → CutIn (Says (IsQuad fits loose) same) bytes
 all_cut fits loose q0 h0 bytes few = record {
-  front = [];
+  prefix = [];
   cut = bytes;
   is = refl;
   few = few;
@@ -126,7 +127,7 @@ quad_law fits loose q0 looser h0 = record {
   whole = λ x t h. subst IsWhole (sym h.is) (whole_quad x h.legal.size);
   fits = λ x t h. le_of_eq (ap length h.is ∙ h.legal.size);
   example = q0;
-  spelling = q0;
+  encoding = q0;
   some = record { legal = h0; is = refl };
 }
 
@@ -215,7 +216,7 @@ unit_law fits n0 h0 small0 =
     from : (o : Bool) (n : ℕ) (t : List ℕ) → Says (IsTested fits) unit o n t → Then (Says (IsQuad (quad_fits fits) (quad_fits fits)) same) (λ (q : List ℕ). Nothing (big_number 4 q)) o n t
     from o n t h = record {
       first = unit n;
-      front = unit n;
+      prefix = unit n;
       back = [];
       is = h.is ∙ sym (append-nil (unit n));
       rest = record { value = sym (unit_number n h.legal.bound); is = refl };
@@ -226,7 +227,7 @@ pub record IsBetween (least most : ℕ) (o : Bool) (n : ℕ) : Type 0 where
   pub low : least ≤ n
   pub high : n ≤ most
 
-pub relegal : {A : Type 0} {F G : Bool → A → Type 0} {text : A → List ℕ} {m : ℕ} {read : Reading A} → ((o : Bool) (x : A) → F o x → G o x) → ((o : Bool) (x : A) → G o x → F o x)
+pub relegal : {A : Type 0} {F G : Bool → A → Type 0} {text : A → List ℕ} {m : ℕ} {read : Parser A} → ((o : Bool) (x : A) → F o x → G o x) → ((o : Bool) (x : A) → G o x → F o x)
     → IsLaw m (Says F text) read → IsLaw m (Says G text) read
 relegal into from law = restated (λ o x t h. record { legal = into o x h.legal; is = h.is }) (λ o x t h. record { legal = from o x h.legal; is = h.is }) law
 

@@ -1,10 +1,10 @@
--- How long the spellings of parts are.
+-- How long the encodings of parts are.
 use Rattle.std.proofs.Common.{◌≡◌, ◌∷◌, ◌∙◌, ◌++◌, ◌+◌, ◌-◌, ◌*◌, ◌%◌, ◌≤◌, ◌^◌, ℕ, suc, zero, min, refl, ap, ap₂, subst, List, [], length, drop, arith, length-append}
 use Rattle.std.proofs.lemmas.List.{drop_all}
 use Rattle.fop_types.specs.declared.cells.Cell.{Cell}
 use Rattle.wire_xdr.specs.Xdr.{unit, padding, opaque, texts, list}
 use Rattle.wire_xdr.specs.PartText.{cell_text}
-use Rattle.wire_xdr.specs.Rooms.{room_of}
+use Rattle.wire_xdr.specs.code.Lengths.{saturating_len}
 use Rattle.wire_xdr.proofs.QuadLaws.{unit_size}
 
 pub joined_size : (a b : List ℕ) → length (a ++ b) ≡ length a + length b
@@ -35,9 +35,9 @@ pub cells_size : (cells : List Cell) → length (list cell_text cells) ≡ 4 + l
 cells_size cells = simp (length-append, unit_size) (omega (arith, same_sizes cell_text 20 cell_size cells))
 
 -- a list whose parts have all been counted
-pub list_room : {A : Type 0} → (text : A → List ℕ) (xs : List A) (i room : ℕ) → length xs ≤ i → room ≤ 2 ^ 64 - 1
-    → min (room + length (texts text (drop i xs))) (2 ^ 64 - 1) ≡ min (4 + length (texts text xs)) (2 ^ 64 - 1) → room ≡ room_of (list text xs)
-list_room {A = A} text xs i room past fits h =
+pub list_len : {A : Type 0} → (text : A → List ℕ) (xs : List A) (i total : ℕ) → length xs ≤ i → total ≤ 2 ^ 64 - 1
+    → min (total + length (texts text (drop i xs))) (2 ^ 64 - 1) ≡ min (4 + length (texts text xs)) (2 ^ 64 - 1) → total ≡ saturating_len (list text xs)
+list_len {A = A} text xs i total past fits h =
     let size : length (list text xs) ≡ 4 + length (texts text xs) = length-append (unit (length xs)) (texts text xs) ∙ ap (λ (n : ℕ). n + length (texts text xs)) (unit_size (length xs)) in
-    let all : min (room + 0) (2 ^ 64 - 1) ≡ min (4 + length (texts text xs)) (2 ^ 64 - 1) = subst (λ (ys : List A). min (room + length (texts text ys)) (2 ^ 64 - 1) ≡ min (4 + length (texts text xs)) (2 ^ 64 - 1)) (drop_all i xs past) h in
+    let all : min (total + 0) (2 ^ 64 - 1) ≡ min (4 + length (texts text xs)) (2 ^ 64 - 1) = subst (λ (ys : List A). min (total + length (texts text ys)) (2 ^ 64 - 1) ≡ min (4 + length (texts text xs)) (2 ^ 64 - 1)) (drop_all i xs past) h in
     omega (arith, size, all, fits)

@@ -6,7 +6,7 @@ use Rattle.std.specs.declared.cmp.Ordering.TheVariants.{Less, Equal, Greater}
 use Rattle.std.specs.Ordering.{nat_cmp, is_lt}
 use Rattle.std.specs.Cmp.Lexicographic.{slice_cmp}
 use Rattle.wire_xdr.specs.Xdr.{unit, padding, padded, opaque}
-use Rattle.wire_xdr.specs.Reading.{Reading, chain, done, two, quad_where, is_less, left_of, is_free, is_greater, is_zero, goes_on, ends_well, end_at, string_at, opaque_at, bytes_at, any_byte}
+use Rattle.wire_xdr.specs.code.Parsers.{Parser, chain, done, two, quad_where, is_less, left_of, is_free, is_greater, is_zero, is_inner_quad, is_last_quad, end_at, string_at, opaque_at, bytes_at, any_byte}
 use Rattle.wire_xdr.proofs.Names.{greater_by}
 use Rattle.wire_xdr.proofs.Laws.{IsLaw, Then, Nothing, chain_law, done_law, restated, weaker}
 use Rattle.wire_xdr.proofs.QuadLaws.{Says, pick, IsQuad, same, quad_law, IsBetween, between_law, relegal, and_true}
@@ -52,15 +52,15 @@ zeros_four (suc n) (a ∷ b ∷ c ∷ d ∷ e ∷ more) some few size h = absurd
 
 pub record Padded (n : ℕ) (x : List ℕ) : Type 0 where
   pub size : length (padded x) ≡ 4
-  pub front : take n (padded x) ≡ x
+  pub prefix : take n (padded x) ≡ x
   pub zeros : list_all is_zero (drop n (padded x)) ≡ true
 
 four_padded : (n : ℕ) (x : List ℕ) → 1 ≤ n → n ≤ 4 → length x ≡ n → Padded n x
 four_padded zero x some few size = absurd (omega (arith, some))
-four_padded (suc zero) (a ∷ []) some few size = record { size = refl; front = refl; zeros = refl }
-four_padded (suc (suc zero)) (a ∷ b ∷ []) some few size = record { size = refl; front = refl; zeros = refl }
-four_padded (suc (suc (suc zero))) (a ∷ b ∷ c ∷ []) some few size = record { size = refl; front = refl; zeros = refl }
-four_padded (suc (suc (suc (suc zero)))) (a ∷ b ∷ c ∷ d ∷ []) some few size = record { size = refl; front = refl; zeros = refl }
+four_padded (suc zero) (a ∷ []) some few size = record { size = refl; prefix = refl; zeros = refl }
+four_padded (suc (suc zero)) (a ∷ b ∷ []) some few size = record { size = refl; prefix = refl; zeros = refl }
+four_padded (suc (suc (suc zero))) (a ∷ b ∷ c ∷ []) some few size = record { size = refl; prefix = refl; zeros = refl }
+four_padded (suc (suc (suc (suc zero)))) (a ∷ b ∷ c ∷ d ∷ []) some few size = record { size = refl; prefix = refl; zeros = refl }
 four_padded (suc (suc (suc (suc (suc n))))) x some few size = absurd (omega (arith, few))
 four_padded (suc n) [] some few size = absurd (omega (arith, size))
 four_padded (suc zero) (a ∷ b ∷ x) some few size = absurd (omega (arith, size))
@@ -79,13 +79,13 @@ repeated : (class : ℕ → Bool) (c0 : ℕ) → class c0 ≡ true → (n : ℕ)
 repeated class c0 h zero = (refl, refl)
 repeated class c0 h (suc n) = let r = repeated class c0 h n in (ap suc r.0, both_true (class c0) (list_all class (replicate n c0)) h r.1)
 
-well_ends : (class : ℕ → Bool) (e : Option (List ℕ)) (n : ℕ) (x : List ℕ) → 1 ≤ n → n ≤ 4 → IsStr class n e x → ends_well class e n (padded x) ≡ true
+well_ends : (class : ℕ → Bool) (e : Option (List ℕ)) (n : ℕ) (x : List ℕ) → 1 ≤ n → n ≤ 4 → IsStr class n e x → is_last_quad class e n (padded x) ≡ true
 well_ends class e n x some few h =
     let p = four_padded n x some few h.size in
     both_true _ (list_all is_zero (drop n (padded x)))
-    (both_true (list_all class (take n (padded x))) (is_greater e (take n (padded x))) (ap (list_all class) p.front ∙ h.passes) (ap (is_greater e) p.front ∙ h.above)) p.zeros
+    (both_true (list_all class (take n (padded x))) (is_greater e (take n (padded x))) (ap (list_all class) p.prefix ∙ h.passes) (ap (is_greater e) p.prefix ∙ h.above)) p.zeros
 
-ends_well_is : (class : ℕ → Bool) (e : Option (List ℕ)) (n : ℕ) (q : List ℕ) → 1 ≤ n → n ≤ 4 → length q ≡ 4 → ends_well class e n q ≡ true → IsStr class n e (take n q) × (padded (take n q) ≡ q)
+ends_well_is : (class : ℕ → Bool) (e : Option (List ℕ)) (n : ℕ) (q : List ℕ) → 1 ≤ n → n ≤ 4 → length q ≡ 4 → is_last_quad class e n q ≡ true → IsStr class n e (take n q) × (padded (take n q) ≡ q)
 ends_well_is class e n q some few size h =
     let a = and_true (list_all class (take n q) && is_greater e (take n q)) (list_all is_zero (drop n q)) h in
     let b = and_true (list_all class (take n q)) (is_greater e (take n q)) a.0 in
@@ -94,39 +94,39 @@ ends_well_is class e n q some few size h =
 
 end_law : (class : ℕ → Bool) (c0 : ℕ) → class c0 ≡ true → (e : Option (List ℕ)) (n : ℕ) → 1 ≤ n → n ≤ 4 → IsLaw 4 (Says (IsString class n e) padded) (end_at class e n)
 end_law class c0 h0 e n some few =
-    restated into from (chain_law (quad_law (ends_well class e n) (ends_well class None n) (padded (replicate n c0)) looser
+    restated into from (chain_law (quad_law (is_last_quad class e n) (is_last_quad class None n) (padded (replicate n c0)) looser
     (record { size = (four_padded n (replicate n c0) some few (repeated class c0 h0 n).0).size; passes = well_ends class None n (replicate n c0) some few example })) (λ q t h. done_law (take n q)))
   where
     example : IsStr class n None (replicate n c0)
     example = let r = repeated class c0 h0 n in record { size = r.0; passes = r.1; above = refl }
 
-    looser : (q : List ℕ) → ends_well class e n q ≡ true → ends_well class None n q ≡ true
+    looser : (q : List ℕ) → is_last_quad class e n q ≡ true → is_last_quad class None n q ≡ true
     looser q h =
         let a = and_true (list_all class (take n q) && is_greater e (take n q)) (list_all is_zero (drop n q)) h in
         let b = and_true (list_all class (take n q)) (is_greater e (take n q)) a.0 in
         both_true _ (list_all is_zero (drop n q)) (both_true (list_all class (take n q)) true b.0 refl) a.1
 
-    into : (o : Bool) (x : List ℕ) (t : List ℕ) → Then (Says (IsQuad (ends_well class e n) (ends_well class None n)) same) (λ (q : List ℕ). Nothing (take n q)) o x t → Says (IsString class n e) padded o x t
+    into : (o : Bool) (x : List ℕ) (t : List ℕ) → Then (Says (IsQuad (is_last_quad class e n) (is_last_quad class None n)) same) (λ (q : List ℕ). Nothing (take n q)) o x t → Says (IsString class n e) padded o x t
     into o x t h =
         let q = h.first in
-        let w = ends_well_is class (pick e None o) n q some few h.said.legal.size (sym (picked (λ (y : Option (List ℕ)) (l : List ℕ). ends_well class y n l) e None o q) ∙ h.said.legal.passes) in
+        let w = ends_well_is class (pick e None o) n q some few h.said.legal.size (sym (picked (λ (y : Option (List ℕ)) (l : List ℕ). is_last_quad class y n l) e None o q) ∙ h.said.legal.passes) in
         record {
           legal = subst (λ (l : List ℕ). IsString class n e o l) (sym h.rest.value) w.0;
           is = h.is ∙ ap₂ (λ (y z : List ℕ). y ++ z) h.said.is h.rest.is ∙ append-nil q ∙ sym w.1 ∙ ap padded (sym h.rest.value);
         }
 
-    from : (o : Bool) (x : List ℕ) (t : List ℕ) → Says (IsString class n e) padded o x t → Then (Says (IsQuad (ends_well class e n) (ends_well class None n)) same) (λ (q : List ℕ). Nothing (take n q)) o x t
+    from : (o : Bool) (x : List ℕ) (t : List ℕ) → Says (IsString class n e) padded o x t → Then (Says (IsQuad (is_last_quad class e n) (is_last_quad class None n)) same) (λ (q : List ℕ). Nothing (take n q)) o x t
     from o x t h = let p = four_padded n x some few h.legal.size in
         record {
           first = padded x;
-          front = padded x;
+          prefix = padded x;
           back = [];
           is = h.is ∙ sym (append-nil (padded x));
-          rest = record { value = sym p.front; is = refl };
-          said = record { is = refl; legal = record { size = p.size; passes = picked (λ (y : Option (List ℕ)) (l : List ℕ). ends_well class y n l) e None o (padded x) ∙ well_ends class (pick e None o) n x some few h.legal } };
+          rest = record { value = sym p.prefix; is = refl };
+          said = record { is = refl; legal = record { size = p.size; passes = picked (λ (y : Option (List ℕ)) (l : List ℕ). is_last_quad class y n l) e None o (padded x) ∙ well_ends class (pick e None o) n x some few h.legal } };
         }
 
--- bytes that stand one after the other against an earlier name
+-- bytes that follow one another, compared with an earlier name
 step_eq : (t : Bool) (r l : Bool) → (if t then r || l else false) ≡ ((if t then r else false) || (if t then l else false))
 step_eq true r l = refl
 step_eq false r l = refl
@@ -202,21 +202,21 @@ parted (a ∷ b ∷ c ∷ d ∷ x) n size = record { quad = a ∷ b ∷ c ∷ d 
 long_law : (class : ℕ → Bool) (c0 : ℕ) → class c0 ≡ true → (e : Option (List ℕ)) (n m : ℕ) → ((f : Option (List ℕ)) → IsLaw m (Says (IsString class (suc n) f) padded) (string_at class f (suc n)))
     → IsLaw (4 + (m + 0)) (Says (IsString class (suc (suc (suc (suc (suc n))))) e) padded) (string_at class e (suc (suc (suc (suc (suc n))))))
 long_law class c0 h0 e n m later =
-    restated into from (chain_law (quad_law (goes_on class e) (goes_on class None) (c0 ∷ c0 ∷ c0 ∷ c0 ∷ []) looser (record { size = refl; passes = both_true (list_all class (c0 ∷ c0 ∷ c0 ∷ c0 ∷ [])) true (repeated class c0 h0 4).1 refl }))
+    restated into from (chain_law (quad_law (is_inner_quad class e) (is_inner_quad class None) (c0 ∷ c0 ∷ c0 ∷ c0 ∷ []) looser (record { size = refl; passes = both_true (list_all class (c0 ∷ c0 ∷ c0 ∷ c0 ∷ [])) true (repeated class c0 h0 4).1 refl }))
     (λ q t h. chain_law (later (left_of e q)) (λ x s k. done_law (q ++ x))))
   where
-    looser : (q : List ℕ) → goes_on class e q ≡ true → goes_on class None q ≡ true
+    looser : (q : List ℕ) → is_inner_quad class e q ≡ true → is_inner_quad class None q ≡ true
     looser q h = both_true (list_all class q) true (and_true (list_all class q) (not (is_less e q)) h).0 refl
 
     left_pick : (o : Bool) (q : List ℕ) → pick (left_of e q) None o ≡ left_of (pick e None o) q
     left_pick true q = refl
     left_pick false q = refl
 
-    into : (o : Bool) (x t : List ℕ) → Then (Says (IsQuad (goes_on class e) (goes_on class None)) same) (λ (q : List ℕ). Then (Says (IsString class (suc n) (left_of e q)) padded) (λ (y : List ℕ). Nothing (q ++ y))) o x t
+    into : (o : Bool) (x t : List ℕ) → Then (Says (IsQuad (is_inner_quad class e) (is_inner_quad class None)) same) (λ (q : List ℕ). Then (Says (IsString class (suc n) (left_of e q)) padded) (λ (y : List ℕ). Nothing (q ++ y))) o x t
         → Says (IsString class (suc (suc (suc (suc (suc n))))) e) padded o x t
     into o x t h =
         let q = h.first in let y = h.rest.first in let l = h.rest.said.legal in
-        let g = and_true (list_all class q) (not (is_less (pick e None o) q)) (sym (picked (λ (f : Option (List ℕ)) (k : List ℕ). goes_on class f k) e None o q) ∙ h.said.legal.passes) in
+        let g = and_true (list_all class q) (not (is_less (pick e None o) q)) (sym (picked (λ (f : Option (List ℕ)) (k : List ℕ). is_inner_quad class f k) e None o q) ∙ h.said.legal.passes) in
         let w : IsStr class (suc (suc (suc (suc (suc n))))) (pick e None o) (q ++ y) =
         record {
           size = length-append q y ∙ ap₂ (λ (a b : ℕ). a + b) h.said.legal.size l.size ∙ four_more n;
@@ -232,19 +232,19 @@ long_law class c0 h0 e n m later =
         four_more k = omega arith
 
     from : (o : Bool) (x t : List ℕ) → Says (IsString class (suc (suc (suc (suc (suc n))))) e) padded o x t
-        → Then (Says (IsQuad (goes_on class e) (goes_on class None)) same) (λ (q : List ℕ). Then (Says (IsString class (suc n) (left_of e q)) padded) (λ (y : List ℕ). Nothing (q ++ y))) o x t
+        → Then (Says (IsQuad (is_inner_quad class e) (is_inner_quad class None)) same) (λ (q : List ℕ). Then (Says (IsString class (suc n) (left_of e q)) padded) (λ (y : List ℕ). Nothing (q ++ y))) o x t
     from o x t h =
         let p = parted x (suc n) h.legal.size in
         let c = and_true (list_all class p.quad) (list_all class p.later) (sym (all_parts class p.quad p.later) ∙ ap (list_all class) (sym p.is) ∙ h.legal.passes) in
         let g = and_true (not (is_less (pick e None o) p.quad)) (is_greater (left_of (pick e None o) p.quad) p.later) (sym (greater_parts (pick e None o) p.quad p.later) ∙ ap (is_greater (pick e None o)) (sym p.is) ∙ h.legal.above) in
         record {
           first = p.quad;
-          front = p.quad;
+          prefix = p.quad;
           back = padded p.later;
-          said = record { is = refl; legal = record { size = p.size; passes = picked (λ (f : Option (List ℕ)) (k : List ℕ). goes_on class f k) e None o p.quad ∙ both_true (list_all class p.quad) (not (is_less (pick e None o) p.quad)) c.0 g.0 } };
+          said = record { is = refl; legal = record { size = p.size; passes = picked (λ (f : Option (List ℕ)) (k : List ℕ). is_inner_quad class f k) e None o p.quad ∙ both_true (list_all class p.quad) (not (is_less (pick e None o) p.quad)) c.0 g.0 } };
           rest = record {
             first = p.later;
-            front = padded p.later;
+            prefix = padded p.later;
             back = [];
             is = sym (append-nil (padded p.later));
             rest = record { value = p.is; is = refl };
@@ -286,7 +286,7 @@ pub record IsName (class : ℕ → Bool) (least most : ℕ) (e : Option (List �
   pub passes : list_all class x ≡ true
   pub above : is_greater (pick e None o) x ≡ true
 
-name_relegal : {class : ℕ → Bool} {least most : ℕ} {e : Option (List ℕ)} {m : ℕ} {read : Reading (List ℕ)} → IsLaw m (Says (Keyed (IsBetween least most) (λ (k : ℕ). IsString class k e)) opaque) read → IsLaw m (Says (IsName class least most e) opaque) read
+name_relegal : {class : ℕ → Bool} {least most : ℕ} {e : Option (List ℕ)} {m : ℕ} {read : Parser (List ℕ)} → IsLaw m (Says (Keyed (IsBetween least most) (λ (k : ℕ). IsString class k e)) opaque) read → IsLaw m (Says (IsName class least most e) opaque) read
 name_relegal {class = class} {least = least} {most = most} {e = e} law =
     relegal {F = Keyed (IsBetween least most) (λ (k : ℕ). IsString class k e)} (λ o x h. record { low = subst (λ (k : ℕ). least ≤ k) (sym h.arm.size) h.named.low; high = subst (λ (k : ℕ). k ≤ most) (sym h.arm.size) h.named.high; passes = h.arm.passes; above = h.arm.above })
     (λ o x h. record { number = length x; named = record { low = h.low; high = h.high }; arm = record { size = refl; passes = h.passes; above = h.above } }) law

@@ -1,34 +1,15 @@
 -- What the writers of parts put, one after the other.
-use Rattle.std.proofs.Common.{◌≡◌, ◌<◌, ◌≤◌, ◌∷◌, ◌∙◌, ◌++◌, ◌+◌, ◌%◌, ◌/◌, ℕ, suc, zero, sym, refl, ap, List, [], length, arith, append_assoc, append-nil}
+use Rattle.std.proofs.Common.{◌≡◌, ◌<◌, ◌≤◌, ◌∷◌, ◌∙◌, ◌++◌, ◌+◌, ◌-◌, ◌%◌, ◌/◌, ℕ, suc, zero, sym, refl, ap, List, [], length, take, arith, append_assoc, append-nil}
 use Rattle.wire_xdr.specs.Xdr.{unit, padding}
 
-pub padding_none : (n : ℕ) → n % 4 ≡ 0 → padding n ≡ []
-padding_none zero h = refl
-padding_none (suc zero) h = absurd (omega (arith, h))
-padding_none (suc (suc zero)) h = absurd (omega (arith, h))
-padding_none (suc (suc (suc zero))) h = absurd (omega (arith, h))
-padding_none (suc (suc (suc (suc n)))) h = padding_none n (omega (arith, h))
-
-pub padding_three : (n : ℕ) → n % 4 ≡ 1 → padding n ≡ 0 ∷ 0 ∷ 0 ∷ []
-padding_three zero h = absurd (omega (arith, h))
-padding_three (suc zero) h = refl
-padding_three (suc (suc zero)) h = absurd (omega (arith, h))
-padding_three (suc (suc (suc zero))) h = absurd (omega (arith, h))
-padding_three (suc (suc (suc (suc n)))) h = padding_three n (omega (arith, h))
-
-pub padding_two : (n : ℕ) → n % 4 ≡ 2 → padding n ≡ 0 ∷ 0 ∷ []
-padding_two zero h = absurd (omega (arith, h))
-padding_two (suc zero) h = absurd (omega (arith, h))
-padding_two (suc (suc zero)) h = refl
-padding_two (suc (suc (suc zero))) h = absurd (omega (arith, h))
-padding_two (suc (suc (suc (suc n)))) h = padding_two n (omega (arith, h))
-
-pub padding_one : (n : ℕ) → n % 4 ≡ 3 → padding n ≡ 0 ∷ []
-padding_one zero h = absurd (omega (arith, h))
-padding_one (suc zero) h = absurd (omega (arith, h))
-padding_one (suc (suc zero)) h = absurd (omega (arith, h))
-padding_one (suc (suc (suc zero))) h = refl
-padding_one (suc (suc (suc (suc n)))) h = padding_one n (omega (arith, h))
+pub padding_is : (n : ℕ) → padding n ≡ take ((4 - n % 4) % 4) (0 ∷ 0 ∷ 0 ∷ [])
+padding_is zero = refl
+padding_is (suc zero) = refl
+padding_is (suc (suc zero)) = refl
+padding_is (suc (suc (suc zero))) = refl
+padding_is (suc (suc (suc (suc n)))) =
+    let same : (4 - n % 4) % 4 ≡ (4 - suc (suc (suc (suc n))) % 4) % 4 = omega arith in
+    padding_is n ∙ ap (λ (k : ℕ). take k (0 ∷ 0 ∷ 0 ∷ [])) same
 
 pub joined : (a b c d : List ℕ) → ((a ++ b) ++ c) ++ d ≡ a ++ (b ++ (c ++ d))
 joined a b c d = append_assoc (a ++ b) c d ∙ append_assoc a b (c ++ d)

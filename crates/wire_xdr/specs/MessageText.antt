@@ -1,4 +1,4 @@
--- The spelling of store operations, requests and replies of a brick, by their numbers; and which of them
+-- The encoding of store operations, requests and replies of a brick, by their numbers; and which of them
 -- have one.
 use Rattle.std.specs.Prelude.{◌≡◌, ℕ, ◌≤◌, ◌<◌, ◌^◌, Bool, true, false, List, [], ◌∷◌, ◌++◌, length, Option, Some, None}
 use Rattle.fop_types.specs.Rank.{rank}
@@ -14,9 +14,11 @@ use Rattle.fop_types.specs.declared.messages.DoneArm.{DoneArm}
 use Rattle.fop_types.specs.declared.messages.DoneArm.TheVariants as arm
 use Rattle.fop_types.specs.declared.messages.BrickRep.{BrickRep}
 use Rattle.fop_types.specs.declared.messages.BrickRep.TheVariants as rep
+use Rattle.wire_xdr.specs.Limits.{max_data, max_cells, max_mask, max_list, max_index}
 use Rattle.wire_xdr.specs.Xdr.{unit, hyper, flag, opaque, list, texts, IsUnit, IsHyper}
 use Rattle.wire_xdr.specs.Order.{Each}
 use Rattle.wire_xdr.specs.PartText.{gfid_text, IsGfid, cell_text, IsCell, AreCells, span_text, IsSpan, attr_text, IsAttrName, IsAttr, IsItemName, item_text, IsItem, content_kind, content_text, IsMode, IsContent}
+pub use Rattle.fop_types.specs.Bounds.{IsOp, AreFew, IsMask, IsOpenFd, IsReq, IsRow, IsDoneArm, IsRep}
 
 abbrev pub op_number : StoreOp → ℕ
 op_number (op.Write gfid offset bytes) = 0
@@ -44,18 +46,6 @@ op_arm (op.MakeCopy gfid span) = gfid_text gfid ++ span_text span
 
 abbrev pub op_text : StoreOp → List ℕ
 op_text o = unit (op_number o) ++ op_arm o
-
-abbrev pub IsOp : StoreOp → Type 0
-IsOp (op.Write gfid offset bytes) = IsGfid gfid × IsUnit offset × (length bytes ≤ 65536)
-IsOp (op.Truncate gfid size) = IsGfid gfid × IsUnit size
-IsOp (op.SetMode gfid mode) = IsGfid gfid × IsMode mode
-IsOp (op.SetAttr gfid attr) = IsGfid gfid × IsAttr attr
-IsOp (op.DelAttr gfid name) = IsGfid gfid × IsAttrName name
-IsOp (op.AddName parent item mode span) = IsGfid parent × IsItem item × IsMode mode × IsSpan span
-IsOp (op.DropName parent name) = IsGfid parent × IsItemName name
-IsOp (op.DropDir parent name gfid) = IsGfid parent × IsItemName name × IsGfid gfid
-IsOp (op.Move parent name target new_name) = IsGfid parent × IsItemName name × IsGfid target × IsItemName new_name
-IsOp (op.MakeCopy gfid span) = IsGfid gfid × IsSpan span
 
 abbrev pub req_number : BrickReq → ℕ
 req_number (req.Lock call shared cells) = 1
@@ -91,36 +81,8 @@ req_arm (req.Release fd) = unit fd
 abbrev pub req_text : BrickReq → List ℕ
 req_text r = unit (req_number r) ++ req_arm r
 
--- the cells of a lock, mark, post, clear and settle
-abbrev pub AreFew : List Cell → Type 0
-AreFew cells = AreCells 1 4 cells
-
-abbrev pub IsMask : Mask → Type 0
-IsMask mask = mask.0 ≤ 31
-
--- the number of an open descriptor
-abbrev pub IsOpenFd : ℕ → Type 0
-IsOpenFd fd = (1 ≤ fd) × IsUnit fd
-
-abbrev pub IsReq : Bool → BrickReq → Type 0
-IsReq strict (req.Lock call shared cells) = IsUnit call × AreFew cells
-IsReq strict (req.Unlock call) = IsUnit call
-IsReq strict (req.Mark change cells) = IsHyper change × AreFew cells
-IsReq strict (req.Op change fd op) = IsHyper change × IsUnit fd × IsOp op
-IsReq strict (req.Post change cells mask) = IsHyper change × AreFew cells × IsMask mask
-IsReq strict (req.Fetch fd cell) = IsUnit fd × IsCell cell
-IsReq strict (req.Replace cell last content) = IsCell cell × IsHyper last × (content_kind content ≡ rank cell.aspect) × IsContent strict content
-IsReq strict (req.Clear cells mask) = AreFew cells × IsMask mask
-IsReq strict (req.Settle cells mask) = AreFew cells × IsMask mask
-IsReq strict req.Index = Unit {0}
-IsReq strict (req.Open fd gfid) = IsOpenFd fd × IsGfid gfid
-IsReq strict (req.Release fd) = IsOpenFd fd
-
 abbrev pub row_text : Row → List ℕ
 row_text row = flag row.present ++ (unit row.dirty ++ (texts unit row.pending ++ hyper row.last))
-
-abbrev pub IsRow : Row → Type 0
-IsRow row = IsUnit row.dirty × (length row.pending ≡ 5) × Each IsUnit row.pending × IsHyper row.last
 
 abbrev pub done_number : DoneArm → ℕ
 done_number arm.Nothing = 0
@@ -136,12 +98,6 @@ done_arm (arm.Cells cells) = list cell_text cells
 
 abbrev pub done_text : DoneArm → List ℕ
 done_text d = unit (done_number d) ++ done_arm d
-
-abbrev pub IsDoneArm : Bool → DoneArm → Type 0
-IsDoneArm strict arm.Nothing = Unit {0}
-IsDoneArm strict (arm.Rows rows) = (length rows ≤ 65536) × Each IsRow rows
-IsDoneArm strict (arm.Content content last) = IsContent strict content × IsHyper last
-IsDoneArm strict (arm.Cells cells) = AreCells 0 1048576 cells
 
 abbrev pub rep_number : BrickRep → ℕ
 rep_number (rep.Done arm) = 0
@@ -159,10 +115,3 @@ rep_arm rep.BadFd = []
 
 abbrev pub rep_text : BrickRep → List ℕ
 rep_text r = unit (rep_number r) ++ rep_arm r
-
-abbrev pub IsRep : Bool → BrickRep → Type 0
-IsRep strict (rep.Done arm) = IsDoneArm strict arm
-IsRep strict rep.Gone = Unit {0}
-IsRep strict rep.Fault = Unit {0}
-IsRep strict rep.Unfit = Unit {0}
-IsRep strict rep.BadFd = Unit {0}

@@ -1,4 +1,4 @@
--- The spelling of a brick's inputs and outputs, one for each value, as a union by the kind; which values
+-- The encoding of a brick's inputs and outputs, one for each value, as a union by the kind; which values
 -- have one; and what a decoder may answer of some bytes.
 use Rattle.std.specs.Prelude.{◌≡◌, ◌≢◌, ℕ, ◌≤◌, ◌⊎◌, Bool, true, false, List, [], ◌++◌, length, drop, Result, IfOk}
 use Rattle.fop_types.specs.declared.messages.Proc.{Proc}
@@ -55,7 +55,7 @@ IsInputOf strict (input.Connect graph version) = IsUnit graph × (version ≡ 1)
 IsInputOf strict (input.Disconnect graph) = IsUnit graph
 IsInputOf strict (input.FaultAt p number) = (proc_number p ≢ 2) × (1 ≤ number) × IsUnit number
 
--- an input that has a spelling
+-- an input that has an encoding
 abbrev pub IsInput : Input → Type 0
 IsInput x = IsInputOf true x
 
@@ -89,23 +89,23 @@ output_text x = hyper x.taken ++ out_text x.kind
 abbrev pub IsOutputOf : Bool → Output → Type 0
 IsOutputOf strict x = IsHyper x.taken × IsOutKind strict x.kind
 
--- an output that has a spelling
+-- an output that has an encoding
 abbrev pub IsOutput : Output → Type 0
 IsOutput x = IsOutputOf true x
 
--- the bytes begin with the spelling of the value, which is `used` bytes long, and with no other spelling
+-- the bytes begin with the encoding of the value, which is `used` bytes long, and with no other encoding
 pub record IsFront {A : Type 0} (Legal : A → Type 0) (text : A → List ℕ) (bytes : List ℕ) (value : A) (used : ℕ) : Type 0 where
   pub legal : Legal value
-  pub spelled : bytes ≡ text value ++ drop used bytes
+  pub encoded : bytes ≡ text value ++ drop used bytes
   pub used_is : used ≡ length (text value)
   pub only : (x : A) (rest : List ℕ) → Legal x → bytes ≡ text x ++ rest → x ≡ value
 
--- no spelling begins the bytes, and the place is where they stop being one
+-- no encoding begins the bytes, and the place is where they stop being one
 pub record IsBad {A : Type 0} (Legal Loose : A → Type 0) (text : A → List ℕ) (bytes : List ℕ) (place : ℕ) : Type 0 where
   pub none : (x : A) (rest : List ℕ) → Legal x → bytes ≢ text x ++ rest
   pub place_is : StopsAt Legal Loose text bytes place ⊎ EndsAt Loose text bytes place
 
--- what a decoder answers: Front where a spelling begins the bytes, and else Bad
+-- what a decoder answers: Front where an encoding begins the bytes, and else Bad
 abbrev pub IsDecoded : {A : Type 0} → (Bool → A → Type 0) → (A → List ℕ) → List ℕ → Decoded A → Type 0
 IsDecoded Is text bytes (Front value used) = IsFront (Is true) text bytes value used
 IsDecoded Is text bytes (Bad error) = IsBad (Is true) (Is false) text bytes error.place

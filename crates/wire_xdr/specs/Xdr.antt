@@ -3,12 +3,14 @@
 -- list is its count and its items.
 use Rattle.std.specs.Prelude.{ℕ, zero, suc, ◌/◌, ◌%◌, ◌^◌, ◌<◌, Bool, true, false, List, [], ◌∷◌, ◌++◌, length, flat_map}
 use Rattle.byteorder.specs.Endian.{big_bytes}
+use Rattle.wire_xdr.specs.Limits.{unit_range}
+pub use Rattle.fop_types.specs.Bounds.{IsUnit, IsHyper}
 
 unfoldable pub unit : ℕ → List ℕ
 unit n = big_bytes 4 n
 
 abbrev pub hyper : ℕ → List ℕ
-hyper n = unit (n / 4294967296) ++ unit (n % 4294967296)
+hyper n = unit (n / unit_range) ++ unit (n % unit_range)
 
 abbrev pub flag_number : Bool → ℕ
 flag_number false = 0
@@ -36,13 +38,6 @@ texts text xs = flat_map text xs
 
 abbrev pub list : {A : Type 0} → (A → List ℕ) → List A → List ℕ
 list text xs = unit (length xs) ++ texts text xs
-
--- the numbers that a unit and a hyper can hold
-abbrev pub IsUnit : ℕ → Type 0
-IsUnit n = n < 2 ^ 32
-
-abbrev pub IsHyper : ℕ → Type 0
-IsHyper n = n < 2 ^ 64
 
 -- bytes of whole units
 abbrev pub IsWhole : List ℕ → Type 0

@@ -1,6 +1,6 @@
 //! The messages between the mount and its bricks, in XDR (RFC 4506), exact in both directions.
 //!
-//! Each value has one spelling in units of four bytes, the highest byte first. A brick's inputs are
+//! Each value has one encoding in units of four bytes, the highest byte first. A brick's inputs are
 //! requests and controls, its outputs are replies and answers to controls.
 //!
 //! ```text
@@ -11,35 +11,19 @@
 //! ```
 //!
 //! The client translator encodes requests and decodes replies; a brick decodes requests and encodes
-//! replies. A decoder answers the value whose spelling begins the bytes, or the place at which they
-//! stop being a message: the first unit that continues no spelling, or their end.
+//! replies. A decoder answers the value whose encoding begins the bytes, or the place at which they
+//! stop being a message: the first unit that continues no encoding, or their end.
+//!
+//! What the bytes of each value are is defined in `specs/`, in the order in which `specs/Lib.antt` lists
+//! its files. `specs/code/` has the functions of the code, and nothing that a reader must believe.
 #![tactic(auto)]
 
-mod attrs;
-mod cells;
-mod classes;
-mod contents;
+mod decode;
 mod decoded;
-mod decoding;
-mod encoding;
-mod faults;
-mod items;
-mod ops;
-mod put_ops;
-mod put_parts;
-mod put_replies;
-mod put_requests;
-mod replies;
-mod requests;
-mod rooms;
-mod rows;
-mod strings;
-mod units;
+mod encode;
+mod limits;
 
+pub use decode::{decode_rep, decode_req};
 pub use decoded::{DecodeError, Decoded};
-pub use decoding::{decode_rep, decode_req};
-pub use encoding::{encode_rep, encode_req};
+pub use encode::{encode_rep, encode_req};
 pub use fop_types::{BrickRep, BrickReq, DoneArm, Input, OutKind, Output, Proc, StoreOp};
-
-#[cfg(test)]
-mod tests;

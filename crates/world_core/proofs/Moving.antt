@@ -2,7 +2,7 @@
 use Rattle.std.proofs.Common.{◌≡◌, ℕ, ◌+◌, List, [], ◌∷◌, ◌++◌, Option, Some, None, Bool, true, length, refl, sym, ◌∙◌, ap, subst, arith}
 use Rattle.std.specs.Prelude.{is_some, slice_get, MatchOption}
 use Rattle.std.proofs.lemmas.List.{append-nil, length_push}
-use Rattle.fop_types.specs.declared.calls.RootLine.{RootLine}
+use Rattle.root_calls.specs.declared.calls.RootLine.{RootLine}
 use Rattle.brick_node.specs.Machine.{outputs_of}
 use Rattle.hub_core.specs.declared.logs.HubEvent.{HubEvent}
 use Rattle.hub_core.specs.declared.logs.HubEvent.TheVariants as happened
@@ -10,7 +10,7 @@ use Rattle.hub_core.specs.declared.logs.SentLine.{SentLine}
 use Rattle.hub_core.specs.Bounds.{AreFit}
 use Rattle.hub_core.specs.Follows.{call_due}
 use Rattle.hub_core.specs.Journal.{arrivals_of}
-use Rattle.hub_core.specs.Steps.{IsSubmitted, IsSubmittedIf, HasArrived}
+use Rattle.hub_core.specs.Steps.{IsSubmittedIf, HasArrived}
 use Rattle.hub_core.specs.Turns.{HubState, IsReached, submit_call, arrived, start_of}
 use Rattle.hub_core.proofs.Honesty.{submit_is_turn, arrived_is_turn}
 use Rattle.hub_core.proofs.Places.{arrivals_push}

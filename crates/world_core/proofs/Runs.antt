@@ -2,9 +2,9 @@
 use Rattle.std.proofs.Common.{◌≡◌, ℕ, ◌≤◌, List, [], ◌∷◌, ◌++◌, Option, Some, None, Bool, true, false, length, refl, sym, ◌∙◌, ap, subst, arith, suc, zero}
 use Rattle.std.specs.Prelude.{slice_get, is_some, ◌==◌, if◌then◌else◌}
 use Rattle.std.proofs.lemmas.List.{append-nil}
-use Rattle.fop_types.specs.declared.calls.RootLine.{RootLine}
+use Rattle.root_calls.specs.declared.calls.RootLine.{RootLine}
 use Rattle.fop_types.specs.declared.messages.Output.{Output}
-use Rattle.fop_types.specs.History.{at_once}
+use Rattle.root_calls.specs.History.{at_once}
 use Rattle.wire_messages.specs.Messages.{output_in}
 use Rattle.wire_messages.specs.declared.messages.Message.TheVariants.{Whole}
 use Rattle.brick_node.specs.Machine.{outputs_of}

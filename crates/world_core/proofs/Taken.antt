@@ -11,7 +11,7 @@ use Rattle.wire_messages.specs.declared.messages.Message.TheVariants.{Whole}
 use Rattle.wire_messages.proofs.ReadBack.{output_read_back}
 use Rattle.brick_node.specs.Machine.{outputs_of, outputs_from, outputs_for, cells_of, cells_for}
 use Rattle.brick_node.specs.Runs.{IsRequest, AreRequests, request_is_read, cells_of_push}
-use Rattle.brick_node.proofs.Stored.{reply_is_spelled}
+use Rattle.brick_node.proofs.Stored.{reply_is_encoded}
 use Rattle.hub_core.proofs.Served.{output_for}
 
 some_same : {A : Type 0} (x y : A) → Some x ≡ Some y → x ≡ y
@@ -44,7 +44,7 @@ taken_at : (before : List (List ℕ)) (x : List ℕ) (xs : List (List ℕ)) (r :
 taken_at before x xs r bytes output small read others zero h =
     let same : output_text (output_for before r.wind r.req) ≡ bytes = some_same _ bytes h in
     let mine : output_in (output_text (output_for before r.wind r.req)) ≡ Whole (output_for before r.wind r.req) =
-    output_read_back _ (reply_is_spelled before r.wind r.graph r.req r.legal (omega (arith, small))) in
+    output_read_back _ (reply_is_encoded before r.wind r.graph r.req r.legal (omega (arith, small))) in
     let one : output_for before r.wind r.req ≡ output = whole_same _ output (sym mine ∙ ap output_in same ∙ read) in
     let taken : length before + 1 ≡ output.taken = ap (λ (o : Output). o.taken) one in
     omega arith

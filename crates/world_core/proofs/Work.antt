@@ -5,16 +5,16 @@ use Rattle.std.specs.Prelude.{slice_get, is_some, drop}
 use Rattle.std.proofs.lemmas.List.{length_push, append-nil}
 use Rattle.fop_types.specs.declared.answers.Answer.{Answer}
 use Rattle.fop_types.specs.declared.answers.AppError.{AppError}
-use Rattle.fop_types.specs.declared.calls.RootCall.{RootCall}
-use Rattle.fop_types.specs.declared.calls.RootLine.{RootLine}
+use Rattle.root_calls.specs.declared.calls.RootCall.{RootCall}
+use Rattle.root_calls.specs.declared.calls.RootLine.{RootLine}
 use Rattle.fop_types.specs.declared.cells.Gfid.{Gfid}
 use Rattle.fop_types.specs.declared.cells.Kind.{Kind}
 use Rattle.fop_types.specs.declared.cells.Kind.TheVariants.{Dir}
 use Rattle.fop_types.specs.declared.flat.FlatAnswer.TheVariants as flat
 use Rattle.fop_types.specs.declared.messages.Input.{Input}
 use Rattle.fop_types.specs.declared.messages.Input.TheVariants.{Request, Down, Up, Connect, Disconnect, FaultAt}
-use Rattle.fop_types.specs.Flat.{root}
-use Rattle.fop_types.specs.History.{looked_up, at_once, is_done}
+use Rattle.fop_types.specs.Cells.{root}
+use Rattle.root_calls.specs.History.{looked_up, at_once, is_done}
 use Rattle.wire_messages.specs.Messages.{input_in}
 use Rattle.wire_messages.specs.declared.messages.Message.{Message}
 use Rattle.wire_messages.specs.declared.messages.Message.TheVariants.{Whole, Wrong}

@@ -2,8 +2,8 @@
 -- how much work a state has left. Which winds an event opens is the frame stack's choice, so an event leads
 -- to one state for each choice.
 use Rattle.std.specs.Prelude.{◌≡◌, ℕ, ◌+◌, ◌-◌, ◌*◌, ◌==◌, ◌&&◌, Bool, true, false, List, [], ◌∷◌, ◌++◌, Option, Some, None, length, take, drop, slice_get, is_some, if◌then◌else◌}
-use Rattle.fop_types.specs.declared.calls.RootLine.{RootLine}
-use Rattle.fop_types.specs.History.{at_once}
+use Rattle.root_calls.specs.declared.calls.RootLine.{RootLine}
+use Rattle.root_calls.specs.History.{at_once}
 use Rattle.brick_node.specs.Machine.{outputs_of}
 use Rattle.xlator_law.specs.declared.winds.WindNo.{WindNo}
 use Rattle.hub_core.specs.declared.logs.SentLine.{SentLine}

@@ -1,6 +1,6 @@
 /// One event of a run: a session's next call is submitted; a brick's next output arrives at the hub; a
 /// brick serves the next input that was sent to it. Sessions and bricks are named by their numbers.
-#[derive(Debug, Clone, Copy, PartialEq, Eq)]
+#[derive(Clone, Copy)]
 pub enum Event {
     Submit(u8),
     Arrive(u8),

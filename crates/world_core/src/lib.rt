@@ -30,6 +30,3 @@ pub use events::Event;
 pub use hub_core::{Log, Rack};
 pub use laws::{events_are_steps, first_is_enabled, quiet_runs_are_whole, worlds_are_runs};
 pub use worlds::World;
-
-#[cfg(test)]
-mod tests;

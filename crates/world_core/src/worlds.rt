@@ -8,8 +8,9 @@ ghost use Rattle.world_core.specs.Worlds.{world_start, is_enabled, first_enabled
 
 use crate::events::Event;
 use brick_node::Brick;
-use fop_types::{RootScript, Seq};
+use fop_types::Seq;
 use hub_core::{Hub, Rack, SentLine};
+use root_calls::RootScript;
 use std::alloc::{AllocError, Global};
 use std::marker::Model;
 use xlator_law::Stop;

@@ -1,3 +1,3 @@
-pub mod Fronts
 pub mod Numbers
 pub mod Pairs
+pub mod Prefixes

@@ -37,7 +37,7 @@ next_digit w i value next e within fits whole =
           ∙ ap (λ l. value * 10 ^ length l + number_of l) (sym (drop_more w i e within)) ∙ whole,
     )
 
--- a front that does not fit leaves no number that does
+-- where a prefix does not fit, the number does not
 pub too_large : (w : List ℕ) (i value e : ℕ) → i < length w → None ≡ fitting (value * 10 + (get_or w i e - 48))
     → value * 10 ^ length (drop i w) + number_of (drop i w) ≡ number_of w → None ≡ fitting (number_of w)
 too_large w i value e within none whole =

@@ -1,11 +1,8 @@
 -- What a source and a sink in memory do, so that a run over them is known call by call. Calls are
--- counted from 1; counts stand still at the last value of 64 bits.
-use Rattle.std.specs.Prelude.{ℕ, ◌+◌, ◌-◌, ◌^◌, ◌==◌, ◌&&◌, ◌||◌, nat_lt, nat_le, min, Bool, if◌then◌else◌, List, ◌++◌, length, take, drop}
+-- counted from 1; counts stay at the last value of 64 bits.
+use Rattle.std.specs.Prelude.{ℕ, ◌-◌, ◌==◌, ◌&&◌, ◌||◌, nat_lt, nat_le, min, Bool, if◌then◌else◌, List, ◌++◌, length, take, drop}
 use Rattle.std.specs.List.{list_any}
-
--- a count after one more
-abbrev pub raised : ℕ → ℕ
-raised n = min (n + 1) (2 ^ 64 - 1)
+use Rattle.xl_base.specs.Faults.{raised}
 
 abbrev pub is_listed : List ℕ → ℕ → Bool
 is_listed numbers number = list_any (λ n. n == number) numbers

@@ -7,8 +7,8 @@ use Rattle.std.specs.Io.KnownBytes.{Appends}
 abbrev pub TakesSome : {E : Type 0} → Result ℕ E → List ℕ → Type 0
 TakesSome r piece = IfOk r (λ n. 0 < length piece → 0 < n)
 
--- The sink took a front of the bytes and not all of them; `before` and `after` are what it told that it
--- had taken, where it tells.
+-- The sink took a proper prefix of the bytes; `before` and `after` are the bytes that it had taken by
+-- then, where it reports them.
 pub record WrotePrefix (before after : Option (List ℕ)) (bytes : List ℕ) : Type 0 where
   pub count : ℕ
   pub short : count < length bytes

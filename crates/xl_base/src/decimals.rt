@@ -42,7 +42,7 @@ fn number(digits: &[u8]) -> Option<u64>
     Some(value)
 }
 
-// The number with one more digit behind it, where it fits 64 bits.
+// The number with one more digit after it, where it fits 64 bits.
 fn with_digit(value: u64, digit: u8) -> Option<u64>
     ensures { result ≡ fitting (value * 10 + (digit - 48)) }
 {

@@ -1,17 +1,17 @@
 use std::alloc::AllocError;
 
-/// A read or a write that failed. The cause stands in the count of faults of the source or sink.
-#[derive(Debug, Clone, Copy, PartialEq, Eq)]
+/// A read or a write that failed. The source or sink counted it as a fault.
+#[derive(Clone, Copy)]
 pub struct Failed;
 
 /// Why a text could not be read whole.
-#[derive(Debug, Clone, Copy, PartialEq, Eq)]
+#[derive(Clone, Copy)]
 pub enum ReadError {
     /// A read failed, so the source's count of faults rose.
     ReadFault,
-    /// More bytes came than the limit.
+    /// More bytes came than the limit allows.
     TooLong,
-    /// Want of memory.
+    /// Out of memory.
     Mem,
 }
 

@@ -11,7 +11,7 @@ use std::alloc::{AllocError, Global};
 /// `None` exactly where the word is not an even number of lower case hexadecimal digits.
 ///
 /// # Errors
-/// Want of memory.
+/// Out of memory.
 pub fn hex(alloc: Global, word: &[u8]) -> Result<Option<Vec<u8>>, AllocError>
     ensures { IfOk result (λ found. option_map (λ bytes. bytes.items) found ≡ hex_of word.now) }
 {

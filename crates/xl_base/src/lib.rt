@@ -5,11 +5,11 @@
 //! reader --> Source --> read_all --> bytes --> (the program) --> bytes --> write_all --> Sink --> writer
 //! ```
 //!
-//! A [`Source`] may tell the bytes that are left, a [`Sink`] the bytes that it took, and both count
-//! their faults. Contracts of callers speak of these alone, so they hold over every source and sink:
-//! [`StdSource`] and [`StdSink`] over a reader and a writer of std, which tell what these tell (standard
-//! input and output nothing), and [`MemSource`] and [`MemSink`] in memory, which tell all of theirs and
-//! fail at the calls that they were told.
+//! A [`Source`] may report the bytes that are left, a [`Sink`] the bytes that it took, and both count
+//! their faults. Contracts of callers speak of these only, so they hold over every source and sink.
+//! [`StdSource`] and [`StdSink`] wrap a reader and a writer of std and report what these report, which is
+//! nothing for standard input and output. [`MemSource`] and [`MemSink`] work in memory, report all of
+//! their bytes, and fail at listed calls.
 //!
 //! `main` makes the real ends; the top calls read by [`read_all`] and write by [`write_all`]; parsers
 //! read numbers and data by [`decimal`] and [`hex`].

@@ -4,8 +4,9 @@ use crate::sinks::Sink;
 use std::alloc::{AllocError, Global};
 use std::marker::Model;
 
-/// A sink in memory with room for so many bytes, which tells what it took and fails at listed calls.
-#[derive(Debug, Drop)]
+/// A sink in memory with room for a fixed number of bytes, which reports what it took and fails at listed
+/// calls.
+#[derive(Drop)]
 pub struct MemSink {
     bytes: Vec<u8>,
     room: usize,
@@ -28,11 +29,11 @@ impl Model for MemSink {
 impl MemSink {
     ghost use Rattle.std.specs.Prelude.{◌≡◌, [], IfOk};
 
-    /// A sink with room for `room` bytes, all of it taken from memory now. `fail` has the numbers of the
-    /// writes that fail, counted from 1, in any order; a number may stand there twice.
+    /// A sink with room for `room` bytes, all of which is allocated now. `fail` has the numbers of the
+    /// writes that fail, counted from 1, in any order; a number may be listed twice.
     ///
     /// # Errors
-    /// Want of memory.
+    /// Out of memory.
     pub fn new(alloc: Global, room: usize, fail: Vec<u32>) -> Result<MemSink, AllocError>
         ensures { IfOk result (λ s. s ≡ record { taken = []; room = room; fail = fail.items; calls = 0; faults = 0 }) }
     {
@@ -66,8 +67,8 @@ impl Sink for MemSink {
 
     ghost faults = { λ s. s.faults };
 
-    /// Takes as many bytes of the piece as fit. It costs the bytes that it takes and a look at each
-    /// listed number.
+    /// Takes as many bytes of the piece as fit. It takes time for these bytes and for a comparison with
+    /// each listed number.
     ///
     /// # Errors
     /// `Failed` exactly at the listed calls and where the piece is not empty and no byte of it fits.

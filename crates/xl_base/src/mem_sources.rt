@@ -5,8 +5,8 @@ use crate::listed_calls::is_listed;
 use crate::sources::Source;
 use std::marker::Model;
 
-/// A source over bytes in memory, which tells them and fails at listed calls.
-#[derive(Debug, Drop)]
+/// A source over bytes in memory, which reports them and fails at listed calls.
+#[derive(Drop)]
 pub struct MemSource {
     bytes: Vec<u8>,
     at: usize,
@@ -30,7 +30,7 @@ impl MemSource {
     ghost use Rattle.std.specs.Prelude.{◌≡◌};
 
     /// A source of the bytes. `fail` has the numbers of the reads that fail, counted from 1, in any
-    /// order; a number may stand there twice.
+    /// order; a number may be listed twice.
     pub fn new(bytes: Vec<u8>, fail: Vec<u32>) -> MemSource
         ensures { result ≡ record { left = bytes.items; fail = fail.items; calls = 0; faults = 0 } }
     {
@@ -55,12 +55,12 @@ impl Source for MemSource {
 
     ghost faults = { λ s. s.faults };
 
-    /// Gives as many bytes as the buffer has and are left. It costs the bytes that it gives and a look
-    /// at each listed number.
+    /// Reads as many bytes as fit the buffer and are left. It takes time for the bytes that it reads and
+    /// for a comparison with each listed number.
     ///
     /// # Errors
     /// `Failed` exactly at the listed calls.
-    #[tactic(auto, using(crate::proofs::Fronts::front_read))]
+    #[tactic(auto, using(crate::proofs::Prefixes::prefix_read))]
     fn read(&mut self, buf: &mut [u8]) -> Result<usize, Failed>
         ensures bound { ReadsAtMost result buf.new }
         ensures bytes { ReadConsumes (Some self.old.left) (Some self.new.left) result buf.new }
@@ -75,16 +75,16 @@ impl Source for MemSource {
             self.faults = self.faults.saturating_add(1);
             return Err(Failed);
         }
-        let count = copy_front(&self.bytes[self.at..], buf);
+        let count = copy_prefix(&self.bytes[self.at..], buf);
         self.at += count;
         Ok(count)
     }
 }
 
-// Copies as many bytes as the buffer has and the list has, and gives their number.
-fn copy_front(bytes: &[u8], buf: &mut [u8]) -> usize
+// Copies as many bytes as both the buffer and the list have, and returns how many.
+fn copy_prefix(bytes: &[u8], buf: &mut [u8]) -> usize
     ensures count { result ≡ min (length buf.new) (length bytes.now) }
-    ensures front { take result buf.new ≡ take result bytes.now }
+    ensures prefix { take result buf.new ≡ take result bytes.now }
 {
     let count = buf.len().min(bytes.len());
     buf[..count].copy_from_slice(&bytes[..count]);

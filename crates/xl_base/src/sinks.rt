@@ -9,21 +9,21 @@ use crate::failures::Failed;
 
 /// Where bytes go.
 ///
-/// A sink may tell the bytes that it took, and then each write adds to their end. Its count of faults
+/// A sink may report the bytes that it took, and then each write adds to their end. Its count of faults
 /// never falls.
 pub trait Sink {
-    // The bytes taken so far, where the sink tells them.
+    // The bytes taken so far, where the sink reports them.
     ghost taken: { Self → Option (List ℕ) };
 
     // The faults so far.
     ghost faults: { Self → ℕ };
 
-    /// Takes bytes from the front of the piece and gives their number, which is at least one where the
-    /// piece is not empty.
+    /// Takes a prefix of the piece and returns its length, which is at least one where the piece is not
+    /// empty.
     ///
     /// # Errors
-    /// `Failed`, with nothing taken, only where the count of faults rose in this call or stood at
-    /// 2^64 - 1, the last value of a counter.
+    /// `Failed`, with nothing taken, only where the count of faults rose in this call or was 2^64 - 1, the
+    /// last value of a counter.
     fn write(&mut self, piece: &[u8]) -> Result<usize, Failed>
         ensures bound { WritesAtMost result piece.now }
         ensures some { TakesSome result piece.now }

@@ -4,9 +4,9 @@ use std::io::Write;
 use std::marker::Model;
 
 /// A sink over a writer of std. It counts as a fault each error of the writer, and each write that took
-/// nothing of a piece that is not empty. It tells the bytes that it took where the writer tells them, as
-/// one into a vector does; standard output tells none.
-#[derive(Debug, Drop)]
+/// nothing of a piece that is not empty. It reports the bytes that it took where the writer reports them,
+/// as one into a vector does; standard output reports none.
+#[derive(Drop)]
 pub struct StdSink<W> {
     inner: W,
     faults: u64,
@@ -24,7 +24,7 @@ impl<W> Model for StdSink<W> {
 impl<W: Write> StdSink<W> {
     ghost use Rattle.std.specs.Prelude.{◌≡◌};
 
-    /// A sink that hands its bytes to the writer, with no fault so far.
+    /// A sink that passes its bytes to the writer, with no fault so far.
     pub fn new(inner: W) -> StdSink<W>
         ensures { result ≡ (inner, 0) }
     {
@@ -33,16 +33,30 @@ impl<W: Write> StdSink<W> {
 }
 
 impl<W: Write> Sink for StdSink<W> {
+    ghost use Rattle.std.specs.Prelude.{◌≡◌, ◌≤◌};
+    ghost use Rattle.std.specs.Io.{WritesAtMost};
+    ghost use Rattle.std.specs.Io.KnownBytes.{WriteAppends};
+    ghost use Rattle.xl_base.specs.Faults.{HasCause, faults_after};
+    ghost use Rattle.xl_base.specs.Writes.{TakesSome};
+
     ghost taken = { λ s. W.contents s.0 };
 
     ghost faults = { λ s. s.1 };
 
-    /// One write of the writer.
+    /// One write of the writer. The count of faults rises by one exactly where it answers `Failed`, at
+    /// most to 2^64 - 1, and stays the same where bytes were taken.
     ///
     /// # Errors
-    /// `Failed` where the writer answers an error or takes nothing of a piece that is not empty, which
-    /// raises the count of faults by one, at most to 2^64 - 1.
-    fn write(&mut self, piece: &[u8]) -> Result<usize, Failed> {
+    /// `Failed` where the writer answers an error or takes nothing of a piece that is not empty. Where the
+    /// writer reports its bytes, a write that it took bytes of never fails.
+    fn write(&mut self, piece: &[u8]) -> Result<usize, Failed>
+        ensures bound { WritesAtMost result piece.now }
+        ensures some { TakesSome result piece.now }
+        ensures bytes { WriteAppends (W.contents self.old.0) (W.contents self.new.0) result piece.now }
+        ensures rising { self.old.1 ≤ self.new.1 }
+        ensures cause { HasCause self.old.1 self.new.1 result }
+        ensures count { self.new.1 ≡ faults_after self.old.1 result }
+    {
         match self.inner.write(piece) {
             Ok(count) if count > 0 || piece.is_empty() => Ok(count),
             _ => {

@@ -16,7 +16,7 @@ const PIECE: usize = 65536;
 ///
 /// # Errors
 /// `TooLong` exactly where more than `limit` bytes came; `ReadFault` at the first read that failed, so
-/// only where the source's count of faults rose in this call; `Mem` is want of memory.
+/// only where the source's count of faults rose in this call; `Mem` is out of memory.
 pub fn read_all<S: Source>(
     alloc: Global,
     source: &mut S,

@@ -8,7 +8,7 @@ use crate::sinks::Sink;
 /// Writes all bytes, in as many pieces as the sink asks for.
 ///
 /// # Errors
-/// `Failed` at the first write that failed: the sink took a front of the bytes and not all of them,
+/// `Failed` at the first write that failed: the sink took a proper prefix of the bytes,
 /// and its count of faults rose in this call.
 pub fn write_all<K: Sink>(sink: &mut K, bytes: &[u8]) -> Result<(), Failed>
     requires { K.faults sink.old < 2 ^ 64 - 1 }

@@ -8,14 +8,14 @@ const OPEN_BEFORE: u32 = 2147483648;
 
 /// The number of a wind: a slot of the frame stack, and the turn of that slot. No two winds have the
 /// same number, over all graphs of the mount.
-#[derive(Debug, Clone, Copy, PartialEq, Eq, Hash)]
+#[derive(Debug, Clone, Copy, PartialEq, Eq)]
 pub struct WindNo {
     pub slot: u32,
     pub turn: u32,
 }
 
 impl WindNo {
-    /// The wind as one number, as it stands on the wire: the turn in the upper half, the slot in the lower.
+    /// The wind as one number, as it is on the wire: the turn in the upper half, the slot in the lower.
     pub fn number(self) -> u64
         ensures { result ≡ wind_number self }
     {
@@ -60,15 +60,15 @@ impl WindNo {
 }
 
 /// Which frame opened a wind, and in which of the frame's slots.
-#[derive(Debug, Clone, Copy, PartialEq, Eq)]
+#[derive(Clone, Copy, PartialEq, Eq)]
 pub struct Parent {
     pub frame: u32,
     pub slot: u8,
 }
 
-/// Where a frame stands: its graph, its call, the node that it is of, and the wind that opened it.
+/// Where a frame is: its graph, its call, the node that it is of, and the wind that opened it.
 /// `parent` is `None` for the frame of a call's own fop.
-#[derive(Debug, Clone, Copy, PartialEq, Eq)]
+#[derive(Clone, Copy, PartialEq, Eq)]
 pub struct Place {
     pub graph: u32,
     pub call: u32,
@@ -78,16 +78,16 @@ pub struct Place {
 
 /// What came of settling a wind: it was pending and this step ended that, or it was not, and the word
 /// that was seen instead.
-#[derive(Debug, Clone, Copy, PartialEq, Eq)]
+#[derive(Clone, Copy, PartialEq, Eq)]
 pub enum Settled {
     Won,
     Lost(u64),
 }
 
 /// Why a call of the graphs ended early.
-#[derive(Debug, Clone, Copy, PartialEq, Eq)]
+#[derive(Clone, Copy, PartialEq, Eq)]
 pub enum Stop {
-    /// Want of memory.
+    /// Out of memory.
     Mem,
     /// A further wind was needed, and 4,294,967,295 were opened.
     Winds,

@@ -1,51 +1,50 @@
-ghost use Rattle.std.specs.Prelude.{ℕ, Bool, ◌≡◌, true, IfOk};
-ghost use Rattle.xlator_law.specs.Law.{IsStep, no_slots, without};
+ghost use Rattle.std.specs.Prelude.{Bool, ◌≡◌, true, IfOk};
+ghost use Rattle.xlator_law.specs.Law.{Promise, Cause, IsStep};
+ghost use Rattle.xlator_law.specs.Law.Cause.{Enter, Reply, Go};
+ghost use Rattle.xlator_law.specs.declared.step.Step.{Step};
 
 use crate::step::Step;
 use std::alloc::{AllocError, Global};
 
 /// A translator over fops `F`, replies `R` and a context `C` that it shares with its graph.
 ///
-/// Its law is the contract of its calls, by four ghost members:
-/// - `unanswered` says of a local which slots wait for an answer;
-/// - `left` says of a local what the frame may still spend on winds;
-/// - `child` is what a fop costs at a child, by the child's number;
-/// - `cost_of` is what a fop costs here.
+/// Its law is the contract of its calls. `promise` is what a node promises of its frames, and no call
+/// changes it: how many children and slots there are, what a fop costs, and which slots of a local wait
+/// for an answer. `makes` is what a node's steps do beyond that, in the words of the node's own kind, with
+/// the node and the context before and after the step.
 ///
-/// The slots that a step winds differ, and none of them was unanswered. A local's unanswered slots are
-/// those from before, without the one that answered, and those that were wound. A frame unwinds only with
-/// none left. The winds of a step, each counted as one and the cost of its fop at the child, and what is
-/// left after the step, are together at most what was left before it.
+/// The winds of a step go to children that there are, in slots that there are; the slots differ, and none
+/// of them was unanswered. A local's unanswered slots are those from before, without the one that
+/// answered, and those that were wound. The winds of a step, each counted as one and the cost of its fop
+/// at the child, and what is left after the step, are together at most what was left before it. A frame
+/// waits for winds, or for one thing that is no wind, and never for nothing; it waits for such a thing,
+/// or unwinds, only with no slot unanswered.
 pub trait Xlator<F, R, C> {
     /// What a frame keeps while it waits.
     type Local;
 
-    ghost unanswered: { Self.Local → ℕ → Bool };
+    ghost promise: { Self → Promise F Self.Local };
 
-    ghost left: { Self.Local → ℕ };
-
-    ghost child: { Self → ℕ → F → ℕ };
-
-    ghost cost_of: { Self → F → ℕ };
+    ghost makes: { Self → C → Cause F R Self.Local → Step F R Self.Local → Self → C → Type 0 } = { λ _ _ _ _ _ _. Unit {0} };
 
     /// Takes a fop that comes from above, as the first step of its frame.
     ///
     /// # Errors
-    /// Want of memory.
+    /// Out of memory.
     fn enter(
         &mut self,
         alloc: Global,
         cx: &mut C,
         fop: F,
     ) -> Result<Step<F, R, Self::Local>, AllocError>
-        ensures step { IfOk result (IsStep unanswered left (child self.old) no_slots (cost_of self.old fop)) }
-        ensures child { child self.new ≡ child self.old }
-        ensures cost { cost_of self.new ≡ cost_of self.old };
+        ensures step { IfOk result (λ step. IsStep (promise self.old) (Enter fop) step) }
+        ensures made { IfOk result (λ step. makes self.old cx.old (Enter fop) step self.new cx.new) }
+        ensures promise { promise self.new ≡ promise self.old };
 
     /// Takes the reply of the wind in that slot, which was unanswered, as a further step of the frame.
     ///
     /// # Errors
-    /// Want of memory.
+    /// Out of memory.
     fn resume(
         &mut self,
         alloc: Global,
@@ -54,12 +53,29 @@ pub trait Xlator<F, R, C> {
         slot: u8,
         reply: R,
     ) -> Result<Step<F, R, Self::Local>, AllocError>
-        requires slot { unanswered local slot ≡ true }
-        ensures step { IfOk result (IsStep unanswered left (child self.old) (without slot (unanswered local)) (left local)) }
-        ensures child { child self.new ≡ child self.old }
-        ensures cost { cost_of self.new ≡ cost_of self.old };
+        requires own { (promise self.old).owns local ≡ true }
+        requires slot { (promise self.old).unanswered local slot ≡ true }
+        ensures step { IfOk result (λ step. IsStep (promise self.old) (Reply local slot reply) step) }
+        ensures made { IfOk result (λ step. makes self.old cx.old (Reply local slot reply) step self.new cx.new) }
+        ensures promise { promise self.new ≡ promise self.old };
+
+    /// Goes on with a frame that waited for something that is no wind, which has come now. Of a frame that does
+    /// not wait so nothing is said: a node whose frames never do may answer anything.
+    ///
+    /// # Errors
+    /// Out of memory.
+    fn go_on(
+        &mut self,
+        alloc: Global,
+        cx: &mut C,
+        local: Self::Local,
+    ) -> Result<Step<F, R, Self::Local>, AllocError>
+        requires own { (promise self.old).owns local ≡ true }
+        ensures step { (promise self.old).waits local ≡ true → IfOk result (λ step. IsStep (promise self.old) (Go local) step) }
+        ensures made { (promise self.old).waits local ≡ true → IfOk result (λ step. makes self.old cx.old (Go local) step self.new cx.new) }
+        ensures promise { promise self.new ≡ promise self.old };
 
     /// The most winds that a frame of this fop causes, in itself and in all frames below it.
     fn cost(&self, fop: &F) -> u64
-        ensures { result ≡ cost_of self.now fop.now };
+        ensures { result ≡ (promise self.now).cost fop.now };
 }

@@ -1,7 +1,8 @@
 use Rattle.std.proofs.Common.{◌≡◌, ◌++◌, length}
 use Rattle.std.specs.List.{list_any, filter}
 use Rattle.std.specs.Ordering.{nat_cmp, is_eq}
-use Rattle.brick_locks.specs.Walks.{is_at_number, stays_waiting}
+use Rattle.queue_index.specs.Queue.{is_at_number}
+use Rattle.brick_locks.specs.Walks.{stays_waiting}
 use Rattle.brick_locks.proofs.rivals.stay_waiting.Given as goal
 
 abbrev pub invariant-loop-number : goal.invariant-loop-number

@@ -1,6 +1,6 @@
 use Rattle.std.proofs.Common.{arith, sym, ap, ◌∙◌, not, Bool}
-use Rattle.queue_index.specs.Queue.{items, before, item_at}
-use Rattle.brick_locks.specs.Walks.{waits, is_at_number}
+use Rattle.queue_index.specs.Queue.{items, before, item_at, is_at_number}
+use Rattle.brick_locks.specs.Walks.{waits}
 use Rattle.brick_locks.proofs.Rests.{any_skip, any_hit}
 use Rattle.brick_locks.proofs.walk.any_holds.Goals as goal
 

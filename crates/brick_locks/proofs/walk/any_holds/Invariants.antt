@@ -1,7 +1,8 @@
 use Rattle.std.proofs.Common.{◌≡◌, drop, not}
 use Rattle.std.specs.List.{list_any, filter}
 use Rattle.std.specs.Ordering.{nat_cmp, is_eq}
-use Rattle.brick_locks.specs.Walks.{waits, is_at_number}
+use Rattle.queue_index.specs.Queue.{is_at_number}
+use Rattle.brick_locks.specs.Walks.{waits}
 use Rattle.brick_locks.proofs.walk.any_holds.Given as goal
 
 abbrev pub invariant-loop-number : goal.invariant-loop-number

@@ -1,6 +1,6 @@
 use Rattle.std.proofs.Common.{arith, sym, ap, ◌∙◌, not, Bool}
-use Rattle.queue_index.specs.Queue.{items, before, item_at}
-use Rattle.brick_locks.specs.Walks.{waits, is_at_number}
+use Rattle.queue_index.specs.Queue.{items, before, item_at, is_at_number}
+use Rattle.brick_locks.specs.Walks.{waits}
 use Rattle.brick_locks.proofs.Rests.{picked_more, picked_skip}
 use Rattle.brick_locks.proofs.walk.waiting_owners.Goals as goal
 

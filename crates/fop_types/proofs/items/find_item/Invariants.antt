@@ -1,5 +1,5 @@
 use Rattle.std.proofs.Common.{◌≡◌, drop}
-use Rattle.fop_types.specs.Flat.{item_named}
+use Rattle.fop_types.specs.Names.{item_named}
 use Rattle.fop_types.proofs.items.find_item.Given as goal
 
 abbrev pub invariant-loop-item : goal.invariant-loop-item

@@ -1,5 +1,5 @@
 use Rattle.std.proofs.Common.{◌≡◌, ◌++◌, take, drop}
-use Rattle.fop_types.specs.Flat.{with_item}
+use Rattle.fop_types.specs.Names.{with_item}
 use Rattle.fop_types.proofs.items.place_of.Given as goal
 
 abbrev pub invariant-loop-other : goal.invariant-loop-other

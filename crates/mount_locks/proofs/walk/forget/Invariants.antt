@@ -2,7 +2,7 @@ use Rattle.std.proofs.Common.{◌≡◌, not, length}
 use Rattle.std.specs.List.{filter}
 use Rattle.queue_index.specs.Queue.{touches}
 use Rattle.mount_locks.specs.Keys.{keys_of}
-use Rattle.mount_locks.proofs.Numbered.{Rise}
+use Rattle.queue_index.proofs.Numbers.{Rise}
 use Rattle.mount_locks.proofs.walk.forget.Given as goal
 
 abbrev pub invariant-loop-number : goal.invariant-loop-number

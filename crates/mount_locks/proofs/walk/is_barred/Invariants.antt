@@ -1,8 +1,8 @@
 use Rattle.std.proofs.Common.{◌≡◌, ◌-◌, ◌&&◌}
 use Rattle.std.specs.List.{list_any}
-use Rattle.queue_index.specs.Queue.{numbers, touches, touching_from}
+use Rattle.queue_index.specs.Queue.{numbers, touches, touching_from, is_at_number}
 use Rattle.mount_locks.specs.Keys.{keys_of}
-use Rattle.mount_locks.specs.Walks.{bars, is_at_number}
+use Rattle.mount_locks.specs.Walks.{bars}
 use Rattle.mount_locks.proofs.walk.is_barred.Given as goal
 
 abbrev pub invariant-loop-other : goal.invariant-loop-other

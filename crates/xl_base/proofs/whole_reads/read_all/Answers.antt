@@ -1,6 +1,6 @@
 use Rattle.std.proofs.Common.{◌≡◌, ◌∙◌, arith, length, length-take}
 use Rattle.std.proofs.lemmas.List.{take_at}
-use Rattle.xl_base.proofs.Fronts.{consumed_more, too_many}
+use Rattle.xl_base.proofs.Prefixes.{consumed_more, too_many}
 use Rattle.xl_base.proofs.whole_reads.read_all.Goals as goal
 
 pub returns-then-count-limit-clause-too_long : goal.returns-then-count-limit-clause-too_long

@@ -1,5 +1,5 @@
 use Rattle.std.proofs.Common.{arith}
-use Rattle.xl_base.proofs.Fronts.{appended_more, still_within}
+use Rattle.xl_base.proofs.Prefixes.{appended_more, still_within}
 use Rattle.xl_base.proofs.whole_writes.write_all.Goals as goal
 
 pub loop-at-preserved : goal.loop-at-preserved

@@ -1,7 +1,7 @@
 use Rattle.std.proofs.Common.{◌∙◌, ap}
 use Rattle.brick_store.specs.declared.kept.Kept.{Kept}
 use Rattle.brick_store.specs.declared.store.Store.TheInside.{Inside}
-use Rattle.brick_store.specs.Steps.{unnamed}
+use Rattle.brick_store.specs.code.Steps.{unnamed}
 use Rattle.brick_store.proofs.Places.{in_place, not_in_place, counted_in_place, counted_same, counted_at, counted_as}
 use Rattle.brick_store.proofs.store.Store.drop_name.Goals.{in-Some, in-None}
 use Rattle.brick_store.proofs.store.Store.drop_name.Goals as goal

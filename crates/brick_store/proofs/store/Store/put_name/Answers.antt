@@ -1,5 +1,6 @@
 use Rattle.std.proofs.Common.{refl}
-use Rattle.brick_store.specs.Steps.{named, unnamed}
+use Rattle.brick_store.specs.code.Adding.{named}
+use Rattle.brick_store.specs.code.Steps.{unnamed}
 use Rattle.brick_store.proofs.Places.{free_at, put_in, taken_back, written_same, counted_in_place, counted_at, counted_as}
 use Rattle.brick_store.proofs.Results.{on_ok, on_err, if_ok, same_count}
 use Rattle.brick_store.proofs.store.Store.put_name.Goals as goal

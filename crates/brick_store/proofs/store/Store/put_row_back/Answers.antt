@@ -1,7 +1,8 @@
 use Rattle.std.proofs.Common.{◌∙◌, sym, ap, subst}
 use Rattle.brick_store.specs.declared.kept.Kept.{Kept}
 use Rattle.brick_store.specs.declared.store.Store.TheInside.{Inside}
-use Rattle.brick_store.specs.Steps.{with_row, IsCounted}
+use Rattle.brick_store.specs.Cells.{IsCounted}
+use Rattle.brick_store.specs.code.Steps.{with_row}
 use Rattle.brick_store.proofs.Places.{in_place, not_in_place, counted_in_place, counted_same}
 use Rattle.brick_store.proofs.store.Store.put_row_back.Goals.{in-Some, in-None}
 use Rattle.brick_store.proofs.store.Store.put_row_back.Goals as goal

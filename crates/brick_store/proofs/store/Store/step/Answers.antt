@@ -1,5 +1,5 @@
 use Rattle.std.proofs.Common.{ap}
-use Rattle.brick_store.specs.Steps.{stepped, with_row}
+use Rattle.brick_store.specs.code.Steps.{stepped, with_row}
 use Rattle.brick_store.proofs.Places.{put_in, taken_back, new_taken_back, counted_in_place, counted_put_in, step_back_at}
 use Rattle.brick_store.proofs.store.Store.step.Goals as goal
 

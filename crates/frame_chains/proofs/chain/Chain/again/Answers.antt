@@ -1,9 +1,9 @@
-use Rattle.std.proofs.Common.{◌≡◌, sym, ap, subst, ◌∙◌, Some}
+use Rattle.std.proofs.Common.{ap, ◌∙◌, Some}
 use Rattle.std.specs.Prelude.{[], ◌∷◌, ◌++◌}
 use Rattle.frame_chains.specs.Links.{link}
 use Rattle.frame_chains.proofs.Moves.{again, filled_idle}
-use Rattle.frame_chains.proofs.Turns.{leads_on, leads_both}
-use Rattle.frame_chains.proofs.Views.{view_pushed, cut_turn, cut_quiet, local_lines, local_opened}
+use Rattle.frame_chains.proofs.Turns.{leads_on}
+use Rattle.frame_chains.proofs.Views.{view_pushed, cut_quiet, local_lines, local_opened}
 use Rattle.frame_chains.proofs.chain.Chain.again.Goals as goal
 
 pub wind-requires-clause-slot : goal.wind-requires-clause-slot

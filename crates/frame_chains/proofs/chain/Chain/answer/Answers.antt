@@ -3,7 +3,7 @@ use Rattle.std.specs.Prelude.{[], reverse}
 use Rattle.frame_chains.specs.Links.{IsChain}
 use Rattle.frame_chains.specs.Moves.{IsPopped}
 use Rattle.frame_chains.proofs.Moves.{popped}
-use Rattle.frame_chains.proofs.Turns.{leads_on, leads_both, leads_same}
+use Rattle.frame_chains.proofs.Turns.{leads_on}
 use Rattle.frame_chains.proofs.Views.{view_popped, cut_turn, cut_quiet, settle_lines, settle_opened}
 use Rattle.frame_chains.proofs.chain.Chain.answer.Goals as goal
 

@@ -1,11 +1,9 @@
-use Rattle.std.proofs.Common.{◌≡◌, sym, ap, subst, ◌∙◌}
-use Rattle.std.specs.Prelude.{[], ◌∷◌, ◌++◌, length}
-use Rattle.frame_stack.specs.Cells.{IsInserted}
-use Rattle.frame_stack.specs.Stack.{frame}
-use Rattle.frame_chains.specs.Links.{last_wind, link}
+use Rattle.std.proofs.Common.{ap, ◌∙◌}
+use Rattle.std.specs.Prelude.{[], ◌∷◌, ◌++◌}
+use Rattle.frame_chains.specs.Links.{link}
 use Rattle.frame_chains.proofs.Moves.{pushed, opened_idle}
-use Rattle.frame_chains.proofs.Turns.{leads_on, leads_both}
-use Rattle.frame_chains.proofs.Views.{view_pushed, inserted_as, cut_turn, cut_quiet}
+use Rattle.frame_chains.proofs.Turns.{leads_on}
+use Rattle.frame_chains.proofs.Views.{view_pushed, inserted_as, cut_quiet}
 use Rattle.frame_chains.proofs.chain.Chain.push.Goals as goal
 
 pub wind-requires-clause-slot : goal.wind-requires-clause-slot

@@ -1,5 +1,5 @@
 use Rattle.std.proofs.Common.{sym, subst}
-use Rattle.fop_types.specs.declared.calls.RootScript.{RootScript}
+use Rattle.root_calls.specs.declared.calls.RootScript.{RootScript}
 use Rattle.hub_core.specs.Bounds.{AreFit}
 use Rattle.hub_core.proofs.CodeParts.{sound_new}
 use Rattle.hub_core.proofs.hubs.Hub.new.Goals as goal

@@ -1,5 +1,5 @@
 use Rattle.std.proofs.Common.{◌≤◌, sym, arith}
-use Rattle.fop_types.specs.History.{makes}
+use Rattle.root_calls.specs.History.{makes}
 use Rattle.hub_core.proofs.CodeParts.{makes_few, few_parts, few_history, sendable_line, submitted_if, sound_submitted}
 use Rattle.hub_core.proofs.hubs.Parts.open.Goals as goal
 

@@ -4,5 +4,5 @@ use Rattle.mount_locks.proofs.queue.RequestQueue.push_front.Goals as goal
 
 pub overflow_add-self : goal.overflow_add-self
 overflow_add-self c =
-    let low = room_first c.self.inside.requests c.push_front.new.self (c.in_ok-number.number, c.args.request) c.self.inside.waiting c.len.result c.self.invariant c.in_ok-number.ensures.added c.len.ensures in
+    let low = room_first c.self.inside.requests c.push_front.new.self (c.in-Ok.number, c.args.request) c.self.inside.waiting c.len.result c.self.invariant c.in-Ok.ensures.added c.len.ensures in
     omega (arith, low)

@@ -1,0 +1,3 @@
+-- The functions of the code, one for one.
+pub mod Adding
+pub mod Steps

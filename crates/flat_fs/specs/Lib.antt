@@ -1,0 +1,5 @@
+pub mod Codes
+pub mod Edits
+pub mod Mount
+pub mod Outcomes
+pub mod Walks

@@ -1,0 +1,10 @@
+use Rattle.std.specs.Prelude.{map}
+use Rattle.frame_driver.specs.Total.{total}
+use Rattle.frame_driver.proofs.Running.{Running}
+use Rattle.frame_driver.proofs.board.Board.run.Given as goal
+
+abbrev pub invariant-loop-task : goal.invariant-loop-task
+invariant-loop-task g l = Running (map g.X.Xlator.promise l.fn.nodes.items) (map g.X.Xlator.promise l.nodes.items) l.fn.wiring l.fn.self l.self
+
+abbrev pub decreases-loop-task : goal.decreases-loop-task
+decreases-loop-task g l = total (map g.X.Xlator.promise l.fn.nodes.items) l.self

@@ -1,0 +1,56 @@
+//! The calls of translators, by the number of their node.
+ghost use Rattle.std.specs.Prelude.{ℕ, ◌≡◌, ◌<◌, true, length, map, IfOk};
+ghost use Rattle.xlator_law.specs.Law.{IsStep};
+ghost use Rattle.xlator_law.specs.Law.Cause.{Enter, Reply, Go};
+ghost use Rattle.frame_driver.specs.Follows.{promise_at};
+
+use std::alloc::{AllocError, Global};
+use xlator_law::{Step, Xlator};
+
+pub(crate) fn enter_at<F: Drop, R: Drop, C, X: Xlator<F, R, C>>(
+    alloc: Global,
+    nodes: &mut Vec<X>,
+    cx: &mut C,
+    at: u16,
+    fop: F,
+) -> Result<Step<F, R, X::Local>, AllocError>
+    requires at { at < length (map X.promise nodes.old.items) }
+    ensures step { IfOk result (λ step. IsStep (promise_at (map X.promise nodes.old.items) at) (Enter fop) step) }
+    ensures same { map X.promise nodes.new.items ≡ map X.promise nodes.old.items }
+{
+    nodes[at as usize].enter(alloc, cx, fop)
+}
+
+pub(crate) fn resume_at<F: Drop, R: Drop, C, X: Xlator<F, R, C>>(
+    alloc: Global,
+    nodes: &mut Vec<X>,
+    cx: &mut C,
+    at: u16,
+    local: X::Local,
+    slot: u8,
+    reply: R,
+) -> Result<Step<F, R, X::Local>, AllocError>
+    requires at { at < length (map X.promise nodes.old.items) }
+    requires own { (promise_at (map X.promise nodes.old.items) at).owns local ≡ true }
+    requires slot { (promise_at (map X.promise nodes.old.items) at).unanswered local slot ≡ true }
+    ensures step { IfOk result (λ step. IsStep (promise_at (map X.promise nodes.old.items) at) (Reply local slot reply) step) }
+    ensures same { map X.promise nodes.new.items ≡ map X.promise nodes.old.items }
+{
+    nodes[at as usize].resume(alloc, cx, local, slot, reply)
+}
+
+pub(crate) fn go_on_at<F: Drop, R: Drop, C, X: Xlator<F, R, C>>(
+    alloc: Global,
+    nodes: &mut Vec<X>,
+    cx: &mut C,
+    at: u16,
+    local: X::Local,
+) -> Result<Step<F, R, X::Local>, AllocError>
+    requires at { at < length (map X.promise nodes.old.items) }
+    requires own { (promise_at (map X.promise nodes.old.items) at).owns local ≡ true }
+    requires waits { (promise_at (map X.promise nodes.old.items) at).waits local ≡ true }
+    ensures step { IfOk result (λ step. IsStep (promise_at (map X.promise nodes.old.items) at) (Go local) step) }
+    ensures same { map X.promise nodes.new.items ≡ map X.promise nodes.old.items }
+{
+    nodes[at as usize].go_on(alloc, cx, local)
+}

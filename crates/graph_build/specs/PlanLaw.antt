@@ -1,0 +1,39 @@
+-- What the sets of every plan are. A set has one brick or three, of which more than half are a quorum; its number is its
+-- place; and no two sets, clients or bricks of a plan are the same.
+use Rattle.std.specs.Prelude.{◌≡◌, ◌≤◌, ⊤, ℕ, ◌+◌, ◌/◌, ◌==◌, ◌⊎◌, true, List, [], ◌∷◌, length, flat_map, Ok}
+use Rattle.std.specs.List.{AllByRecursion, IsDistinct}
+use Rattle.volfile.specs.TextLines.{is_text, is_name}
+use Rattle.volfile.specs.Volumes.{IsVolfile}
+use Rattle.volfile.specs.declared.volumes.Volfile.{Volfile}
+use Rattle.script_lang.specs.declared.scripts.BrickLine.{BrickLine}
+use Rattle.graph_build.specs.Plans.{planned}
+use Rattle.graph_build.specs.declared.plans.Plan.{Plan}
+use Rattle.fop_types.specs.declared.jobs.SetPlan.{SetPlan}
+
+-- how many replicas a set may have
+abbrev pub IsReplicaCount : ℕ → Type 0
+IsReplicaCount n = (n ≡ 1) ⊎ (n ≡ 3)
+
+pub record IsSet (place : ℕ) (s : SetPlan) : Type 0 where
+  pub number : s.number ≡ place
+  pub name : is_name s.name ≡ true
+  pub size : IsReplicaCount (length s.bricks)
+  pub quorum : s.q ≡ (length s.bricks + 1) / 2
+  pub clients : length s.clients ≡ length s.bricks
+  pub client_names : AllByRecursion (λ name. is_name name ≡ true) s.clients
+
+-- sets whose first stands at this place
+abbrev pub AreSetsFrom : ℕ → List SetPlan → Type 0
+AreSetsFrom place [] = ⊤
+AreSetsFrom place (s ∷ ss) = IsSet place s × AreSetsFrom (place + 1) ss
+
+pub record AreSets (sets : List SetPlan) : Type 0 where
+  pub some : 1 ≤ length sets
+  pub few : length sets ≤ 255
+  pub each : AreSetsFrom 0 sets
+  pub names : IsDistinct (λ s t. is_text s.name t.name) sets
+  pub clients : IsDistinct is_text (flat_map (λ s. s.clients) sets)
+  pub bricks : IsDistinct ◌==◌ (flat_map (λ s. s.bricks) sets)
+
+abbrev pub PlansHaveSets : Type 0
+PlansHaveSets = (v : Volfile) (bricks : List BrickLine) (plan : Plan) → IsVolfile v → planned v.volumes bricks ≡ Ok plan → AreSets plan.sets

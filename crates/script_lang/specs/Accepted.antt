@@ -1,0 +1,155 @@
+-- What every accepted script keeps to: its limits, names that differ, controls of bricks and volfiles that are
+-- there, sessions by first mention, and the bounds of each call's words.
+use Rattle.std.specs.Prelude.{◌≡◌, ◌<◌, ◌≤◌, ⊤, ℕ, ◌+◌, ◌==◌, ◌&&◌, Bool, true, if◌then◌else◌, List, [], ◌∷◌, length, codes, flat_map, Ok}
+use Rattle.std.specs.List.{AllByRecursion, IsDistinct, list_all}
+use Rattle.volfile.specs.TextLines.{is_text, is_name, is_visible_word}
+use Rattle.volfile.specs.Volumes.{IsVolfile}
+use Rattle.fop_types.specs.declared.calls.Path.{Path}
+use Rattle.fop_types.specs.declared.calls.Call.{Call}
+use Rattle.fop_types.specs.declared.calls.Call.TheVariants.{Mkdir, Rmdir, Create, Unlink, Rename, Open, Stat, List as ListNames, Chmod, Truncate, SetAttr, GetAttr, DelAttr, Read, Write, Seek, Close}
+use Rattle.fop_types.specs.declared.messages.Proc.TheVariants.{Unlock}
+use Rattle.script_lang.specs.WordForms.{begins, is_component}
+use Rattle.script_lang.specs.StatementText.{is_great_action}
+use Rattle.script_lang.specs.ScriptText.{parsed}
+use Rattle.script_lang.specs.declared.scripts.Action.{Action}
+use Rattle.script_lang.specs.declared.scripts.Action.TheVariants.{Down, Up, Cut, Fault, Heal, Switch}
+use Rattle.script_lang.specs.declared.scripts.When.{When}
+use Rattle.script_lang.specs.declared.scripts.When.TheVariants.{Now, Before, After}
+use Rattle.script_lang.specs.declared.scripts.BrickLine.{BrickLine}
+use Rattle.script_lang.specs.declared.scripts.NamedVolfile.{NamedVolfile}
+use Rattle.script_lang.specs.declared.scripts.CallLine.{CallLine}
+use Rattle.script_lang.specs.declared.scripts.ControlLine.{ControlLine}
+use Rattle.script_lang.specs.declared.scripts.Phase.{Phase}
+use Rattle.script_lang.specs.declared.scripts.Script.{Script}
+
+-- ---- the words of a call
+-- components of one byte or more, of the bytes 33 to 126 without `/`, none of them `.` or `..`
+abbrev pub IsPath : Path → Type 0
+IsPath path = list_all is_component path.parts ≡ true
+
+-- the nine bits of a mode
+abbrev pub IsMode : ℕ → Type 0
+IsMode mode = mode ≤ 511
+
+-- 6 to 64 bytes that begin with `user.`
+pub record IsAttrName (name : List ℕ) : Type 0 where
+  pub prefix : begins name (codes "user.") ≡ true
+  pub least : 6 ≤ length name
+  pub most : length name ≤ 64
+
+abbrev pub HasBounds : Call → Type 0
+HasBounds (Mkdir path mode) = IsPath path × IsMode mode
+HasBounds (Rmdir path) = IsPath path
+HasBounds (Create fd path mode) = (fd < 256) × IsPath path × IsMode mode
+HasBounds (Unlink path) = IsPath path
+HasBounds (Rename path target) = IsPath path × IsPath target
+HasBounds (Open fd path) = (fd < 256) × IsPath path
+HasBounds (Stat path) = IsPath path
+HasBounds (ListNames path) = IsPath path
+HasBounds (Chmod path mode) = IsPath path × IsMode mode
+HasBounds (Truncate path size) = IsPath path × (size < 4294967296)
+HasBounds (SetAttr path attr) = IsPath path × IsAttrName attr.name × (length attr.value ≤ 1024)
+HasBounds (GetAttr path name) = IsPath path × IsAttrName name
+HasBounds (DelAttr path name) = IsPath path × IsAttrName name
+HasBounds (Read fd count) = (fd < 256) × (count ≤ 65536)
+HasBounds (Write fd bytes) = (fd < 256) × (length bytes ≤ 65536)
+HasBounds (Seek fd offset) = (fd < 256) × (offset < 4294967296)
+HasBounds (Close fd) = fd < 256
+
+-- ---- controls, over so many bricks and volfiles
+-- the place of a request among those of its procedure in a phase
+abbrev pub IsNth : ℕ → Type 0
+IsNth nth = (1 ≤ nth) × (nth ≤ 65535)
+
+abbrev pub IsWhen : ℕ → When → Type 0
+IsWhen bricks Now = ⊤
+IsWhen bricks (Before brick proc nth) = (brick < bricks) × IsNth nth
+IsWhen bricks (After brick proc nth) = (brick < bricks) × IsNth nth
+
+-- no `unlock` is answered by a fault
+abbrev pub IsAction : ℕ → ℕ → Action → Type 0
+IsAction bricks volfiles (Down brick served) = (brick < bricks) × (served ≤ 65535)
+IsAction bricks volfiles (Up brick) = brick < bricks
+IsAction bricks volfiles (Cut brick) = brick < bricks
+IsAction bricks volfiles (Fault brick proc nth) = (brick < bricks) × IsNth nth × (proc ≡ Unlock → ⊥)
+IsAction bricks volfiles Heal = ⊤
+IsAction bricks volfiles (Switch volfile) = volfile < volfiles
+
+pub record IsControl (bricks volfiles : ℕ) (line : ControlLine) : Type 0 where
+  pub when : IsWhen bricks line.when
+  pub action : IsAction bricks volfiles line.action
+
+-- how many of them are a heal or a switch
+abbrev pub great_count : List ControlLine → ℕ
+great_count [] = 0
+great_count (line ∷ lines) = if is_great_action line.action then great_count lines + 1 else great_count lines
+
+pub record IsPhase (bricks volfiles : ℕ) (phase : Phase) : Type 0 where
+  pub calls : AllByRecursion (λ line. HasBounds line.call) phase.calls
+  pub controls : AllByRecursion (IsControl bricks volfiles) phase.controls
+  pub one_great : great_count phase.controls ≤ 1
+
+-- ---- sessions
+abbrev pub calls_of : List Phase → List CallLine
+calls_of phases = flat_map (λ p. p.calls) phases
+
+-- the sessions that are mentioned once this line is read, where so many were before
+abbrev pub with_mention : ℕ → ℕ → ℕ
+with_mention count session = if session == count then count + 1 else count
+
+-- how many sessions these lines and so many earlier ones mention
+abbrev pub mentioned : ℕ → List CallLine → ℕ
+mentioned count [] = count
+mentioned count (line ∷ lines) = mentioned (with_mention count line.session) lines
+
+-- each line's session was mentioned before, or has the next number
+abbrev pub AreNumbered : ℕ → List CallLine → Type 0
+AreNumbered count [] = ⊤
+AreNumbered count (line ∷ lines) = (line.session ≤ count) × AreNumbered (with_mention count line.session) lines
+
+-- ---- the script
+abbrev pub has_name : BrickLine → BrickLine → Bool
+has_name a b = is_text a.name b.name
+
+abbrev pub has_place : BrickLine → BrickLine → Bool
+has_place a b = is_text a.host b.host && is_text a.path b.path
+
+pub record IsBrickLine (line : BrickLine) : Type 0 where
+  pub name : is_name line.name ≡ true
+  pub host : is_visible_word line.host ≡ true
+  pub path : is_visible_word line.path ≡ true
+
+pub record AreBricks (bricks : List BrickLine) : Type 0 where
+  pub few : length bricks ≤ 60
+  pub forms : AllByRecursion IsBrickLine bricks
+  pub names : IsDistinct has_name bricks
+  pub places : IsDistinct has_place bricks
+
+pub record IsVolfileLine (line : NamedVolfile) : Type 0 where
+  pub name : is_name line.name ≡ true
+  pub volfile : IsVolfile line.volfile
+
+pub record AreVolfiles (volfiles : List NamedVolfile) : Type 0 where
+  pub few : length volfiles ≤ 16
+  pub forms : AllByRecursion IsVolfileLine volfiles
+  pub names : IsDistinct (λ a b. is_text a.name b.name) volfiles
+
+-- the sessions of these calls, by their numbers
+pub record AreSessions (sessions : List (List ℕ)) (calls : List CallLine) : Type 0 where
+  pub few : length sessions ≤ 64
+  pub forms : AllByRecursion (λ s. is_name s ≡ true) sessions
+  pub names : IsDistinct is_text sessions
+  pub numbered : AreNumbered 0 calls
+  pub all : mentioned 0 calls ≡ length sessions
+
+pub record IsAccepted (script : Script) : Type 0 where
+  pub bricks : AreBricks script.bricks
+  pub volfiles : AreVolfiles script.volfiles
+  pub start : script.start < length script.volfiles
+  pub sessions : AreSessions script.sessions (calls_of script.phases)
+  pub few_phases : length script.phases ≤ 4096
+  pub few_calls : length (calls_of script.phases) ≤ 4096
+  pub phases : AllByRecursion (IsPhase (length script.bricks) (length script.volfiles)) script.phases
+
+abbrev pub AcceptedKeepLimits : Type 0
+AcceptedKeepLimits = (text : List ℕ) (script : Script) → parsed text ≡ Ok script → IsAccepted script

@@ -1,0 +1,9 @@
+//! Tables of cases for the texts: what volfiles, scripts and plans give, and where and why they are refused.
+#![tactic(auto)]
+
+#[cfg(test)]
+mod plan_tests;
+#[cfg(test)]
+mod script_tests;
+#[cfg(test)]
+mod volfile_tests;

@@ -1,0 +1,11 @@
+use Rattle.std.proofs.Common.{rules, arith, ◌≡◌, ◌≤◌, ◌<◌, ◌^◌, ◌++◌, Option, Some, None, ℕ, ◌+◌, ◌-◌, ◌*◌, length, ◌/◌, ◌%◌, Bool, true, false, nat_eq, nat_lt, List, [], ◌∷◌, slice_index_or, slice_set, bit_and, bit_or, Fits, w8, w32, w64, Bor, MutBor}
+use Rattle.wire_xdr.specs.code.Parsers.{Gives, items_at}
+use Rattle.wire_xdr.specs.code.MessageParsers.{row_at}
+use Rattle.wire_xdr.proofs.ListParsers.{list_step, list_stop}
+use Rattle.wire_xdr.proofs.decode.rows.some_rows.Goals as goal
+
+pub returns-in-Err : goal.returns-in-Err
+returns-in-Err c = list_stop row_at c.in-Err.fault _ _ _ _ _ _ c.loop-left-test.true c.reserve.ensures.items c.as_slice.ensures.value c.loop-left.invariant c.in-Err.ensures
+
+pub loop-left-preserved : goal.loop-left-preserved
+loop-left-preserved c = list_step row_at _ _ _ _ _ _ _ _ _ c.loop-left-test.true c.reserve.ensures.items c.as_slice.ensures.value c.push_reserved.ensures.items c.loop-left.invariant c.in-Ok.ensures

@@ -1,0 +1,11 @@
+use Rattle.std.proofs.Common.{◌≡◌, None}
+use Rattle.wire_xdr.specs.code.Parsers.{items_at}
+use Rattle.wire_xdr.specs.code.Loops.{last_of, pushed}
+use Rattle.wire_xdr.specs.code.MessageParsers.{row_at}
+use Rattle.wire_xdr.proofs.decode.rows.some_rows.Given as goal
+
+abbrev pub invariant-loop-left : goal.invariant-loop-left
+invariant-loop-left l = pushed l.rows.items (items_at row_at (last_of l.rows.items) l.left l.rest) ≡ items_at row_at None l.count l.bytes
+
+abbrev pub decreases-loop-left : goal.decreases-loop-left
+decreases-loop-left l = l.left

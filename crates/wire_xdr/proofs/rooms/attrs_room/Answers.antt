@@ -1,7 +1,0 @@
-use Rattle.std.proofs.Common.{arith}
-use Rattle.wire_xdr.specs.PartText.{attr_text}
-use Rattle.wire_xdr.proofs.Sizes.{list_room}
-use Rattle.wire_xdr.proofs.rooms.attrs_room.Goals as goal
-
-pub returns : goal.returns
-returns c = list_room attr_text c.args.attrs.now c.loop-attr.attr-index c.loop-attr.room (omega arith) (c.loop-attr.invariant.0) (c.loop-attr.invariant.1)

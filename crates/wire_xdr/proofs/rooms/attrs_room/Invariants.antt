@@ -1,7 +1,0 @@
-use Rattle.std.proofs.Common.{◌≡◌, ◌≤◌, ◌+◌, ◌-◌, ◌^◌, min, drop, length}
-use Rattle.wire_xdr.specs.Xdr.{texts}
-use Rattle.wire_xdr.specs.PartText.{attr_text}
-use Rattle.wire_xdr.proofs.rooms.attrs_room.Given as goal
-
-abbrev pub invariant-loop-attr : goal.invariant-loop-attr
-invariant-loop-attr l = (l.room ≤ 2 ^ 64 - 1) × (min (l.room + length (texts attr_text (drop l.attr-index l.attrs))) (2 ^ 64 - 1) ≡ min (4 + length (texts attr_text l.attrs)) (2 ^ 64 - 1))

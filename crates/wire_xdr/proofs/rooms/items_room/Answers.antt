@@ -1,7 +1,0 @@
-use Rattle.std.proofs.Common.{arith}
-use Rattle.wire_xdr.specs.PartText.{item_text}
-use Rattle.wire_xdr.proofs.Sizes.{list_room}
-use Rattle.wire_xdr.proofs.rooms.items_room.Goals as goal
-
-pub returns : goal.returns
-returns c = list_room item_text c.args.items.now c.loop-item.item-index c.loop-item.room (omega arith) (c.loop-item.invariant.0) (c.loop-item.invariant.1)
