@@ -1,7 +1,8 @@
 -- What is true of all requests: who waits is blocked, and no owner asks twice.
 use Rattle.std.proofs.Common.{◌≡◌, ℕ, Bool, true, false, ◌&&◌, ◌||◌, ◌==◌, cond, List, [], ◌∷◌, ◌++◌, refl, sym, ap, ◌∙◌, subst}
 use Rattle.std.specs.List.{list_any, filter}
-use Rattle.queue_index.specs.Queue.{items}
+use Rattle.queue_index.specs.Queue.{items, with_free_end}
+use Rattle.queue_index.proofs.Renumbered.{items_free_end}
 use Rattle.queue_index.proofs.Lists.{any-append, any_left, any_cond, or_false}
 use Rattle.brick_locks.specs.declared.request.Request.{Request}
 use Rattle.brick_locks.specs.declared.owner.Owner.{Owner}
@@ -54,8 +55,11 @@ items_last : (es : List (ℕ × Request)) (e : ℕ × Request) → items (es ++ 
 items_last [] e = refl
 items_last (d ∷ es) e = ap (λ (l : List Request). d.1 ∷ l) (items_last es e)
 
-pub differ_pushed : (es fs : List (ℕ × Request)) (n : ℕ) (r : Request) (now : List Request) → fs ≡ es ++ (n, r) ∷ [] → items es ≡ now → is_known r.owner now ≡ false → OwnersDiffer (items es) → OwnersDiffer (items fs)
+differ_pushed : (es fs : List (ℕ × Request)) (n : ℕ) (r : Request) (now : List Request) → fs ≡ es ++ (n, r) ∷ [] → items es ≡ now → is_known r.owner now ≡ false → OwnersDiffer (items es) → OwnersDiffer (items fs)
 differ_pushed es fs n r now is same fresh h = subst (λ (l : List Request). OwnersDiffer l) (sym (ap (λ (l : List (ℕ × Request)). items l) is ∙ items_last es (n, r))) (differ_last (items es) r h (ap (λ (l : List Request). is_known r.owner l) same ∙ fresh))
+
+pub differ_in : (es fs : List (ℕ × Request)) (n : ℕ) (r : Request) (now : List Request) → fs ≡ with_free_end es ++ (n, r) ∷ [] → items es ≡ now → is_known r.owner now ≡ false → OwnersDiffer (items es) → OwnersDiffer (items fs)
+differ_in es fs n r now is same fresh h = differ_pushed (with_free_end es) fs n r now is (items_free_end es ∙ same) fresh (subst (λ (l : List Request). OwnersDiffer l) (sym (items_free_end es)) h)
 
 pub differ_left : (t : Request → Bool) (es fs : List (ℕ × Request)) → items fs ≡ filter t (items es) → OwnersDiffer (items es) → OwnersDiffer (items fs)
 differ_left t es fs is h = subst (λ (l : List Request). OwnersDiffer l) (sym is) (differ_fewer t (items es) h)

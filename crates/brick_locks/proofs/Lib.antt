@@ -5,3 +5,4 @@ pub mod Rests
 pub mod Freeing
 pub mod Fates
 pub mod Laws
+pub mod Holders

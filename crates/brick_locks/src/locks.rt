@@ -1,10 +1,10 @@
-ghost use Rattle.std.specs.Prelude.{◌≡◌, not, false, [], ◌∷◌, ◌++◌, OnOk, OnErr, IfOk};
+ghost use Rattle.std.specs.Prelude.{◌≡◌, ◌==◌, not, false, [], ◌∷◌, ◌++◌, OnOk, OnErr, IfOk};
 ghost use Rattle.std.specs.List.{filter};
 ghost use Rattle.brick_locks.specs.Locks.{is_known, request, held, waiting, AreApart, WaitersAreBlocked, OwnersDiffer, owners, gone, freed, holds};
 ghost use Rattle.brick_locks.specs.Keys.{keys_of};
 ghost use Rattle.queue_index.specs.Queue.{touches};
 ghost use Rattle.queue_index.specs.declared.key.Key.{Key};
-ghost use Rattle.brick_locks.specs.Leaving.{other_graph, released, freed_by};
+ghost use Rattle.brick_locks.specs.Leaving.{other_graph, released, freed_by, is_owner, HoldersAre};
 ghost use Rattle.brick_locks.specs.Fate.{fate_after};
 
 use crate::owner::Owner;
@@ -83,7 +83,7 @@ impl BrickLocks {
     /// conflicts with it, and else queued behind all others.
     ///
     /// # Errors
-    /// Out of memory, or the numbers of the queue are used up (`queue_index`). The locks are unchanged.
+    /// Out of memory. The locks are unchanged.
     pub fn ask(
         &mut self,
         alloc: Global,
@@ -103,9 +103,7 @@ impl BrickLocks {
             cells: own,
             shared,
         };
-        let Ok(number) = self.queue.push_back(request) else {
-            return Err(AllocError);
-        };
+        let number = self.queue.push_back(alloc, request)?;
         self.queue.numbers_rise();
         if is_kept(&self.queue, number, cells, shared) {
             return Ok(Asked::Queued);
@@ -121,6 +119,7 @@ impl BrickLocks {
     pub fn release(&mut self, alloc: Global, owner: Owner) -> Result<Seq<Owner>, AllocError>
         ensures left { OnOk result (self.new ≡ released owner self.old) }
         ensures granted { IfOk result (λ o. o ≡ freed_by owner self.old) }
+        ensures holders { IfOk result (λ granted. HoldersAre (is_owner owner) self.old granted self.new) }
         ensures apart { OnOk result (AreApart (held self.new)) }
         ensures err { OnErr result (self.new ≡ self.old) }
     {
@@ -140,6 +139,7 @@ impl BrickLocks {
         ensures left { OnOk result (self.new ≡ filter (other_graph graph) self.old) }
         ensures gone { IfOk result (λ d. d.gone ≡ owners (gone (other_graph graph) self.old)) }
         ensures granted { IfOk result (λ d. d.granted ≡ owners (freed (other_graph graph) self.old)) }
+        ensures holders { IfOk result (λ d. HoldersAre (λ o. graph == o.graph) self.old d.granted self.new) }
         ensures apart { OnOk result (AreApart (held self.new)) }
         ensures err { OnErr result (self.new ≡ self.old) }
     {

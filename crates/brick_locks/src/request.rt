@@ -5,6 +5,7 @@ ghost use Rattle.brick_locks.specs.Keys.{owner_key, graph_key, cell_key, keys_of
 use crate::owner::Owner;
 use fop_types::{Cell, Seq};
 use queue_index::{EXCLUSIVE, Key, Keyed, NAME, SHARED};
+use std::alloc::{AllocError, Global};
 
 const OWNERS: u8 = 3;
 
@@ -94,6 +95,15 @@ impl Keyed for Request {
 
     // No request of a brick has a mark.
     fn mark(&mut self) {}
+
+    fn copy(&self, alloc: Global) -> Result<Request, AllocError> {
+        let cells = Seq::from_vec(Vec::from_slice(alloc, self.cells.as_slice())?);
+        Ok(Request {
+            owner: self.owner,
+            cells,
+            shared: self.shared,
+        })
+    }
 
     ghost stays = { λ _. refl };
 }

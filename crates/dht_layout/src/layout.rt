@@ -20,12 +20,13 @@ pub fn even(alloc: Global, sets: u8) -> Result<Seq<Option<Span>>, AllocError>
 {
     let mut layout = Vec::with_capacity(alloc, sets as usize)?;
     for set in 0..sets {
-        layout.push_reserved(Some(span_of(sets, set)));
+        layout.push_reserved(Some(even_span(sets, set)));
     }
     Ok(Seq::from_vec(layout))
 }
 
-fn span_of(sets: u8, set: u8) -> Span
+/// The range of one set, from 0, in the even split over this many sets.
+pub fn even_span(sets: u8, set: u8) -> Span
     requires { set < sets }
     ensures { result ≡ even_span sets set }
 {

@@ -20,7 +20,7 @@ mod layout;
 mod names;
 
 pub use attribute::{read16, write16};
-pub use layout::{even, find};
+pub use layout::{even, even_span, find};
 pub use names::hash;
 
 #[cfg(test)]

@@ -7,7 +7,7 @@ use Rattle.std.proofs.lemmas.Map.Lookups.{exact_pairs, exact_unsigned}
 use Rattle.fd_table.specs.declared.fd.FdKey.{FdKey}
 use Rattle.fd_table.specs.declared.fd.Fd.{Fd}
 use Rattle.fd_table.specs.Fds.{Fds, fd_cmp, fd_key, fd_at, with_fd, without_fd}
-use Rattle.fd_table.proofs.Made.{get_made, entries_made, insert_made, remove_made}
+use Rattle.contents.proofs.Keyed.{get_made, entries_made, insert_made, remove_made}
 use Rattle.std.specs.Prelude.{◌≡◌, ℕ, List, cond, Some, None, IsSome, is_some, Option, true, false}
 use Rattle.std.specs.Map.{lookup, keys_of}
 use Rattle.std.specs.List.Sorted.{IsStrictlySortedBy}

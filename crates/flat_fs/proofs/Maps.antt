@@ -11,7 +11,7 @@ use Rattle.fop_types.specs.declared.flat.FlatObject.{FlatObject}
 use Rattle.fop_types.proofs.MapLemmas.{gfid_cmp_total, gfid_exact}
 use Rattle.flat_fs.specs.Edits.{edited, edited_in, edited_at}
 use Rattle.flat_fs.specs.declared.edits.Edit.{Edit}
-use Rattle.flat_fs.proofs.Keyed.{get_made, insert_made}
+use Rattle.contents.proofs.Keyed.{get_made, insert_made}
 
 abbrev Entries : Type 0
 Entries = List (Gfid × FlatObject)

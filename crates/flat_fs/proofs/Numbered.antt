@@ -7,7 +7,7 @@ use Rattle.std.specs.BTreeMap.{is_at}
 use Rattle.std.specs.FinMap as map
 use Rattle.std.specs.Ordering.{nat_cmp}
 use Rattle.fop_types.specs.Calls.{Descriptor, Descriptors}
-use Rattle.flat_fs.proofs.Keyed.{get_made, insert_made, remove_made}
+use Rattle.contents.proofs.Keyed.{get_made, insert_made, remove_made}
 
 pub fd_at : (es : List (ℕ × Descriptor)) (now : Descriptors) (fd : ℕ) → map.from_entries es ≡ now → lookup (is_at (nat_cmp fd)) es ≡ map.get now fd
 fd_at es now fd seen = sym (get_made nat_cmp nat_cmp_total map.nat_cmp-IsAntisymmetric es fd) ∙ ap (λ (m : Descriptors). map.get m fd) seen

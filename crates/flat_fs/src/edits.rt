@@ -2,9 +2,7 @@ ghost use Rattle.std.specs.Prelude.{◌≡◌, ◌+◌, ◌≤◌, length, OnOk}
 ghost use Rattle.fop_types.specs.FileBytes.{file_limit};
 ghost use Rattle.flat_fs.specs.Edits.{IsSmall, Fits, edited};
 
-use crate::attrs::{insert_attr, remove_attr};
-use crate::file_bytes;
-use crate::names::remove_item;
+use contents::{insert_attr, remove_attr, remove_item};
 use fop_types::{Attr, FlatObject, Item, Seq, insert_item};
 use std::alloc::{AllocError, Global};
 use std::mem;
@@ -105,7 +103,7 @@ fn write(
         FlatObject::Directory { .. } => Ok(()),
         FlatObject::File { bytes, .. } => {
             let mut held = mem::replace(bytes, Seq::new(alloc)).into_vec();
-            file_bytes::write(&mut held, offset as usize, new.as_slice())?;
+            contents::write_at(&mut held, offset as usize, new.as_slice())?;
             *bytes = Seq::from_vec(held);
             Ok(())
         }
@@ -121,7 +119,7 @@ fn resize(alloc: Global, object: &mut FlatObject, size: u32) -> Result<(), Alloc
         FlatObject::Directory { .. } => Ok(()),
         FlatObject::File { bytes, .. } => {
             let mut held = mem::replace(bytes, Seq::new(alloc)).into_vec();
-            file_bytes::resize(&mut held, size as usize)?;
+            contents::resize(&mut held, size as usize)?;
             *bytes = Seq::from_vec(held);
             Ok(())
         }

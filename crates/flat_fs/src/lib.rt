@@ -15,16 +15,13 @@
 
 mod apply;
 mod at_once;
-mod attrs;
 mod edits;
 mod fds;
-mod file_bytes;
 mod flat_fs;
 mod held;
 mod last_op;
 mod mount;
 mod name_ops;
-mod names;
 mod object_ops;
 mod rename;
 mod walk;

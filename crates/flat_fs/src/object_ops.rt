@@ -5,11 +5,10 @@ ghost use Rattle.fop_types.specs.Files.{object_attrs};
 ghost use Rattle.fop_types.specs.Flat.{flat_answer, flat_after, answer_in, open_outcome, stat_outcome, list_outcome, getattr_outcome, read_outcome, write_of, files_in};
 ghost use Rattle.flat_fs.specs.Edits.{IsSmallIfThere, edited_at};
 
-use crate::attrs::find_attr;
 use crate::edits::Edit;
-use crate::file_bytes;
 use crate::flat_fs::FlatFs;
 use crate::name_ops::{done, refused};
+use contents::find_attr;
 use fop_types::{Answer, AppError, Attr, FlatAnswer, FlatObject, FlatOp, Gfid, Kind, Seq};
 use std::alloc::{AllocError, Global};
 
@@ -107,7 +106,7 @@ fn read_object(
         None => Ok(refused(AppError::Enoent)),
         Some(FlatObject::Directory { .. }) => Ok(refused(AppError::Eisdir)),
         Some(FlatObject::File { bytes, .. }) => {
-            let bytes = file_bytes::read(alloc, bytes.as_slice(), offset as usize, count as usize)?;
+            let bytes = contents::read(alloc, bytes.as_slice(), offset as usize, count as usize)?;
             Ok(FlatAnswer::Call(Answer::Bytes(bytes)))
         }
     }

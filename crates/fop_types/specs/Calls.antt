@@ -1,6 +1,6 @@
 -- Calls by number: what each looks up, its last operation and the parts of it that enter the history, and the
 -- answers that need no operation.
-use Rattle.std.specs.Prelude.{ℕ, ◌+◌, ◌-◌, Bool, true, false, List, [], ◌∷◌, Option, Some, None, length, take, slice_get, nat_lt, nat_eq, ◌==◌, if◌then◌else◌}
+use Rattle.std.specs.Prelude.{ℕ, ◌+◌, ◌-◌, Bool, true, false, List, [], ◌∷◌, Option, Some, None, length, take, slice_get, nat_lt, ◌==◌, if◌then◌else◌}
 use Rattle.std.specs.FinMap.{FinMap, get, insert, remove}
 use Rattle.std.specs.Ordering.{nat_cmp}
 use Rattle.fop_types.specs.FileBytes.{file_limit}

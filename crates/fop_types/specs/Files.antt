@@ -1,11 +1,10 @@
 -- The flat file system's files: one finite map from gfid to object, as a mount without sets, bricks and links
 -- would keep it.
-use Rattle.std.specs.Prelude.{ℕ, true, false, List, [], ◌∷◌, Option, Some, None}
+use Rattle.std.specs.Prelude.{ℕ, true, false, List, [], Option, Some, None}
 use Rattle.std.specs.FinMap.{FinMap, get, insert, empty}
 use Rattle.fop_types.specs.Cells.{root}
 use Rattle.fop_types.specs.Orders.{gfid_cmp}
 use Rattle.fop_types.specs.declared.cells.Gfid.{Gfid}
-use Rattle.fop_types.specs.declared.cells.Kind.TheVariants as kind
 use Rattle.fop_types.specs.declared.contents.Attr.{Attr}
 use Rattle.fop_types.specs.declared.contents.Item.{Item}
 use Rattle.fop_types.specs.declared.flat.FlatObject.{FlatObject}

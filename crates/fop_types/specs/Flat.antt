@@ -1,20 +1,16 @@
 -- The flat file system: for each operation its answer and the files after it. The cases and their errors are those
 -- of POSIX.1-2017, with our own order where it leaves one open; each line of a case below is one error, in order.
-use Rattle.std.specs.Prelude.{ℕ, ◌+◌, Bool, true, false, not, ◌&&◌, List, [], ◌∷◌, Option, Some, None, length, nat_lt, nat_eq, if◌then◌else◌}
-use Rattle.std.specs.Ordering.{is_eq}
-use Rattle.std.specs.Cmp.Lexicographic.{pointwise}
+use Rattle.std.specs.Prelude.{ℕ, ◌+◌, Bool, true, false, not, List, [], ◌∷◌, Option, Some, None, length, nat_lt, if◌then◌else◌}
 use Rattle.fop_types.specs.FileBytes.{file_limit, written, resized, read_from}
-use Rattle.fop_types.specs.Files.{Files, object_at, with_object, new_file, new_directory, names_of, names_at, object_with_bytes, object_with_mode, object_with_attrs, object_attrs, with_names, with_removed}
+use Rattle.fop_types.specs.Files.{Files, object_at, with_object, new_file, new_directory, names_at, object_with_mode, object_with_attrs, object_attrs, with_names, with_removed}
 use Rattle.fop_types.specs.Limits.{max_item_name}
 use Rattle.fop_types.specs.Names.{item_named, with_item, without_item, attr_named, with_attr, without_attr}
 pub use Rattle.fop_types.specs.Names.{renamed, is_same_name}
-use Rattle.fop_types.specs.Orders.{gfid_cmp}
 use Rattle.fop_types.specs.declared.cells.Gfid.{Gfid}
 use Rattle.fop_types.specs.declared.cells.Kind.{Kind}
 use Rattle.fop_types.specs.declared.cells.Kind.TheVariants as kind
 use Rattle.fop_types.specs.declared.contents.Attr.{Attr}
 use Rattle.fop_types.specs.declared.contents.Item.{Item}
-use Rattle.fop_types.specs.declared.answers.Answer.{Answer}
 use Rattle.fop_types.specs.declared.answers.Answer.TheVariants as answer
 use Rattle.fop_types.specs.declared.answers.AppError.{AppError}
 use Rattle.fop_types.specs.declared.answers.AppError.TheVariants.{Enoent, Enotdir, Enametoolong, Eexist, Enotempty, Eisdir, Eopnotsupp, Efbig, Enodata}

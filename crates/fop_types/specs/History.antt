@@ -1,16 +1,15 @@
 -- The history of accepted changes, as the flat file system reads it.
 --
--- A history is told by its entries and, beside them, by their operations, one for each entry in order. Each
+-- A history is given by its entries and, beside them, by their operations, one for each entry in order. Each
 -- operation is fixed by its call: by the call's words, the objects that its lookups found at their places, its
 -- descriptor and its drawn gfid.
-use Rattle.std.specs.Prelude.{◌≡◌, ℕ, ◌<◌, ◌≤◌, Bool, true, false, ◌&&◌, List, [], ◌∷◌, Option, Some, None, ◌++◌, length, take, slice_get, nat_lt, nat_eq, if◌then◌else◌}
+use Rattle.std.specs.Prelude.{◌≡◌, ℕ, ◌<◌, ◌≤◌, ◌&&◌, List, [], ◌∷◌, Option, Some, None, ◌++◌, length, take, slice_get, nat_lt, nat_eq, if◌then◌else◌}
 use Rattle.std.specs.FinMap.{empty}
 use Rattle.fop_types.specs.Calls.{Submission, call_numbered, drawn_by, looked_up, lookups, Descriptors, after_answer, at_once, last_op, part_op}
 use Rattle.fop_types.specs.Cells.{root}
 use Rattle.fop_types.specs.Files.{Files, first_files}
-use Rattle.fop_types.specs.Flat.{Outcome, flat, flat_answer, flat_after, IsChange}
+use Rattle.fop_types.specs.Flat.{flat, flat_answer, flat_after, IsChange}
 use Rattle.fop_types.specs.declared.cells.Gfid.{Gfid}
-use Rattle.fop_types.specs.declared.cells.Kind.{Kind}
 use Rattle.fop_types.specs.declared.answers.Answer.{Answer}
 use Rattle.fop_types.specs.declared.answers.Answer.TheVariants as answer
 use Rattle.fop_types.specs.declared.answers.AppError.{AppError}
@@ -117,9 +116,9 @@ AreAtMost (place ∷ places) most = (place ≤ most) × AreAtMost places most
 -- An entry at `index`, counted from 0, whose operation is the one that its call fixes: the call is not answered at
 -- once, the places of its lookups lead to the objects, each place is below the entry's number, and the flat file
 -- system makes the change on the files that the entries before it leave. The call's last operation was possible at
--- some length of the history between its lookups and the entry: of a rename's part 1 this says that there was a file
--- to be renamed. `places` gives the places of a call's fops that were answered so far.
-pub record IsLegalEntry (calls : List Submission) (replies : List Reply) (places : ℕ → List ℕ) (ops : List FlatOp) (index : ℕ) (entry : Entry) : Type 0 where
+-- some length of the history between its submission and lookups and the entry: of a rename's part 1 this says that
+-- there was a file to be renamed. `since` is the length of the history at the call's submission; `places` gives the places of a call's fops that were answered so far.
+pub record IsLegalEntry (calls : List Submission) (replies : List Reply) (since : ℕ) (places : ℕ → List ℕ) (ops : List FlatOp) (index : ℕ) (entry : Entry) : Type 0 where
   pub submission : Submission
   pub asked : call_numbered calls entry.call ≡ Some submission
   pub sent : at_once (descriptors_at calls ops replies submission.session entry.call) submission.call ≡ None
@@ -136,18 +135,18 @@ pub record IsLegalEntry (calls : List Submission) (replies : List Reply) (places
   pub stands : slice_get ops index ≡ Some op
   pub accepted : IsChange (flat (fs_after ops index) op)
   pub seen : ℕ
+  pub after_submission : since ≤ seen
   pub after_lookups : AreAtMost (take (lookups (looked_up submission.call)) (places entry.call)) seen
   pub not_later : seen ≤ index
   pub possible : IsChange (flat (fs_after ops seen) last)
 
--- Each entry has its operation, none is repeated, each is legal where it stands and stands after its call's
--- submission, and a rename's move stands after the unlink that is its part 1. `since` gives the length of the history
+-- Each entry has its operation, none is repeated, each is legal where it stands, and a rename's move stands after the unlink that is its part 1. `since` gives the length of the history
 -- at a call's submission; the places of an answered call are those of its reply.
 pub record IsLegalHistory (calls : List Submission) (replies : List Reply) (since : ℕ → ℕ) (places : ℕ → List ℕ) (ops : List FlatOp) (history : List Entry) : Type 0 where
   pub as_many : length ops ≡ length history
   pub distinct : (i j : ℕ) (entry : Entry) → slice_get history i ≡ Some entry → slice_get history j ≡ Some entry → i ≡ j
-  pub legal : (index : ℕ) (entry : Entry) → slice_get history index ≡ Some entry → IsLegalEntry calls replies places ops index entry
-  pub submitted : (index : ℕ) (entry : Entry) → slice_get history index ≡ Some entry → since entry.call ≤ index
+  pub legal : (index : ℕ) (entry : Entry) → slice_get history index ≡ Some entry
+      → IsLegalEntry calls replies (since entry.call) places ops index entry
   pub in_order : (i j : ℕ) (first second : Entry) → slice_get history i ≡ Some first → slice_get history j ≡ Some second
       → first.call ≡ second.call → first.part < second.part → i < j
   pub written : (k : ℕ) (reply : Reply) → slice_get replies k ≡ Some reply → places reply.call ≡ reply.places

@@ -1,13 +1,16 @@
 -- The jobs of a set: what a job must meet, and which reply of a set answers which job.
-use Rattle.std.specs.Prelude.{◌≡◌, ◌≢◌, ℕ, ◌+◌, ◌*◌, ◌≤◌, ◌⊎◌, Bool, true, false, not, ◌&&◌, List, [], ◌∷◌, map, length, Option, Some, None, IsSome}
-use Rattle.fop_types.specs.Bounds.{Each, Rises, IsUnit, IsMask, IsOpenFd, IsGfid, IsCell, AreFew, AreCells, IsOp, content_kind, IsContent, IsVolumeName}
+use Rattle.std.specs.Prelude.{◌≡◌, ℕ, ◌+◌, ◌≤◌, ◌⊎◌, Bool, true, false, not, ◌&&◌, List, [], ◌∷◌, length, Option, Some, None, IfSome, is_some, count_ones, nat_eq, nat_lt}
+use Rattle.fop_types.specs.Bounds.{Each, Rises, IsUnit, IsMask, IsOpenFd, IsGfid, IsCell, AreFew, IsOp, content_kind, IsContent}
 use Rattle.fop_types.specs.Orders.{cell_cmp}
 use Rattle.fop_types.specs.Rank.{rank}
 use Rattle.fop_types.specs.StoreOps.{needs, births}
+use Rattle.fop_types.specs.declared.answers.IoError.{IoError}
+use Rattle.fop_types.specs.declared.answers.IoError.TheVariants as error
 use Rattle.fop_types.specs.declared.cells.Aspect.{Aspect}
 use Rattle.fop_types.specs.declared.cells.Aspect.TheVariants as aspect
 use Rattle.fop_types.specs.declared.cells.Cell.{Cell}
 use Rattle.fop_types.specs.declared.contents.Content.{Content}
+use Rattle.fop_types.specs.declared.contents.Mask.{Mask}
 use Rattle.fop_types.specs.declared.store_ops.StoreOp.{StoreOp}
 use Rattle.fop_types.specs.declared.store_ops.StoreOp.TheVariants as op
 use Rattle.fop_types.specs.declared.copy_jobs.CopyRecord.{CopyRecord}
@@ -29,7 +32,7 @@ pub record IsSetPlan (plan : SetPlan) : Type 0 where
 
 -- ---- jobs
 
--- whether a read's cells are a directory's, as far as their aspects tell
+-- whether a read's cells are a directory's, by their aspects
 abbrev pub AgreesWith : Bool → Aspect → Type 0
 AgreesWith dir aspect.Data = dir ≡ false
 AgreesWith dir aspect.Meta = Unit {0}
@@ -86,42 +89,58 @@ IsNumbered None (Some number) = ⊥
 IsNumbered (Some entry) None = ⊥
 IsNumbered (Some entry) (Some number) = 1 ≤ number
 
+-- an I/O error of this set
+abbrev pub IsErrorOf : ℕ → IoError → Type 0
+IsErrorOf set (error.Quorum of_set lost) = of_set ≡ set
+IsErrorOf set (error.Split of_set rows) = of_set ≡ set
+IsErrorOf set (error.Fault of_set faults lost) = of_set ≡ set
+
+-- an I/O error of this set that says that its bricks were too few: lost, or answering a fault
+abbrev pub IsShortage : ℕ → IoError → Type 0
+IsShortage set (error.Quorum of_set lost) = of_set ≡ set
+IsShortage set (error.Split of_set rows) = ⊥
+IsShortage set (error.Fault of_set faults lost) = of_set ≡ set
+
+-- a listing is short exactly where fewer replicas than a quorum answered, and then it says why
+abbrev pub IsShortBy : ℕ → ℕ → Mask → Option IoError → Type 0
+IsShortBy set q answered short = (is_some short ≡ nat_lt (count_ones answered.0) q) × IfSome short (IsShortage set)
+
 -- the replies that answer a job
-abbrev pub AnswersRead : List Cell → Bool → SetReply → Type 0
-AnswersRead cells may_lack (reply.Contents contents place) = AreContentsOf may_lack cells contents
-AnswersRead cells may_lack (reply.Decided number) = ⊥
-AnswersRead cells may_lack reply.Opened = ⊥
-AnswersRead cells may_lack (reply.Listed listed answered short) = ⊥
-AnswersRead cells may_lack (reply.Healed records) = ⊥
-AnswersRead cells may_lack (reply.Skipped cause) = ⊥
-AnswersRead cells may_lack (reply.Io error) = Unit {0}
+abbrev pub AnswersRead : ℕ → List Cell → Bool → SetReply → Type 0
+AnswersRead set cells may_lack (reply.Contents contents place) = AreContentsOf may_lack cells contents
+AnswersRead set cells may_lack (reply.Decided number) = ⊥
+AnswersRead set cells may_lack reply.Opened = ⊥
+AnswersRead set cells may_lack (reply.Listed listed answered short) = ⊥
+AnswersRead set cells may_lack (reply.Healed records) = ⊥
+AnswersRead set cells may_lack (reply.Skipped cause) = ⊥
+AnswersRead set cells may_lack (reply.Io error) = IsErrorOf set error
 
-abbrev pub AnswersChange : Option Entry → SetReply → Type 0
-AnswersChange effect (reply.Contents contents place) = ⊥
-AnswersChange effect (reply.Decided number) = IsNumbered effect number
-AnswersChange effect reply.Opened = ⊥
-AnswersChange effect (reply.Listed listed answered short) = ⊥
-AnswersChange effect (reply.Healed records) = ⊥
-AnswersChange effect (reply.Skipped cause) = ⊥
-AnswersChange effect (reply.Io error) = Unit {0}
+abbrev pub AnswersChange : ℕ → Option Entry → SetReply → Type 0
+AnswersChange set effect (reply.Contents contents place) = ⊥
+AnswersChange set effect (reply.Decided number) = IsNumbered effect number
+AnswersChange set effect reply.Opened = ⊥
+AnswersChange set effect (reply.Listed listed answered short) = ⊥
+AnswersChange set effect (reply.Healed records) = ⊥
+AnswersChange set effect (reply.Skipped cause) = ⊥
+AnswersChange set effect (reply.Io error) = IsErrorOf set error
 
-abbrev pub AnswersOpen : SetReply → Type 0
-AnswersOpen (reply.Contents contents place) = ⊥
-AnswersOpen (reply.Decided number) = ⊥
-AnswersOpen reply.Opened = Unit {0}
-AnswersOpen (reply.Listed listed answered short) = ⊥
-AnswersOpen (reply.Healed records) = ⊥
-AnswersOpen (reply.Skipped cause) = ⊥
-AnswersOpen (reply.Io error) = Unit {0}
+abbrev pub AnswersOpen : ℕ → SetReply → Type 0
+AnswersOpen set (reply.Contents contents place) = ⊥
+AnswersOpen set (reply.Decided number) = ⊥
+AnswersOpen set reply.Opened = Unit {0}
+AnswersOpen set (reply.Listed listed answered short) = ⊥
+AnswersOpen set (reply.Healed records) = ⊥
+AnswersOpen set (reply.Skipped cause) = ⊥
+AnswersOpen set (reply.Io error) = IsShortage set error
 
-abbrev pub AnswersIndex : SetReply → Type 0
-AnswersIndex (reply.Contents contents place) = ⊥
-AnswersIndex (reply.Decided number) = ⊥
-AnswersIndex reply.Opened = ⊥
-AnswersIndex (reply.Listed listed answered short) = Each IsCell listed × Rises cell_cmp true listed × IsMask answered
-AnswersIndex (reply.Healed records) = ⊥
-AnswersIndex (reply.Skipped cause) = ⊥
-AnswersIndex (reply.Io error) = ⊥
+abbrev pub AnswersIndex : ℕ → ℕ → SetReply → Type 0
+AnswersIndex set q (reply.Contents contents place) = ⊥
+AnswersIndex set q (reply.Decided number) = ⊥
+AnswersIndex set q reply.Opened = ⊥
+AnswersIndex set q (reply.Listed listed answered short) = Each IsCell listed × Rises cell_cmp true listed × IsMask answered × IsShortBy set q answered short
+AnswersIndex set q (reply.Healed records) = ⊥
+AnswersIndex set q (reply.Skipped cause) = ⊥
+AnswersIndex set q (reply.Io error) = ⊥
 
 abbrev pub AnswersHeal : Cell → SetReply → Type 0
 AnswersHeal cell (reply.Contents contents place) = ⊥
@@ -132,15 +151,16 @@ AnswersHeal cell (reply.Healed records) = Each (λ (made : CopyRecord). made.cel
 AnswersHeal cell (reply.Skipped cause) = Unit {0}
 AnswersHeal cell (reply.Io error) = ⊥
 
--- whether a read's content may be absent
-abbrev pub may_lack : Bool → Bool → Bool
-may_lack first dir = dir && not first
+-- whether a read's content may be absent: only a directory's, on a set other than the first
+abbrev pub may_lack : ℕ → Bool → Bool
+may_lack set dir = dir && not (nat_eq set 0)
 
--- Whether a reply of a set answers a job; `first` where it is the first set. A birth is decided without an entry.
-abbrev pub IsAnsweredBy : Bool → Job → SetReply → Type 0
-IsAnsweredBy first (job.Read cells fd dir) reply = AnswersRead cells (may_lack first dir) reply
-IsAnsweredBy first (job.Change cells fd op effect) reply = AnswersChange effect reply
-IsAnsweredBy first (job.Birth cells op) reply = AnswersChange None reply
-IsAnsweredBy first (job.Open fd gfid) reply = AnswersOpen reply
-IsAnsweredBy first job.Index reply = AnswersIndex reply
-IsAnsweredBy first (job.Heal cell) reply = AnswersHeal cell reply
+-- Whether a reply of a set answers a job; `set` is the set's number, the first's is 0, and `q` its quorum. A birth is
+-- decided without an entry.
+abbrev pub IsAnsweredBy : ℕ → ℕ → Job → SetReply → Type 0
+IsAnsweredBy set q (job.Read cells fd dir) reply = AnswersRead set cells (may_lack set dir) reply
+IsAnsweredBy set q (job.Change cells fd op effect) reply = AnswersChange set effect reply
+IsAnsweredBy set q (job.Birth cells op) reply = AnswersChange set None reply
+IsAnsweredBy set q (job.Open fd gfid) reply = AnswersOpen set reply
+IsAnsweredBy set q job.Index reply = AnswersIndex set q reply
+IsAnsweredBy set q (job.Heal cell) reply = AnswersHeal cell reply

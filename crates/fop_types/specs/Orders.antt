@@ -1,6 +1,5 @@
 -- The orders of gfids and of cells, by which maps from them are kept: by the halves of a gfid, the
 -- higher first, and then by aspect.
-use Rattle.std.specs.Prelude.{ℕ}
 use Rattle.std.specs.declared.cmp.Ordering.{Ordering}
 use Rattle.std.specs.Ordering.{nat_cmp, ordering_then}
 use Rattle.fop_types.specs.declared.cells.Gfid.{Gfid}

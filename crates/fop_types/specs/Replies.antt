@@ -92,8 +92,16 @@ pub record IsLawfulReply (calls : List Submission) (replies : List Reply) (ops :
       IsLawfulAnswer (at_once (descriptors_at calls ops replies submission.session reply.call) submission.call)
       calls (descriptors_at calls ops replies submission.session reply.call) ops history submission.call reply
 
--- each call has at most one reply, and each reply is lawful; the three numbers are those of its call
+-- the session of a call
+abbrev pub session_of : Option Submission → Option ℕ
+session_of None = None
+session_of (Some s) = Some s.session
+
+-- Each call has at most one reply, a session's replies are in the order of its calls, and each reply is lawful; the
+-- three numbers are those of its call.
 pub record AreLawfulReplies (calls : List Submission) (replies : List Reply) (ops : List FlatOp) (history : List Entry) (since until answered : ℕ → ℕ) : Type 0 where
   pub once : (i j : ℕ) (a b : Reply) → slice_get replies i ≡ Some a → slice_get replies j ≡ Some b → a.call ≡ b.call → i ≡ j
+  pub in_order : (i j : ℕ) (a b : Reply) → slice_get replies i ≡ Some a → slice_get replies j ≡ Some b
+      → session_of (call_numbered calls a.call) ≡ session_of (call_numbered calls b.call) → a.call < b.call → i < j
   pub each : (k : ℕ) (reply : Reply) → slice_get replies k ≡ Some reply
       → IsLawfulReply calls replies ops history (since reply.call) (until reply.call) (answered reply.call) reply

@@ -1,9 +1,8 @@
 -- What a store op makes of the contents of a set's cells: which cells must be present, when the op does not fit,
 -- the edits that it makes cell by cell, and the cells to which it gives birth. A brick's store, the machine of
 -- one set and the files of all sets take an op's meaning from here.
-use Rattle.std.specs.Prelude.{ℕ, ◌+◌, Bool, true, false, not, ◌&&◌, ◌||◌, List, [], ◌∷◌, Option, Some, None, is_none, length, nat_lt, nat_eq, if◌then◌else◌}
-use Rattle.std.specs.Ordering.{is_eq, match_ordering, nat_cmp}
-use Rattle.std.specs.Cmp.Lexicographic.{pointwise}
+use Rattle.std.specs.Prelude.{ℕ, ◌+◌, Bool, true, false, not, ◌&&◌, ◌||◌, List, [], ◌∷◌, Option, Some, None, is_none, length, nat_lt, if◌then◌else◌}
+use Rattle.std.specs.Ordering.{is_eq, match_ordering}
 use Rattle.fop_types.specs.Cells.{data_cell, meta_cell, names_cell}
 use Rattle.fop_types.specs.FileBytes.{file_limit, written, resized}
 use Rattle.fop_types.specs.Names.{item_named, with_item, without_item, is_link, is_directory, has_real_name, attr_named, with_attr, without_attr, renamed, is_same_name}
@@ -244,3 +243,18 @@ after_births contents (b ∷ bs) = after_births (with_content contents b.0 (born
 -- the contents after a fitting op
 abbrev pub contents_after : Contents → StoreOp → Contents
 contents_after contents op = after_births (after_edits contents (edits contents op)) (births op)
+
+-- ---- the same for one cell
+
+-- the edits of one cell, in order
+abbrev pub edited_on : Cell → Option Content → List (Cell × Edit) → Option Content
+edited_on cell content [] = content
+edited_on cell content (e ∷ es) = edited_on cell (if is_eq (cell_cmp cell e.0) then edited_if_present e.1 content else content) es
+
+abbrev pub born_on : Cell → Option Content → List (Cell × Content) → Option Content
+born_on cell content [] = content
+born_on cell content (b ∷ bs) = born_on cell (if is_eq (cell_cmp cell b.0) then born_if_absent b.1 content else content) bs
+
+-- the content of one cell after a fitting op: what `contents_after` gives there
+abbrev pub content_after : Contents → StoreOp → Cell → Option Content
+content_after contents op cell = born_on cell (edited_on cell (contents cell) (edits contents op)) (births op)

@@ -95,7 +95,7 @@ pub struct Cell {
     pub aspect: Aspect,
 }
 
-/// What a name in a directory stands for: a file, a directory, or a link, by which distribute points
+/// What a name in a directory means: a file, a directory, or a link, by which distribute points
 /// to the set that holds a file.
 #[derive(Clone, Copy, PartialEq, Eq)]
 pub enum Kind {

@@ -21,7 +21,7 @@ pub fn find_item<'a>(items: &'a [Item], name: &[u8]) -> Option<&'a Item>
 
 /// The place of an item among items by rising name: `Ok` of the place of an equal name, or `Err` of the
 /// place before which the item goes.
-fn place_of(items: &[Item], item: &Item) -> Result<usize, usize>
+pub fn place_of_item(items: &[Item], item: &Item) -> Result<usize, usize>
     ensures taken { IfOk result (λ i. (i < length items.now) × (with_item items.now item.now ≡ take i items.now ++ item.now ∷ drop (suc i) items.now)) }
     ensures free { IfErr result (λ i. (i ≤ length items.now) × (with_item items.now item.now ≡ insert items.now i item.now)) }
 {
@@ -36,7 +36,7 @@ fn place_of(items: &[Item], item: &Item) -> Result<usize, usize>
     Err(place)
 }
 
-/// Puts an item of a new name at its place among items by rising name, and tells the place. The cost is
+/// Puts an item of a new name at its place among items by rising name, and returns the place. The cost is
 /// the search of the place and one move of the items after it.
 ///
 /// # Errors
@@ -47,7 +47,7 @@ pub fn insert_new_item(items: &mut Seq<Item>, item: Item) -> Result<usize, Alloc
     ensures place { IfOk result (λ i. (i ≤ length items.old) × (items.new ≡ insert items.old i item)) }
     ensures err { OnErr result (items.new ≡ items.old) }
 {
-    match place_of(items.as_slice(), &item) {
+    match place_of_item(items.as_slice(), &item) {
         Ok(_) => unreachable!(),
         Err(index) => {
             items.insert(index, item)?;
@@ -66,7 +66,7 @@ pub fn insert_item(items: &mut Seq<Item>, item: Item) -> Result<(), AllocError>
     ensures ok { OnOk result (items.new ≡ with_item items.old item) }
     ensures err { OnErr result (items.new ≡ items.old) }
 {
-    match place_of(items.as_slice(), &item) {
+    match place_of_item(items.as_slice(), &item) {
         Ok(index) => {
             items.set(index, item);
             Ok(())

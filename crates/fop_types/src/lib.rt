@@ -45,11 +45,8 @@ pub use copy_jobs::{CopyDone, CopyJob, CopyRecord, Out};
 pub use flat::{FlatAnswer, FlatObject, FlatOp};
 pub use fops::{Fop, Object, OpenFd};
 pub use history::Entry;
-pub use items::{find_item, insert_item, insert_new_item};
+pub use items::{find_item, insert_item, insert_new_item, place_of_item};
 pub use jobs::{Job, SetPlan, SetReply};
 pub use lists::Seq;
 pub use messages::{BrickRep, BrickReq, DoneArm, Input, OutKind, Output, Proc};
 pub use store_ops::StoreOp;
-
-#[cfg(test)]
-mod tests;

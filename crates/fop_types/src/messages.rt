@@ -85,7 +85,7 @@ pub enum DoneArm {
 }
 
 /// The answer of a brick to a request. `Gone`: the request's graph was not connected, or its lock was
-/// dropped with the connection. `Fault`: the brick was told to fail this request. `Unfit`: the op does
+/// dropped with the connection. `Fault`: a control made the brick fail this request. `Unfit`: the op does
 /// not fit the store, the cell is not present, or the answer would hold a list that is too long to be
 /// sent. `BadFd`: the descriptor was not opened on this connection.
 #[derive(Drop, PartialEq, Eq)]

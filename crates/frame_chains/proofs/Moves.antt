@@ -2,14 +2,14 @@
 use Rattle.std.proofs.Common.{◌≡◌, refl, sym, ap, subst, ◌∙◌, arith, set}
 use Rattle.std.proofs.lemmas.Bool.{eq-eqb}
 use Rattle.std.proofs.lemmas.List.{get_or-set_same, append-nil}
-use Rattle.std.specs.Prelude.{ℕ, ◌≤◌, ◌+◌, ◌==◌, ◌||◌, ◌&&◌, not, cond, Bool, true, false, List, [], ◌∷◌, ◌++◌, length, Option, Some, None, IsSome, IfSome, is_some}
+use Rattle.std.specs.Prelude.{ℕ, ◌≤◌, ◌+◌, ◌==◌, ◌||◌, ◌&&◌, not, cond, Bool, true, false, List, [], ◌∷◌, ◌++◌, length, Option, Some, None, IsSome, IsSomeAnd, is_some}
 use Rattle.xlator_law.specs.declared.winds.WindNo.{WindNo}
 use Rattle.xlator_law.specs.declared.winds.Parent.{Parent}
 use Rattle.xlator_law.specs.declared.winds.Place.{Place}
 use Rattle.frame_stack.specs.declared.frame.Frame.{Frame}
 use Rattle.frame_stack.specs.declared.frame.Opener.{Opener}
 use Rattle.frame_stack.specs.Cells.{cell_at, taken, IsInserted}
-use Rattle.frame_stack.specs.Stack.{Stack, frame, frame_at, place_at, place_in, local_at, local_in, word_at, pending, replied, awaits, HasNoWind, AwaitsMore, AwaitsLess, IsWound, with_local, keeping, without_frame, after_settle, after_resume, resumed, resumed_as, parent_of, opener_at, opener_in, opener_of}
+use Rattle.frame_stack.specs.Stack.{Stack, frame, frame_at, place_at, place_in, local_at, local_in, word_at, pending, replied, awaits, HasNoWind, AwaitsMore, AwaitsLess, IsWound, with_local, keeping, without_frame, after_settle, after_resume, resumed, resumed_as, parent_of, opener_at, opener_in, opener_of, HasParent}
 use Rattle.frame_stack.proofs.Puts.{put_same}
 use Rattle.frame_stack.proofs.Sound.{in_range}
 use Rattle.frame_stack.proofs.Vacancy.{some_within}
@@ -37,16 +37,12 @@ module _ {L : Type 0} where
     by_cell None e = absurd cc
     by_cell (Some f) e = let same : f.place ≡ p = cc in ap (λ q. Some (record { place = q; local = f.local })) same
 
-  -- the opener of the wind that opens a frame below has the same call
-  pub parent_call : (s : Stack L) (graph call : ℕ) (ls : List Link) → AreLinked s graph call ls → IfSome (last_wind ls) (λ w. IfSome (opener_of s w) (λ o. o.call ≡ call))
-  parent_call s graph call [] linked = tt
-  parent_call s graph call (l ∷ ls) linked = by_opener (opener_of s l.wind) known where
-    known : opener_of s l.wind ≡ Some (opener graph call l.frame)
+  -- the wind that opens a frame below is open, in the chain's graph and of its call
+  pub has_parent : (s : Stack L) (graph call : ℕ) (ls : List Link) → AreLinked s graph call ls → HasParent s graph call (last_wind ls)
+  has_parent s graph call [] linked = tt
+  has_parent s graph call (l ∷ ls) linked = subst (λ (o : Option Opener). IsSomeAnd o (λ x. (x.graph ≡ graph) × (x.call ≡ call))) (sym known) (refl, refl) where
+    known : opener_of s l.wind ≡ Some (opener graph call l.frame linked.0.number)
     known = ap (λ b. cond (b || (word_at s l.wind.slot == replied l.wind)) (cell_at s.openers l.wind.slot) None) (eq-eqb (word_at s l.wind.slot) (pending l.wind) linked.0.waits) ∙ linked.0.opened
-
-    by_opener : (o : Option Opener) → o ≡ Some (opener graph call l.frame) → IfSome o (λ o. o.call ≡ call)
-    by_opener None e = absurd cc
-    by_opener (Some o) e = let same : o ≡ opener graph call l.frame = cc in ap (λ x. x.call) same
 
   -- ---- a new wind of a frame that waits for none
 
@@ -54,8 +50,8 @@ module _ {L : Type 0} where
     wound_frames : (k : ℕ) → frame_at b k ≡ frame_at m k
     wound_frames k = ap (λ s. frame_at s k) wound_so.made
 
-    wound_opener : (p : Place) → place_at m key ≡ Some p → cell_at b.openers w.slot ≡ Some (opener p.graph p.call key)
-    wound_opener p at = ap (λ s. cell_at s.openers w.slot) wound_so.made ∙ put_same m.openers w.slot (Some (opener_at m key 0)) None wound_so.within ∙ ap (λ c. Some (opener_in key 0 c)) (frame_of m key p at).there
+    wound_opener : (p : Place) → place_at m key ≡ Some p → cell_at b.openers w.slot ≡ Some (opener p.graph p.call key m.opened)
+    wound_opener p at = ap (λ s. cell_at s.openers w.slot) wound_so.made ∙ put_same m.openers w.slot (Some (opener_at m key 0)) None wound_so.within ∙ ap (λ c. Some (opener_in key 0 m.opened c)) (frame_of m key p at).there
 
     wound_awaits : HasNoWind m key → (n : ℕ) → awaits b key n ≡ (0 == n)
     wound_awaits idle n = more key n ∙ ap (λ x. x || ((key == key) && (0 == n))) (idle n) ∙ ap (λ x. false || (x && (0 == n))) (zero_eq key)
@@ -64,6 +60,7 @@ module _ {L : Type 0} where
     wound_link graph call node parent local at has idle = record {
       stands = ap place_in (wound_frames key) ∙ at;
       keeps = ap (λ c. is_some (local_in c)) (wound_frames key) ∙ ap is_some has;
+      number = m.opened;
       opened = wound_opener (place graph call node parent) at;
       waits = waits;
       below = wound_so.below;
@@ -74,7 +71,7 @@ module _ {L : Type 0} where
     wound_taken = ap (λ s. taken s.openers) wound_so.made ∙ taken_put m.openers w.slot (opener_at m key 0) wound_so.within wound_so.vacant
 
     wound_lines : (p : Place) → place_at m key ≡ Some p → b.lines ≡ m.lines ++ opens p.call w ∷ []
-    wound_lines p at = ap (λ s. s.lines) wound_so.made ∙ ap (λ c. m.lines ++ (w, (opener_in key 0 c).call, true) ∷ []) (frame_of m key p at).there
+    wound_lines p at = ap (λ s. s.lines) wound_so.made ∙ ap (λ c. m.lines ++ (w, (opener_in key 0 m.opened c).call, true) ∷ []) (frame_of m key p at).there
 
     wound_opened : b.opened ≡ m.opened + 1
     wound_opened = ap (λ s. s.opened) wound_so.made
@@ -214,13 +211,13 @@ module _ {L : Type 0} where
     word_settled : word_at s l.wind.slot ≡ replied l.wind
     word_settled = ap (λ x. word_at x l.wind.slot) settled ∙ get_or-set_same a.words l.wind.slot (replied l.wind) 0 (in_range a.words l.wind.slot (let w = linked.0.waits in omega (arith, w)))
 
-    opener_settled : cell_at s.openers l.wind.slot ≡ Some (opener graph call l.frame)
+    opener_settled : cell_at s.openers l.wind.slot ≡ Some (opener graph call l.frame linked.0.number)
     opener_settled = ap (λ x. cell_at x.openers l.wind.slot) settled ∙ linked.0.opened
 
     is_replied : (word_at s l.wind.slot == replied l.wind) ≡ true
     is_replied = eq-eqb (word_at s l.wind.slot) (replied l.wind) word_settled
 
-    resumed_so : r ≡ resumed s l.wind (Some (opener graph call l.frame))
+    resumed_so : r ≡ resumed s l.wind (Some (opener graph call l.frame linked.0.number))
     resumed_so = resume ∙ ap (λ e. cond e (resumed s l.wind (cell_at s.openers l.wind.slot)) s) is_replied ∙ ap (resumed s l.wind) opener_settled
 
     parent_so : parent ≡ Some (record { frame = l.frame; slot = 0 })
@@ -252,8 +249,8 @@ module _ {L : Type 0} where
 
     pub popped : (local : L) → local_at r l.frame ≡ Some local → LeadsOn a s → LeadsOn s r → LeadsOn r b → IsPopped a b (record { graph = graph; call = call; links = l ∷ ls }) (record { graph = graph; call = call; links = ls }) (record { frame = l.frame; local = local })
     popped local has one two three =
-        let touches = touches_both a r b l.frame l.wind.slot (touches_both a s r l.frame l.wind.slot (touches_settle a s l.frame l.wind settled) (touches_resume s r l.frame 0 l.wind (Some (opener graph call l.frame)) resumed_so less_so)) (touches_local r b l.frame l.wind.slot None take) in
-        let own : IsOwn a l.frame l.wind.slot = (λ o at. let q : opener graph call l.frame ≡ o = (let e : Some (opener graph call l.frame) ≡ Some o = sym linked.0.opened ∙ at in cc) in sym (ap (λ x. x.frame) q)) in
+        let touches = touches_both a r b l.frame l.wind.slot (touches_both a s r l.frame l.wind.slot (touches_settle a s l.frame l.wind settled) (touches_resume s r l.frame 0 l.wind (Some (opener graph call l.frame linked.0.number)) resumed_so less_so)) (touches_local r b l.frame l.wind.slot None take) in
+        let own : IsOwn a l.frame l.wind.slot = (λ o at. let q : opener graph call l.frame linked.0.number ≡ o = (let e : Some (opener graph call l.frame linked.0.number) ≡ Some o = sym linked.0.opened ∙ at in cc) in sym (ap (λ x. x.frame) q)) in
         let tail = chain_kept a b l.frame l.wind.slot graph call ls touches own (λ p at same. let q : length ls ≡ p.node = node_of p (sym linked.0.stands ∙ at) in omega (arith, q)) linked.1 in
         record {
           wind = l.wind;

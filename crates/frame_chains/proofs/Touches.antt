@@ -118,6 +118,7 @@ module _ {L : Type 0} where
   link_kept a b key slot graph call node parent l t f w i = record {
     stands = ap place_in (t.frames l.frame f) ∙ i.stands;
     keeps = subst (λ c. IsKept c) (sym (t.frames l.frame f)) i.keeps;
+    number = i.number;
     opened = t.openers l.wind.slot w ∙ i.opened;
     waits = t.words l.wind.slot w ∙ i.waits;
     below = i.below;
@@ -128,7 +129,7 @@ module _ {L : Type 0} where
   chain_kept a b key slot graph call [] t own apart linked = record { linked = tt; kept = refl }
   chain_kept a b key slot graph call (l ∷ ls) t own apart linked =
       let f : l.frame ≢ key = (λ e. let low = apart (place graph call (length ls) (last_wind ls)) (subst (λ k. place_at a k ≡ Some (place graph call (length ls) (last_wind ls))) e linked.0.stands) refl in omega (arith, low)) in
-      let w : l.wind.slot ≢ slot = (λ e. f (own (opener graph call l.frame) (subst (λ n. cell_at a.openers n ≡ Some (opener graph call l.frame)) e linked.0.opened))) in
+      let w : l.wind.slot ≢ slot = (λ e. f (own (opener graph call l.frame linked.0.number) (subst (λ n. cell_at a.openers n ≡ Some (opener graph call l.frame linked.0.number)) e linked.0.opened))) in
       let rest = chain_kept a b key slot graph call ls t own (λ p is same. let low = apart p is same in omega (arith, low)) linked.1 in
       record {
         linked = (link_kept a b key slot graph call (length ls) (last_wind ls) l t f w linked.0, rest.linked);

@@ -28,15 +28,16 @@ link frame wind = record { frame = frame; wind = wind }
 abbrev pub place : ℕ → ℕ → ℕ → Option WindNo → Place
 place graph call node parent = record { graph = graph; call = call; node = node; parent = parent }
 
-abbrev pub opener : ℕ → ℕ → ℕ → Opener
-opener graph call frame = record { frame = frame; slot = 0; graph = graph; call = call }
+abbrev pub opener : ℕ → ℕ → ℕ → ℕ → Opener
+opener graph call frame number = record { frame = frame; slot = 0; graph = graph; call = call; number = number }
 
 module _ {L : Type 0} where
   -- A frame of the node at this depth is open, keeps a local, and waits for this wind alone.
   pub record IsLink (s : Stack L) (graph call node : ℕ) (parent : Option WindNo) (l : Link) : Type 0 where
     pub stands : place_at s l.frame ≡ Some (place graph call node parent)
     pub keeps : is_some (local_at s l.frame) ≡ true
-    pub opened : cell_at s.openers l.wind.slot ≡ Some (opener graph call l.frame)
+    pub number : ℕ
+    pub opened : cell_at s.openers l.wind.slot ≡ Some (opener graph call l.frame number)
     pub waits : word_at s l.wind.slot ≡ pending l.wind
     pub below : l.wind.slot < 2147483648
     pub alone : (n : ℕ) → awaits s l.frame n ≡ (0 == n)

@@ -1,16 +1,16 @@
 -- What the end of a pending wind finds, and what it leaves as it was.
 use Rattle.std.proofs.Common.{◌≡◌, refl, sym, ap, subst, ◌∙◌, arith, set}
-use Rattle.std.proofs.lemmas.Bool.{eqb-true, eqb-false, eq-eqb, ne_eqb}
+use Rattle.std.proofs.lemmas.Bool.{eqb-true, eq-eqb}
 use Rattle.std.proofs.lemmas.List.{get_or-set_same}
-use Rattle.std.specs.Prelude.{ℕ, zero, suc, ◌==◌, ◌||◌, ◌&&◌, ◌+◌, ◌*◌, cond, not, Bool, true, false, List, [], ◌∷◌, Option, Some, None, IsSome, is_some}
+use Rattle.std.specs.Prelude.{ℕ, zero, suc, ◌==◌, ◌||◌, ◌&&◌, ◌+◌, cond, not, Bool, true, false, List, [], ◌∷◌, Option, Some, None, IsSome, is_some}
 use Rattle.std.specs.List.{list_any}
 use Rattle.xlator_law.specs.declared.winds.WindNo.{WindNo}
 use Rattle.xlator_law.specs.declared.winds.Parent.{Parent}
-use Rattle.xlator_law.specs.declared.winds.Settled.{Settled}
 use Rattle.xlator_law.specs.declared.winds.Settled.TheVariants.{Won, Lost}
 use Rattle.frame_stack.specs.declared.frame.Opener.{Opener}
 use Rattle.frame_stack.specs.Cells.{cell_at, taken}
-use Rattle.frame_stack.specs.Stack.{Stack, word_at, word_of, pending, replied, awaits, is_in, parent_of, opener_of, after_settle, after_resume, settled_as, resumed_as, AwaitsLess, resumed}
+use Rattle.frame_stack.specs.Changes.{ChangesOpener}
+use Rattle.frame_stack.specs.Stack.{Stack, word_at, pending, replied, awaits, is_in, parent_of, opener_of, after_settle, after_resume, settled_as, resumed_as, AwaitsLess, resumed}
 use Rattle.frame_stack.proofs.Sound.{in_range}
 use Rattle.frame_driver.specs.declared.board.Board.{Board}
 use Rattle.frame_driver.specs.Machine.{Ends, EndsBy, IsEnded}
@@ -59,8 +59,8 @@ lost_pending s w n h = by_case (word_at s w.slot == pending w) refl h where
   by_case false e h = refl
 
 module _ {F R L : Type 0} (old new : Board F R L) (w : WindNo) (parent : Option Parent) (mid after : Stack L) where
-  ends_by : (word_at old.stack w.slot == pending w) ≡ true → mid ≡ after_settle old.stack w → parent ≡ resumed_as mid w → is_some parent ≡ (word_at mid w.slot == replied w) → after ≡ after_resume mid w → new ≡ record old { stack = after } → AwaitsLess mid after parent → (IsSome parent → taken after.openers + 1 ≡ taken mid.openers) → Ends w old parent new
-  ends_by pend settles resumes some is_after made less fewer = by_cell (cell_at old.stack.openers w.slot) refl where
+  ends_by : (word_at old.stack w.slot == pending w) ≡ true → mid ≡ after_settle old.stack w → parent ≡ resumed_as mid w → is_some parent ≡ (word_at mid w.slot == replied w) → after ≡ after_resume mid w → new ≡ record old { stack = after } → AwaitsLess mid after parent → (IsSome parent → taken after.openers + 1 ≡ taken mid.openers) → ((v : WindNo) → opener_of mid v ≡ opener_of old.stack v) → (IsSome parent → ChangesOpener mid after w None) → Ends w old parent new
+  ends_by pend settles resumes some is_after made less fewer kept ends = by_cell (cell_at old.stack.openers w.slot) refl where
     is : mid ≡ record old.stack { words = set old.stack.words w.slot (replied w) }
     is = settles ∙ ap (λ b. cond b (record old.stack { words = set old.stack.words w.slot (replied w) }) old.stack) pend
 
@@ -89,11 +89,12 @@ module _ {F R L : Type 0} (old new : Board F R L) (w : WindNo) (parent : Option 
       parent = gives ∙ ap parent_of at;
       less = from_mid parent (subst (λ (b : Board F R L). AwaitsLess mid b.stack parent) (sym made) less);
       taken = ap (λ (b : Board F R L). taken b.stack.openers + 1) made ∙ fewer (subst (λ p. IsSome p) (sym (gives ∙ ap parent_of at)) refl) ∙ ap (λ (s : Stack L). taken s.openers) is;
+      openers = let e = ends (subst (λ p. IsSome p) (sym (gives ∙ ap parent_of at)) refl) in subst (λ (b : Board F R L). ChangesOpener old.stack b.stack w None) (sym made) (record { here = e.here; others = λ v differs. e.others v differs ∙ kept v });
       made = made ∙ ap (λ (s : Stack L). record old { stack = s }) is_after ∙ ap (λ (s : Stack L). record old { stack = after_resume s w }) settles;
     }
 
-  pub ended_won : Won ≡ settled_as old.stack w → mid ≡ after_settle old.stack w → parent ≡ resumed_as mid w → is_some parent ≡ (word_at mid w.slot == replied w) → after ≡ after_resume mid w → new ≡ record old { stack = after } → AwaitsLess mid after parent → (IsSome parent → taken after.openers + 1 ≡ taken mid.openers) → IsEnded w old parent new
-  ended_won won settles resumes some is_after made less fewer = let pend = won_pending old.stack w won in subst (λ b. EndsBy b w old parent new) (sym pend) (ends_by pend settles resumes some is_after made less fewer)
+  pub ended_won : Won ≡ settled_as old.stack w → mid ≡ after_settle old.stack w → parent ≡ resumed_as mid w → is_some parent ≡ (word_at mid w.slot == replied w) → after ≡ after_resume mid w → new ≡ record old { stack = after } → AwaitsLess mid after parent → (IsSome parent → taken after.openers + 1 ≡ taken mid.openers) → ((v : WindNo) → opener_of mid v ≡ opener_of old.stack v) → (IsSome parent → ChangesOpener mid after w None) → IsEnded w old parent new
+  ended_won won settles resumes some is_after made less fewer kept ends = let pend = won_pending old.stack w won in subst (λ b. EndsBy b w old parent new) (sym pend) (ends_by pend settles resumes some is_after made less fewer kept ends)
 
   pub ended_lost : (n : ℕ) → Lost n ≡ settled_as old.stack w → parent ≡ None → new ≡ old → IsEnded w old parent new
   ended_lost n lost none same = subst (λ b. EndsBy b w old parent new) (sym (lost_pending old.stack w n lost)) (none, same)

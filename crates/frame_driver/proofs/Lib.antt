@@ -4,4 +4,10 @@ pub mod Standing
 pub mod Ready
 pub mod Total
 pub mod Keeping
+pub mod Traces
+pub mod Parts
+pub mod Leading
+pub mod Waits
+pub mod Account
+pub mod Bailing
 pub mod Running

@@ -1,8 +1,8 @@
 -- A frame that is to take a step: its node is there, it keeps a local that the node owns, and once the local
 -- is out, all other frames follow.
-use Rattle.std.proofs.Common.{◌≡◌, refl, sym, ap, subst, ◌∙◌, arith}
-use Rattle.std.proofs.lemmas.Bool.{eqb-true, eqb-false, ne_eqb}
-use Rattle.std.specs.Prelude.{ℕ, ◌≢◌, ◌<◌, ◌==◌, ◌&&◌, not, Bool, true, false, List, length, Option, Some, None, IsSome, IsSomeAnd}
+use Rattle.std.proofs.Common.{◌≡◌, refl, sym, ap, subst, ◌∙◌}
+use Rattle.std.proofs.lemmas.Bool.{ne_eqb}
+use Rattle.std.specs.Prelude.{ℕ, ◌<◌, ◌==◌, ◌&&◌, not, Bool, true, false, List, length, Option, Some, None, IsSome, IsSomeAnd}
 use Rattle.xlator_law.specs.declared.winds.WindNo.{WindNo}
 use Rattle.xlator_law.specs.declared.winds.Place.{Place}
 use Rattle.xlator_law.specs.declared.winds.Parent.{Parent}
@@ -11,16 +11,15 @@ use Rattle.xlator_law.specs.Law.{Promise, Slots, without, IsStep, Cause}
 use Rattle.xlator_law.specs.Law.Cause.{Reply, Go}
 use Rattle.frame_stack.specs.Cells.{cell_at}
 use Rattle.frame_stack.specs.declared.frame.Frame.{Frame}
-use Rattle.frame_stack.specs.declared.frame.Opener.{Opener}
-use Rattle.frame_stack.specs.Stack.{Stack, frame_at, place_in, place_at, local_in, local_at, awaits, word_at, pending, with_local, after_settle, after_resume, AwaitsLess}
+use Rattle.frame_stack.specs.Stack.{Stack, frame_at, place_in, place_at, local_in, local_at, awaits, word_at, pending, with_local, after_settle}
 use Rattle.frame_stack.specs.Following.{Awaits}
 use Rattle.frame_stack.proofs.Following.{follows}
 use Rattle.frame_driver.specs.declared.board.Board.{Board}
 use Rattle.frame_driver.specs.declared.wiring.Wiring.{Wiring}
-use Rattle.frame_driver.specs.Follows.{promise_at, slots_in, StandsBy, Stands, FollowsAt, Follows, FollowsBut}
-use Rattle.frame_driver.specs.Machine.{Ends, EndsBy, IsEnded, out_of, Resumes, RepliesBy, IsReplied, IsCarried, GoesOn, MayCarry}
+use Rattle.frame_driver.specs.Follows.{promise_at, slots_in, StandsBy, Stands, Follows, FollowsBut}
+use Rattle.frame_driver.specs.Machine.{Graph, Ends, EndsBy, IsEnded, out_of, Resumes, RepliesBy, IsReplied, MayCarry}
 use Rattle.frame_driver.proofs.Ends.{settled_frames, resumed_frames}
-use Rattle.frame_driver.proofs.Standing.{local_awaits, local_frame, local_other, Awaited, awaited, in_range, may_carry, moved_out}
+use Rattle.frame_driver.proofs.Standing.{local_awaits, local_frame, Awaited, awaited, in_range, may_carry, moved_out}
 
 -- The frame keeps this, awaits `before` and the others follow, once its local is out.
 pub record Ready {F L : Type 0} (ps : List (Promise F L)) (s : Stack L) (key : ℕ) (place : Place) (local : L) (before : Slots) : Type 0 where
@@ -158,9 +157,9 @@ ends_some w old mid parent is = by_case (word_at old.stack w.slot == pending w) 
   by_case true e = e
   by_case false e = absurd (let none = e.0 in cc)
 
-pub resumes_as : {F R L : Type 0} (ps : List (Promise F L)) (wiring : Wiring) (w : WindNo) (reply : R) (old mid new : Board F R L) (parent : Parent) → IsEnded w old (Some parent) mid → Resumes ps wiring w reply old new → IsReplied ps wiring w reply old new
-resumes_as ps wiring w reply old mid new parent is r = by_case (word_at old.stack w.slot == pending w) is where
-  by_case : (b : Bool) → EndsBy b w old (Some parent) mid → RepliesBy b ps wiring w reply old new
+pub resumes_as : {X C F R L : Type 0} (makes : X → C → Cause F R L → Step F R L → X → C → Type 0) (ps : List (Promise F L)) (wiring : Wiring) (w : WindNo) (reply : R) (old new : Graph X C F R L) (mid : Board F R L) (parent : Parent) → IsEnded w old.board (Some parent) mid → Resumes makes ps wiring w reply old new → IsReplied makes ps wiring w reply old new
+resumes_as makes ps wiring w reply old new mid parent is r = by_case (word_at old.board.stack w.slot == pending w) is where
+  by_case : (b : Bool) → EndsBy b w old.board (Some parent) mid → RepliesBy makes ps wiring b w reply old new
   by_case true e = r
   by_case false e = absurd (let none = e.0 in cc)
 

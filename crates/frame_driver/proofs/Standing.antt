@@ -1,25 +1,25 @@
 -- Each step keeps that the frames follow their nodes.
-use Rattle.std.proofs.Common.{◌≡◌, refl, sym, ap, subst, ◌∙◌, arith, set, inl, inr}
-use Rattle.std.proofs.lemmas.Bool.{cases_eq, eqb-true, eqb-false, eq-eqb, ne_eqb}
+use Rattle.std.proofs.Common.{◌≡◌, refl, sym, ap, subst, ◌∙◌, arith, inl, inr}
+use Rattle.std.proofs.lemmas.Bool.{cases_eq}
 use Rattle.std.proofs.lemmas.List.{get_or-set_same, get_or-set_other}
-use Rattle.std.specs.Prelude.{ℕ, ◌≢◌, ◌⊎◌, zero, suc, ◌<◌, ◌==◌, ◌||◌, ◌&&◌, not, Bool, true, false, List, [], ◌∷◌, length, Option, Some, None, IsSome, IsSomeAnd}
+use Rattle.std.specs.Prelude.{ℕ, ◌≢◌, ◌⊎◌, zero, suc, ◌<◌, ◌||◌, true, false, List, [], ◌∷◌, length, Option, Some, None}
 use Rattle.xlator_law.specs.declared.step.Step.{Step}
 use Rattle.xlator_law.specs.declared.step.Step.TheVariants.{Wind, Wait, Unwind}
 use Rattle.xlator_law.specs.declared.winds.WindNo.{WindNo}
 use Rattle.xlator_law.specs.declared.winds.Place.{Place}
-use Rattle.xlator_law.specs.Law.{Promise, Slots, no_slots, without, is_wound, with_winds, IsNone, IsStepFrom, IsWinding}
-use Rattle.frame_stack.specs.Cells.{cell_at, put_at, IsInserted}
+use Rattle.xlator_law.specs.Law.{Promise, Slots, no_slots, is_wound, IsStepFrom}
+use Rattle.frame_stack.specs.Cells.{cell_at}
 use Rattle.frame_stack.specs.declared.frame.Frame.{Frame}
-use Rattle.frame_stack.specs.Stack.{Stack, frame, frame_at, awaits, keeping, with_local, without_frame, AwaitsLess, HasNoWind}
+use Rattle.frame_stack.specs.Stack.{Stack, frame_at, awaits, keeping, with_local, without_frame}
 use Rattle.frame_stack.specs.Following.{Awaits}
 use Rattle.frame_stack.proofs.Following.{follows}
 use Rattle.frame_stack.proofs.Puts.{put_same, put_other}
 use Rattle.frame_stack.proofs.Vacancy.{some_within}
 use Rattle.frame_driver.specs.declared.board.Board.{Board}
 use Rattle.frame_driver.specs.declared.wiring.Wiring.{Wiring}
-use Rattle.frame_driver.specs.Follows.{no_promise, promise_at, slots_by, slots_in, StandsBy, Stands, FollowsAt, Follows, FollowsBut}
-use Rattle.frame_driver.specs.Machine.{AreWoundDown, answered_to, IsOpened, IsBegun, IsCarried, MayWind, MayBegin, MayCarry}
-use Rattle.frame_driver.proofs.Winding.{frames_kept, awaits_more, others_await, may_wind, may_as}
+use Rattle.frame_driver.specs.Follows.{promise_at, slots_in, StandsBy, Stands, FollowsAt, Follows, FollowsBut}
+use Rattle.frame_driver.specs.Machine.{answered_to, IsOpened, IsCarried, MayCarry}
+use Rattle.frame_driver.proofs.Winding.{frames_kept, awaits_more, others_await, may_wind}
 
 module _ {F R L : Type 0} where
   pub answered_stack : (b : Board F R L) (parent : Option WindNo) (graph call : ℕ) (reply : R) → (answered_to b parent graph call reply).stack ≡ b.stack
@@ -105,11 +105,6 @@ module _ {F L : Type 0} (ps : List (Promise F L)) where
   may_carry s key p before most (Wait local) a is = tt
   may_carry s key p before most (Unwind reply) a is = (follows {F = F} s key before a).unwound is
 
-  pub may_begin : {R : Type 0} (s : Stack L) (p : Promise F L) (most : ℕ) (step : Step F R L) → Follows ps s → IsStepFrom p no_slots most step → MayBegin s step
-  may_begin s p most (Wind winds local) fs is = λ key none. may_wind (p.unanswered local) s key winds.items ((follows s key no_slots (λ n. (fs key).awaits n ∙ ap (λ c. slots_in ps c n) none)).winds p most winds.items local is)
-  may_begin s p most (Wait local) fs is = tt
-  may_begin s p most (Unwind reply) fs is = tt
-
 module _ {F R L : Type 0} (ps : List (Promise F L)) (wiring : Wiring) (key : ℕ) (place : Place) (old new : Board F R L) (before : Slots) (most : ℕ) where
   -- a frame carries out a step by the law of its node, and then follows it, as all others did
   pub carried_follows : (step : Step F R L) → FollowsBut ps old.stack key → Awaits old.stack key before →
@@ -129,7 +124,7 @@ module _ {F R L : Type 0} (ps : List (Promise F L)) (wiring : Wiring) (key : ℕ
     by_key (inl same) = subst (λ i. FollowsAt ps new.stack i) (sym same) (held ps new.stack key place local
         (ap (λ (t : Stack L). frame_at t key) put ∙ local_frame s key (Some local) (record { place = place; local = None }) (ap (λ fs. cell_at fs key) frames ∙ at))
         (λ n. ap (λ (t : Stack L). awaits t key n) put ∙ local_awaits s key (Some local) key n ∙ awaits_more wiring place.node key old winds.items c.mid c.wound n ∙ ap (λ b. b || is_wound winds.items n) (a n) ∙ sym (is.kept n))
-        (is.own, inr is.some))
+        (is.own, inr (is.going, is.some)))
     by_key (inr differs) = moved ps old.stack new.stack k
         (ap (λ (t : Stack L). frame_at t k) put ∙ local_other s key (Some local) k differs ∙ ap (λ fs. cell_at fs k) frames)
         (λ n. ap (λ (t : Stack L). awaits t k n) put ∙ local_awaits s key (Some local) k n ∙ others_await wiring place.node key old winds.items c.mid c.wound k n differs)
@@ -142,7 +137,7 @@ module _ {F R L : Type 0} (ps : List (Promise F L)) (wiring : Wiring) (key : ℕ
     by_key (inl same) = subst (λ i. FollowsAt ps new.stack i) (sym same) (held ps new.stack key place local
         (ap (λ (t : Stack L). frame_at t key) put ∙ local_frame old.stack key (Some local) (record { place = place; local = None }) at)
         (λ n. ap (λ (t : Stack L). awaits t key n) put ∙ local_awaits old.stack key (Some local) key n ∙ a n ∙ is.answered n ∙ sym (is.kept n))
-        (is.own, inl is.waits))
+        (is.own, inl (is.waits, is.kept)))
     by_key (inr differs) = moved ps old.stack new.stack k
         (ap (λ (t : Stack L). frame_at t k) put ∙ local_other old.stack key (Some local) k differs)
         (λ n. ap (λ (t : Stack L). awaits t k n) put ∙ local_awaits old.stack key (Some local) k n)
@@ -160,49 +155,19 @@ module _ {F R L : Type 0} (ps : List (Promise F L)) (wiring : Wiring) (key : ℕ
         (λ n. ap (λ (t : Stack L). awaits t k n) ended)
         (others k differs)
 
-module _ {F R L : Type 0} (ps : List (Promise F L)) (wiring : Wiring) (place : Place) (old new : Board F R L) (most : ℕ) where
-  opened_at : (key : ℕ) (local : L) (mid : Board F R L) → IsOpened place local key old mid → frame_at mid.stack key ≡ Some (record { place = place; local = Some local })
-  opened_at key local mid o = ap (λ fs. cell_at fs key) o.inserted.put ∙ put_same old.stack.frames key _ None o.inserted.within
+-- a frame that was opened, and whose local is still to come
+module _ {F R L : Type 0} (ps : List (Promise F L)) (place : Place) (key : ℕ) (old mid : Board F R L) (o : IsOpened place key old mid) where
+  pub opened_at : frame_at mid.stack key ≡ Some (record { place = place; local = None })
+  opened_at = ap (λ fs. cell_at fs key) o.inserted.put ∙ put_same old.stack.frames key _ None o.inserted.within
 
-  opened_other : (key : ℕ) (local : L) (mid : Board F R L) → IsOpened place local key old mid → (k : ℕ) → k ≢ key → frame_at mid.stack k ≡ frame_at old.stack k
-  opened_other key local mid o k differs = ap (λ fs. cell_at fs k) o.inserted.put ∙ put_other old.stack.frames key k _ None differs
+  pub opened_other : (k : ℕ) → k ≢ key → frame_at mid.stack k ≡ frame_at old.stack k
+  opened_other k differs = ap (λ fs. cell_at fs k) o.inserted.put ∙ put_other old.stack.frames key k _ None differs
 
-  opened_awaits : (key : ℕ) (local : L) (mid : Board F R L) → IsOpened place local key old mid → (k n : ℕ) → awaits mid.stack k n ≡ awaits old.stack k n
-  opened_awaits key local mid o k n = ap (λ (b : Board F R L). awaits b.stack k n) o.rest
+  opened_awaits : (k n : ℕ) → awaits mid.stack k n ≡ awaits old.stack k n
+  opened_awaits k n = ap (λ (b : Board F R L). awaits b.stack k n) o.rest
 
-  idle : (key : ℕ) → Follows ps old.stack → frame_at old.stack key ≡ None → (n : ℕ) → awaits old.stack key n ≡ false
-  idle key fs none n = (fs key).awaits n ∙ ap (λ c. slots_in ps c n) none
+  pub opened_idle : Follows ps old.stack → Awaits mid.stack key no_slots
+  opened_idle fs n = opened_awaits key n ∙ (fs key).awaits n ∙ ap (λ c. slots_in ps c n) o.inserted.vacant
 
-  -- a new frame carries out its first step by the law of its node
-  pub begun_follows : (step : Step F R L) → Follows ps old.stack → IsStepFrom (promise_at ps place.node) no_slots most step → IsBegun wiring place old step new → Follows ps new.stack
-  begun_follows (Wind winds local) fs is b k = by_key (cases_eq k b.key) where
-    frames : new.stack.frames ≡ b.mid.stack.frames
-    frames = frames_kept wiring place.node b.key b.mid winds.items new b.wound
-
-    by_key : (k ≡ b.key) ⊎ (k ≢ b.key) → FollowsAt ps new.stack k
-    by_key (inl same) = subst (λ i. FollowsAt ps new.stack i) (sym same) (held ps new.stack b.key place local
-        (ap (λ fs. cell_at fs b.key) frames ∙ opened_at b.key local b.mid b.opened)
-        (λ n. awaits_more wiring place.node b.key b.mid winds.items new b.wound n ∙ ap (λ t. t || is_wound winds.items n) (opened_awaits b.key local b.mid b.opened b.key n ∙ idle b.key fs b.opened.inserted.vacant n) ∙ sym (is.kept n))
-        (is.own, inr is.some))
-    by_key (inr differs) = moved ps old.stack new.stack k
-        (ap (λ fs. cell_at fs k) frames ∙ opened_other b.key local b.mid b.opened k differs)
-        (λ n. others_await wiring place.node b.key b.mid winds.items new b.wound k n differs ∙ opened_awaits b.key local b.mid b.opened k n)
-        (fs k)
-  begun_follows (Wait local) fs is b k = by_key (cases_eq k b.key) where
-    same_stack : new.stack ≡ b.mid.stack
-    same_stack = ap (λ (x : Board F R L). x.stack) b.waits
-
-    by_key : (k ≡ b.key) ⊎ (k ≢ b.key) → FollowsAt ps new.stack k
-    by_key (inl same) = subst (λ i. FollowsAt ps new.stack i) (sym same) (held ps new.stack b.key place local
-        (ap (λ (t : Stack L). frame_at t b.key) same_stack ∙ opened_at b.key local b.mid b.opened)
-        (λ n. ap (λ (t : Stack L). awaits t b.key n) same_stack ∙ opened_awaits b.key local b.mid b.opened b.key n ∙ idle b.key fs b.opened.inserted.vacant n ∙ sym (is.kept n))
-        (is.own, inl is.waits))
-    by_key (inr differs) = moved ps old.stack new.stack k
-        (ap (λ (t : Stack L). frame_at t k) same_stack ∙ opened_other b.key local b.mid b.opened k differs)
-        (λ n. ap (λ (t : Stack L). awaits t k n) same_stack ∙ opened_awaits b.key local b.mid b.opened k n)
-        (fs k)
-  begun_follows (Unwind reply) fs is b k = subst (λ (t : Stack L). FollowsAt ps t k) (sym (ap (λ (x : Board F R L). x.stack) b ∙ answered_stack old place.parent place.graph place.call reply)) (fs k)
-
--- a new frame finds its slots free
-pub opened_may : {F R L : Type 0} (place : Place) (local : L) (key : ℕ) (old mid : Board F R L) (xs : List (ℕ × ℕ × F)) → IsOpened place local key old mid → ((k : ℕ) → frame_at old.stack k ≡ None → MayWind old.stack k xs) → MayWind mid.stack key xs
-opened_may place local key old mid xs o may = may_as old.stack mid.stack key xs (λ k n. ap (λ (b : Board _ _ _). awaits b.stack k n) o.rest) (may key o.inserted.vacant)
+  pub opened_others : Follows ps old.stack → FollowsBut ps mid.stack key
+  opened_others fs k differs = moved ps old.stack mid.stack k (opened_other k differs) (λ n. opened_awaits k n) (fs k)

@@ -2,16 +2,15 @@
 use Rattle.std.proofs.Common.{◌≡◌, refl, sym, ap, subst, ◌∙◌, arith, set, inl, inr}
 use Rattle.std.proofs.lemmas.Bool.{cases_eq}
 use Rattle.std.proofs.lemmas.List.Sums.{sum_by-set, sum_by-append, sum_by-cons}
-use Rattle.std.specs.Prelude.{ℕ, ◌≢◌, ◌⊎◌, ◌≤◌, ◌<◌, ◌+◌, ◌*◌, List, [], ◌∷◌, ◌++◌, length, Option, Some, None}
-use Rattle.std.specs.List.{sum_by}
+use Rattle.std.specs.Prelude.{ℕ, ◌≢◌, ◌⊎◌, ◌≤◌, ◌+◌, ◌*◌, List, [], ◌∷◌, ◌++◌, length, Option, Some, None}
 use Rattle.xlator_law.specs.declared.step.Step.{Step}
 use Rattle.xlator_law.specs.declared.step.Step.TheVariants.{Wind, Wait, Unwind}
 use Rattle.xlator_law.specs.declared.winds.WindNo.{WindNo}
 use Rattle.xlator_law.specs.declared.winds.Place.{Place}
-use Rattle.xlator_law.specs.Law.{Promise, Slots, no_slots, wind_cost, IsStepFrom}
+use Rattle.xlator_law.specs.Law.{Promise, Slots, wind_cost, IsStepFrom}
 use Rattle.frame_stack.specs.Cells.{cell_at, put_at, taken, IsInserted}
 use Rattle.frame_stack.specs.declared.frame.Frame.{Frame}
-use Rattle.frame_stack.specs.Stack.{Stack, frame_at, keeping, with_local, without_frame, wound, opener_at}
+use Rattle.frame_stack.specs.Stack.{Stack, frame_at, keeping, with_local, without_frame, opener_at}
 use Rattle.frame_stack.proofs.Counts.{taken_put}
 use Rattle.frame_stack.proofs.Puts.{put_last, put_in}
 use Rattle.frame_stack.proofs.Vacancy.{some_within}
@@ -21,12 +20,12 @@ use Rattle.frame_driver.specs.declared.items.Task.{Task}
 use Rattle.frame_driver.specs.declared.items.Task.TheVariants.{Enter, Reply}
 use Rattle.frame_driver.specs.Wiring.{below}
 use Rattle.frame_driver.specs.Follows.{promise_at, Fits}
-use Rattle.frame_driver.specs.Machine.{IsWoundDown, AreWoundDown, handed_to, answered_to, IsOpened, IsBegun, IsCarried}
+use Rattle.frame_driver.specs.Machine.{AreWoundDown, handed_to, answered_to, IsCarried}
 use Rattle.frame_driver.specs.Machine.AreWoundDown.{NoWind, OneMore}
 use Rattle.frame_driver.specs.Total.{weigh_by, weigh, weight, load_of, load, total, IsInRange, AreInRange}
 use Rattle.frame_driver.proofs.Winding.{frames_kept}
 
-cost_push : {F : Type 0} (child : ℕ → F → ℕ) (xs : List (ℕ × ℕ × F)) (x : ℕ × ℕ × F) → wind_cost child (xs ++ x ∷ []) ≡ wind_cost child xs + 1 + child x.0 x.2
+pub cost_push : {F : Type 0} (child : ℕ → F → ℕ) (xs : List (ℕ × ℕ × F)) (x : ℕ × ℕ × F) → wind_cost child (xs ++ x ∷ []) ≡ wind_cost child xs + 1 + child x.0 x.2
 cost_push child [] x = omega (arith)
 cost_push child (y ∷ ys) x = let ih = cost_push child ys x in omega (arith, ih)
 
@@ -95,7 +94,7 @@ module _ {F L : Type 0} (ps : List (Promise F L)) (s : Stack L) (key : ℕ) wher
       let o : weigh ps (cell_at s.frames key) ≡ 0 = ap (weigh ps) is in
       omega (arith, t, o)
 
-open_weight : {F L : Type 0} (ps : List (Promise F L)) (fs gs : List (Option (Frame L))) (key : ℕ) (f : Frame L) → IsInserted fs gs key f → weight ps gs ≡ weight ps fs + weigh ps (Some f)
+pub open_weight : {F L : Type 0} (ps : List (Promise F L)) (fs gs : List (Option (Frame L))) (key : ℕ) (f : Frame L) → IsInserted fs gs key f → weight ps gs ≡ weight ps fs + weigh ps (Some f)
 open_weight ps fs gs key f ins = ap (weight ps) ins.put ∙ by_place (cases_eq key (length fs)) where
   by_place : (key ≡ length fs) ⊎ (key ≢ length fs) → weight ps (put_at fs key (Some f)) ≡ weight ps fs + weigh ps (Some f)
   by_place (inl same) =
@@ -142,32 +141,3 @@ module _ {F R L : Type 0} (ps : List (Promise F L)) (wiring : Wiring) (fits : Fi
   carried_range n h (Wind winds local) c a = subst (λ (b : Board F R L). AreInRange n b.queue) (sym c.put) (wound_range ps wiring fits place.node key old n h winds.items c.mid c.wound a)
   carried_range n h (Wait local) c a = subst (λ (b : Board F R L). AreInRange n b.queue) (sym c) a
   carried_range n h (Unwind reply) c a = subst (λ (b : Board F R L). AreInRange n b.queue) (sym c) (answered_range ps wiring fits n (record old { stack = without_frame old.stack key }) place.parent place.graph place.call reply a)
-
-module _ {F R L : Type 0} (ps : List (Promise F L)) (wiring : Wiring) (fits : Fits ps wiring) (place : Place) (old new : Board F R L) (before : Slots) (most : ℕ) where
-  -- the first step is paid out of the cost of its fop
-  pub begun_total : (step : Step F R L) → IsStepFrom (promise_at ps place.node) before most step → IsBegun wiring place old step new → total ps new ≤ total ps old + 1 + 3 * most
-  begun_total (Wind winds local) is b =
-      let frames : new.stack.frames ≡ b.mid.stack.frames = frames_kept wiring place.node b.key b.mid winds.items new b.wound in
-      let f : weight ps new.stack.frames ≡ weight ps b.mid.stack.frames = ap (weight ps) frames in
-      let w = open_weight ps old.stack.frames b.mid.stack.frames b.key _ b.opened.inserted in
-      let o : taken b.mid.stack.openers ≡ taken old.stack.openers = ap (λ (x : Board F R L). taken x.stack.openers) b.opened.rest in
-      let q : load ps b.mid.queue ≡ load ps old.queue = ap (λ (x : Board F R L). load ps x.queue) b.opened.rest in
-      let t = wound_total ps wiring fits place.node b.key b.mid winds.items new b.wound in
-      let paid = is.paid in
-      omega (arith, f, w, o, q, t, paid)
-  begun_total (Wait local) is b =
-      let f : weight ps new.stack.frames ≡ weight ps b.mid.stack.frames = ap (λ (x : Board F R L). weight ps x.stack.frames) b.waits in
-      let w = open_weight ps old.stack.frames b.mid.stack.frames b.key _ b.opened.inserted in
-      let o : taken new.stack.openers ≡ taken old.stack.openers = ap (λ (x : Board F R L). taken x.stack.openers) b.waits ∙ ap (λ (x : Board F R L). taken x.stack.openers) b.opened.rest in
-      let q : load ps new.queue ≡ load ps old.queue = ap (λ (x : Board F R L). load ps x.queue) b.waits ∙ ap (λ (x : Board F R L). load ps x.queue) b.opened.rest in
-      let paid = is.paid in
-      omega (arith, f, w, o, q, paid)
-  begun_total (Unwind reply) is b =
-      let t : total ps new ≡ total ps (answered_to old place.parent place.graph place.call reply) = ap (total ps) b in
-      let a = answered_total ps wiring fits old place.parent place.graph place.call reply in
-      omega (arith, t, a)
-
-  pub begun_range : (n : ℕ) → length ps ≤ n → (step : Step F R L) → IsBegun wiring place old step new → AreInRange n old.queue → AreInRange n new.queue
-  begun_range n h (Wind winds local) b a = wound_range ps wiring fits place.node b.key b.mid n h winds.items new b.wound (subst (λ (x : Board F R L). AreInRange n x.queue) (sym b.opened.rest) a)
-  begun_range n h (Wait local) b a = subst (λ (x : Board F R L). AreInRange n x.queue) (sym b.waits) (subst (λ (x : Board F R L). AreInRange n x.queue) (sym b.opened.rest) a)
-  begun_range n h (Unwind reply) b a = subst (λ (x : Board F R L). AreInRange n x.queue) (sym b) (answered_range ps wiring fits n old place.parent place.graph place.call reply a)

@@ -1,14 +1,13 @@
 -- What a frame's winds leave as it was, and which slots the frame awaits after them.
-use Rattle.std.proofs.Common.{◌≡◌, refl, sym, ap, subst, ◌∙◌, arith}
+use Rattle.std.proofs.Common.{◌≡◌, refl, sym, ap, subst, ◌∙◌}
 use Rattle.std.proofs.lemmas.Bool.{eqb-true, eqb-false, eq-eqb, ne_eqb}
 use Rattle.std.proofs.lemmas.List.{append-nil}
-use Rattle.std.specs.Prelude.{ℕ, ◌≢◌, ◌==◌, ◌||◌, ◌&&◌, not, Bool, true, false, List, [], ◌∷◌, ◌++◌, Option, Some, None, IsSome}
-use Rattle.xlator_law.specs.Law.{Slots, is_wound, with_winds}
-use Rattle.frame_stack.specs.Stack.{Stack, frame_at, awaits, AwaitsMore}
-use Rattle.frame_stack.specs.Following.{Awaits, MayOpen}
+use Rattle.std.specs.Prelude.{ℕ, ◌≢◌, ◌==◌, ◌||◌, ◌&&◌, Bool, true, false, List, [], ◌∷◌, ◌++◌, Option, Some, None, IsSome}
+use Rattle.xlator_law.specs.Law.{Slots, is_wound}
+use Rattle.frame_stack.specs.Stack.{Stack, frame_at, awaits}
+use Rattle.frame_stack.specs.Following.{MayOpen}
 use Rattle.frame_driver.specs.declared.board.Board.{Board}
 use Rattle.frame_driver.specs.declared.wiring.Wiring.{Wiring}
-use Rattle.frame_driver.specs.Wiring.{below}
 use Rattle.frame_driver.specs.Machine.{IsWoundDown, AreWoundDown, handed_to, MayWind}
 use Rattle.frame_driver.specs.Machine.AreWoundDown.{NoWind, OneMore}
 

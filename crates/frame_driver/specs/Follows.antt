@@ -1,7 +1,7 @@
 -- Frames that follow their nodes: each frame awaits exactly the slots that its local has unanswered, keeps a
--- local that its node owns, and waits for something.
-use Rattle.std.specs.Prelude.{ℕ, ◌≡◌, ◌≢◌, ◌⊎◌, ◌<◌, ◌≤◌, Bool, true, false, List, length, Option, Some, None, slice_index_or, map}
-use Rattle.xlator_law.specs.Law.{Promise, Slots, no_slots, IsSomeSlot, breadth}
+-- local that its node owns, and waits for winds, or for one thing that is no wind.
+use Rattle.std.specs.Prelude.{ℕ, ◌≡◌, ◌≢◌, ◌⊎◌, ◌<◌, ◌≤◌, true, false, List, length, Option, Some, None, slice_index_or}
+use Rattle.xlator_law.specs.Law.{Promise, Slots, no_slots, IsNone, IsSomeSlot, breadth}
 use Rattle.frame_stack.specs.declared.frame.Frame.{Frame}
 use Rattle.frame_stack.specs.Stack.{Stack, frame_at, awaits}
 use Rattle.frame_driver.specs.declared.wiring.Wiring.{Wiring}
@@ -26,7 +26,7 @@ module _ {F L : Type 0} where
 
   abbrev pub StandsBy : Promise F L → Option L → Type 0
   StandsBy p None = ⊥
-  StandsBy p (Some l) = (p.owns l ≡ true) × ((p.waits l ≡ true) ⊎ IsSomeSlot (p.unanswered l))
+  StandsBy p (Some l) = (p.owns l ≡ true) × (((p.waits l ≡ true) × IsNone (p.unanswered l)) ⊎ ((p.waits l ≡ false) × IsSomeSlot (p.unanswered l)))
 
   abbrev pub Stands : List (Promise F L) → Option (Frame L) → Type 0
   Stands ps None = Unit {0}

@@ -2,4 +2,10 @@ pub mod Wiring
 pub mod Follows
 pub mod Machine
 pub mod Total
+pub mod Traces
+pub mod Parts
+pub mod Bailing
+pub mod Leading
+pub mod Waits
+pub mod Account
 pub mod Sound

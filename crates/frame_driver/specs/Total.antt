@@ -1,6 +1,6 @@
 -- The work that is left, as one number: open winds, what the locals of frames may still spend, and what the
 -- tasks of the queue may. Each task makes it fall.
-use Rattle.std.specs.Prelude.{ℕ, ◌+◌, ◌*◌, ◌<◌, List, [], ◌∷◌, length, Option, Some, None}
+use Rattle.std.specs.Prelude.{ℕ, ◌+◌, ◌*◌, ◌<◌, List, [], ◌∷◌, Option, Some, None}
 use Rattle.std.specs.List.{sum_by}
 use Rattle.xlator_law.specs.Law.{Promise}
 use Rattle.frame_stack.specs.Cells.{taken}

@@ -1,5 +1,5 @@
 -- Which node is the child of which.
-use Rattle.std.specs.Prelude.{ℕ, ◌+◌, ◌*◌, cond, nat_lt, Option, Some, None, slice_index_or}
+use Rattle.std.specs.Prelude.{ℕ, ◌+◌, ◌*◌, cond, nat_lt, Option, None, slice_index_or}
 use Rattle.frame_driver.specs.declared.wiring.Wiring.{Wiring}
 
 abbrev pub below : Wiring → ℕ → ℕ → Option ℕ

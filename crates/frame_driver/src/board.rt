@@ -1,8 +1,8 @@
-ghost use Rattle.std.specs.Prelude.{List, ◌≡◌, ◌∷◌, ◌++◌, [], false, None, Some, IsSome, IsSomeAnd, IfSome, IfOk, OnOk, length};
-ghost use Rattle.frame_stack.specs.Stack.{empty_stack, frame_at, awaits, opener_of};
+ghost use Rattle.std.specs.Prelude.{List, ◌≡◌, ◌∷◌, ◌++◌, [], false, None, Some, IsSome, IsSomeAnd, IfOk, OnOk, IsErrOf, length};
+ghost use Rattle.frame_stack.specs.Stack.{empty_stack, HasParent, frame_at, awaits};
 ghost use Rattle.xlator_law.specs.Law.{Promise};
 ghost use Rattle.frame_driver.specs.Sound.{Sound};
-ghost use Rattle.frame_driver.specs.Machine.{IsWoundDown, AreWoundDown, answered_to, IsBegun, IsOpened, IsCarried, IsEnded, out_of, MayWind, MayBegin, MayCarry};
+ghost use Rattle.frame_driver.specs.Machine.{IsWoundDown, AreWoundDown, answered_to, IsOpened, IsCarried, IsEnded, out_of, MayWind, MayCarry};
 
 use crate::items::{Answered, Sent, Task};
 use crate::queue::Queue;
@@ -52,7 +52,8 @@ impl<F: Drop, R: Drop, L: Drop> Board<F, R, L> {
     ) -> Result<(), Stop>
         requires open { IsSome (frame_at self.old.stack frame) }
         requires slot { awaits self.old.stack frame wound.1 ≡ false }
-        ensures { OnOk result (IsWoundDown wiring.now node frame self.old self.new wound) }
+        ensures wound { OnOk result (IsWoundDown wiring.now node frame self.old self.new wound) }
+        ensures winds { IsErrOf result Stop.Winds → self.new.stack.opened ≡ 4294967295 }
     {
         let (child, slot, fop) = wound;
         if !self.stack.has_room() {
@@ -92,7 +93,8 @@ impl<F: Drop, R: Drop, L: Drop> Board<F, R, L> {
     ) -> Result<(), Stop>
         requires open { IsSome (frame_at self.old.stack frame) }
         requires may { MayWind self.old.stack frame winds.items }
-        ensures { OnOk result (AreWoundDown wiring.now node frame self.old winds.items self.new) }
+        ensures wound { OnOk result (AreWoundDown wiring.now node frame self.old winds.items self.new) }
+        ensures winds { IsErrOf result Stop.Winds → self.new.stack.opened ≡ 4294967295 }
     {
         let mut rest = Queue::from_vec(winds);
         while let Some(wound) = rest.pop() {
@@ -117,55 +119,21 @@ impl<F: Drop, R: Drop, L: Drop> Board<F, R, L> {
         }
     }
 
-    // Carries out the first step of a frame at this place.
-    pub(crate) fn begin(
-        &mut self,
-        alloc: Global,
-        wiring: &Wiring,
-        place: Place,
-        step: Step<F, R, L>,
-    ) -> Result<(), Stop>
-        requires call { IfSome place.parent (λ w. IfSome (opener_of self.old.stack w) (λ o. o.call ≡ place.call)) }
-        requires may { MayBegin self.old.stack step }
-        ensures { OnOk result (IsBegun wiring.now place self.old step self.new) }
-    {
-        match step {
-            Step::Wind(winds, local) => {
-                let frame = self.open(alloc, place, local)?;
-                self.wind_all(alloc, wiring, place.node, frame, winds)?;
-                Ok(())
-            }
-            Step::Wait(local) => {
-                let frame = self.open(alloc, place, local)?;
-                self.waiting.push(frame)?;
-                Ok(())
-            }
-            Step::Unwind(reply) => {
-                self.answer(place.parent, place.graph, place.call, reply)?;
-                Ok(())
-            }
-        }
-    }
-
-    fn open(&mut self, alloc: Global, place: Place, local: L) -> Result<u32, Stop>
-        requires call { IfSome place.parent (λ w. IfSome (opener_of self.old.stack w) (λ o. o.call ≡ place.call)) }
-        ensures { IfOk result (λ key. IsOpened place local key self.old self.new) }
+    // Opens a frame at this place, whose local is still to come.
+    pub(crate) fn begin(&mut self, alloc: Global, place: Place) -> Result<u32, AllocError>
+        requires parent { HasParent self.old.stack place.graph place.call place.parent }
+        ensures { IfOk result (λ key. IsOpened place key self.old self.new) }
     {
         if !self.stack.has_room() {
-            return Err(Stop::Mem);
+            return Err(AllocError);
         }
-        let frame = self.stack.open(
-            alloc,
-            place.graph,
-            place.call,
-            place.node,
-            place.parent,
-            local,
-        )?;
+        let frame = self
+            .stack
+            .begin(alloc, place.graph, place.call, place.node, place.parent)?;
         Ok(frame)
     }
 
-    // Carries out a further step of an open frame whose local is out.
+    // Carries out a step of an open frame whose local is out.
     pub(crate) fn carry(
         &mut self,
         alloc: Global,
@@ -176,7 +144,8 @@ impl<F: Drop, R: Drop, L: Drop> Board<F, R, L> {
     ) -> Result<(), Stop>
         requires out { IsSomeAnd (frame_at self.old.stack frame) (λ f. f.local ≡ None) }
         requires may { MayCarry self.old.stack frame step }
-        ensures { OnOk result (IsCarried wiring.now frame place self.old step self.new) }
+        ensures carried { OnOk result (IsCarried wiring.now frame place self.old step self.new) }
+        ensures winds { IsErrOf result Stop.Winds → self.new.stack.opened ≡ 4294967295 }
     {
         match step {
             Step::Wind(winds, local) => {
@@ -216,7 +185,11 @@ impl<F: Drop, R: Drop, L: Drop> Board<F, R, L> {
     // Ends a wind that is pending, and gives the frame and slot that opened it. `None` comes exactly where
     // it is not pending, and then nothing changed: the reply is late.
     #[tactic(auto, using(crate::proofs::Ends::ended_won, crate::proofs::Ends::ended_lost))]
-    pub(crate) fn end_wind(&mut self, alloc: Global, wind: WindNo) -> Result<Option<Parent>, Stop>
+    pub(crate) fn end_wind(
+        &mut self,
+        alloc: Global,
+        wind: WindNo,
+    ) -> Result<Option<Parent>, AllocError>
         ensures { IfOk result (λ parent. IsEnded wind self.old parent self.new) }
     {
         match self.stack.settle(wind) {

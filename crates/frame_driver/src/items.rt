@@ -25,3 +25,11 @@ pub struct Answered<R> {
     pub call: u32,
     pub reply: R,
 }
+
+/// A wind that is ended from outside, as by the end of its brick's connection, with the reply that its frame
+/// gets.
+#[derive(Drop)]
+pub struct Bailed<R> {
+    pub wind: WindNo,
+    pub reply: R,
+}

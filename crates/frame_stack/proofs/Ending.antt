@@ -1,26 +1,27 @@
 -- The step that ends a wind keeps what every reached stack keeps.
 use Rattle.std.proofs.Common.{◌≡◌, refl, sym, ap, subst, ◌∙◌, arith, set, inl, inr}
-use Rattle.std.specs.Prelude.{ℕ, ◌≢◌, ◌⊎◌, suc, ◌<◌, ◌+◌, ◌*◌, true, List, [], ◌∷◌, ◌++◌, length, Some, None}
+use Rattle.std.specs.Prelude.{ℕ, ◌≢◌, ◌⊎◌, suc, ◌≤◌, ◌<◌, ◌+◌, ◌*◌, true, List, [], ◌∷◌, ◌++◌, length, Some, None}
 use Rattle.std.specs.List.{list_any}
 use Rattle.std.proofs.lemmas.Bool.{cases_eq}
 use Rattle.std.proofs.lemmas.List.{length-set, get_or-set_same, get_or-set_other}
 use Rattle.xlator_law.specs.declared.winds.WindNo.{WindNo}
 use Rattle.frame_stack.specs.declared.frame.Opener.{Opener}
 use Rattle.frame_stack.specs.Cells.{cell_at}
-use Rattle.frame_stack.specs.Stack.{Stack, Line, word_at, word_of, replied, next_free, resumed}
+use Rattle.frame_stack.specs.Stack.{Stack, Line, word_at, word_of, pending, replied, next_free, opener_of, resumed}
 use Rattle.frame_stack.specs.Moves.{Move, is_opening, is_ending, is_opening_of, opens_in, ends_in}
 use Rattle.frame_stack.specs.Reached.{ending}
 use Rattle.frame_stack.proofs.Vacancy.{some_within}
 use Rattle.frame_stack.proofs.Sound.{in_range}
 use Rattle.frame_stack.proofs.Lists.{count_push, count_emptied}
 use Rattle.frame_stack.proofs.Winds.{same_wind, other_slot, other_turn}
-use Rattle.frame_stack.proofs.Told.{AreTold, IsSlot, orderly_push, is_of_graph}
-use Rattle.frame_stack.proofs.Opening.{told_push, slot_later, says_push}
+use Rattle.frame_stack.proofs.Reported.{AreReported, IsSlot, still_under, openings_same, orderly_push, is_of_graph}
+use Rattle.frame_stack.proofs.Openers.{cases_wind, opener_resumed}
+use Rattle.frame_stack.proofs.Opening.{reported_push, slot_later, says_push}
 
 module _ {L : Type 0} (s : Stack L) (moves : List Move) (handed : List Line) (w : WindNo) (o : Opener) where
-  pub wind_ended : AreTold s moves handed → word_at s w.slot ≡ replied w → cell_at s.openers w.slot ≡ Some o → AreTold (resumed s w (Some o)) (moves ++ ending w o ∷ []) handed
+  pub wind_ended : AreReported s moves handed → word_at s w.slot ≡ replied w → cell_at s.openers w.slot ≡ Some o → AreReported (resumed s w (Some o)) (moves ++ ending w o ∷ []) handed
   wind_ended t at is = record {
-    told = told_push handed s.lines moves (ending w o) t.told;
+    reported = reported_push handed s.lines moves (ending w o) t.reported;
     orderly = orderly_push [] moves (ending w o) t.orderly (was_opened, (t.ended w).no (omega (arith, at)));
     lengths = length-set s.words w.slot (next_free w) ∙ t.lengths ∙ sym (length-set s.openers w.slot None);
     opened = λ v. elim (cases_eq v.slot w.slot) [
@@ -42,6 +43,8 @@ module _ {L : Type 0} (s : Stack L) (moves : List Move) (handed : List Line) (w 
       | inl same ↦ absurd (let e : None ≡ Some x = sym (get_or-set_same s.openers w.slot None None inside) ∙ ap (cell_at (set s.openers w.slot None)) (sym same) ∙ has in cc)
       | inr differs ↦ t.held k x (sym (get_or-set_other s.openers w.slot k None None differs) ∙ has)
     ];
+    parents = λ key f is. still_under s (resumed s w (Some o)) f.place (λ v h. (risen v h (cases_eq v.slot w.slot), moved v (cases_wind v w))) (t.parents key f is);
+    numbered = ap (λ (ms : List Move). length ms) (openings_same moves (ending w o) refl) ∙ t.numbered;
     counted = λ g.
         let a = count_push (opens_in g) moves (ending w o) in
         let b = count_push (ends_in g) moves (ending w o) in
@@ -63,6 +66,14 @@ module _ {L : Type 0} (s : Stack L) (moves : List Move) (handed : List Line) (w 
 
     other : (k : ℕ) → k ≢ w.slot → word_of (set s.words w.slot (next_free w)) k ≡ word_of s.words k
     other k differs = get_or-set_other s.words w.slot k (next_free w) 0 differs
+
+    risen : (v : WindNo) → pending v ≤ word_at s v.slot → (v.slot ≡ w.slot) ⊎ (v.slot ≢ w.slot) → pending v ≤ word_of (set s.words w.slot (next_free w)) v.slot
+    risen v h (inl same) = let old = before v.slot same in let new = after v.slot same in omega (arith, h, old, new)
+    risen v h (inr differs) = let e = other v.slot differs in omega (arith, h, e)
+
+    moved : (v : WindNo) → (v ≡ w) ⊎ (v ≢ w) → (opener_of (resumed s w (Some o)) v ≡ opener_of s v) ⊎ (opener_of (resumed s w (Some o)) v ≡ None)
+    moved v (inl same) = inr (ap (opener_of (resumed s w (Some o))) same ∙ (opener_resumed s w (Some o) at).here)
+    moved v (inr differs) = inl ((opener_resumed s w (Some o) at).others v differs)
 
     -- the slot's opener is of this wind's turn
     was_opened : list_any (is_opening_of (ending w o)) moves ≡ true

@@ -7,11 +7,11 @@ use Rattle.xlator_law.specs.declared.winds.WindNo.{WindNo}
 use Rattle.frame_stack.specs.declared.frame.Opener.{Opener}
 use Rattle.frame_stack.specs.declared.frame.Frame.{Frame}
 use Rattle.frame_stack.specs.Cells.{cell_at, IsInserted}
-use Rattle.frame_stack.specs.Stack.{Stack, Line, empty_stack, frame_at, word_at, pending, replied, awaits, HasNoWind, with_local, without_frame, opener_at, IsWound, after_settle, after_resume, resumed}
+use Rattle.frame_stack.specs.Stack.{Stack, Line, empty_stack, HasParent, frame_at, word_at, pending, replied, awaits, HasNoWind, with_local, without_frame, opener_at, IsWound, after_settle, after_resume, resumed}
 use Rattle.frame_stack.specs.Moves.{Move}
 use Rattle.frame_stack.specs.Reached.{IsReached, Started, Opened, Wound, Handed, Settled, Resumed, Kept, Freed, Leads, opening, ending, end_of, ended_by}
-use Rattle.frame_stack.proofs.Told.{IsSlot}
-use Rattle.frame_stack.proofs.Balanced.{told}
+use Rattle.frame_stack.proofs.Reported.{IsSlot}
+use Rattle.frame_stack.proofs.Balanced.{reported}
 
 module _ {L : Type 0} where
   -- a step with no move and no line
@@ -21,8 +21,8 @@ module _ {L : Type 0} where
   pub leads_new : IsReached {L = L} empty_stack [] []
   leads_new = Started
 
-  pub leads_open : (s t : Stack L) (key : ℕ) (f : Frame L) → IsInserted s.frames t.frames key f → t ≡ record s { frames = t.frames } → Leads s t [] []
-  leads_open s t key f ins is = quietly s t (λ moves handed r. Opened s t moves handed key f r ins is)
+  pub leads_open : (s t : Stack L) (key : ℕ) (f : Frame L) → HasParent s f.place.graph f.place.call f.place.parent → IsInserted s.frames t.frames key f → t ≡ record s { frames = t.frames } → Leads s t [] []
+  leads_open s t key f has ins is = quietly s t (λ moves handed r. Opened s t moves handed key f r has ins is)
 
   pub leads_wind : (s t : Stack L) (key slot : ℕ) (w : WindNo) → IsSome (frame_at s key) → awaits s key slot ≡ false → IsWound s t key slot w → Leads s t (opening w (opener_at s key slot) ∷ []) []
   leads_wind s t key slot w there free is moves handed r = subst (λ h. IsReached t (moves ++ opening w (opener_at s key slot) ∷ []) h) (sym (append-nil handed)) (Wound s t moves handed key slot w r there free is)
@@ -39,7 +39,7 @@ module _ {L : Type 0} where
   pub leads_resume : (s : Stack L) (w : WindNo) → Leads s (after_resume s w) (ended_by s w) []
   leads_resume s w = by_case (word_at s w.slot == replied w) refl where
     by_cell : (c : Option Opener) → cell_at s.openers w.slot ≡ c → word_at s w.slot ≡ replied w → Leads s (resumed s w c) (end_of w c) []
-    by_cell None at e moves handed r = absurd (let slot = subst (λ c. IsSlot moves w.slot c (word_at s w.slot)) at ((told s moves handed r).slots w.slot) in let f = slot.1 in omega (arith, e, f))
+    by_cell None at e moves handed r = absurd (let slot = subst (λ c. IsSlot moves w.slot c (word_at s w.slot)) at ((reported s moves handed r).slots w.slot) in let f = slot.1 in omega (arith, e, f))
     by_cell (Some o) at e moves handed r = subst (λ h. IsReached (resumed s w (Some o)) (moves ++ ending w o ∷ []) h) (sym (append-nil handed)) (Resumed s (resumed s w (Some o)) moves handed w o r e at refl)
 
     by_case : (b : Bool) → (word_at s w.slot == replied w) ≡ b → Leads s (cond b (resumed s w (cell_at s.openers w.slot)) s) (cond b (end_of w (cell_at s.openers w.slot)) []) []

@@ -4,7 +4,9 @@ pub mod Sound
 pub mod Lists
 pub mod Counts
 pub mod Winds
-pub mod Told
+pub mod Openers
+pub mod Changes
+pub mod Reported
 pub mod Steps
 pub mod Opening
 pub mod Ending

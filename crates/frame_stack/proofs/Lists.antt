@@ -1,6 +1,6 @@
 -- Tests and counts over a list that grows at its end or has one item written.
 use Rattle.std.proofs.Common.{◌≡◌, refl, ap, subst, ◌∙◌, arith, set}
-use Rattle.std.specs.Prelude.{ℕ, ◌≢◌, zero, suc, ◌≤◌, ◌<◌, ◌+◌, ◌==◌, ◌||◌, ◌&&◌, cond, Bool, true, false, List, [], ◌∷◌, ◌++◌, length, Option, Some, None, count_by}
+use Rattle.std.specs.Prelude.{ℕ, ◌≢◌, zero, suc, ◌≤◌, ◌<◌, ◌+◌, ◌==◌, ◌||◌, ◌&&◌, cond, Bool, true, false, List, [], ◌∷◌, ◌++◌, length, slice_get, Option, Some, None, count_by}
 use Rattle.std.specs.List.{list_any}
 use Rattle.std.proofs.lemmas.Bool.{eqb-true, eqb-false}
 use Rattle.std.proofs.lemmas.List.Folds.{list_any-append}
@@ -47,6 +47,16 @@ rest_no false b h = h
 module _ {X : Type 0} where
   pub any_push : (p : X → Bool) (xs : List X) (x : X) → list_any p (xs ++ x ∷ []) ≡ (list_any p xs || p x)
   any_push p xs x = list_any-append p xs (x ∷ []) ∙ ap (λ b. list_any p xs || b) (or_false (p x))
+
+  -- an item stays where it is as others are put behind it, and the one behind them all is the last
+  pub get_later : (xs : List X) (x y : X) (k : ℕ) → slice_get xs k ≡ Some y → slice_get (xs ++ x ∷ []) k ≡ Some y
+  get_later [] x y k is = absurd cc
+  get_later (z ∷ xs) x y zero is = is
+  get_later (z ∷ xs) x y (suc k) is = get_later xs x y k is
+
+  pub get_last : (xs : List X) (x : X) → slice_get (xs ++ x ∷ []) (length xs) ≡ Some x
+  get_last [] x = refl
+  get_last (z ∷ xs) x = get_last xs x
 
   pub count_push : (p : X → Bool) (xs : List X) (x : X) → count_by p (xs ++ x ∷ []) ≡ count_by p xs + cond (p x) 1 0
   count_push p xs x = let a = sum_by-append (λ y. cond (p y) 1 0) xs (x ∷ []) in let c = sum_by-cons (λ y. cond (p y) 1 0) x [] in omega (arith, a, c)

@@ -15,6 +15,12 @@ module _ {X : Type 0} where
   pub put_within : (xs : List X) (k : ℕ) (x : X) → k < length xs → put_at xs k x ≡ set xs k x
   put_within xs k x h = put_in xs k x (λ e. omega (arith, h, e))
 
+  -- what is read where the default was written is the default, also past the end
+  pub set_default : (xs : List X) (k : ℕ) (d : X) → get_or (set xs k d) k d ≡ d
+  set_default [] k d = refl
+  set_default (x ∷ xs) zero d = refl
+  set_default (x ∷ xs) (suc k) d = set_default xs k d
+
   push_same : (xs : List X) (x d : X) → get_or (xs ++ x ∷ []) (length xs) d ≡ x
   push_same [] x d = refl
   push_same (y ∷ ys) x d = push_same ys x d

@@ -1,6 +1,6 @@
 -- The openings and ends of winds over a run, in order. Each wind is opened once at most. It is ended once
 -- at most, after its opening and in the graph and call of its opening. Ours.
-use Rattle.std.specs.Prelude.{ℕ, ◌≡◌, ◌==◌, ◌&&◌, Bool, true, false, not, List, [], ◌∷◌, ◌++◌, count_by}
+use Rattle.std.specs.Prelude.{ℕ, ◌≡◌, ◌==◌, ◌&&◌, Bool, true, false, not, cond, List, [], ◌∷◌, ◌++◌, count_by}
 use Rattle.std.specs.List.{list_any}
 use Rattle.xlator_law.specs.declared.winds.WindNo.{WindNo}
 use Rattle.frame_stack.specs.Stack.{Line}
@@ -37,6 +37,11 @@ IsNextAs false passed m = (list_any (is_opening_of m) passed ≡ true) × (list_
 abbrev pub AreOrderly : List Move → List Move → Type 0
 AreOrderly passed [] = Unit {0}
 AreOrderly passed (m ∷ ms) = IsNextAs m.opened passed m × AreOrderly (passed ++ m ∷ []) ms
+
+-- the openings among them, in order
+abbrev pub openings : List Move → List Move
+openings [] = []
+openings (m ∷ ms) = cond m.opened (m ∷ openings ms) (openings ms)
 
 abbrev pub opens_in : ℕ → Move → Bool
 opens_in g m = m.opened && (m.graph == g)

@@ -1,12 +1,12 @@
 -- The stacks that calls lead to from the new one, each with the moves of its winds so far and the lines
 -- that were handed over. Every call that changes a stack is one of these steps.
-use Rattle.std.specs.Prelude.{ℕ, ◌≡◌, ◌≢◌, ◌==◌, cond, true, false, List, [], ◌∷◌, ◌++◌, map, Option, Some, None, IsSome, IsSomeAnd, slice_set}
+use Rattle.std.specs.Prelude.{ℕ, ◌≡◌, ◌≢◌, ◌==◌, cond, true, false, List, [], ◌∷◌, ◌++◌, map, length, Option, Some, None, IsSome, IfSome, IsSomeAnd, slice_get, slice_set}
 use Rattle.xlator_law.specs.declared.winds.WindNo.{WindNo}
 use Rattle.frame_stack.specs.declared.frame.Frame.{Frame}
 use Rattle.frame_stack.specs.declared.frame.Opener.{Opener}
 use Rattle.frame_stack.specs.Cells.{cell_at, IsInserted}
-use Rattle.frame_stack.specs.Stack.{Stack, Line, empty_stack, frame_at, word_at, awaits, HasNoWind, with_local, without_frame, opener_at, opener_of, IsWound, pending, replied, resumed}
-use Rattle.frame_stack.specs.Moves.{Move, line_of, AreOrderly, opened_in, ended_in}
+use Rattle.frame_stack.specs.Stack.{Stack, Line, empty_stack, HasParent, frame_at, word_at, awaits, HasNoWind, with_local, without_frame, opener_at, opener_of, IsWound, pending, replied, resumed}
+use Rattle.frame_stack.specs.Moves.{Move, line_of, AreOrderly, openings, opened_in, ended_in}
 
 abbrev pub opening : WindNo → Opener → Move
 opening w o = record { wind = w; graph = o.graph; call = o.call; opened = true }
@@ -22,7 +22,7 @@ module _ {L : Type 0} where
   pub data IsReached : Stack L → List Move → List Line → Type 0 where
     Started : IsReached empty_stack [] []
     Opened : (s t : Stack L) → (moves : List Move) → (handed : List Line) → (key : ℕ) → (f : Frame L) →
-        IsReached s moves handed → IsInserted s.frames t.frames key f → t ≡ record s { frames = t.frames } →
+        IsReached s moves handed → HasParent s f.place.graph f.place.call f.place.parent → IsInserted s.frames t.frames key f → t ≡ record s { frames = t.frames } →
         IsReached t moves handed
     Wound : (s t : Stack L) → (moves : List Move) → (handed : List Line) → (key slot : ℕ) → (w : WindNo) →
         IsReached s moves handed → IsSome (frame_at s key) → awaits s key slot ≡ false → IsWound s t key slot w →
@@ -59,13 +59,18 @@ module _ {L : Type 0} where
   HasNoFrame s g = (key : ℕ) (f : Frame L) → frame_at s key ≡ Some f → f.place.graph ≢ g
 
   -- The lines that were handed over, and those that were not yet, are those of the moves of the winds; these are
-  -- orderly; a graph without an open frame has ended all winds that it opened; and the frame that opened a
-  -- wind stays open until the wind is resumed.
+  -- orderly; a graph without an open frame has ended all winds that it opened; the frame that opened a wind
+  -- stays open until the wind is resumed; the wind that opened a frame, while it is open, is of the frame's
+  -- graph and call; as many winds are counted as were opened; and an open wind's number is its place among
+  -- the openings.
   pub record IsBalanced (s : Stack L) (moves : List Move) (handed : List Line) : Type 0 where
-    pub told : handed ++ s.lines ≡ map line_of moves
+    pub reported : handed ++ s.lines ≡ map line_of moves
     pub orderly : AreOrderly [] moves
     pub drained : (g : ℕ) → HasNoFrame s g → opened_in g moves ≡ ended_in g moves
     pub held : (w : WindNo) (o : Opener) → opener_of s w ≡ Some o → IsOpenAs s.frames o
+    pub parents : (key : ℕ) (f : Frame L) → frame_at s key ≡ Some f → IfSome f.place.parent (λ w. IfSome (opener_of s w) (λ o. (o.graph ≡ f.place.graph) × (o.call ≡ f.place.call)))
+    pub counted : length (openings moves) ≡ s.opened
+    pub numbered : (w : WindNo) (o : Opener) → opener_of s w ≡ Some o → slice_get (openings moves) o.number ≡ Some (opening w o)
 
 abbrev pub WindsAreBalanced : Type 0 → Type 0
 WindsAreBalanced L = (s : Stack L) (moves : List Move) (handed : List Line) → IsReached s moves handed → IsBalanced s moves handed

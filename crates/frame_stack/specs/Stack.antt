@@ -1,7 +1,7 @@
 -- The frames of a mount and their winds. A slot of the stack has a word: four times its turn, while it is
 -- free; one more, while the wind of that slot and turn is pending; two more, once it is replied. It goes to
 -- the next turn when the wind is resumed, so words only rise. Ours, after GlusterFS's call stacks.
-use Rattle.std.specs.Prelude.{ℕ, ◌≡◌, ◌<◌, ◌≤◌, ◌+◌, ◌*◌, ◌==◌, ◌&&◌, ◌||◌, Bool, true, false, cond, not, List, [], ◌∷◌, ◌++◌, length, Option, Some, None, slice_index_or, slice_set}
+use Rattle.std.specs.Prelude.{ℕ, ◌≡◌, ◌<◌, ◌≤◌, ◌+◌, ◌*◌, ◌==◌, ◌&&◌, ◌||◌, Bool, true, false, cond, not, List, [], ◌∷◌, ◌++◌, length, Option, Some, None, IfSome, IsSomeAnd, slice_index_or, slice_set}
 use Rattle.std.specs.List.{list_any}
 use Rattle.xlator_law.specs.declared.winds.WindNo.{WindNo}
 use Rattle.xlator_law.specs.declared.winds.Parent.{Parent}
@@ -54,6 +54,10 @@ module _ {L : Type 0} where
   abbrev pub frame : ℕ → ℕ → ℕ → Option WindNo → L → Frame L
   frame graph call node parent local = record { place = record { graph = graph; call = call; node = node; parent = parent }; local = Some local }
 
+  -- a frame whose local is still to come
+  abbrev pub begun : ℕ → ℕ → ℕ → Option WindNo → Frame L
+  begun graph call node parent = record { place = record { graph = graph; call = call; node = node; parent = parent }; local = None }
+
   abbrev pub frame_at : Stack L → ℕ → Option (Frame L)
   frame_at s key = cell_at s.frames key
 
@@ -105,13 +109,18 @@ module _ {L : Type 0} where
   abbrev pub opener_of : Stack L → WindNo → Option Opener
   opener_of s w = cond ((word_at s w.slot == pending w) || (word_at s w.slot == replied w)) (cell_at s.openers w.slot) None
 
-  abbrev pub opener_in : ℕ → ℕ → Option (Frame L) → Opener
-  opener_in key slot None = record { frame = key; slot = slot; graph = 0; call = 0 }
-  opener_in key slot (Some f) = record { frame = key; slot = slot; graph = f.place.graph; call = f.place.call }
+  -- The wind that opens a frame in this graph and of this call, if there is one, is open itself, in this
+  -- graph and of this call.
+  abbrev pub HasParent : Stack L → ℕ → ℕ → Option WindNo → Type 0
+  HasParent s graph call parent = IfSome parent (λ w. IsSomeAnd (opener_of s w) (λ o. (o.graph ≡ graph) × (o.call ≡ call)))
 
-  -- an open frame as the opener of a wind in that slot
+  abbrev pub opener_in : ℕ → ℕ → ℕ → Option (Frame L) → Opener
+  opener_in key slot number None = record { frame = key; slot = slot; graph = 0; call = 0; number = number }
+  opener_in key slot number (Some f) = record { frame = key; slot = slot; graph = f.place.graph; call = f.place.call; number = number }
+
+  -- an open frame as the opener of the next wind, in that slot
   abbrev pub opener_at : Stack L → ℕ → ℕ → Opener
-  opener_at s key slot = opener_in key slot (frame_at s key)
+  opener_at s key slot = opener_in key slot s.opened (frame_at s key)
 
   abbrev pub wound : Stack L → WindNo → Opener → Stack L
   wound s w o = record s { openers = put_at s.openers w.slot (Some o); words = put_at s.words w.slot (pending w); opened = s.opened + 1; lines = s.lines ++ (w, o.call, true) ∷ [] }

@@ -8,11 +8,14 @@ pub struct Frame<L> {
     pub local: Option<L>,
 }
 
-/// Who opened a wind: a frame, in one of its slots, and the graph and call of that frame.
+/// Who opened a wind: a frame, in one of its slots, and the graph and call of that frame. `number` counts
+/// the winds that the stack had opened before, over all frames, so of two winds the older one has the
+/// smaller number.
 #[derive(Clone, Copy)]
 pub struct Opener {
     pub frame: u32,
     pub slot: u8,
     pub graph: u32,
     pub call: u32,
+    pub number: u32,
 }

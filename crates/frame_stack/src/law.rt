@@ -5,7 +5,9 @@ ghost use Rattle.frame_stack.specs.Reached.{WindsAreBalanced};
 /// through, the lines that it handed over, and those that it still has, have each wind once at most as
 /// opened, and once at most as resumed, after its opening and in the graph and call of the frame that
 /// opened it. In a graph without an open frame as many winds were resumed as were opened. The frame that
-/// opened a wind is open until the wind is resumed. `L` is the type of the locals.
+/// opened a wind is open until the wind is resumed, and the wind that opened a frame, while it is open, is
+/// of the frame's graph and call. A wind's number is its place among the openings. `L` is the type of the
+/// locals.
 #[tactic(auto, using(crate::proofs::Balanced::winds_balanced))]
 pub fn winds_are_balanced<L>()
     ensures { WindsAreBalanced L }

@@ -20,10 +20,13 @@
 //! [`frames_follow_translators`] says that a graph which winds and unwinds as its translators' law has it
 //! meets the conditions of [`FrameStack::wind`] and [`FrameStack::free`].
 //!
+//! A frame is opened by a wind that is open, and is in the graph and of the call of that wind. Winds are
+//! numbered as they are opened, so that those of a lost connection can be ended oldest first.
+//!
 //! Called by the graph, which opens a frame where a fop enters a node, winds what the node's translator
 //! says, and resumes the frame of a wind that was answered. Each call takes the same time however many
-//! frames and winds are open, but for the growth of the lists, which is amortized. Only [`FrameStack::open`], [`FrameStack::wind`] and [`FrameStack::resume`]
-//! take memory.
+//! frames and winds are open, but for the growth of the lists, which is amortized. Only
+//! [`FrameStack::open`], [`FrameStack::begin`], [`FrameStack::wind`] and [`FrameStack::resume`] take memory.
 #![tactic(auto)]
 
 mod frame;

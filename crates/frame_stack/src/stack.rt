@@ -1,7 +1,9 @@
-ghost use Rattle.std.specs.Prelude.{ℕ, ◌≡◌, ◌∷◌, ◌<◌, ◌≤◌, ◌+◌, ◌*◌, ◌^◌, ◌==◌, ◌||◌, ◌↔◌, [], length, vec_len, vec_capacity, None, Some, true, false, is_some, IsSome, IfSome, IsSomeAnd, IsTrue, OnOk, OnErr, IfOk, IsErrOf};
+ghost use Rattle.std.specs.Prelude.{ℕ, ◌≡◌, ◌∷◌, ◌<◌, ◌≤◌, ◌+◌, ◌*◌, ◌^◌, ◌==◌, ◌||◌, ◌↔◌, [], length, vec_len, vec_capacity, None, Some, true, false, is_some, IsSome, IfSome, IsSomeAnd, IsTrue, OnOk, OnErr, IfOk, IsErrOf, MatchOption};
+ghost use Rattle.xlator_law.specs.declared.winds.WindNo.{WindNo};
 ghost use Rattle.frame_stack.specs.Cells.{taken, put_at, IsInserted};
+ghost use Rattle.frame_stack.specs.Changes.{with_kept, ChangesFrame, ChangesOpener, KeepsWinds};
 ghost use Rattle.frame_stack.specs.Reached.{IsReached, Leads, opening, ended_by};
-ghost use Rattle.frame_stack.specs.Stack.{empty_stack, opener_at, frame_at, word_at, word_of, frame, place_at, local_at, with_local, without_frame, awaits, HasNoWind, AwaitsMore, AwaitsLess, opener_of, parent_of, IsWound, settled_as, after_settle, resumed_as, after_resume, pending, replied};
+ghost use Rattle.frame_stack.specs.Stack.{empty_stack, opener_at, frame_at, word_at, word_of, frame, begun, HasParent, place_at, local_at, with_local, without_frame, awaits, HasNoWind, AwaitsMore, AwaitsLess, opener_of, parent_of, IsWound, settled_as, after_settle, resumed_as, after_resume, pending, replied};
 
 use crate::frame::{Frame, Opener};
 use crate::keyed::Keyed;
@@ -60,8 +62,8 @@ impl<L> FrameStack<L> {
     }
 
     /// Opens a frame and gives its number, which is that of no open frame. `parent` is the wind that
-    /// caused it, whose opener has the same call; a call's own fop has none. Fewer than 4,294,967,295
-    /// frames are open.
+    /// opened it, which is open itself, in the same graph and of the same call; a call's own fop has none.
+    /// Fewer than 4,294,967,295 frames are open.
     ///
     /// # Errors
     /// Out of memory, and nothing changed.
@@ -77,9 +79,12 @@ impl<L> FrameStack<L> {
     where
         L: Drop,
         requires room { taken self.old.frames < 4294967295 }
-        requires call { IfSome parent (λ w. IfSome (opener_of self.old w) (λ o. o.call ≡ call)) }
+        requires parent { HasParent self.old graph call parent }
         ensures opened { IfOk result (λ key. IsInserted self.old.frames self.new.frames key (frame graph call node parent local)) }
         ensures rest { OnOk result (self.new ≡ record self.old { frames = self.new.frames }) }
+        ensures frames { IfOk result (λ key. ChangesFrame self.old self.new key (Some (frame graph call node parent local))) }
+        ensures winds { OnOk result (KeepsWinds self.old self.new) }
+        ensures taken { OnOk result (taken self.new.frames ≡ taken self.old.frames + 1) }
         ensures leads { OnOk result (Leads self.old self.new [] []) }
         ensures err { OnErr result (self.new ≡ self.old) }
     {
@@ -89,10 +94,61 @@ impl<L> FrameStack<L> {
             node,
             parent,
         };
-        self.frames.insert(Frame {
-            place,
-            local: Some(local),
-        })
+        let key = self.insert(place, Some(local))?;
+        Ok(key)
+    }
+
+    /// Opens a frame whose local is still to come, and gives its number, so that its node has the number
+    /// for its first step: [`FrameStack::put`] gives the frame a local then, or [`FrameStack::free`] ends
+    /// it. All else is as for [`FrameStack::open`].
+    ///
+    /// # Errors
+    /// Out of memory, and nothing changed.
+    pub fn begin(
+        &mut self,
+        _alloc: Global,
+        graph: u32,
+        call: u32,
+        node: u16,
+        parent: Option<WindNo>,
+    ) -> Result<u32, AllocError>
+    where
+        L: Drop,
+        requires room { taken self.old.frames < 4294967295 }
+        requires parent { HasParent self.old graph call parent }
+        ensures opened { IfOk result (λ key. IsInserted self.old.frames self.new.frames key (begun graph call node parent)) }
+        ensures rest { OnOk result (self.new ≡ record self.old { frames = self.new.frames }) }
+        ensures frames { IfOk result (λ key. ChangesFrame self.old self.new key (Some (begun graph call node parent))) }
+        ensures winds { OnOk result (KeepsWinds self.old self.new) }
+        ensures taken { OnOk result (taken self.new.frames ≡ taken self.old.frames + 1) }
+        ensures leads { OnOk result (Leads self.old self.new [] []) }
+        ensures err { OnErr result (self.new ≡ self.old) }
+    {
+        let place = Place {
+            graph,
+            call,
+            node,
+            parent,
+        };
+        let key = self.insert(place, None)?;
+        Ok(key)
+    }
+
+    fn insert(&mut self, place: Place, local: Option<L>) -> Result<u32, AllocError>
+    where
+        L: Drop,
+        requires room { taken self.old.frames < 4294967295 }
+        requires parent { HasParent self.old place.graph place.call place.parent }
+        ensures opened { IfOk result (λ key. IsInserted self.old.frames self.new.frames key (record { place = place; local = local })) }
+        ensures rest { OnOk result (self.new ≡ record self.old { frames = self.new.frames }) }
+        ensures frames { IfOk result (λ key. ChangesFrame self.old self.new key (Some (record { place = place; local = local }))) }
+        ensures winds { OnOk result (KeepsWinds self.old self.new) }
+        ensures taken { OnOk result (taken self.new.frames ≡ taken self.old.frames + 1) }
+        ensures leads { OnOk result (Leads self.old self.new [] []) }
+        ensures err { OnErr result (self.new ≡ self.old) }
+    {
+        let key = self.frames.insert(Frame { place, local })?;
+        Ok(key)
     }
 
     /// Whether a further frame and a further wind may be opened: fewer than 4,294,967,295 frames and fewer
@@ -119,6 +175,8 @@ impl<L> FrameStack<L> {
         ensures awaits { OnOk result (AwaitsMore self.old self.new frame slot) }
         ensures pending { IfOk result (λ w. word_at self.new w.slot ≡ pending w) }
         ensures taken { OnOk result (taken self.new.openers ≡ taken self.old.openers + 1) }
+        ensures frames { OnOk result (self.new.frames ≡ self.old.frames) }
+        ensures openers { IfOk result (λ w. ChangesOpener self.old self.new w (Some (opener_at self.old frame slot))) }
         ensures winds { IsErrOf result Stop.Winds ↔ (self.old.opened ≡ 4294967295) }
         ensures err { OnErr result (self.new ≡ self.old) }
     {
@@ -133,6 +191,7 @@ impl<L> FrameStack<L> {
             slot,
             graph: found.place.graph,
             call: found.place.call,
+            number: self.opened,
         };
         self.lines.reserve(1)?;
         self.words.reserve(1)?;
@@ -161,6 +220,9 @@ impl<L> FrameStack<L> {
     pub fn settle(&mut self, w: WindNo) -> Settled
         ensures settled { result ≡ settled_as self.old w }
         ensures after { self.new ≡ after_settle self.old w }
+        ensures frames { self.new.frames ≡ self.old.frames }
+        ensures slots { self.new.openers ≡ self.old.openers }
+        ensures openers { (v : WindNo) → opener_of self.new v ≡ opener_of self.old v }
         ensures leads { Leads self.old self.new [] [] }
     {
         let word = word_in(&self.words, w.slot);
@@ -190,6 +252,9 @@ impl<L> FrameStack<L> {
         ensures leads { OnOk result (Leads self.old self.new (ended_by self.old w) []) }
         ensures awaits { IfOk result (λ parent. AwaitsLess self.old self.new parent) }
         ensures taken { IfOk result (λ parent. IsSome parent → taken self.new.openers + 1 ≡ taken self.old.openers) }
+        ensures frames { OnOk result (self.new.frames ≡ self.old.frames) }
+        ensures openers { IfOk result (λ parent. IsSome parent → ChangesOpener self.old self.new w None) }
+        ensures none { IfOk result (λ parent. parent ≡ None → self.new ≡ self.old) }
         ensures err { OnErr result (self.new ≡ self.old) }
     {
         let word = word_in(&self.words, w.slot);
@@ -223,6 +288,15 @@ impl<L> FrameStack<L> {
         Some(*opener)
     }
 
+    /// The call of the frame that opened a wind. `None` comes exactly where the wind was not opened or was
+    /// resumed.
+    pub fn call_of(&self, w: WindNo) -> Option<u32>
+        ensures { MatchOption (opener_of self.now w) (result ≡ None) (λ o. result ≡ Some o.call) }
+    {
+        let opener = self.opener(w)?;
+        Some(opener.call)
+    }
+
     /// The frame and slot that opened a wind. `None` comes exactly where the wind was not opened or was
     /// resumed.
     pub fn wound_by(&self, w: WindNo) -> Option<Parent>
@@ -251,6 +325,9 @@ impl<L> FrameStack<L> {
         L: Drop,
         ensures local { result ≡ local_at self.old frame }
         ensures after { self.new ≡ with_local self.old frame None }
+        ensures frames { ChangesFrame self.old self.new frame (with_kept None (frame_at self.old frame)) }
+        ensures winds { KeepsWinds self.old self.new }
+        ensures taken { taken self.new.frames ≡ taken self.old.frames }
         ensures leads { Leads self.old self.new [] [] }
     {
         let place = self.place(frame)?;
@@ -265,6 +342,9 @@ impl<L> FrameStack<L> {
         L: Drop,
         requires { IsSomeAnd (frame_at self.old frame) (λ f. f.local ≡ None) }
         ensures after { self.new ≡ with_local self.old frame (Some local) }
+        ensures frames { ChangesFrame self.old self.new frame (with_kept (Some local) (frame_at self.old frame)) }
+        ensures winds { KeepsWinds self.old self.new }
+        ensures taken { taken self.new.frames ≡ taken self.old.frames }
         ensures leads { Leads self.old self.new [] [] }
     {
         let Some(place) = self.place(frame) else {
@@ -285,6 +365,9 @@ impl<L> FrameStack<L> {
         requires { IfSome (frame_at self.old frame) (λ f. (f.local ≡ None) × HasNoWind self.old frame) }
         ensures open { result ≡ is_some (frame_at self.old frame) }
         ensures freed { self.new ≡ without_frame self.old frame }
+        ensures frames { ChangesFrame self.old self.new frame None }
+        ensures winds { KeepsWinds self.old self.new }
+        ensures taken { result ≡ true → taken self.new.frames + 1 ≡ taken self.old.frames }
         ensures leads { Leads self.old self.new [] [] }
         ensures absent { result ≡ false → self.new ≡ self.old }
     {

@@ -1,6 +1,9 @@
 use std::test::*;
 use xlator_law::samples::{Gate, Gated, Pair, Relay, Waits};
-use xlator_law::{Step, Xlator};
+use xlator_law::{Entry, Step, Xlator};
+
+// The frame and the call of a fop that enters.
+const ENTRY: Entry = Entry { frame: 0, call: 7 };
 
 // What a step is, in one number: how many winds it opens, 100 where it waits, 200 and the reply where it
 // unwinds.
@@ -19,7 +22,7 @@ fn relay_hands_on(rt: HostRuntime) -> Result<(), Fail> {
         below: 3,
         breadth: 1,
     };
-    let entered: Step<u32, u8, ()> = relay.enter(rt.alloc(), &mut (), 70)?;
+    let entered: Step<u32, u8, ()> = relay.enter(rt.alloc(), &mut (), ENTRY, 70)?;
     let answered: Step<u32, u8, ()> = relay.resume(rt.alloc(), &mut (), (), 0, 9)?;
     assert!(rt; shape(&entered) == 1 && shape(&answered) == 209);
     Ok(())
@@ -40,7 +43,7 @@ fn pair_waits_for_both(rt: HostRuntime) -> Result<(), Fail> {
         below: 3,
         breadth: 1,
     };
-    let entered: Step<u32, u8, Waits> = pair.enter(rt.alloc(), &mut (), 70)?;
+    let entered: Step<u32, u8, Waits> = pair.enter(rt.alloc(), &mut (), ENTRY, 70)?;
     assert!(rt; shape(&entered) == 2);
     for (first, second, slot, wanted) in &ANSWERS {
         let step = answered(rt, &mut pair, *first, *second, *slot)?;
@@ -72,7 +75,7 @@ fn gate_goes_on(rt: HostRuntime) -> Result<(), Fail> {
         below: 3,
         breadth: 1,
     };
-    let entered: Step<u32, u8, Gated<u32>> = gate.enter(rt.alloc(), &mut (), 70)?;
+    let entered: Step<u32, u8, Gated<u32>> = gate.enter(rt.alloc(), &mut (), ENTRY, 70)?;
     let gone: Step<u32, u8, Gated<u32>> = gate.go_on(rt.alloc(), &mut (), Gated::Held(70))?;
     let answered: Step<u32, u8, Gated<u32>> = gate.resume(
         rt.alloc(),

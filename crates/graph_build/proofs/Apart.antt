@@ -1,7 +1,7 @@
 -- Lists of which no two items are the same.
-use Rattle.std.proofs.Common.{◌≡◌, ℕ, suc, ◌+◌, ◌<◌, ◌≤◌, ◌==◌, ◌||◌, Bool, true, false, cond, List, [], ◌∷◌, ◌++◌, length, flat_map, refl, sym, ap, subst, ◌∙◌, arith}
+use Rattle.std.proofs.Common.{◌≡◌, ℕ, ◌==◌, ◌||◌, Bool, true, false, List, [], ◌∷◌, ◌++◌, flat_map, refl, sym, ap, ◌∙◌, arith}
 use Rattle.std.specs.Prelude.{⊤}
-use Rattle.std.specs.List.{AllByRecursion, IsDistinct, list_any}
+use Rattle.std.specs.List.{AllByRecursion, IsDistinct}
 use Rattle.std.proofs.lemmas.Bool.Decides.{nat_tests}
 use Rattle.graph_build.specs.PlanRules.{has_place, repeats}
 
@@ -86,10 +86,10 @@ none_repeats test (p ∷ ps) e =
       (all_map (λ q. ((q == p) || test q) ≡ false) (λ q. p ≡ q → ⊥) ps (λ q h. unlike p q (or_off (q == p) (test q) h).0) rest.0, rest.1),
     )
 
-first_placed : (p : ℕ) (ps : List ℕ) → has_place p (p ∷ ps) ≡ true
+pub first_placed : (p : ℕ) (ps : List ℕ) → has_place p (p ∷ ps) ≡ true
 first_placed p ps = let on : (p == p) ≡ true = grind (arith, nat_tests) in ap (λ b. b || has_place p ps) on
 
-or_right : (a b : Bool) → b ≡ true → (a || b) ≡ true
+pub or_right : (a b : Bool) → b ≡ true → (a || b) ≡ true
 or_right true b e = refl
 or_right false b e = e
 

@@ -1,11 +1,10 @@
 -- What is known of each volume: what it stands over, where the way down from it leads, and that no two ways down from
 -- below it meet. Each volume has an owner, the unused volume in whose tree it stands, so two trees that are unused
 -- have nothing in common.
-use Rattle.std.proofs.Common.{◌≡◌, ℕ, zero, suc, ◌+◌, ◌<◌, ◌≤◌, ◌==◌, ◌||◌, ◌&&◌, not, Bool, true, false, cond, List, [], ◌∷◌, ◌++◌, length, flat_map, Option, Some, None, Result, Ok, Err, refl, sym, ap, subst, ◌∙◌, arith}
+use Rattle.std.proofs.Common.{◌≡◌, ℕ, zero, suc, ◌<◌, ◌≤◌, ◌==◌, ◌||◌, Bool, true, false, cond, List, [], ◌∷◌, ◌++◌, length, flat_map, Option, Some, None, refl, sym, ap, subst, ◌∙◌, arith}
 use Rattle.std.specs.Prelude.{⊤}
 use Rattle.std.specs.List.{AllByRecursion, list_any, slice_get}
 use Rattle.std.proofs.lemmas.Bool.Decides.{nat_tests}
-use Rattle.std.proofs.lemmas.List.{length_push}
 use Rattle.std.proofs.lemmas.Option.{slice_get_within}
 use Rattle.graph_build.specs.PlanRules.{has_place, no_tree, joined, joined_info, gathered, grown, is_nested, bottom_in, bottom_at, first_bottom, bottom_of, has_brick, is_taken, is_used}
 use Rattle.graph_build.specs.Plans.{bottoms_at, members_as, members_in, members_of}
@@ -13,7 +12,7 @@ use Rattle.graph_build.specs.declared.infos.Tree.{Tree}
 use Rattle.graph_build.specs.declared.infos.Info.{Info}
 use Rattle.graph_build.specs.declared.infos.Role.{Role}
 use Rattle.graph_build.specs.declared.infos.Role.TheVariants.{Client, Replicate, Distribute, IoCache, IoThreads, Pass}
-use Rattle.graph_build.proofs.Apart.{Apart, all_map, all_zip, apart_flat, placed, none_repeats}
+use Rattle.graph_build.proofs.Apart.{Apart, all_map, all_zip, apart_flat, placed}
 
 -- ---- one more in a list
 pub get_old : {A : Type 0} (xs ys : List A) (i : ℕ) → i < length xs → slice_get (xs ++ ys) i ≡ slice_get xs i
@@ -57,6 +56,31 @@ StopFits t (IoCache pages) = ⊥
 StopFits t IoThreads = ⊥
 StopFits t Pass = ⊥
 
+-- a set is a client or a replicate volume
+abbrev pub IsSetRole : Role → Type 0
+IsSetRole (Client brick) = ⊤
+IsSetRole Replicate = ⊤
+IsSetRole Distribute = ⊥
+IsSetRole (IoCache pages) = ⊥
+IsSetRole IoThreads = ⊥
+IsSetRole Pass = ⊥
+
+pub plain_stop : (t : Tree) (r : Role) → t.plain ≡ true → StopFits t r → (b : ℕ) × (r ≡ Client b)
+plain_stop t (Client b) plain fits = (b, refl)
+plain_stop t Replicate plain fits = absurd cc
+plain_stop t Distribute plain fits = let off = fits.0 in absurd cc
+plain_stop t (IoCache pages) plain fits = absurd fits
+plain_stop t IoThreads plain fits = absurd fits
+plain_stop t Pass plain fits = absurd fits
+
+pub set_stop : (t : Tree) (r : Role) → t.distribute ≡ false → StopFits t r → IsSetRole r
+set_stop t (Client b) off fits = tt
+set_stop t Replicate off fits = tt
+set_stop t Distribute off fits = let on = fits.1 in absurd cc
+set_stop t (IoCache pages) off fits = fits
+set_stop t IoThreads off fits = fits
+set_stop t Pass off fits = fits
+
 pub record Stops (known : List Info) (f : Info) : Type 0 where
   pub end : Info
   pub is : slice_get known f.bottom ≡ Some end
@@ -87,14 +111,14 @@ pub record Holds (known : List Info) : Type 0 where
   pub bricks : (i j b : ℕ) (f g : Info) → slice_get known i ≡ Some f → slice_get known j ≡ Some g → f.role ≡ Client b → g.role ≡ Client b → i ≡ j
 
 -- ---- what is known of earlier volumes stays
-bottom_old : (known : List Info) (f : Info) (p : ℕ) → p < length known → bottom_at (known ++ f ∷ []) p ≡ bottom_at known p
+pub bottom_old : (known : List Info) (f : Info) (p : ℕ) → p < length known → bottom_at (known ++ f ∷ []) p ≡ bottom_at known p
 bottom_old known f p low = ap bottom_in (get_old known (f ∷ []) p low)
 
 bottoms_old : (known : List Info) (f : Info) (ps : List ℕ) → AllByRecursion (λ p. p < length known) ps → bottoms_at (known ++ f ∷ []) ps ≡ bottoms_at known ps
 bottoms_old known f [] low = refl
 bottoms_old known f (p ∷ ps) low = ap (λ b. b ∷ bottoms_at (known ++ f ∷ []) ps) (bottom_old known f p low.0) ∙ ap (λ bs. bottom_at known p ∷ bs) (bottoms_old known f ps low.1)
 
-gathered_old : (known : List Info) (f : Info) (first : Tree) (ps : List ℕ) → AllByRecursion (λ p. p < length known) ps → gathered first (known ++ f ∷ []) ps ≡ gathered first known ps
+pub gathered_old : (known : List Info) (f : Info) (first : Tree) (ps : List ℕ) → AllByRecursion (λ p. p < length known) ps → gathered first (known ++ f ∷ []) ps ≡ gathered first known ps
 gathered_old known f first [] low = refl
 gathered_old known f first (p ∷ ps) low =
     ap (λ o. gathered (joined_info first o) (known ++ f ∷ []) ps) (get_old known (f ∷ []) p low.0) ∙ gathered_old known f (joined_info first (slice_get known p)) ps low.1
@@ -242,7 +266,7 @@ any_push test (x ∷ xs) y e =
     let parts = or_off (test x) (list_any test (xs ++ y ∷ [])) e in
     let rest = any_push test xs y parts.1 in (ap (λ b. b || list_any test xs) parts.0 ∙ rest.0, rest.1)
 
-none_passes : {A : Type 0} (test : A → Bool) (xs : List A) (i : ℕ) (x : A) → list_any test xs ≡ false → slice_get xs i ≡ Some x → test x ≡ false
+pub none_passes : {A : Type 0} (test : A → Bool) (xs : List A) (i : ℕ) (x : A) → list_any test xs ≡ false → slice_get xs i ≡ Some x → test x ≡ false
 none_passes test [] i x e at = absurd cc
 none_passes test (y ∷ xs) zero x e at = let same : y ≡ x = cc in ap test (sym same) ∙ (or_off (test y) (list_any test xs) e).0
 none_passes test (y ∷ xs) (suc i) x e at = none_passes test xs i x (or_off (test y) (list_any test xs) e).1 at
@@ -252,7 +276,7 @@ not_taken known b f i at is off =
     let no : has_brick b f.role ≡ false = none_passes (λ k. has_brick b k.role) known i f off at in
     let yes : has_brick b f.role ≡ true = ap (has_brick b) is ∙ here_itself b in absurd cc
 
-none_at : (i : ℕ) (f : Info) → slice_get {X = Info} [] i ≡ Some f → ⊥
+pub none_at : (i : ℕ) (f : Info) → slice_get {X = Info} [] i ≡ Some f → ⊥
 none_at i f at = absurd (omega (arith, at_within [] i f at))
 
 module _ (known : List Info) (h : Holds known) (role : Role) (below : List ℕ) (low : AllByRecursion (λ p. p < length known) below)

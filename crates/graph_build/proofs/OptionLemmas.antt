@@ -1,5 +1,5 @@
 -- A place further on.
-use Rattle.std.proofs.Common.{◌≡◌, ℕ, zero, suc, ◌+◌, Option, Some, None, refl, sym, ap, ◌∙◌, arith}
+use Rattle.std.proofs.Common.{◌≡◌, ℕ, suc, ◌+◌, Option, Some, None, refl, ap, arith}
 use Rattle.std.specs.Option.{option_map}
 
 abbrev pub later : ℕ → Option ℕ → Option ℕ

@@ -1,6 +1,5 @@
 -- The sets of a plan.
-use Rattle.std.proofs.Common.{inl, inr, ◌≡◌, ℕ, zero, suc, ◌+◌, ◌-◌, ◌<◌, ◌≤◌, ◌==◌, ◌/◌, ◌||◌, ◌&&◌, not, Bool, true, false, cond, leb, List, [], ◌∷◌, ◌++◌, append-nil, append_assoc, length, flat_map, Option, Some, None, Result, Ok, Err, refl, sym, ap, subst, ◌∙◌, arith}
-use Rattle.std.specs.Prelude.{⊤}
+use Rattle.std.proofs.Common.{inl, inr, ◌≡◌, ℕ, zero, suc, ◌+◌, ◌-◌, ◌<◌, ◌≤◌, ◌==◌, ◌/◌, ◌||◌, ◌&&◌, not, Bool, true, false, cond, List, [], ◌∷◌, ◌++◌, append-nil, append_assoc, length, flat_map, Option, Some, None, Result, Ok, Err, refl, sym, ap, subst, ◌∙◌, arith}
 use Rattle.std.specs.List.{AllByRecursion, IsDistinct, list_any, slice_get}
 use Rattle.std.proofs.lemmas.Bool.{leb-false}
 use Rattle.std.proofs.lemmas.Bool.Decides.{nat_tests}
@@ -8,30 +7,30 @@ use Rattle.std.proofs.lemmas.List.{length_push}
 use Rattle.std.proofs.lemmas.Map.Steps.{length-le_from_distinct_below}
 use Rattle.volfile.specs.TextLines.{is_text, is_name}
 use Rattle.volfile.specs.VolumeNames.{place_of}
-use Rattle.volfile.specs.Volumes.{without_lines, IsVolfile, IsBlock, AreVolumes}
+use Rattle.volfile.specs.Volumes.{without_lines, IsBlock, AreVolumes}
 use Rattle.volfile.specs.declared.volumes.Volume.{Volume}
-use Rattle.volfile.specs.declared.volumes.Volfile.{Volfile}
 use Rattle.volfile.proofs.Places.{same_word, word_itself, place_push}
 use Rattle.volfile.proofs.WellRead.{not_false, ok_same, parsed_whole}
 use Rattle.volfile.proofs.Alike.{each_volume}
 use Rattle.script_lang.specs.declared.scripts.BrickLine.{BrickLine}
-use Rattle.graph_build.specs.PlanRules.{no_tree, joined, joined_info, gathered, is_nested, bottom_in, bottom_at, places_of, infos_from, is_used, unused_from}
-use Rattle.graph_build.specs.Plans.{is_distribute, distributed, bottoms_at, sets_under, sets_of, members_as, members_in, members_of, name_in, names_at, brick_as, brick_in, bricks_at, set_at, sets_from, plan_of, plan_if, plan_from, planned}
-use Rattle.graph_build.specs.PlanLaw.{IsReplicaCount, IsSet, AreSetsFrom, AreSets, PlansHaveSets}
+use Rattle.graph_build.specs.PlanRules.{no_tree, joined_info, gathered, is_nested, bottom_in, bottom_at, places_of, infos_from, is_used, unused_from}
+use Rattle.graph_build.specs.Plans.{is_distribute, distributed, bottoms_at, sets_under, members_as, members_in, members_of, name_in, names_at, brick_as, brick_in, bricks_at, set_at, sets_from, plan_if, plan_from, planned}
+use Rattle.graph_build.specs.PlanLaw.{IsSet, AreSetsFrom, AreSets, PlansHaveSets}
 use Rattle.graph_build.specs.declared.errors.PlanError.{PlanError}
 use Rattle.graph_build.specs.declared.infos.Tree.{Tree}
 use Rattle.graph_build.specs.declared.infos.Info.{Info}
 use Rattle.graph_build.specs.declared.infos.Role.{Role}
 use Rattle.graph_build.specs.declared.infos.Role.TheVariants.{Client, Replicate, Distribute, IoCache, IoThreads, Pass}
 use Rattle.graph_build.specs.declared.plans.Plan.{Plan}
+use Rattle.fop_types.specs.Jobs.{IsReplicaCount}
 use Rattle.fop_types.specs.declared.jobs.SetPlan.{SetPlan}
-use Rattle.graph_build.proofs.Apart.{Apart, all_map, all_zip, all_append, all_flat, mapped, apart_mapped, distinct_from, none_repeats}
+use Rattle.graph_build.proofs.Apart.{Apart, all_map, all_flat, mapped, apart_mapped, distinct_from, none_repeats}
 use Rattle.graph_build.proofs.Steps.{Step, places_within, length-places_of, place_within, all_kept}
-use Rattle.graph_build.proofs.Facts.{SizeFits, StopFits, Stops, members_below, Entry, Owned, Holds, get_old, get_last, some_at, at_within, push_case, apart_members, next_holds, nothing_holds}
+use Rattle.graph_build.proofs.Facts.{SizeFits, StopFits, IsSetRole, plain_stop, set_stop, members_below, Holds, some_at, at_within, apart_members, next_holds, nothing_holds}
 use Rattle.graph_build.proofs.RoleFacts.{role_fits}
 
 -- ---- all volumes
-holds_next : (volumes : List Volume) (bricks : List BrickLine) (known : List Info) (done rest : List Volume) (v : Volume) (f : Info) → volumes ≡ done ++ v ∷ rest → length known ≡ length done → IsBlock done v → Holds known
+pub holds_next : (volumes : List Volume) (bricks : List BrickLine) (known : List Info) (done rest : List Volume) (v : Volume) (f : Info) → volumes ≡ done ++ v ∷ rest → length known ≡ length done → IsBlock done v → Holds known
     → Step bricks known v (places_of volumes v.subvolumes) f → Holds (known ++ f ∷ [])
 holds_next volumes bricks known done rest v f is size block h s =
     let below = places_of volumes v.subvolumes in
@@ -68,7 +67,7 @@ place_itself (u ∷ vs) before (suc i) v h at =
     ap (place_of v.name) (sym (append_assoc before (u ∷ []) vs)) ∙ place_itself vs (before ++ u ∷ []) i v h.2 at ∙ ap Some sum
 
 -- ---- the distribute volume
-none_distributes : (infos : List Info) → distributed infos ≡ None → (i : ℕ) (f : Info) → slice_get infos i ≡ Some f → is_distribute f.role ≡ false
+pub none_distributes : (infos : List Info) → distributed infos ≡ None → (i : ℕ) (f : Info) → slice_get infos i ≡ Some f → is_distribute f.role ≡ false
 none_distributes [] is i f at = absurd cc
 none_distributes (g ∷ infos) is i f at = by_test (is_distribute g.role) refl (λ none j to. none_distributes infos none j f to) is i at
   where
@@ -86,7 +85,7 @@ is_that (IoCache pages) e = absurd cc
 is_that IoThreads e = absurd cc
 is_that Pass e = absurd cc
 
-some_distributes : (infos : List Info) (below : List ℕ) → distributed infos ≡ Some below → (d : ℕ) × (f : Info) × (slice_get infos d ≡ Some f) × (f.role ≡ Distribute) × (f.below ≡ below)
+pub some_distributes : (infos : List Info) (below : List ℕ) → distributed infos ≡ Some below → (d : ℕ) × (f : Info) × (slice_get infos d ≡ Some f) × (f.role ≡ Distribute) × (f.below ≡ below)
 some_distributes [] below is = absurd cc
 some_distributes (g ∷ infos) below is = by_test (is_distribute g.role) refl (some_distributes infos below) is
   where
@@ -109,6 +108,10 @@ listed_low (p ∷ ps) n low q e = by_test (q == p) refl (λ k. listed_low ps n l
 
 apart_few : (ps : List ℕ) (n : ℕ) → Apart ps → AllByRecursion (λ p. p < n) ps → length ps ≤ n
 apart_few ps n apart low = length-le_from_distinct_below ps n (apart_distinct ps apart) (listed_low ps n low)
+
+pub members_under : (infos : List Info) (ps : List ℕ) → flat_map (members_of infos) (bottoms_at infos ps) ≡ flat_map (members_below infos) ps
+members_under infos [] = refl
+members_under infos (p ∷ ps) = ap (λ l. members_below infos p ++ l) (members_under infos ps)
 
 module _ (volumes : List Volume) (each : AreVolumes [] volumes) (infos : List Info) (h : Holds infos) (size : length infos ≡ length volumes) where
   abbrev vname : ℕ → List ℕ
@@ -186,14 +189,6 @@ module _ (volumes : List Volume) (each : AreVolumes [] volumes) (infos : List In
       one f g e = cc
 
   -- ---- the place of a set
-  abbrev IsSetRole : Role → Type 0
-  IsSetRole (Client brick) = ⊤
-  IsSetRole Replicate = ⊤
-  IsSetRole Distribute = ⊥
-  IsSetRole (IoCache pages) = ⊥
-  IsSetRole IoThreads = ⊥
-  IsSetRole Pass = ⊥
-
   record IsSetPlace (b : ℕ) : Type 0 where
     pub info : Info
     pub at : slice_get infos b ≡ Some info
@@ -201,22 +196,6 @@ module _ (volumes : List Volume) (each : AreVolumes [] volumes) (infos : List In
 
   low_in : (i : ℕ) (f : Info) → slice_get infos i ≡ Some f → AllByRecursion (λ p. p < length infos) f.below
   low_in i f at = all_map (λ p. p < i) (λ p. p < length infos) f.below (λ p k. omega (arith, k, at_within infos i f at)) (h.entries i f at).below_low
-
-  plain_stop : (t : Tree) (r : Role) → t.plain ≡ true → StopFits t r → (b : ℕ) × (r ≡ Client b)
-  plain_stop t (Client b) plain fits = (b, refl)
-  plain_stop t Replicate plain fits = absurd cc
-  plain_stop t Distribute plain fits = let off = fits.0 in absurd cc
-  plain_stop t (IoCache pages) plain fits = absurd fits
-  plain_stop t IoThreads plain fits = absurd fits
-  plain_stop t Pass plain fits = absurd fits
-
-  set_stop : (t : Tree) (r : Role) → t.distribute ≡ false → StopFits t r → IsSetRole r
-  set_stop t (Client b) off fits = tt
-  set_stop t Replicate off fits = tt
-  set_stop t Distribute off fits = let on = fits.1 in absurd cc
-  set_stop t (IoCache pages) off fits = fits
-  set_stop t IoThreads off fits = fits
-  set_stop t Pass off fits = fits
 
   client_below : (p : ℕ) → p < length infos → ((f : Info) → slice_get infos p ≡ Some f → f.tree.plain ≡ true) → IsClient (bottom_at infos p)
   client_below p low plain =
@@ -235,21 +214,31 @@ module _ (volumes : List Volume) (each : AreVolumes [] volumes) (infos : List In
 
   record Members (b : ℕ) : Type 0 where
     pub count : IsReplicaCount (length (members_of infos b))
+    pub few : length (members_of infos b) ≤ 3
     pub clients : AllByRecursion IsClient (members_of infos b)
 
   members_are : (b : ℕ) → IsSetPlace b → Members b
   members_are b s = record {
     count = subst (λ o. IsReplicaCount (length (members_in o infos b))) (sym s.at) (by_count s.info.role refl s.role);
+    few = subst (λ o. length (members_in o infos b) ≤ 3) (sym s.at) (by_few s.info.role refl s.role);
     clients = subst (λ o. AllByRecursion IsClient (members_in o infos b)) (sym s.at) (by_clients s.info.role refl s.role);
   }
     where
       by_count : (r : Role) → s.info.role ≡ r → IsSetRole r → IsReplicaCount (length (members_as r infos b s.info.below))
       by_count (Client k) is fits = inl refl
-      by_count Replicate is fits = inr (length-bottoms s.info.below ∙ subst (λ r. SizeFits r (length s.info.below)) is (h.entries b s.info s.at).size)
+      by_count Replicate is fits = inr (inl (length-bottoms s.info.below ∙ subst (λ r. SizeFits r (length s.info.below)) is (h.entries b s.info s.at).size))
       by_count Distribute is fits = absurd fits
       by_count (IoCache pages) is fits = absurd fits
       by_count IoThreads is fits = absurd fits
       by_count Pass is fits = absurd fits
+
+      by_few : (r : Role) → s.info.role ≡ r → IsSetRole r → length (members_as r infos b s.info.below) ≤ 3
+      by_few (Client k) is fits = omega arith
+      by_few Replicate is fits = let size = subst (λ r. SizeFits r (length s.info.below)) is (h.entries b s.info s.at).size in omega (arith, size, length-bottoms s.info.below)
+      by_few Distribute is fits = absurd fits
+      by_few (IoCache pages) is fits = absurd fits
+      by_few IoThreads is fits = absurd fits
+      by_few Pass is fits = absurd fits
 
       by_clients : (r : Role) → s.info.role ≡ r → IsSetRole r → AllByRecursion IsClient (members_as r infos b s.info.below)
       by_clients (Client k) is fits = (record { info = s.info; at = s.at; brick = k; role = is }, tt)
@@ -286,6 +275,11 @@ module _ (volumes : List Volume) (each : AreVolumes [] volumes) (infos : List In
   names_all [] all = tt
   names_all (p ∷ ps) all = (named p (client_low p all.0), names_all ps all.1)
 
+  majority : (n : ℕ) → IsReplicaCount n → (n + 1) / 2 + (n + 1) / 2 ≡ n + 1
+  majority n (inl one) = subst (λ k. (k + 1) / 2 + (k + 1) / 2 ≡ k + 1) (sym one) refl
+  majority n (inr (inl three)) = subst (λ k. (k + 1) / 2 + (k + 1) / 2 ≡ k + 1) (sym three) refl
+  majority n (inr (inr five)) = subst (λ k. (k + 1) / 2 + (k + 1) / 2 ≡ k + 1) (sym five) refl
+
   -- ---- the sets
   set_is : (number b : ℕ) → IsSetPlace b → IsSet number (set_at volumes infos number b)
   set_is number b s =
@@ -296,9 +290,8 @@ module _ (volumes : List Volume) (each : AreVolumes [] volumes) (infos : List In
       record {
         number = refl;
         name = named b (at_within infos b s.info s.at);
-        size = subst IsReplicaCount (sym size_of) m.count;
-        quorum = ap (λ n. (n + 1) / 2) (sym size_of);
-        clients = names ∙ sym size_of;
+        plan = record { replicas = subst IsReplicaCount (sym size_of) (m.count); quorum = subst (λ n. (length ms + 1) / 2 + (length ms + 1) / 2 ≡ n + 1) (sym size_of) (majority (length ms) m.count); clients = names ∙ sym size_of };
+        few = subst (λ n. n ≤ 3) (sym size_of) m.few;
         client_names = names_all ms m.clients;
       }
 
@@ -363,10 +356,6 @@ module _ (volumes : List Volume) (each : AreVolumes [] volumes) (infos : List In
   bottom_sets [] low off = tt
   bottom_sets (p ∷ ps) low off = (bottom_set p low.0 off.0, bottom_sets ps low.1 off.1)
 
-  members_under : (ps : List ℕ) → flat_map (members_of infos) (bottoms_at infos ps) ≡ flat_map (members_below infos) ps
-  members_under [] = refl
-  members_under (p ∷ ps) = ap (λ l. members_below infos p ++ l) (members_under ps)
-
   or_left : (a b : Bool) → (a || b) ≡ false → a ≡ false
   or_left true b e = absurd cc
   or_left false b e = refl
@@ -381,7 +370,7 @@ module _ (volumes : List Volume) (each : AreVolumes [] volumes) (infos : List In
       let some : 1 ≤ length f.below = subst (λ r. SizeFits r (length f.below)) is e.size in
       let few : length f.below ≤ d = apart_few f.below d e.below e.below_low in
       let count = length-bottoms f.below in
-      sets_of_places (bottoms_at infos f.below) (bottom_sets f.below low (none_below no_tree f.below (or_left t.distribute t.queue stands) low).1) e.bottoms (subst Apart (sym (members_under f.below)) e.members)
+      sets_of_places (bottoms_at infos f.below) (bottom_sets f.below low (none_below no_tree f.below (or_left t.distribute t.queue stands) low).1) e.bottoms (subst Apart (sym (members_under infos f.below)) e.members)
       (omega (arith, count, some)) (omega (arith, count, few, at_within infos d f at, small))
 
   -- where no volume distributes
@@ -423,7 +412,7 @@ plan_sets volumes bricks plan each some e = by_infos (infos_from volumes bricks 
     by_infos (Err fault) is e = absurd cc
     by_infos (Ok infos) is e = let all = all_kept volumes bricks Holds (holds_next volumes bricks) [] [] volumes refl refl each nothing_holds infos is in by_unused infos all.0 all.1 (unused_from infos infos 0) e
 
-some_volumes : (vs ws : List Volume) → without_lines vs ≡ without_lines ws → (length vs == 0) ≡ false → 1 ≤ length ws
+pub some_volumes : (vs ws : List Volume) → without_lines vs ≡ without_lines ws → (length vs == 0) ≡ false → 1 ≤ length ws
 some_volumes [] ws e some = absurd cc
 some_volumes (v ∷ vs) [] e some = absurd cc
 some_volumes (v ∷ vs) (w ∷ ws) e some = omega arith

@@ -1,5 +1,5 @@
 -- What one more volume adds to what is known, and what holds of all that is known because each volume keeps it.
-use Rattle.std.proofs.Common.{◌≡◌, ℕ, suc, ◌+◌, ◌<◌, ◌≤◌, ◌==◌, Bool, true, false, cond, ◌||◌, leb, List, [], ◌∷◌, ◌++◌, append_assoc, append-nil, length, Option, Some, None, Result, Ok, Err, refl, sym, ap, subst, ◌∙◌, arith}
+use Rattle.std.proofs.Common.{◌≡◌, ℕ, suc, ◌+◌, ◌<◌, Bool, true, false, cond, leb, List, [], ◌∷◌, ◌++◌, append_assoc, append-nil, length, Option, Some, None, Result, Ok, Err, refl, sym, ap, subst, ◌∙◌}
 use Rattle.std.specs.Prelude.{is_some}
 use Rattle.std.specs.Cmp.{first_so, second_so}
 use Rattle.std.specs.List.{AllByRecursion, list_all}
@@ -13,8 +13,7 @@ use Rattle.volfile.specs.Volumes.{IsBlock, AreVolumes}
 use Rattle.volfile.specs.declared.volumes.Volume.{Volume}
 use Rattle.volfile.proofs.WellRead.{past, ok_same}
 use Rattle.script_lang.specs.declared.scripts.BrickLine.{BrickLine}
-use Rattle.graph_build.specs.PlanRules.{or_zero, places_of, repeats, is_used, no_tree, gathered, grown, is_nested, bottom_of, role_of, info_over, info_below, info_as, info_of, known_then, infos_from}
-use Rattle.graph_build.specs.declared.errors.PlanError.{PlanError}
+use Rattle.graph_build.specs.PlanRules.{or_zero, places_of, repeats, is_used, no_tree, gathered, grown, is_nested, bottom_of, role_of, info_as, info_of, known_then, infos_from}
 use Rattle.graph_build.specs.declared.errors.PlanKind.{PlanKind}
 use Rattle.graph_build.specs.declared.infos.Info.{Info}
 use Rattle.graph_build.specs.declared.infos.Role.{Role}

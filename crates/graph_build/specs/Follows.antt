@@ -1,6 +1,6 @@
 -- When a plan follows another: its first sets are those of the other, with the same bricks, order and client
 -- names, and its later sets have bricks that the other has not.
-use Rattle.std.specs.Prelude.{ℕ, ◌==◌, ◌&&◌, ◌||◌, not, Bool, true, false, List, [], ◌∷◌}
+use Rattle.std.specs.Prelude.{ℕ, ◌==◌, ◌&&◌, not, Bool, false, List, [], ◌∷◌}
 use Rattle.std.specs.List.{list_all, list_any}
 use Rattle.std.specs.Cmp.Lexicographic.{pointwise}
 use Rattle.fop_types.specs.declared.jobs.SetPlan.{SetPlan}

@@ -1,6 +1,6 @@
 -- What the sets of every plan are. A set has one brick or three, of which more than half are a quorum; its number is its
 -- place; and no two sets, clients or bricks of a plan are the same.
-use Rattle.std.specs.Prelude.{◌≡◌, ◌≤◌, ⊤, ℕ, ◌+◌, ◌/◌, ◌==◌, ◌⊎◌, true, List, [], ◌∷◌, length, flat_map, Ok}
+use Rattle.std.specs.Prelude.{◌≡◌, ◌≤◌, ⊤, ℕ, ◌+◌, ◌==◌, true, List, [], ◌∷◌, length, flat_map, Ok}
 use Rattle.std.specs.List.{AllByRecursion, IsDistinct}
 use Rattle.volfile.specs.TextLines.{is_text, is_name}
 use Rattle.volfile.specs.Volumes.{IsVolfile}
@@ -9,17 +9,14 @@ use Rattle.script_lang.specs.declared.scripts.BrickLine.{BrickLine}
 use Rattle.graph_build.specs.Plans.{planned}
 use Rattle.graph_build.specs.declared.plans.Plan.{Plan}
 use Rattle.fop_types.specs.declared.jobs.SetPlan.{SetPlan}
+use Rattle.fop_types.specs.Jobs.{IsSetPlan}
 
--- how many replicas a set may have
-abbrev pub IsReplicaCount : ℕ → Type 0
-IsReplicaCount n = (n ≡ 1) ⊎ (n ≡ 3)
-
+-- the set at a place; no set has five replicas yet
 pub record IsSet (place : ℕ) (s : SetPlan) : Type 0 where
   pub number : s.number ≡ place
   pub name : is_name s.name ≡ true
-  pub size : IsReplicaCount (length s.bricks)
-  pub quorum : s.q ≡ (length s.bricks + 1) / 2
-  pub clients : length s.clients ≡ length s.bricks
+  pub plan : IsSetPlan s
+  pub few : length s.bricks ≤ 3
   pub client_names : AllByRecursion (λ name. is_name name ≡ true) s.clients
 
 -- sets whose first stands at this place

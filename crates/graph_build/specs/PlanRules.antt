@@ -1,7 +1,7 @@
 -- When a volfile is refused as a plan: the first volume of which a rule does not hold, with the first such
 -- rule in the order of `PlanKind`; that each volume but the last is used comes after all others. A volume
 -- stands over earlier ones, so what is known of a volume comes from what is known of those.
-use Rattle.std.specs.Prelude.{ℕ, ◌+◌, ◌-◌, ◌==◌, ◌&&◌, ◌||◌, not, nat_le, nat_lt, zero, suc, Bool, true, false, if◌then◌else◌, List, [], ◌∷◌, ◌++◌, length, codes, Option, Some, None, Result, Ok, Err}
+use Rattle.std.specs.Prelude.{ℕ, ◌+◌, ◌==◌, ◌&&◌, ◌||◌, not, nat_le, nat_lt, Bool, true, false, if◌then◌else◌, List, [], ◌∷◌, ◌++◌, length, codes, Option, Some, None, Result, Ok, Err}
 use Rattle.std.specs.List.{list_any, slice_get}
 use Rattle.volfile.specs.TextLines.{is_text}
 use Rattle.volfile.specs.VolumeNames.{place_of}
@@ -11,7 +11,7 @@ use Rattle.script_lang.specs.declared.scripts.BrickLine.{BrickLine}
 use Rattle.graph_build.specs.declared.errors.PlanError.{PlanError}
 use Rattle.graph_build.specs.declared.errors.PlanError.TheVariants.{At}
 use Rattle.graph_build.specs.declared.errors.PlanKind.{PlanKind}
-use Rattle.graph_build.specs.declared.errors.PlanKind.TheVariants.{UnknownKind, SubvolumeCount, BadReplica, NotAuto, NoBrick, BrickTwice, BadOption, UsedTwice, NestedCluster, TooDeep, Unused}
+use Rattle.graph_build.specs.declared.errors.PlanKind.TheVariants.{UnknownKind, SubvolumeCount, BadReplica, NotAuto, NoBrick, BrickTwice, BadOption, UsedTwice, NestedCluster, TooDeep}
 use Rattle.graph_build.specs.declared.infos.Tree.{Tree}
 use Rattle.graph_build.specs.declared.infos.Info.{Info}
 use Rattle.graph_build.specs.declared.infos.Role.{Role}

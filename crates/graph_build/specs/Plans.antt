@@ -2,7 +2,7 @@
 -- subvolumes; without one the way down from the last volume leads to the one set. Its nodes stand in the
 -- file's order, each behind those below it; a node that was put in stands behind what it was put in for;
 -- the last node is the top.
-use Rattle.std.specs.Prelude.{ℕ, ◌+◌, ◌-◌, ◌/◌, ◌==◌, zero, suc, Bool, true, false, if◌then◌else◌, List, [], ◌∷◌, ◌++◌, length, Option, Some, None, Result, Ok, Err}
+use Rattle.std.specs.Prelude.{ℕ, ◌+◌, ◌-◌, ◌/◌, ◌==◌, Bool, true, false, if◌then◌else◌, List, [], ◌∷◌, ◌++◌, length, Option, Some, None, Result, Ok, Err}
 use Rattle.std.specs.List.{slice_get}
 use Rattle.volfile.specs.declared.volumes.Volume.{Volume}
 use Rattle.graph_build.specs.PlanRules.{bottom_at, infos_from, unused_from, or_zero}

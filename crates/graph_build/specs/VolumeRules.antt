@@ -1,6 +1,6 @@
 -- What the options of a volume say: the rules of replicate volumes, the brick of a client, the pages of a
 -- cache.
-use Rattle.std.specs.Prelude.{ℕ, ◌-◌, ◌*◌, ◌/◌, ◌==◌, ◌&&◌, ◌||◌, not, nat_le, nat_lt, Bool, true, false, if◌then◌else◌, List, [], ◌∷◌, length, take, drop, suc, codes, Option, Some, None}
+use Rattle.std.specs.Prelude.{ℕ, ◌-◌, ◌*◌, ◌/◌, ◌==◌, ◌&&◌, ◌||◌, not, nat_lt, Bool, true, false, if◌then◌else◌, List, [], ◌∷◌, length, take, drop, suc, codes, Option, Some, None}
 use Rattle.std.specs.Option.{option_map}
 use Rattle.xl_base.specs.Words.{decimal_of, fitting}
 use Rattle.volfile.specs.TextLines.{is_text}

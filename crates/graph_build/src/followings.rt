@@ -31,7 +31,8 @@ fn is_same_set(a: &SetPlan, b: &SetPlan) -> bool
     a.bricks == b.bricks && a.clients == b.clients
 }
 
-fn are_new(old: &[SetPlan], sets: &[SetPlan]) -> bool
+/// Whether no old set has a brick of one of these sets.
+pub fn are_new(old: &[SetPlan], sets: &[SetPlan]) -> bool
     ensures { result ≡ list_all (is_new_over old.now) sets.now }
 {
     for set in sets {

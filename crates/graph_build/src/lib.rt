@@ -36,7 +36,7 @@ mod volumes;
 
 pub use builds::build;
 pub use errors::{PlanError, PlanKind};
-pub use followings::follows;
+pub use followings::{are_new, follows};
 pub use fop_types::SetPlan;
-pub use laws::plans_have_sets;
+pub use laws::{plans_have_nodes, plans_have_sets};
 pub use plans::{NodeKind, NodePlan, Plan};

@@ -10,6 +10,7 @@ use Rattle.fop_types.specs.declared.messages.DoneArm.TheVariants as done
 use Rattle.fop_types.specs.Names.{item_named}
 use Rattle.xlator_law.specs.Law.{Slots, no_slots, without, IsWinding, IsStepFrom, IsStep, Cause}
 use Rattle.xlator_law.specs.Law.Cause.{Enter, Reply}
+use Rattle.xlator_law.specs.declared.winds.Entry.{Entry}
 use Rattle.xlator_law.specs.declared.step.Step.{Step}
 use Rattle.xlator_law.specs.declared.step.Step.TheVariants.{Wind, Wait, Unwind}
 use Rattle.graph_core.specs.declared.fops.Fop.TheVariants.{Lookup, Stat, Mkdir}
@@ -175,8 +176,8 @@ module _ (node : Node) (before : Slots) (most : ℕ) (free : before 0 ≡ false)
   move_step (Back u) paid (Wait k) made = absurd made
   move_step (Back u) paid (Unwind reply) made = none
 
-pub entered_step : (node : Node) (d : Down) (s : Step Down Up Local) → IsMade (On (down_of node d) (local_of node d)) s → IsStep (promise_of node) (Enter d) s
-entered_step node d s made = move_step node no_slots (cost_at node d) refl (λ n. refl) (On (down_of node d) (local_of node d)) (paid_in node d) s made
+pub entered_step : (node : Node) (entry : Entry) (d : Down) (s : Step Down Up Local) → IsMade (On (down_of node d) (local_of node d)) s → IsStep (promise_of node) (Enter entry d) s
+entered_step node entry d s made = move_step node no_slots (cost_at node d) refl (λ n. refl) (On (down_of node d) (local_of node d)) (paid_in node d) s made
 
 pub resumed_step : (node : Node) (l : Local) (slot : ℕ) (u : Up) (s : Step Down Up Local) → (slot == 0) ≡ true → IsMade (move_of l u) s → IsStep (promise_of node) (Reply l slot u) s
 resumed_step node l slot u s zero made = move_step node (without slot (λ n. n == 0)) (left_of l) (gone 0) gone (move_of l u) (paid_out node l u) s made where

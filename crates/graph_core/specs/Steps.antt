@@ -1,7 +1,8 @@
 -- A move as a step of a translator: what it hands on is wound to child 0, in slot 0, and what each node
 -- promises.
 use Rattle.std.specs.Prelude.{ℕ, ◌≡◌, ◌==◌, ◌+◌, true, false, [], ◌∷◌}
-use Rattle.xlator_law.specs.Law.{Promise}
+use Rattle.xlator_law.specs.Law.{Promise, Cause}
+use Rattle.xlator_law.specs.Law.Cause.{Enter, Reply, Go}
 use Rattle.xlator_law.specs.declared.step.Step.{Step}
 use Rattle.xlator_law.specs.declared.step.Step.TheVariants.{Wind, Wait, Unwind}
 use Rattle.graph_core.specs.declared.items.Down.{Down}
@@ -12,6 +13,7 @@ use Rattle.graph_core.specs.declared.locals.Move.TheVariants.{On, Back}
 use Rattle.graph_core.specs.declared.nodes.Node.{Node}
 use Rattle.graph_core.specs.declared.nodes.Node.TheVariants.{Root, Pass, Distribute, Replicate, Client}
 use Rattle.graph_core.specs.Costs.{cost_at, child_cost, left_of}
+use Rattle.graph_core.specs.Nodes.{down_of, local_of, move_of}
 
 abbrev pub IsMade : Move → Step Down Up Local → Type 0
 IsMade (On down local) (Wind winds kept) = (winds.items ≡ (0, 0, down) ∷ []) × (kept ≡ local)
@@ -41,3 +43,10 @@ promise_of node = record {
   waits = λ _. false;
   left = left_of;
 }
+
+-- A node hands on what it makes of what enters it; an answer moves the local of its frame on. No frame waits
+-- for anything but winds.
+abbrev pub made_of : {C : Type 0} → Node → C → Cause Down Up Local → Step Down Up Local → Node → C → Type 0
+made_of node cx (Enter entry down) step new cx_new = IsMade (On (down_of node down) (local_of node down)) step
+made_of node cx (Reply local slot reply) step new cx_new = IsMade (move_of local reply) step
+made_of node cx (Go local) step new cx_new = Unit {0}

@@ -9,7 +9,7 @@ use crate::locals::{Local, Move};
 use crate::nodes::Node;
 use crate::translators::resumed;
 use std::alloc::{AllocError, Global};
-use xlator_law::{Step, Xlator};
+use xlator_law::{Entry, Step, Xlator};
 
 /// A step that winds one thing to the only child, in slot 0.
 fn on(alloc: Global, down: Down, local: Local) -> Result<Step<Down, Up, Local>, AllocError>
@@ -36,14 +36,17 @@ fn step(alloc: Global, next: Move) -> Result<Step<Down, Up, Local>, AllocError>
 impl<C> Xlator<Down, Up, C> for Node {
     type Local = Local;
 
-    ghost use Rattle.graph_core.specs.Steps.{promise_of};
+    ghost use Rattle.graph_core.specs.Steps.{promise_of, made_of};
 
     ghost promise = { promise_of };
+
+    ghost makes = { made_of };
 
     fn enter(
         &mut self,
         alloc: Global,
         _cx: &mut C,
+        _entry: Entry,
         fop: Down,
     ) -> Result<Step<Down, Up, Local>, AllocError> {
         let (down, local) = self.entered(alloc, fop)?;

@@ -78,7 +78,7 @@ opens_it w m opened same = rw (opened, same) (itself w)
 
 module _ (s : Stack Local) (moves : List Move) (lines : List WindLine) (reached : IsStackReached s moves (map told lines)) (none : s.lines ≡ []) where
   told_is : map told lines ≡ map line_of moves
-  told_is = sym (append-nil (map told lines)) ∙ ap (λ (ls : List Line). map told lines ++ ls) (sym none) ∙ (winds_balanced Local s moves (map told lines) reached).told
+  told_is = sym (append-nil (map told lines)) ∙ ap (λ (ls : List Line). map told lines ++ ls) (sym none) ∙ (winds_balanced Local s moves (map told lines) reached).reported
 
   orderly : AreOrderly [] moves
   orderly = (winds_balanced Local s moves (map told lines) reached).orderly

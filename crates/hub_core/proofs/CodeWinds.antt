@@ -138,7 +138,7 @@ kept_handed s (l ∷ ls) = ap (λ (x : List _). local_at s l.frame ∷ x) (kept_
 pub linked_handed : (s : Stack Local) (graph call : ℕ) (ls : List Link) → AreLinked s graph call ls → AreLinked (record s { lines = [] }) graph call ls
 linked_handed s graph call [] h = tt
 linked_handed s graph call (l ∷ ls) h = (
-  record { stands = h.0.stands; keeps = h.0.keeps; opened = h.0.opened; waits = h.0.waits; below = h.0.below; alone = h.0.alone },
+  record { stands = h.0.stands; keeps = h.0.keeps; number = h.0.number; opened = h.0.opened; waits = h.0.waits; below = h.0.below; alone = h.0.alone },
   linked_handed s graph call ls h.1,
 )
 

@@ -58,10 +58,7 @@ const OUTPUTS: [&[u8]; 12] = [
 // Whether all of the bytes are one input, which is encoded as these bytes in memory of their length.
 fn is_input(alloc: Global, bytes: &[u8]) -> Result<bool, AllocError> {
     match decode_req(alloc, bytes)? {
-        Decoded::Front { value, used } => {
-            let again = encode_req(alloc, &value)?;
-            Ok(used as usize == bytes.len() && is_exact(&again, bytes))
-        }
+        Decoded::Front { value, used } => Ok(is_exact(encode_req(alloc, &value), used, bytes)),
         Decoded::Bad(_) => Ok(false),
     }
 }
@@ -69,16 +66,20 @@ fn is_input(alloc: Global, bytes: &[u8]) -> Result<bool, AllocError> {
 // Whether all of the bytes are one output, which is encoded as these bytes in memory of their length.
 fn is_output(alloc: Global, bytes: &[u8]) -> Result<bool, AllocError> {
     match decode_rep(alloc, bytes)? {
-        Decoded::Front { value, used } => {
-            let again = encode_rep(alloc, &value)?;
-            Ok(used as usize == bytes.len() && is_exact(&again, bytes))
-        }
+        Decoded::Front { value, used } => Ok(is_exact(encode_rep(alloc, &value), used, bytes)),
         Decoded::Bad(_) => Ok(false),
     }
 }
 
-fn is_exact(again: &Vec<u8>, bytes: &[u8]) -> bool {
-    again.capacity() == bytes.len() && again.as_slice() == bytes
+fn is_exact(again: Result<Vec<u8>, AllocError>, used: u32, bytes: &[u8]) -> bool {
+    match again {
+        Ok(again) => {
+            used as usize == bytes.len()
+                && again.capacity() == bytes.len()
+                && again.as_slice() == bytes
+        }
+        Err(_) => false,
+    }
 }
 
 #[test]
@@ -109,31 +110,17 @@ fn longest_write_is_encoded_again(rt: HostRuntime) -> Result<(), Fail> {
 }
 
 // The unlock by call 7 in graph 1 with wind 5.
-#[test]
-fn unlock_has_these_units(rt: HostRuntime) -> Result<(), Fail> {
+fn unlock(alloc: Global) -> Result<Vec<u8>, AllocError> {
     let input = Input::Request {
         wind: 5,
         graph: 1,
         req: BrickReq::Unlock { call: 7 },
     };
-    let bytes = bytes_of(rt.alloc(), b"0 0 5 1 2 7")?;
-    assert!(rt; encode_req(rt.alloc(), &input)?.as_slice() == bytes.as_slice());
-    Ok(())
+    encode_req(alloc, &input)
 }
 
-// The second output of a brick: what it was sent is no input at 60.
-#[test]
-fn malformed_has_these_units(rt: HostRuntime) -> Result<(), Fail> {
-    let output = Output {
-        taken: 2,
-        kind: OutKind::Malformed { place: 60 },
-    };
-    let bytes = bytes_of(rt.alloc(), b"0 2 4 3c")?;
-    assert!(rt; encode_rep(rt.alloc(), &output)?.as_slice() == bytes.as_slice());
-    Ok(())
-}
-
-fn replace(alloc: Global) -> Result<Input, AllocError> {
+// The replace of `REPLACE`.
+fn replace(alloc: Global) -> Result<Vec<u8>, AllocError> {
     let content = Content::Bytes(Seq::from_bytes(alloc, b"ab")?);
     let cell = Cell {
         gfid: Gfid { hi: 0, lo: 2 },
@@ -144,24 +131,28 @@ fn replace(alloc: Global) -> Result<Input, AllocError> {
         last: 3,
         content,
     };
-    Ok(Input::Request {
+    let input = Input::Request {
         wind: 1,
         graph: 1,
         req,
-    })
+    };
+    encode_req(alloc, &input)
+}
+
+// The second output of a brick: what it was sent is no input at 60.
+fn malformed(alloc: Global) -> Result<Vec<u8>, AllocError> {
+    let output = Output {
+        taken: 2,
+        kind: OutKind::Malformed { place: 60 },
+    };
+    encode_rep(alloc, &output)
 }
 
 #[test]
-fn replace_is_read(rt: HostRuntime) -> Result<(), Fail> {
-    let bytes = bytes_of(rt.alloc(), REPLACE)?;
-    let input = replace(rt.alloc())?;
-    assert!(rt; is_front(decode_req(rt.alloc(), bytes.as_slice())?, &input, 60));
+fn values_have_these_units(rt: HostRuntime) -> Result<(), Fail> {
+    let alloc = rt.alloc();
+    assert!(rt; unlock(alloc)?.as_slice() == bytes_of(alloc, b"0 0 5 1 2 7")?.as_slice());
+    assert!(rt; replace(alloc)?.as_slice() == bytes_of(alloc, REPLACE)?.as_slice());
+    assert!(rt; malformed(alloc)?.as_slice() == bytes_of(alloc, b"0 2 4 3c")?.as_slice());
     Ok(())
-}
-
-fn is_front(decoded: Decoded<Input>, input: &Input, length: u32) -> bool {
-    match decoded {
-        Decoded::Front { value, used } => used == length && value == *input,
-        Decoded::Bad(_) => false,
-    }
 }

@@ -35,20 +35,21 @@ const WRONG_OUTPUTS: [(u32, &[u8]); 6] = [
     (28, b"0 1 0 0 5 0 3 100001"),
 ];
 
+fn place_of<T: Drop>(decoded: Decoded<T>) -> Option<u32> {
+    match decoded {
+        Decoded::Front { value: _, used: _ } => None,
+        Decoded::Bad(error) => Some(error.place),
+    }
+}
+
 // The place at which the bytes stop being an input.
 fn input_place(alloc: Global, bytes: &[u8]) -> Result<Option<u32>, AllocError> {
-    match decode_req(alloc, bytes)? {
-        Decoded::Front { value: _, used: _ } => Ok(None),
-        Decoded::Bad(error) => Ok(Some(error.place)),
-    }
+    Ok(place_of(decode_req(alloc, bytes)?))
 }
 
 // The place at which the bytes stop being an output.
 fn output_place(alloc: Global, bytes: &[u8]) -> Result<Option<u32>, AllocError> {
-    match decode_rep(alloc, bytes)? {
-        Decoded::Front { value: _, used: _ } => Ok(None),
-        Decoded::Bad(error) => Ok(Some(error.place)),
-    }
+    Ok(place_of(decode_rep(alloc, bytes)?))
 }
 
 #[test]

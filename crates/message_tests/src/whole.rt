@@ -1,6 +1,4 @@
 use crate::units::{REPLACE, bytes_of};
-use fop_types::{Input, Output};
-use std::alloc::{AllocError, Global};
 use std::test::Fail;
 use wire_messages::{Message, input_of, messages_read_back, output_of};
 
@@ -21,14 +19,7 @@ const OUTPUTS: [(Option<u32>, &[u8]); 4] = [
     (Some(8), b"0 2 5 0"),
 ];
 
-fn input_place(message: Message<Input>) -> Option<u32> {
-    match message {
-        Message::Whole(_) => None,
-        Message::Wrong { place } => Some(place),
-    }
-}
-
-fn output_place(message: Message<Output>) -> Option<u32> {
+fn place_of<T: Drop>(message: Message<T>) -> Option<u32> {
     match message {
         Message::Whole(_) => None,
         Message::Wrong { place } => Some(place),
@@ -40,7 +31,7 @@ fn inputs_are_whole(rt: HostRuntime) -> Result<(), Fail> {
     messages_read_back();
     for (place, units) in &INPUTS {
         let bytes = bytes_of(rt.alloc(), units)?;
-        assert!(rt; input_place(input_of(rt.alloc(), bytes.as_slice())?) == *place);
+        assert!(rt; place_of(input_of(rt.alloc(), bytes.as_slice())?) == *place);
     }
     Ok(())
 }
@@ -49,7 +40,7 @@ fn inputs_are_whole(rt: HostRuntime) -> Result<(), Fail> {
 fn outputs_are_whole(rt: HostRuntime) -> Result<(), Fail> {
     for (place, units) in &OUTPUTS {
         let bytes = bytes_of(rt.alloc(), units)?;
-        assert!(rt; output_place(output_of(rt.alloc(), bytes.as_slice())?) == *place);
+        assert!(rt; place_of(output_of(rt.alloc(), bytes.as_slice())?) == *place);
     }
     Ok(())
 }

@@ -4,7 +4,7 @@ use Rattle.std.specs.List.{filter}
 use Rattle.std.specs.Cmp.{nat_eq_equiv}
 use Rattle.fop_types.specs.declared.cells.Gfid.{Gfid}
 use Rattle.mount_locks.specs.declared.request.Request.{Request}
-use Rattle.mount_locks.specs.Rule.{held, waiting, is_gfid, names, shares, conflicts, any_conflicts, granted_now, without, Turned, turn, grant_in_order, released, AreApart}
+use Rattle.mount_locks.specs.Rule.{held, waiting, is_gfid, names, shares, conflicts, any_conflicts, granted_now, without, GrantPass, turn, grant_in_order, released, AreApart}
 use Rattle.queue_index.proofs.Lists.{any-append, any_same, any_or, none, and_flip, or_false, not_false, any_cond, any_left, filter-append, filter_swap, nil_end, joined}
 
 -- ---- to conflict goes both ways
@@ -100,11 +100,11 @@ old_apart earlier later r waits apart =
     let split = filter-append (λ (a : Request). a.granted) earlier (r ∷ later) in
     subst (λ (t : List Request). AreApart t) (split ∙ ap (λ b. held earlier ++ cond b (r ∷ held later) (held later)) waits) apart
 
-pub apart_turn : (before : Turned) (r : Request) (after : List Request) → AreApart (held (before.queue ++ r ∷ after)) → AreApart (held ((turn before r after).queue ++ after))
+pub apart_turn : (before : GrantPass) (r : Request) (after : List Request) → AreApart (held (before.queue ++ r ∷ after)) → AreApart (held ((turn before r after).queue ++ after))
 apart_turn before r after apart =
     elim (not r.granted && granted_now (held before.queue ++ held after) (waiting before.queue) r) as (λ b.
     (not r.granted && granted_now (held before.queue ++ held after) (waiting before.queue) r) ≡ b
-    → AreApart (held ((cond {A = Turned} b (record { queue = before.queue ++ record r { granted = true } ∷ []; calls = before.calls ++ r.call ∷ [] }) (record { queue = before.queue ++ r ∷ []; calls = before.calls })).queue ++ after))) [
+    → AreApart (held ((cond {A = GrantPass} b (record { queue = before.queue ++ record r { granted = true } ∷ []; calls = before.calls ++ r.call ∷ [] }) (record { queue = before.queue ++ r ∷ []; calls = before.calls })).queue ++ after))) [
       | true ↦ λ e.
           rw (joined before.queue (record r { granted = true }) after) (rw (filter-append (λ (a : Request). a.granted) before.queue (record r { granted = true } ∷ after))
           (apart_insert (held before.queue) (held after) (record r { granted = true })
@@ -119,7 +119,7 @@ apart_waiting earlier later r waits apart =
     let split = filter-append (λ (a : Request). a.granted) earlier (r ∷ later) in
     subst (λ (t : List Request). AreApart t) (filter-append (λ (a : Request). a.granted) earlier later ∙ sym (split ∙ ap (λ b. held earlier ++ cond b (r ∷ held later) (held later)) waits)) apart
 
-pub apart_turned : (after : List Request) (before : Turned) → AreApart (held (before.queue ++ after)) → AreApart (held (grant_in_order before after).queue)
+pub apart_turned : (after : List Request) (before : GrantPass) → AreApart (held (before.queue ++ after)) → AreApart (held (grant_in_order before after).queue)
 apart_turned [] before apart = subst (λ (q : List Request). AreApart (held q)) (nil_end before.queue) apart
 apart_turned (r ∷ after) before apart = apart_turned after (turn before r after) (apart_turn before r after apart)
 

@@ -2,8 +2,9 @@
 use Rattle.std.proofs.Common.{◌≡◌, ℕ, ◌+◌, ◌<◌, ◌≤◌, suc, Bool, true, false, not, cond, List, [], ◌∷◌, ◌++◌, Some, refl, sym, ap, ◌∙◌, arith, subst, length}
 use Rattle.std.specs.List.{AllByRecursion}
 use Rattle.std.specs.Ordering.{nat_cmp, is_eq}
-use Rattle.queue_index.specs.Queue.{item_at, items, without, changed_at, passes, is_at_number}
+use Rattle.queue_index.specs.Queue.{item_at, items, without, changed_at, passes, is_at_number, with_free_end, with_free_front}
 use Rattle.queue_index.proofs.Entries.{at_is}
+use Rattle.queue_index.proofs.Renumbered.{items_last, items_free_end, items_free_front}
 use Rattle.mount_locks.specs.declared.request.Request.{Request}
 use Rattle.mount_locks.specs.Keys.{marked}
 use Rattle.mount_locks.specs.Rule.{waiting}
@@ -59,17 +60,41 @@ count_without n w (e ∷ es) s h = at_one (is_eq (nat_cmp n e.0)) refl h (count_
         more (not e.1.granted) e.1 (cond w 1 0) (waiting (items es)) (waiting (items (without n es))) (on h) ∙ ap (λ (k : ℕ). k + cond w 1 0) (sym head)
 
 -- ---- a count that is kept
-pub room_last : (es fs : List (ℕ × Request)) (e : ℕ × Request) (w k : ℕ) → w ≡ length (waiting (items es)) → fs ≡ es ++ e ∷ [] → k ≡ length fs → w + 1 ≤ k
+room_last : (es fs : List (ℕ × Request)) (e : ℕ × Request) (w k : ℕ) → w ≡ length (waiting (items es)) → fs ≡ es ++ e ∷ [] → k ≡ length fs → w + 1 ≤ k
 room_last es fs e w k count is long =
     let fits = count_fits es in
     let one : length fs ≡ length es + 1 = ap (λ (l : List (ℕ × Request)). length l) is ∙ last_longer es e in
     omega (arith, count, long, fits, one)
 
-pub room_first : (es fs : List (ℕ × Request)) (e : ℕ × Request) (w k : ℕ) → w ≡ length (waiting (items es)) → fs ≡ e ∷ es → k ≡ length fs → w + 1 ≤ k
+room_first : (es fs : List (ℕ × Request)) (e : ℕ × Request) (w k : ℕ) → w ≡ length (waiting (items es)) → fs ≡ e ∷ es → k ≡ length fs → w + 1 ≤ k
 room_first es fs e w k count is long =
     let fits = count_fits es in
     let one : length fs ≡ suc (length es) = ap (λ (l : List (ℕ × Request)). length l) is in
     omega (arith, count, long, fits, one)
+
+pub room_in_last : (es fs : List (ℕ × Request)) (e : ℕ × Request) (w k : ℕ) → w ≡ length (waiting (items es)) → fs ≡ with_free_end es ++ e ∷ [] → k ≡ length fs → w + 1 ≤ k
+room_in_last es fs e w k count is long = room_last (with_free_end es) fs e w k (count ∙ ap (λ (l : List Request). length (waiting l)) (sym (items_free_end es))) is long
+
+pub room_in_first : (es fs : List (ℕ × Request)) (e : ℕ × Request) (w k : ℕ) → w ≡ length (waiting (items es)) → fs ≡ e ∷ with_free_front es → k ≡ length fs → w + 1 ≤ k
+room_in_first es fs e w k count is long = room_first (with_free_front es) fs e w k (count ∙ ap (λ (l : List Request). length (waiting l)) (sym (items_free_front es))) is long
+
+-- one that waits is put in
+waits_more : (r : Request) (us : List Request) → r.granted ≡ false → length (waiting (r ∷ us)) ≡ length (waiting us) + 1
+waits_more r us waits = one_more (not r.granted) r (waiting us) ∙ ap (λ (b : Bool). length (waiting us) + cond (not b) 1 0) waits
+
+waits_last : (us : List Request) (r : Request) → r.granted ≡ false → length (waiting (us ++ r ∷ [])) ≡ length (waiting us) + 1
+waits_last [] r waits = waits_more r [] waits
+waits_last (x ∷ us) r waits = more (not x.granted) x 1 (waiting (us ++ r ∷ [])) (waiting us) (waits_last us r waits)
+
+pub count_in_last : (es fs : List (ℕ × Request)) (n : ℕ) (r : Request) (w : ℕ) → r.granted ≡ false → w ≡ length (waiting (items es)) → fs ≡ with_free_end es ++ (n, r) ∷ [] → w + 1 ≡ length (waiting (items fs))
+count_in_last es fs n r w waits count is =
+    ap (λ (k : ℕ). k + 1) (count ∙ ap (λ (l : List Request). length (waiting l)) (sym (items_free_end es)))
+    ∙ sym (ap (λ (l : List (ℕ × Request)). length (waiting (items l))) is ∙ ap (λ (l : List Request). length (waiting l)) (items_last (with_free_end es) (n, r)) ∙ waits_last (items (with_free_end es)) r waits)
+
+pub count_in_first : (es fs : List (ℕ × Request)) (n : ℕ) (r : Request) (w : ℕ) → r.granted ≡ false → w ≡ length (waiting (items es)) → fs ≡ (n, r) ∷ with_free_front es → w + 1 ≡ length (waiting (items fs))
+count_in_first es fs n r w waits count is =
+    ap (λ (k : ℕ). k + 1) (count ∙ ap (λ (l : List Request). length (waiting l)) (sym (items_free_front es)))
+    ∙ sym (ap (λ (l : List (ℕ × Request)). length (waiting (items l))) is ∙ waits_more r (items (with_free_front es)) waits)
 
 pub one_granted : (n w : ℕ) (es now fs : List (ℕ × Request)) → es ≡ now → Rise es → is_at_number (λ _ r. not r.granted) now n ≡ true → w ≡ length (waiting (items es)) → fs ≡ changed_at marked n es → w ≡ length (waiting (items fs)) + 1
 one_granted n w es now fs same s there count is =

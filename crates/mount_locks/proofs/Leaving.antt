@@ -9,8 +9,8 @@ use Rattle.queue_index.specs.Queue.{item_at, items, numbers, touches, touching, 
 use Rattle.queue_index.proofs.Entries.{founds, found_in}
 use Rattle.mount_locks.specs.declared.request.Request.{Request}
 use Rattle.mount_locks.specs.Keys.{call_key, keys_of}
-use Rattle.mount_locks.specs.Rule.{held, waiting, without, Turned, grant_in_order, released, AreApart}
-use Rattle.mount_locks.specs.Walks.{turned_of, blocks, AreBlocked, AreUnpassed, IsSettled, turns, calls_of}
+use Rattle.mount_locks.specs.Rule.{held, waiting, without, GrantPass, grant_in_order, released, AreApart}
+use Rattle.mount_locks.specs.Walks.{grant_pass, blocks, AreBlocked, AreUnpassed, IsSettled, turns, calls_of}
 use Rattle.queue_index.specs.Rivals.{is_rival, conflicts as by_keys}
 use Rattle.queue_index.proofs.Lists.{any_rest, none, or_false, filter_map_is, all_filter, all_pass}
 use Rattle.mount_locks.proofs.Apart.{apart_fewer, apart_released}
@@ -60,13 +60,13 @@ gone_idle k es s = λ n r is waits out.
 
 -- ---- a release
 record IsLeft (call : ℕ) (es fs : List (ℕ × Request)) (ks : List ℕ) : Type 0 where
-  pub turned : turned_of (items (turns fs ks)) (calls_of fs ks) ≡ released call (items es)
+  pub turned : grant_pass (items (turns fs ks)) (calls_of fs ks) ≡ released call (items es)
   pub blocked : AreBlocked (turns fs ks)
 
-turned_by : (es fs : List (ℕ × Request)) (ns ms ks : List ℕ) → (turns fs ns ≡ turns fs ms) × (calls_of fs ns ≡ calls_of fs ms) → (turns fs ns ≡ turns fs ks) × (calls_of fs ns ≡ calls_of fs ks) → turned_of (items (turns fs ms)) (calls_of fs ms) ≡ turned_of (items (turns fs ks)) (calls_of fs ks)
+turned_by : (es fs : List (ℕ × Request)) (ns ms ks : List ℕ) → (turns fs ns ≡ turns fs ms) × (calls_of fs ns ≡ calls_of fs ms) → (turns fs ns ≡ turns fs ks) × (calls_of fs ns ≡ calls_of fs ks) → grant_pass (items (turns fs ms)) (calls_of fs ms) ≡ grant_pass (items (turns fs ks)) (calls_of fs ks)
 turned_by es fs ns ms ks a b =
-    ap (λ (l : List (ℕ × Request)). turned_of (items l) (calls_of fs ms)) (sym a.0 ∙ b.0)
-    ∙ ap (λ (c : List ℕ). turned_of (items (turns fs ks)) c) (sym a.1 ∙ b.1)
+    ap (λ (l : List (ℕ × Request)). grant_pass (items l) (calls_of fs ms)) (sym a.0 ∙ b.0)
+    ∙ ap (λ (c : List ℕ). grant_pass (items (turns fs ks)) c) (sym a.1 ∙ b.1)
 
 left_is : (call : ℕ) (k : Key) (es : List (ℕ × Request)) (ks : List ℕ) → k ≡ call_key call → Rise es → AreBlocked es → ks ≡ numbers (filter (λ e. is_rival keys_of k es e.1) es) → IsLeft call es (filter (stays k) es) ks
 left_is call k es ks key s blocked found =
@@ -78,7 +78,7 @@ left_is call k es ks key s blocked found =
     let some : filter (is_at_number (λ _. is_rival keys_of k es) es) (numbers es) ≡ ks = filter_numbers (λ _. is_rival keys_of k es) es es (founds es s) ∙ sym found in
     let to_all = subst (λ (l : List ℕ). (turns fs (numbers es) ≡ turns fs l) × (calls_of fs (numbers es) ≡ calls_of fs l)) all one in
     let to_some = subst (λ (l : List ℕ). (turns fs (numbers es) ≡ turns fs l) × (calls_of fs (numbers es) ≡ calls_of fs l)) some two in
-    let order : released call (items es) ≡ turned_of (items (turns fs (numbers fs))) (calls_of fs (numbers fs)) = ap (λ (q : List Request). grant_in_order (turned_of [] []) q) (sym (without_is call k es fs key refl)) ∙ walked fs [] [] (fewer_rise (stays k) es s) in
+    let order : released call (items es) ≡ grant_pass (items (turns fs (numbers fs))) (calls_of fs (numbers fs)) = ap (λ (q : List Request). grant_in_order (grant_pass [] []) q) (sym (without_is call k es fs key refl)) ∙ walked fs [] [] (fewer_rise (stays k) es s) in
     record {
       turned = sym (order ∙ turned_by es fs (numbers es) (numbers fs) ks to_all to_some);
       blocked = ends ks fs (λ n r is waits out. rest n r is waits (sym (number_in (λ e. is_rival keys_of k es e.1) n es s) ∙ ap (list_any (λ m. is_eq (nat_cmp n m))) (sym found) ∙ out));
@@ -94,10 +94,10 @@ released_is call k l es seen fs gs found calls key again s settled same_seen has
     let out = left_is call k es found key s settled.blocked (has ∙ ap (λ (l : List (ℕ × Request)). numbers (filter (λ e. is_rival keys_of k l e.1) l)) same_seen) in
     let same : fs ≡ filter (stays k) es = left ∙ ap (λ (j : Key). filter (stays j) es) (again ∙ sym key) in
     let queue_is : gs ≡ turns (filter (stays k) es) found = turned ∙ ap (λ (f : List (ℕ × Request)). turns f found) same in
-    let queue_items : items gs ≡ (released call (items es)).queue = ap (λ (f : List (ℕ × Request)). items f) queue_is ∙ ap (λ (t : Turned). t.queue) out.turned in
+    let queue_items : items gs ≡ (released call (items es)).queue = ap (λ (f : List (ℕ × Request)). items f) queue_is ∙ ap (λ (t : GrantPass). t.queue) out.turned in
     record {
       queue = queue_items;
-      calls_are = called ∙ ap (λ (f : List (ℕ × Request)). calls_of f found) same ∙ ap (λ (t : Turned). t.calls) out.turned;
+      calls_are = called ∙ ap (λ (f : List (ℕ × Request)). calls_of f found) same ∙ ap (λ (t : GrantPass). t.calls) out.turned;
       settled = record {
         apart = subst (λ (q : List Request). AreApart (held q)) (sym queue_items) (apart_released call (items es) settled.apart);
         blocked = subst (λ (f : List (ℕ × Request)). AreBlocked f) (sym queue_is) out.blocked;

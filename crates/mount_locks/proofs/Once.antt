@@ -1,128 +1,180 @@
--- No call asks twice, and extensions are of calls that asked and come first.
-use Rattle.std.proofs.Common.{◌≡◌, ℕ, Bool, true, false, not, ◌&&◌, ◌||◌, ◌==◌, cond, List, [], ◌∷◌, ◌++◌, refl, sym, ap, ◌∙◌, arith, subst, map, append_assoc}
+-- No call has asked twice, and each extension is of a call that holds: what each call of the table keeps.
+use Rattle.std.proofs.Common.{◌≡◌, ℕ, Bool, true, false, not, ◌&&◌, ◌||◌, ◌==◌, cond, List, [], ◌∷◌, ◌++◌, refl, sym, ap, ◌∙◌, arith, subst}
 use Rattle.std.specs.List.{list_any, filter, AllByRecursion}
-use Rattle.queue_index.proofs.Lists.{any-append, any_left, or_false, filter-append, filter_map_is, nil_end}
+use Rattle.queue_index.proofs.Lists.{any-append, any_left, or_false, or_true, nil_end, joined}
 use Rattle.mount_locks.specs.declared.request.Request.{Request}
-use Rattle.mount_locks.specs.Rule.{held, waiting, granted_now, without, Turned, turn, grant_in_order, released, asked, extended, calls_in, is_among, AreDifferent, AskOnce}
+use Rattle.mount_locks.specs.Keys.{marked}
+use Rattle.mount_locks.specs.Rule.{held, waiting, granted_now, without, GrantPass, turn, grant_in_order, released, asked, extended, is_known, has_asked, is_holding, AsksDiffer, ExtensionsFirst, AskOnce}
 
-eq_flip : (a b : ℕ) → (a == b) ≡ (b == a)
-eq_flip a b = grind (arith)
+-- each extension is of a call that holds in a queue
+abbrev AreOfHolders : List Request → List Request → Type 0
+AreOfHolders queue rs = AllByRecursion (λ r. r.extends ≡ true → is_holding r.call queue ≡ true) rs
 
-eq_is : (a b : ℕ) → (a == b) ≡ true → a ≡ b
-eq_is a b h = grind (arith, h)
+-- ---- truth values
+left_false : (b c : Bool) → b ≡ false → (b && c) ≡ false
+left_false b c h = ap (λ (x : Bool). x && c) h
 
-calls_append : (xs ys : List Request) → calls_in (xs ++ ys) ≡ calls_in xs ++ calls_in ys
-calls_append [] ys = refl
-calls_append (x ∷ xs) ys = ap (λ (l : List ℕ). x.call ∷ l) (calls_append xs ys)
+other_call : (a b c : ℕ) → (a == c) ≡ false → (b == c) ≡ true → (b == a) ≡ false
+other_call a b c apart same = grind (arith, apart, same)
 
--- ---- what each call makes of the calls of the queue
-calls_turn : (before : Turned) (r : Request) (after : List Request) → calls_in (turn before r after).queue ≡ calls_in before.queue ++ r.call ∷ []
-calls_turn before r after = at_one (not r.granted && granted_now (held before.queue ++ held after) (waiting before.queue) r)
-  where
-    at_one : (b : Bool) → calls_in ((cond {A = Turned} b (record { queue = before.queue ++ record r { granted = true } ∷ []; calls = before.calls ++ r.call ∷ [] }) (record { queue = before.queue ++ r ∷ []; calls = before.calls })).queue) ≡ calls_in before.queue ++ r.call ∷ []
-    at_one true = calls_append before.queue (record r { granted = true } ∷ [])
-    at_one false = calls_append before.queue (r ∷ [])
+-- ---- a request that is put in last, of a call that is not known
+asked_last : (c : ℕ) (x : Request) (rs : List Request) → has_asked c rs ≡ false → (c == x.call) ≡ false → has_asked c (rs ++ x ∷ []) ≡ false
+asked_last c x rs none apart =
+    let off : (x.call == c) ≡ false = grind (arith, apart) in
+    any-append (λ r. (r.call == c) && not r.extends) rs (x ∷ [])
+    ∙ ap (λ (b : Bool). b || (((x.call == c) && not x.extends) || false)) none
+    ∙ ap (λ (b : Bool). b || false) (left_false (x.call == c) (not x.extends) off)
 
-calls_turned : (after : List Request) (before : Turned) → calls_in (grant_in_order before after).queue ≡ calls_in before.queue ++ calls_in after
-calls_turned [] before = sym (nil_end (calls_in before.queue))
-calls_turned (r ∷ after) before =
-    calls_turned after (turn before r after)
-    ∙ ap (λ (l : List ℕ). l ++ calls_in after) (calls_turn before r after)
-    ∙ append_assoc (calls_in before.queue) (r.call ∷ []) (calls_in after)
+differ_last : (x : Request) (rs : List Request) → is_known x.call rs ≡ false → AsksDiffer rs → AsksDiffer (rs ++ x ∷ [])
+differ_last x [] none h = (λ _. refl, tt)
+differ_last x (r ∷ rs) none h =
+    let two = or_false (r.call == x.call) (is_known x.call rs) none in
+    (λ own. asked_last r.call x rs (h.0 own) two.0, differ_last x rs two.1 h.1)
 
-calls_without : (c : ℕ) (q : List Request) → calls_in (without c q) ≡ filter (λ d. not (d == c)) (calls_in q)
-calls_without c q = sym (filter_map_is (λ d. not (d == c)) (λ (r : Request). r.call) q)
+holding_last : (c : ℕ) (x : Request) (rs : List Request) → is_holding c rs ≡ true → is_holding c (rs ++ x ∷ []) ≡ true
+holding_last c x rs h = any-append (λ r. (r.call == c) && (r.granted && not r.extends)) rs (x ∷ []) ∙ ap (λ (b : Bool). b || list_any (λ r. (r.call == c) && (r.granted && not r.extends)) (x ∷ [])) h
 
-calls_released : (c : ℕ) (q : List Request) → calls_in (released c q).queue ≡ filter (λ d. not (d == c)) (calls_in q)
-calls_released c q = calls_turned (without c q) (record { queue = []; calls = [] }) ∙ calls_without c q
+holders_last : (queue rs : List Request) (x : Request) → x.extends ≡ false → AreOfHolders queue rs → AreOfHolders (queue ++ x ∷ []) (rs ++ x ∷ [])
+holders_last queue [] x own h = (λ ext. absurd (let t : true ≡ false = sym ext ∙ own in cc), tt)
+holders_last queue (r ∷ rs) x own h = (λ ext. holding_last r.call x queue (h.0 ext), holders_last queue rs x own h.1)
 
--- ---- one more call
-known_more : (c : ℕ) (asks es : List ℕ) → AllByRecursion (λ e. is_among e asks ≡ true) es → AllByRecursion (λ e. is_among e (asks ++ c ∷ []) ≡ true) es
-known_more c asks [] h = tt
-known_more c asks (e ∷ es) h = (any-append (λ d. e == d) asks (c ∷ []) ∙ ap (λ (b : Bool). b || ((e == c) || false)) h.0, known_more c asks es h.1)
+none_last : (x : Request) (rs : List Request) → x.extends ≡ false → list_any (λ s. s.extends) rs ≡ false → list_any (λ s. s.extends) (rs ++ x ∷ []) ≡ false
+none_last x rs own h = any-append (λ s. s.extends) rs (x ∷ []) ∙ ap (λ (b : Bool). b || (x.extends || false)) h ∙ ap (λ (b : Bool). b || false) own
 
-apart_last : (x c : ℕ) (cs : List ℕ) → is_among x cs ≡ false → (x == c) ≡ false → is_among x (cs ++ c ∷ []) ≡ false
-apart_last x c cs none apart = any-append (λ d. x == d) cs (c ∷ []) ∙ ap (λ (b : Bool). b || ((x == c) || false)) none ∙ ap (λ (b : Bool). b || false) apart
+first_last : (x : Request) (rs : List Request) → x.extends ≡ false → ExtensionsFirst rs → ExtensionsFirst (rs ++ x ∷ [])
+first_last x [] own h = (λ _. refl, tt)
+first_last x (r ∷ rs) own h = (λ is. none_last x rs own (h.0 is), first_last x rs own h.1)
 
-differ_last : (cs : List ℕ) (c : ℕ) → AreDifferent cs → is_among c cs ≡ false → AreDifferent (cs ++ c ∷ [])
-differ_last [] c h none = (refl, tt)
-differ_last (x ∷ cs) c h none = let two = or_false (c == x) (is_among c cs) none in (apart_last x c cs h.0 (eq_flip x c ∙ two.0), differ_last cs c h.1 two.1)
-
-once_asked : (c : ℕ) (cs : List ℕ) → is_among c cs ≡ false → AskOnce cs → AskOnce (cs ++ c ∷ [])
-once_asked c cs fresh o =
-    let two = or_false (is_among c o.extensions) (is_among c o.asks) (sym (any-append (λ d. c == d) o.extensions o.asks) ∙ ap (is_among c) (sym o.whole) ∙ fresh) in
-    record {
-      extensions = o.extensions;
-      asks = o.asks ++ c ∷ [];
-      whole = ap (λ (l : List ℕ). l ++ c ∷ []) o.whole ∙ append_assoc o.extensions o.asks (c ∷ []);
-      once = differ_last o.asks c o.once two.1;
-      known = known_more c o.asks o.extensions o.known;
-    }
-
-among_known : (c : ℕ) (asks es : List ℕ) → AllByRecursion (λ e. is_among e asks ≡ true) es → (is_among c es || is_among c asks) ≡ true → is_among c asks ≡ true
-among_known c asks [] h is = is
-among_known c asks (e ∷ es) h is = at_one (c == e) refl is (λ t. among_known c asks es h.1 t)
-  where
-    at_one : (b : Bool) → (c == e) ≡ b → ((b || is_among c es) || is_among c asks) ≡ true → ((is_among c es || is_among c asks) ≡ true → is_among c asks ≡ true) → is_among c asks ≡ true
-    at_one true t one on = subst (λ (j : ℕ). is_among j asks ≡ true) (sym (eq_is c e t)) h.0
-    at_one false t one on = on one
-
-once_extended : (c : ℕ) (cs : List ℕ) → is_among c cs ≡ true → AskOnce cs → AskOnce (c ∷ cs)
-once_extended c cs there o = record {
-  extensions = c ∷ o.extensions;
-  asks = o.asks;
-  whole = ap (λ (l : List ℕ). c ∷ l) o.whole;
-  once = o.once;
-  known = (among_known c o.asks o.extensions o.known (sym (any-append (λ d. c == d) o.extensions o.asks) ∙ ap (is_among c) (sym o.whole) ∙ there), o.known);
+once_last : (x : Request) (q : List Request) → x.extends ≡ false → is_known x.call q ≡ false → AskOnce q → AskOnce (q ++ x ∷ [])
+once_last x q own none o = record {
+  once = differ_last x q none o.once;
+  holding = holders_last q q x own o.holding;
+  first = first_last x q own o.first;
 }
 
--- ---- the calls but one
-differ_fewer : (t : ℕ → Bool) (cs : List ℕ) → AreDifferent cs → AreDifferent (filter t cs)
+-- ---- an extension that is put in first
+holders_first : (queue rs : List Request) (x : Request) → AreOfHolders queue rs → AreOfHolders (x ∷ queue) rs
+holders_first queue [] x h = tt
+holders_first queue (r ∷ rs) x h = (
+  λ ext. ap (λ (b : Bool). ((x.call == r.call) && (x.granted && not x.extends)) || b) (h.0 ext) ∙ or_true ((x.call == r.call) && (x.granted && not x.extends)),
+  holders_first queue rs x h.1,
+)
+
+once_first : (x : Request) (q : List Request) → x.extends ≡ true → is_holding x.call q ≡ true → AskOnce q → AskOnce (x ∷ q)
+once_first x q ext there o = record {
+  once = (λ own. absurd (let t : true ≡ false = sym ext ∙ own in cc), o.once);
+  holding = (
+    λ _. ap (λ (b : Bool). ((x.call == x.call) && (x.granted && not x.extends)) || b) there ∙ or_true ((x.call == x.call) && (x.granted && not x.extends)),
+    holders_first q q x o.holding,
+  );
+  first = (λ own. absurd (let t : true ≡ false = sym ext ∙ own in cc), o.first);
+}
+
+-- ---- the requests but those of a call
+differ_fewer : (t : Request → Bool) (rs : List Request) → AsksDiffer rs → AsksDiffer (filter t rs)
 differ_fewer t [] h = tt
-differ_fewer t (c ∷ cs) h = elim (t c) as (λ (b : Bool). AreDifferent (cond b (c ∷ filter t cs) (filter t cs))) [
-  | true ↦ (any_left (λ d. c == d) t cs h.0, differ_fewer t cs h.1)
-  | false ↦ differ_fewer t cs h.1
+differ_fewer t (r ∷ rs) h = elim (t r) as (λ (b : Bool). AsksDiffer (cond b (r ∷ filter t rs) (filter t rs))) [
+  | true ↦ (λ own. any_left (λ s. (s.call == r.call) && not s.extends) t rs (h.0 own), differ_fewer t rs h.1)
+  | false ↦ differ_fewer t rs h.1
 ]
 
-other_one : (x a c : ℕ) → (x == c) ≡ false → (a == c) ≡ true → (x == a) ≡ false
-other_one x a c apart same = ap (λ (n : ℕ). x == n) (eq_is a c same) ∙ apart
+first_fewer : (t : Request → Bool) (rs : List Request) → ExtensionsFirst rs → ExtensionsFirst (filter t rs)
+first_fewer t [] h = tt
+first_fewer t (r ∷ rs) h = elim (t r) as (λ (b : Bool). ExtensionsFirst (cond b (r ∷ filter t rs) (filter t rs))) [
+  | true ↦ (λ own. any_left (λ s. s.extends) t rs (h.0 own), first_fewer t rs h.1)
+  | false ↦ first_fewer t rs h.1
+]
 
-among_left : (x c : ℕ) (cs : List ℕ) → (x == c) ≡ false → is_among x cs ≡ true → is_among x (filter (λ d. not (d == c)) cs) ≡ true
-among_left x c [] apart is = is
-among_left x c (a ∷ cs) apart is = at_one (a == c) refl (x == a) refl is (λ t. among_left x c cs apart t)
+-- a call that holds still does when another is released
+holding_left : (x c : ℕ) (rs : List Request) → (x == c) ≡ false → is_holding x rs ≡ true → is_holding x (without c rs) ≡ true
+holding_left x c [] apart is = is
+holding_left x c (r ∷ rs) apart is = at_one (r.call == c) refl is (λ t. holding_left x c rs apart t)
   where
-    at_one : (b : Bool) → (a == c) ≡ b → (h : Bool) → (x == a) ≡ h → (h || is_among x cs) ≡ true → (is_among x cs ≡ true → is_among x (filter (λ d. not (d == c)) cs) ≡ true) → is_among x (cond (not b) (a ∷ filter (λ d. not (d == c)) cs) (filter (λ d. not (d == c)) cs)) ≡ true
-    at_one true t true u one on = absurd (let f : true ≡ false = sym u ∙ other_one x a c apart t in cc)
-    at_one true t false u one on = on one
-    at_one false t true u one on = ap (λ (b : Bool). b || is_among x (filter (λ d. not (d == c)) cs)) u
-    at_one false t false u one on = ap (λ (b : Bool). b || is_among x (filter (λ d. not (d == c)) cs)) u ∙ on one
+    at_two : (b : Bool) → (b || is_holding x rs) ≡ true → (is_holding x rs ≡ true → is_holding x (without c rs) ≡ true) → (b || is_holding x (without c rs)) ≡ true
+    at_two true one on = refl
+    at_two false one on = on one
 
-known_left : (c : ℕ) (asks es : List ℕ) → AllByRecursion (λ e. is_among e asks ≡ true) es → AllByRecursion (λ e. is_among e (filter (λ d. not (d == c)) asks) ≡ true) (filter (λ d. not (d == c)) es)
-known_left c asks [] h = tt
-known_left c asks (e ∷ es) h = at_one (e == c) refl (known_left c asks es h.1)
+    at_one : (b : Bool) → (r.call == c) ≡ b → is_holding x (r ∷ rs) ≡ true → (is_holding x rs ≡ true → is_holding x (without c rs) ≡ true) → is_holding x (cond (not b) (r ∷ without c rs) (without c rs)) ≡ true
+    at_one true t one on = on (sym (ap (λ (b : Bool). b || is_holding x rs) (left_false (r.call == x) (r.granted && not r.extends) (other_call x r.call c apart t))) ∙ one)
+    at_one false t one on = at_two ((r.call == x) && (r.granted && not r.extends)) one on
+
+holders_left : (c : ℕ) (queue rs : List Request) → AreOfHolders queue rs → AreOfHolders (without c queue) (without c rs)
+holders_left c queue [] h = tt
+holders_left c queue (r ∷ rs) h = at_one (r.call == c) refl (holders_left c queue rs h.1)
   where
-    at_one : (b : Bool) → (e == c) ≡ b → AllByRecursion (λ e. is_among e (filter (λ d. not (d == c)) asks) ≡ true) (filter (λ d. not (d == c)) es) → AllByRecursion (λ e. is_among e (filter (λ d. not (d == c)) asks) ≡ true) (cond (not b) (e ∷ filter (λ d. not (d == c)) es) (filter (λ d. not (d == c)) es))
+    at_one : (b : Bool) → (r.call == c) ≡ b → AreOfHolders (without c queue) (without c rs) → AreOfHolders (without c queue) (cond (not b) (r ∷ without c rs) (without c rs))
     at_one true t on = on
-    at_one false t on = (among_left e c asks t h.0, on)
+    at_one false t on = (λ ext. holding_left r.call c queue t (h.0 ext), on)
 
-once_without : (c : ℕ) (cs : List ℕ) → AskOnce cs → AskOnce (filter (λ d. not (d == c)) cs)
-once_without c cs o = record {
-  extensions = filter (λ d. not (d == c)) o.extensions;
-  asks = filter (λ d. not (d == c)) o.asks;
-  whole = ap (filter (λ d. not (d == c))) o.whole ∙ filter-append (λ d. not (d == c)) o.extensions o.asks;
-  once = differ_fewer (λ d. not (d == c)) o.asks o.once;
-  known = known_left c o.asks o.extensions o.known;
+once_without : (c : ℕ) (q : List Request) → AskOnce q → AskOnce (without c q)
+once_without c q o = record {
+  once = differ_fewer (λ r. not (r.call == c)) q o.once;
+  holding = holders_left c q q o.holding;
+  first = first_fewer (λ r. not (r.call == c)) q o.first;
 }
 
+-- ---- one request granted
+same_marked : (p : Request → Bool) (pre : List Request) (r : Request) (post : List Request) → p (marked r) ≡ p r → list_any p (pre ++ marked r ∷ post) ≡ list_any p (pre ++ r ∷ post)
+same_marked p [] r post same = ap (λ (b : Bool). b || list_any p post) same
+same_marked p (x ∷ pre) r post same = ap (λ (b : Bool). p x || b) (same_marked p pre r post same)
+
+differ_marked : (pre : List Request) (r : Request) (post : List Request) → AsksDiffer (pre ++ r ∷ post) → AsksDiffer (pre ++ marked r ∷ post)
+differ_marked [] r post h = h
+differ_marked (x ∷ pre) r post h = (λ own. same_marked (λ s. (s.call == x.call) && not s.extends) pre r post refl ∙ h.0 own, differ_marked pre r post h.1)
+
+first_marked : (pre : List Request) (r : Request) (post : List Request) → ExtensionsFirst (pre ++ r ∷ post) → ExtensionsFirst (pre ++ marked r ∷ post)
+first_marked [] r post h = h
+first_marked (x ∷ pre) r post h = (λ own. same_marked (λ s. s.extends) pre r post refl ∙ h.0 own, first_marked pre r post h.1)
+
+granted_too : (a g e b : Bool) → ((a && (g && e)) || b) ≡ true → ((a && (true && e)) || b) ≡ true
+granted_too true true e b h = h
+granted_too true false e true h = or_true e
+granted_too true false e false h = absurd cc
+granted_too false g e b h = h
+
+more_holds : (b c d : Bool) → (b || c) ≡ true → (c ≡ true → d ≡ true) → (b || d) ≡ true
+more_holds true c d h k = refl
+more_holds false c d h k = k h
+
+holding_marked : (c : ℕ) (pre : List Request) (r : Request) (post : List Request) → is_holding c (pre ++ r ∷ post) ≡ true → is_holding c (pre ++ marked r ∷ post) ≡ true
+holding_marked c [] r post h = granted_too (r.call == c) r.granted (not r.extends) (is_holding c post) h
+holding_marked c (x ∷ pre) r post h = more_holds ((x.call == c) && (x.granted && not x.extends)) (is_holding c (pre ++ r ∷ post)) (is_holding c (pre ++ marked r ∷ post)) h (holding_marked c pre r post)
+
+holders_there : (old new rs : List Request) → ((c : ℕ) → is_holding c old ≡ true → is_holding c new ≡ true) → AreOfHolders old rs → AreOfHolders new rs
+holders_there old new [] more h = tt
+holders_there old new (r ∷ rs) more h = (λ ext. more r.call (h.0 ext), holders_there old new rs more h.1)
+
+holders_marked : (queue pre : List Request) (r : Request) (post : List Request) → AreOfHolders queue (pre ++ r ∷ post) → AreOfHolders queue (pre ++ marked r ∷ post)
+holders_marked queue [] r post h = h
+holders_marked queue (x ∷ pre) r post h = (h.0, holders_marked queue pre r post h.1)
+
+once_marked : (pre : List Request) (r : Request) (post : List Request) → AskOnce (pre ++ r ∷ post) → AskOnce (pre ++ marked r ∷ post)
+once_marked pre r post o = record {
+  once = differ_marked pre r post o.once;
+  holding = holders_there (pre ++ r ∷ post) (pre ++ marked r ∷ post) (pre ++ marked r ∷ post) (λ c. holding_marked c pre r post) (holders_marked (pre ++ r ∷ post) pre r post o.holding);
+  first = first_marked pre r post o.first;
+}
+
+once_turn : (before : GrantPass) (r : Request) (after : List Request) → AskOnce (before.queue ++ r ∷ after) → AskOnce ((turn before r after).queue ++ after)
+once_turn before r after o = at_one (not r.granted && granted_now (held before.queue ++ held after) (waiting before.queue) r)
+  where
+    at_one : (b : Bool) → AskOnce ((cond {A = GrantPass} b (record { queue = before.queue ++ marked r ∷ []; calls = before.calls ++ r.call ∷ [] }) (record { queue = before.queue ++ r ∷ []; calls = before.calls })).queue ++ after)
+    at_one true = subst (λ (l : List Request). AskOnce l) (sym (joined before.queue (marked r) after)) (once_marked before.queue r after o)
+    at_one false = subst (λ (l : List Request). AskOnce l) (sym (joined before.queue r after)) o
+
+once_granted : (after : List Request) (before : GrantPass) → AskOnce (before.queue ++ after) → AskOnce (grant_in_order before after).queue
+once_granted [] before o = subst (λ (l : List Request). AskOnce l) (nil_end before.queue) o
+once_granted (r ∷ after) before o = once_granted after (turn before r after) (once_turn before r after o)
+
 -- ---- the four calls
-pub ask_once : (q new : List Request) (r : Request) → new ≡ asked q r → is_among r.call (calls_in q) ≡ false → AskOnce (calls_in q) → AskOnce (calls_in new)
-ask_once q new r is fresh o = subst (λ (l : List ℕ). AskOnce l) (sym (ap (λ (l : List Request). calls_in l) is ∙ calls_append q (record r { granted = granted_now (held q) (waiting q) r } ∷ []))) (once_asked r.call (calls_in q) fresh o)
+pub ask_once : (q new : List Request) (r : Request) → r.extends ≡ false → new ≡ asked q r → is_known r.call q ≡ false → AskOnce q → AskOnce new
+ask_once q new r own is fresh o = subst (λ (l : List Request). AskOnce l) (sym is) (once_last (record r { granted = granted_now (held q) (waiting q) r }) q own fresh o)
 
-pub extend_once : (q new : List Request) (r : Request) → new ≡ extended q r → is_among r.call (calls_in q) ≡ true → AskOnce (calls_in q) → AskOnce (calls_in new)
-extend_once q new r is there o = subst (λ (l : List Request). AskOnce (calls_in l)) (sym is) (once_extended r.call (calls_in q) there o)
+pub extend_once : (q new : List Request) (r : Request) → r.extends ≡ true → new ≡ extended q r → is_holding r.call q ≡ true → AskOnce q → AskOnce new
+extend_once q new r ext is there o = subst (λ (l : List Request). AskOnce l) (sym is) (once_first (record r { granted = granted_now (held q) [] r }) q ext there o)
 
-pub release_once : (c : ℕ) (q new : List Request) → new ≡ (released c q).queue → AskOnce (calls_in q) → AskOnce (calls_in new)
-release_once c q new is o = subst (λ (l : List ℕ). AskOnce l) (sym (ap (λ (l : List Request). calls_in l) is ∙ calls_released c q)) (once_without c (calls_in q) o)
+pub release_once : (c : ℕ) (q new : List Request) → new ≡ (released c q).queue → AskOnce q → AskOnce new
+release_once c q new is o = subst (λ (l : List Request). AskOnce l) (sym is) (once_granted (without c q) (record { queue = []; calls = [] }) (once_without c q o))
 
-pub without_once : (c : ℕ) (q new : List Request) → new ≡ without c q → AskOnce (calls_in q) → AskOnce (calls_in new)
-without_once c q new is o = subst (λ (l : List ℕ). AskOnce l) (sym (ap (λ (l : List Request). calls_in l) is ∙ calls_without c q)) (once_without c (calls_in q) o)
+pub without_once : (c : ℕ) (q new : List Request) → new ≡ without c q → AskOnce q → AskOnce new
+without_once c q new is o = subst (λ (l : List Request). AskOnce l) (sym is) (once_without c q o)

@@ -155,6 +155,16 @@ end_unpassed es fs n x waiting is low h = subst (λ (l : List (ℕ × Request)).
     at_one m r waits shared at true t = none_late m r es (subst (λ (j : ℕ). AllByRecursion (λ e. e.0 < j) es) (sym (number_is m n t)) low)
     at_one m r waits shared at false t = h m r (sym (at_end m n x es t) ∙ at) waits shared
 
+-- an exclusive one put in first
+not_first : (x r : Request) (b : Bool) (o : Option Request) → x.shared ≡ false → r.shared ≡ true → cond b (Some x) o ≡ Some r → o ≡ Some r
+not_first x r true o alone shared is = absurd (let v : x ≡ r = cc in let t : false ≡ true = sym alone ∙ ap (λ (y : Request). y.shared) v ∙ shared in cc)
+not_first x r false o alone shared is = is
+
+pub front_unpassed : (es fs : List (ℕ × Request)) (n : ℕ) (x : Request) → x.granted ≡ false → x.shared ≡ false → fs ≡ (n, x) ∷ es → AreUnpassed es → AreUnpassed fs
+front_unpassed es fs n x waiting alone is h = subst (λ (l : List (ℕ × Request)). AreUnpassed l) (sym is) (λ m r at waits shared.
+    ap (λ (b : Bool). b || is_passed es m r) (waits_bools (conflicts x r) (nat_lt n m) x.granted waiting)
+    ∙ h m r (not_first x r (is_eq (nat_cmp m n)) (item_at m es) alone shared at) waits shared)
+
 -- ---- where a walk for a shared one may stop
 no_bar : (call n m : ℕ) (o : Option Request) → nat_lt m n ≡ false → passes (bars true call n) m o ≡ false
 no_bar call n m None h = refl

@@ -7,8 +7,8 @@ use Rattle.queue_index.specs.Queue.{item_at, items, numbers, changed_at, passes,
 use Rattle.queue_index.proofs.Entries.{founds}
 use Rattle.mount_locks.specs.declared.request.Request.{Request}
 use Rattle.mount_locks.specs.Keys.{marked}
-use Rattle.mount_locks.specs.Rule.{held, waiting, shares, conflicts, any_conflicts, granted_now, Turned, turn, grant_in_order}
-use Rattle.mount_locks.specs.Walks.{turned_of, blocks, is_blocked, is_due, turn_of, turn_at, call_of, call_at, with_call, turns, calls_of}
+use Rattle.mount_locks.specs.Rule.{held, waiting, shares, conflicts, any_conflicts, granted_now, GrantPass, turn, grant_in_order}
+use Rattle.mount_locks.specs.Walks.{grant_pass, blocks, is_blocked, is_due, turn_of, turn_at, call_of, call_at, with_call, turns, calls_of}
 use Rattle.queue_index.proofs.Lists.{any-append, any_cond, and_true, nil_end, all_middle}
 use Rattle.mount_locks.proofs.Apart.{free_is}
 use Rattle.queue_index.proofs.Numbers.{Rise}
@@ -77,10 +77,10 @@ items_middle [] e post = refl
 items_middle (d ∷ pre) e post = ap (λ (l : List Request). d.1 ∷ l) (items_middle pre e post)
 
 -- the queue after a turn
-pub queue_here : (pre : List (ℕ × Request)) (e : ℕ × Request) (post : List (ℕ × Request)) (calls : List ℕ) → Rise (pre ++ e ∷ post) → items (turn_at (pre ++ e ∷ post) e.0) ≡ (turn (turned_of (items pre) calls) e.1 (items post)).queue ++ items post
+pub queue_here : (pre : List (ℕ × Request)) (e : ℕ × Request) (post : List (ℕ × Request)) (calls : List ℕ) → Rise (pre ++ e ∷ post) → items (turn_at (pre ++ e ∷ post) e.0) ≡ (turn (grant_pass (items pre) calls) e.1 (items post)).queue ++ items post
 queue_here pre e post calls s = ap (λ (l : List (ℕ × Request)). items l) (turn_here pre e post s) ∙ at_one (is_turn pre e.1 post)
   where
-    at_one : (b : Bool) → items (cond b (pre ++ (e.0, marked e.1) ∷ post) (pre ++ e ∷ post)) ≡ (cond {A = Turned} b (turned_of (items pre ++ marked e.1 ∷ []) (calls ++ e.1.call ∷ [])) (turned_of (items pre ++ e.1 ∷ []) calls)).queue ++ items post
+    at_one : (b : Bool) → items (cond b (pre ++ (e.0, marked e.1) ∷ post) (pre ++ e ∷ post)) ≡ (cond {A = GrantPass} b (grant_pass (items pre ++ marked e.1 ∷ []) (calls ++ e.1.call ∷ [])) (grant_pass (items pre ++ e.1 ∷ []) calls)).queue ++ items post
     at_one true = items_middle pre (e.0, marked e.1) post ∙ sym (append_assoc (items pre) (marked e.1 ∷ []) (items post))
     at_one false = items_middle pre e post ∙ sym (append_assoc (items pre) (e.1 ∷ []) (items post))
 
@@ -89,27 +89,27 @@ items_last : (pre : List (ℕ × Request)) (e : ℕ × Request) → items (pre +
 items_last pre e = items_middle pre e []
 
 one_on : (pre : List (ℕ × Request)) (e : ℕ × Request) (post : List (ℕ × Request)) (before after calls : List ℕ) (fs : List (ℕ × Request)) → Rise (pre ++ e ∷ post)
-    → ((p : List (ℕ × Request)) (c : List ℕ) → Rise (p ++ post) → grant_in_order (turned_of (items p) c) (items post) ≡ turned_of (items (turns (p ++ post) (numbers post))) (c ++ calls_of (p ++ post) (numbers post)))
+    → ((p : List (ℕ × Request)) (c : List ℕ) → Rise (p ++ post) → grant_in_order (grant_pass (items p) c) (items post) ≡ grant_pass (items (turns (p ++ post) (numbers post))) (c ++ calls_of (p ++ post) (numbers post)))
     → fs ≡ pre ++ e ∷ post → after ≡ before ++ calls
-    → grant_in_order (turned_of (items pre ++ e.1 ∷ []) after) (items post) ≡ turned_of (items (turns fs (numbers post))) (before ++ (calls ++ calls_of fs (numbers post)))
+    → grant_in_order (grant_pass (items pre ++ e.1 ∷ []) after) (items post) ≡ grant_pass (items (turns fs (numbers post))) (before ++ (calls ++ calls_of fs (numbers post)))
 one_on pre e post before after calls fs s on is called =
     let assoc = append_assoc pre (e ∷ []) post in
-    ap (λ (q : List Request). grant_in_order (turned_of q after) (items post)) (sym (items_last pre e))
+    ap (λ (q : List Request). grant_in_order (grant_pass q after) (items post)) (sym (items_last pre e))
     ∙ on (pre ++ e ∷ []) after (subst (λ (l : List (ℕ × Request)). Rise l) (sym assoc) s)
-    ∙ ap (λ (l : List (ℕ × Request)). turned_of (items (turns l (numbers post))) (after ++ calls_of l (numbers post))) (assoc ∙ sym is)
-    ∙ ap (λ (c : List ℕ). turned_of (items (turns fs (numbers post))) (c ++ calls_of fs (numbers post))) called
-    ∙ ap (λ (c : List ℕ). turned_of (items (turns fs (numbers post))) c) (append_assoc before calls (calls_of fs (numbers post)))
+    ∙ ap (λ (l : List (ℕ × Request)). grant_pass (items (turns l (numbers post))) (after ++ calls_of l (numbers post))) (assoc ∙ sym is)
+    ∙ ap (λ (c : List ℕ). grant_pass (items (turns fs (numbers post))) (c ++ calls_of fs (numbers post))) called
+    ∙ ap (λ (c : List ℕ). grant_pass (items (turns fs (numbers post))) c) (append_assoc before calls (calls_of fs (numbers post)))
 
-pub walked : (post pre : List (ℕ × Request)) (calls : List ℕ) → Rise (pre ++ post) → grant_in_order (turned_of (items pre) calls) (items post) ≡ turned_of (items (turns (pre ++ post) (numbers post))) (calls ++ calls_of (pre ++ post) (numbers post))
-walked [] pre calls s = ap (λ (l : List (ℕ × Request)). turned_of (items l) calls) (sym (nil_end pre)) ∙ ap (λ (c : List ℕ). turned_of (items (pre ++ [])) c) (sym (nil_end calls))
+pub walked : (post pre : List (ℕ × Request)) (calls : List ℕ) → Rise (pre ++ post) → grant_in_order (grant_pass (items pre) calls) (items post) ≡ grant_pass (items (turns (pre ++ post) (numbers post))) (calls ++ calls_of (pre ++ post) (numbers post))
+walked [] pre calls s = ap (λ (l : List (ℕ × Request)). grant_pass (items l) calls) (sym (nil_end pre)) ∙ ap (λ (c : List ℕ). grant_pass (items (pre ++ [])) c) (sym (nil_end calls))
 walked (e ∷ post) pre calls s = at_one (is_turn pre e.1 post) (turn_at (pre ++ e ∷ post) e.0) (call_at (pre ++ e ∷ post) e.0) (turn_here pre e post s) (call_here pre e post s) (λ p c t. walked post p c t)
   where
     at_one : (b : Bool) (fs : List (ℕ × Request)) (o : Option ℕ) → fs ≡ cond b (pre ++ (e.0, marked e.1) ∷ post) (pre ++ e ∷ post) → o ≡ cond b (Some e.1.call) None
-        → ((p : List (ℕ × Request)) (c : List ℕ) → Rise (p ++ post) → grant_in_order (turned_of (items p) c) (items post) ≡ turned_of (items (turns (p ++ post) (numbers post))) (c ++ calls_of (p ++ post) (numbers post)))
-        → grant_in_order (cond {A = Turned} b (turned_of (items pre ++ marked e.1 ∷ []) (calls ++ e.1.call ∷ [])) (turned_of (items pre ++ e.1 ∷ []) calls)) (items post) ≡ turned_of (items (turns fs (numbers post))) (calls ++ with_call o (calls_of fs (numbers post)))
+        → ((p : List (ℕ × Request)) (c : List ℕ) → Rise (p ++ post) → grant_in_order (grant_pass (items p) c) (items post) ≡ grant_pass (items (turns (p ++ post) (numbers post))) (c ++ calls_of (p ++ post) (numbers post)))
+        → grant_in_order (cond {A = GrantPass} b (grant_pass (items pre ++ marked e.1 ∷ []) (calls ++ e.1.call ∷ [])) (grant_pass (items pre ++ e.1 ∷ []) calls)) (items post) ≡ grant_pass (items (turns fs (numbers post))) (calls ++ with_call o (calls_of fs (numbers post)))
     at_one true fs o is called on =
         one_on pre (e.0, marked e.1) post calls (calls ++ e.1.call ∷ []) (e.1.call ∷ []) fs (subst (λ (l : List ℕ). IsStrictlySortedBy nat_cmp l) (keys_middle pre post e.0 e.1 (marked e.1)) s) on is refl
-        ∙ ap (λ (c : Option ℕ). turned_of (items (turns fs (numbers post))) (calls ++ with_call c (calls_of fs (numbers post)))) (sym called)
+        ∙ ap (λ (c : Option ℕ). grant_pass (items (turns fs (numbers post))) (calls ++ with_call c (calls_of fs (numbers post)))) (sym called)
     at_one false fs o is called on =
         one_on pre e post calls calls [] fs s on is (sym (nil_end calls))
-        ∙ ap (λ (c : Option ℕ). turned_of (items (turns fs (numbers post))) (calls ++ with_call c (calls_of fs (numbers post)))) (sym called)
+        ∙ ap (λ (c : Option ℕ). grant_pass (items (turns fs (numbers post))) (calls ++ with_call c (calls_of fs (numbers post)))) (sym called)

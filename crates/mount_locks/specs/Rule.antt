@@ -1,7 +1,7 @@
 -- The queue of requests for holds, and which of them are granted. A request is in the queue from
 -- the time that it is asked until its call is released, and is granted or waits. So the queue is two
 -- lists, both in queue order: the requests that are held and those that wait.
-use Rattle.std.specs.Prelude.{◌≡◌, ℕ, Bool, true, false, not, ◌&&◌, ◌||◌, ◌==◌, List, [], ◌∷◌, ◌++◌, if◌then◌else◌, map}
+use Rattle.std.specs.Prelude.{◌≡◌, ℕ, Bool, true, false, not, ◌&&◌, ◌||◌, ◌==◌, List, [], ◌∷◌, ◌++◌, if◌then◌else◌}
 use Rattle.std.specs.List.{list_any, filter, AllByRecursion}
 use Rattle.fop_types.specs.declared.cells.Gfid.{Gfid}
 use Rattle.mount_locks.specs.declared.request.Request.{Request}
@@ -38,8 +38,13 @@ any_conflicts rs r = list_any (λ a. conflicts a r) rs
 abbrev pub granted_now : List Request → List Request → Request → Bool
 granted_now granted earlier r = not (any_conflicts granted r || any_conflicts earlier r)
 
+-- what a call asks for, before its first turn
 abbrev pub request_of : ℕ → List Gfid → Bool → Request
-request_of call gfids shared = record { call = call; gfids = gfids; shared = shared; granted = false }
+request_of call gfids shared = record { call = call; gfids = gfids; shared = shared; extends = false; granted = false }
+
+-- the extension of a call's hold by some gfids, exclusive, before its first turn
+abbrev pub extension_of : ℕ → List Gfid → Request
+extension_of call gfids = record { call = call; gfids = gfids; shared = false; extends = true; granted = false }
 
 abbrev pub answer : Bool → Held
 answer true = Granted
@@ -57,25 +62,25 @@ extended queue r = record r { granted = granted_now (held queue) [] r } ∷ queu
 abbrev pub without : ℕ → List Request → List Request
 without call queue = filter (λ r. not (r.call == call)) queue
 
--- a queue that is gone through: its requests so far, and the calls that were granted on the way
-pub record Turned : Type 0 where
+-- a pass over the queue that grants: the requests so far, and the calls that were granted on the way
+pub record GrantPass : Type 0 where
   pub queue : List Request
   pub calls : List ℕ
 
 -- the turn of a request, with those before it and those after it
-abbrev pub turn : Turned → Request → List Request → Turned
+abbrev pub turn : GrantPass → Request → List Request → GrantPass
 turn before r after =
     if not r.granted && granted_now (held before.queue ++ held after) (waiting before.queue) r
     then record { queue = before.queue ++ record r { granted = true } ∷ []; calls = before.calls ++ r.call ∷ [] }
     else record { queue = before.queue ++ r ∷ []; calls = before.calls }
 
 -- each waiting request has its turn, in queue order
-abbrev pub grant_in_order : Turned → List Request → Turned
+abbrev pub grant_in_order : GrantPass → List Request → GrantPass
 grant_in_order before [] = before
 grant_in_order before (r ∷ after) = grant_in_order (turn before r after) after
 
 -- what a release makes of the queue, and the calls that it grants, in queue order
-abbrev pub released : ℕ → List Request → Turned
+abbrev pub released : ℕ → List Request → GrantPass
 released call queue = grant_in_order (record { queue = []; calls = [] }) (without call queue)
 
 -- no two of the requests conflict
@@ -88,23 +93,31 @@ AreApart (a ∷ rest) = (any_conflicts rest a ≡ false) × AreApart rest
 abbrev pub WaitersAreBlocked : List Request → Type 0
 WaitersAreBlocked queue = (earlier : List Request) (r : Request) (later : List Request) → queue ≡ earlier ++ r ∷ later → r.granted ≡ false → granted_now (held queue) (waiting earlier) r ≡ false
 
--- the calls of the requests
-abbrev pub calls_in : List Request → List ℕ
-calls_in queue = map (λ r. r.call) queue
+-- whether a call holds or waits
+abbrev pub is_known : ℕ → List Request → Bool
+is_known call queue = list_any (λ r. r.call == call) queue
 
-abbrev pub is_among : ℕ → List ℕ → Bool
-is_among c cs = list_any (λ d. c == d) cs
+-- whether a call has asked, and was not released since
+abbrev pub has_asked : ℕ → List Request → Bool
+has_asked call queue = list_any (λ r. (r.call == call) && not r.extends) queue
 
--- no call is among them twice
-abbrev pub AreDifferent : List ℕ → Type 0
-AreDifferent [] = Unit {0}
-AreDifferent (c ∷ cs) = (is_among c cs ≡ false) × AreDifferent cs
+-- whether a call holds what it asked for
+abbrev pub is_holding : ℕ → List Request → Bool
+is_holding call queue = list_any (λ r. (r.call == call) && (r.granted && not r.extends)) queue
 
--- The calls of a queue are those of its extensions and then those that asked. None asked twice, and each
--- extension is of a call that asked.
-pub record AskOnce (calls : List ℕ) : Type 0 where
-  pub extensions : List ℕ
-  pub asks : List ℕ
-  pub whole : calls ≡ extensions ++ asks
-  pub once : AreDifferent asks
-  pub known : AllByRecursion (λ c. is_among c asks ≡ true) extensions
+-- no two requests that are no extensions are of one call
+abbrev pub AsksDiffer : List Request → Type 0
+AsksDiffer [] = Unit {0}
+AsksDiffer (r ∷ rest) = (r.extends ≡ false → has_asked r.call rest ≡ false) × AsksDiffer rest
+
+-- no extension is behind a request that is none
+abbrev pub ExtensionsFirst : List Request → Type 0
+ExtensionsFirst [] = Unit {0}
+ExtensionsFirst (r ∷ rest) = (r.extends ≡ false → list_any (λ s. s.extends) rest ≡ false) × ExtensionsFirst rest
+
+-- What the queue is where each call asks when it neither holds nor waits, and extends when it holds: no
+-- call has asked twice, each extension is of a call that holds what it asked for, and extensions come first.
+pub record AskOnce (queue : List Request) : Type 0 where
+  pub once : AsksDiffer queue
+  pub holding : AllByRecursion (λ r. r.extends ≡ true → is_holding r.call queue ≡ true) queue
+  pub first : ExtensionsFirst queue

@@ -5,11 +5,11 @@ use Rattle.fop_types.specs.declared.cells.Gfid.{Gfid}
 use Rattle.queue_index.specs.declared.key.Key.{Key}
 use Rattle.queue_index.specs.Queue.{item_at, items, changed_at, touching}
 use Rattle.mount_locks.specs.declared.request.Request.{Request}
-use Rattle.mount_locks.specs.Rule.{held, names, shares, conflicts, AreApart, Turned}
+use Rattle.mount_locks.specs.Rule.{held, names, shares, conflicts, AreApart, GrantPass}
 use Rattle.mount_locks.specs.Keys.{keys_of, marked}
 
-abbrev pub turned_of : List Request → List ℕ → Turned
-turned_of queue calls = record { queue = queue; calls = calls }
+abbrev pub grant_pass : List Request → List ℕ → GrantPass
+grant_pass queue calls = record { queue = queue; calls = calls }
 
 -- whether s of number m is of another call, and is before the number n or, where an exclusive one asks, is
 -- granted

@@ -1,5 +1,5 @@
 ghost use Rattle.std.specs.Prelude.{◌≡◌, [], true, false, OnOk, OnErr, IfOk, length, ◌∷◌, ◌==◌};
-ghost use Rattle.mount_locks.specs.Rule.{held, waiting, request_of, granted_now, answer, asked, extended, without, released, AreApart, WaitersAreBlocked, calls_in, is_among, AskOnce};
+ghost use Rattle.mount_locks.specs.Rule.{held, waiting, request_of, extension_of, granted_now, answer, asked, extended, without, released, AreApart, WaitersAreBlocked, is_known, is_holding, AskOnce};
 
 use crate::queue::RequestQueue;
 use crate::request::{Held, Request, call_key};
@@ -58,7 +58,7 @@ impl MountLocks {
     /// neither holds nor waits.
     ///
     /// # Errors
-    /// Out of memory, or the numbers of the queue are used up (`queue_index`). The queue is unchanged.
+    /// Out of memory. The queue is unchanged.
     pub fn ask(
         &mut self,
         alloc: Global,
@@ -68,7 +68,7 @@ impl MountLocks {
     ) -> Result<Held, AllocError>
         ensures answer { IfOk result (λ h. h ≡ answer (granted_now (held self.old) (waiting self.old) (request_of call gfids.now shared))) }
         ensures ok { OnOk result (self.new ≡ asked self.old (request_of call gfids.now shared)) }
-        ensures once { OnOk result (is_among call (calls_in self.old) ≡ false → AskOnce (calls_in self.old) → AskOnce (calls_in self.new)) }
+        ensures once { OnOk result (is_known call self.old ≡ false → AskOnce self.old → AskOnce self.new) }
         ensures err { OnErr result (self.new ≡ self.old) }
     {
         let gfids = Seq::from_vec(Vec::from_slice(alloc, gfids)?);
@@ -76,9 +76,11 @@ impl MountLocks {
             call,
             gfids,
             shared,
+            extends: false,
             granted: false,
         };
-        let number = self.queue.push_back(request)?;
+        self.queue.numbers_rise();
+        let number = self.queue.push_back(alloc, request)?;
         self.queue.numbers_rise();
         let held = settle(&mut self.queue, number);
         Ok(held)
@@ -86,14 +88,14 @@ impl MountLocks {
 
     /// Extends the hold of a call by one gfid, exclusive, before all waiting requests. It is `Granted` exactly
     /// where no granted request of another call conflicts with it; else it waits. A call extends when it
-    /// holds.
+    /// holds what it asked for.
     ///
     /// # Errors
-    /// Out of memory, or the numbers of the queue are used up (`queue_index`). The queue is unchanged.
+    /// Out of memory. The queue is unchanged.
     pub fn extend(&mut self, alloc: Global, call: u32, gfid: Gfid) -> Result<Held, AllocError>
-        ensures answer { IfOk result (λ h. h ≡ answer (granted_now (held self.old) [] (request_of call (gfid ∷ []) false))) }
-        ensures ok { OnOk result (self.new ≡ extended self.old (request_of call (gfid ∷ []) false)) }
-        ensures once { OnOk result (is_among call (calls_in self.old) ≡ true → AskOnce (calls_in self.old) → AskOnce (calls_in self.new)) }
+        ensures answer { IfOk result (λ h. h ≡ answer (granted_now (held self.old) [] (extension_of call (gfid ∷ [])))) }
+        ensures ok { OnOk result (self.new ≡ extended self.old (extension_of call (gfid ∷ []))) }
+        ensures once { OnOk result (is_holding call self.old ≡ true → AskOnce self.old → AskOnce self.new) }
         ensures err { OnErr result (self.new ≡ self.old) }
     {
         let mut gfids = Seq::new(alloc);
@@ -102,9 +104,11 @@ impl MountLocks {
             call,
             gfids,
             shared: false,
+            extends: true,
             granted: false,
         };
-        let number = self.queue.push_front(request)?;
+        self.queue.numbers_rise();
+        let number = self.queue.push_front(alloc, request)?;
         self.queue.numbers_rise();
         let held = settle(&mut self.queue, number);
         Ok(held)
@@ -118,7 +122,7 @@ impl MountLocks {
     pub fn release(&mut self, alloc: Global, call: u32) -> Result<Vec<u32>, AllocError>
         ensures calls { IfOk result (λ calls. calls.items ≡ (released call self.old).calls) }
         ensures ok { OnOk result (self.new ≡ (released call self.old).queue) }
-        ensures once { OnOk result (AskOnce (calls_in self.old) → AskOnce (calls_in self.new)) }
+        ensures once { OnOk result (AskOnce self.old → AskOnce self.new) }
         ensures err { OnErr result (self.new ≡ self.old) }
     {
         self.queue.numbers_rise();
@@ -135,7 +139,7 @@ impl MountLocks {
         ensures nobody { result ≡ (length (waiting self.old) == 0) }
         ensures done { result ≡ true → self.new ≡ without call self.old }
         ensures kept { result ≡ false → self.new ≡ self.old }
-        ensures once { result ≡ true → AskOnce (calls_in self.old) → AskOnce (calls_in self.new) }
+        ensures once { result ≡ true → AskOnce self.old → AskOnce self.new }
     {
         if self.queue.has_waiting() {
             return false;

@@ -2,7 +2,7 @@ ghost use Rattle.std.specs.Prelude.{◌≡◌, [], ◌∷◌, ◌++◌, length, 
 ghost use Rattle.std.specs.Map.{keys_of as keys_in};
 ghost use Rattle.std.specs.Ordering.{nat_cmp};
 ghost use Rattle.std.specs.List.Sorted.{IsStrictlySortedBy};
-ghost use Rattle.queue_index.specs.Queue.{items, without, changed_at, is_at_number};
+ghost use Rattle.queue_index.specs.Queue.{items, without, changed_at, is_at_number, with_free_end, with_free_front};
 ghost use Rattle.mount_locks.specs.Keys.{marked};
 ghost use Rattle.mount_locks.specs.Rule.{waiting};
 
@@ -65,28 +65,24 @@ impl RequestQueue {
     }
 
     /// Puts a request that waits at the end, and gives its number.
-    pub(crate) fn push_back(&mut self, request: Request) -> Result<u64, AllocError>
+    pub(crate) fn push_back(&mut self, alloc: Global, request: Request) -> Result<u64, AllocError>
         requires { request.granted ≡ false }
-        ensures added { IfOk result (λ n. self.new ≡ self.old ++ (n, request) ∷ []) }
+        ensures added { IfOk result (λ n. self.new ≡ with_free_end self.old ++ (n, request) ∷ []) }
         ensures err { OnErr result (self.new ≡ self.old) }
     {
-        let Ok(number) = self.requests.push_back(request) else {
-            return Err(AllocError);
-        };
+        let number = self.requests.push_back(alloc, request)?;
         self.requests.len();
         self.waiting += 1;
         Ok(number)
     }
 
     /// Puts a request that waits at the front, and gives its number.
-    pub(crate) fn push_front(&mut self, request: Request) -> Result<u64, AllocError>
+    pub(crate) fn push_front(&mut self, alloc: Global, request: Request) -> Result<u64, AllocError>
         requires { request.granted ≡ false }
-        ensures added { IfOk result (λ n. self.new ≡ (n, request) ∷ self.old) }
+        ensures added { IfOk result (λ n. self.new ≡ (n, request) ∷ with_free_front self.old) }
         ensures err { OnErr result (self.new ≡ self.old) }
     {
-        let Ok(number) = self.requests.push_front(request) else {
-            return Err(AllocError);
-        };
+        let number = self.requests.push_front(alloc, request)?;
         self.requests.len();
         self.waiting += 1;
         Ok(number)

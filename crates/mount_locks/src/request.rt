@@ -4,18 +4,20 @@ ghost use Rattle.mount_locks.specs.Keys.{call_key, gfid_key};
 
 use fop_types::{Gfid, Seq};
 use queue_index::{EXCLUSIVE, Key, Keyed, NAME, SHARED};
+use std::alloc::{AllocError, Global};
 
 const CALLS: u8 = 0;
 
 const GFIDS: u8 = 1;
 
-/// One request for a hold: the call that asked, the gfids, whether it holds them shared or exclusive, and
-/// whether it is granted or waits.
+/// One request for a hold: the call that asked, the gfids, whether it holds them shared or exclusive,
+/// whether it extends a hold of its call, and whether it is granted or waits.
 #[derive(Drop)]
 pub struct Request {
     pub call: u32,
     pub gfids: Seq<Gfid>,
     pub shared: bool,
+    pub extends: bool,
     pub granted: bool,
 }
 
@@ -84,6 +86,17 @@ impl Keyed for Request {
 
     fn mark(&mut self) {
         self.granted = true;
+    }
+
+    fn copy(&self, alloc: Global) -> Result<Request, AllocError> {
+        let gfids = Seq::from_vec(Vec::from_slice(alloc, self.gfids.as_slice())?);
+        Ok(Request {
+            call: self.call,
+            gfids,
+            shared: self.shared,
+            extends: self.extends,
+            granted: self.granted,
+        })
     }
 
     ghost stays = { λ _. refl };

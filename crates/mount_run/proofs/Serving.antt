@@ -1,10 +1,11 @@
 -- The calls that are run can be sent, and are no more than the script's.
 use Rattle.std.proofs.Common.{◌≡◌, ℕ, ◌+◌, ◌≤◌, List, [], ◌∷◌, ◌++◌, Option, Some, None, Bool, true, false, length, refl, subst, arith}
 use Rattle.std.specs.List.{list_all, AllByRecursion}
-use Rattle.std.specs.Prelude.{nat_le, ◌&&◌, not, codes}
-use Rattle.volfile.specs.TextLines.{is_text}
+use Rattle.std.specs.Prelude.{nat_le, nat_eq, ◌&&◌, ◌||◌, not, codes}
+use Rattle.std.specs.Cmp.Lexicographic.{pointwise}
 use Rattle.std.proofs.lemmas.List.{length_push}
 use Rattle.std.proofs.lemmas.Bool.Decides.{nat_tests}
+use Rattle.fop_types.specs.Bounds.{Each, is_component, is_name_byte, IsCall}
 use Rattle.fop_types.specs.declared.calls.Call.{Call}
 use Rattle.fop_types.specs.declared.calls.Call.TheVariants.{Mkdir, Rmdir, Create, Unlink, Rename, Open, Stat, List as ListOf, Chmod, Truncate, SetAttr, GetAttr, DelAttr, Read, Write, Seek, Close}
 use Rattle.root_calls.specs.declared.calls.RootCall.{RootCall}
@@ -13,9 +14,8 @@ use Rattle.root_calls.specs.declared.calls.RootLine.{RootLine}
 use Rattle.script_lang.specs.declared.scripts.Script.{Script}
 use Rattle.script_lang.specs.declared.scripts.Phase.{Phase}
 use Rattle.script_lang.specs.declared.scripts.CallLine.{CallLine}
-use Rattle.script_lang.specs.WordForms.{is_component, is_component_byte}
 use Rattle.hub_core.specs.Bounds.{IsComponent, AreComponents, IsSendable, AreSendable, AreFit}
-use Rattle.script_lang.specs.Accepted.{HasBounds, IsPhase, IsAccepted}
+use Rattle.script_lang.specs.Accepted.{IsPhase, IsAccepted}
 use Rattle.mount_run.specs.Checks.{calls_in}
 use Rattle.mount_run.proofs.Limits.{few_calls}
 use Rattle.mount_run.specs.Served.{root_call, with_root_call, root_lines, root_phases, calls_to_run}
@@ -24,25 +24,21 @@ least : (n : ℕ) → nat_le 1 n ≡ true → 1 ≤ n
 least n h = grind (arith, nat_tests)
 
 -- a component has a byte, and visible bytes without `/`
-component_is : (a b c d : Bool) → (a && b && c && d) ≡ true → (a ≡ true) × (b ≡ true)
-component_is true true c d h = (refl, refl)
-component_is true false c d h = absurd cc
-component_is false b c d h = absurd cc
-
-both_of : (b c : Bool) → (b && c) ≡ true → (b ≡ true) × (c ≡ true)
-both_of true c h = (refl, h)
-both_of false c h = absurd cc
+component_is : (a b c : Bool) → ((a && b) && c) ≡ true → (a ≡ true) × (b ≡ true)
+component_is true true c h = (refl, refl)
+component_is true false c h = absurd cc
+component_is false b c h = absurd cc
 
 component : (part : List ℕ) → is_component part ≡ true → IsComponent part
 component part h =
-    let both = component_is (nat_le 1 (length part)) (list_all is_component_byte part) (not (is_text part (codes "."))) (not (is_text part (codes ".."))) h in
+    let both = component_is (nat_le 1 (length part)) (list_all is_name_byte part) (not (pointwise nat_eq part (codes ".") || pointwise nat_eq part (codes ".."))) h in
     record { some = least (length part) both.0; visible = both.1 }
 
-components : (parts : List (List ℕ)) → list_all is_component parts ≡ true → AreComponents parts
+components : (parts : List (List ℕ)) → Each (λ part. is_component part ≡ true) parts → AreComponents parts
 components [] h = tt
-components (part ∷ parts) h = (let both = both_of (is_component part) (list_all is_component parts) h in (component part both.0, components parts both.1))
+components (part ∷ parts) h = (component part h.0, components parts h.1)
 
-root_name : (c : Call) (r : RootCall) → HasBounds c → root_call c ≡ Some r → IsSendable r
+root_name : (c : Call) (r : RootCall) → IsCall c → root_call c ≡ Some r → IsSendable r
 root_name (Mkdir path mode) r bounds h = (let same : root.Mkdir path mode ≡ r = cc in subst IsSendable same (components path.parts bounds.0, bounds.1))
 root_name (Stat path) r bounds h = (let same : root.Stat path ≡ r = cc in subst IsSendable same (components path.parts bounds))
 root_name (Rmdir path) r bounds h = absurd cc
@@ -69,7 +65,7 @@ sendable_with : (done : List RootLine) (line : CallLine) (o : Option RootCall) �
 sendable_with done line None all one = all
 sendable_with done line (Some r) all one = sendable_push done _ all (one r refl)
 
-sendable_lines : (done : List RootLine) (lines : List CallLine) → AllByRecursion (λ line. HasBounds line.call) lines → AreSendable done → AreSendable (root_lines done lines)
+sendable_lines : (done : List RootLine) (lines : List CallLine) → AllByRecursion (λ line. IsCall line.call) lines → AreSendable done → AreSendable (root_lines done lines)
 sendable_lines done [] bounds all = all
 sendable_lines done (line ∷ lines) bounds all =
     sendable_lines (with_root_call done line (root_call line.call)) lines bounds.1 (sendable_with done line (root_call line.call) all (λ r. root_name line.call r bounds.0))

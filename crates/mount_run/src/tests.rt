@@ -2,6 +2,7 @@
 use crate::tops::top;
 use hub_core::Rack;
 use std::alloc::{AllocError, Global};
+use std::process::Abort;
 use std::test::Fail;
 use xl_base::{MemSink, MemSource};
 
@@ -361,10 +362,8 @@ fn words(alloc: Global, words: &[&'static str]) -> Result<Vec<String>, AllocErro
     Ok(all)
 }
 
-#[test]
-fn rows_end_as_they_must(rt: HostRuntime) -> Result<(), Fail> {
-    let alloc = rt.alloc();
-    for row in &ROWS {
+fn end_as_they_must(rt: &impl Abort, alloc: Global, rows: &[Row]) -> Result<(), Fail> {
+    for row in rows {
         let words = words(alloc, row.words)?;
         let mut source = MemSource::new(text(alloc, row.script)?, Vec::new(alloc));
         let mut sink = MemSink::new(alloc, 100000, Vec::new(alloc))?;
@@ -374,6 +373,12 @@ fn rows_end_as_they_must(rt: HostRuntime) -> Result<(), Fail> {
         assert!(rt; sink.bytes() == row.written, "text of {}", row.name);
     }
     Ok(())
+}
+
+#[test]
+fn rows_end_as_they_must(rt: HostRuntime) -> Result<(), Fail> {
+    let alloc = rt.alloc();
+    end_as_they_must(&rt, alloc, &ROWS)
 }
 
 // A run of the prologue whose source or sink fails at these calls, or whose sink has room for so many bytes.

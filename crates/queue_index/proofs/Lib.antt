@@ -6,3 +6,4 @@ pub mod Entries
 pub mod Numbers
 pub mod Touching
 pub mod Contention
+pub mod Renumbered

@@ -1,6 +1,6 @@
 -- A queue of entries with rising numbers, and which of them have a key. An entry is a number and an item;
 -- `keys` gives the keys of an item.
-use Rattle.std.specs.Prelude.{ℕ, ◌+◌, ◌-◌, ◌^◌, Bool, not, ◌==◌, nat_lt, nat_le, ◌&&◌, cond, false, List, map, length, slice_get, Option, Some, None}
+use Rattle.std.specs.Prelude.{ℕ, ◌+◌, ◌-◌, ◌^◌, Bool, not, ◌==◌, nat_lt, nat_le, ◌&&◌, cond, false, List, [], ◌∷◌, map, length, slice_get, Option, Some, None}
 use Rattle.std.specs.List.{filter}
 use Rattle.std.specs.Map.{lookup}
 use Rattle.std.specs.Ordering.{nat_cmp}
@@ -66,6 +66,23 @@ module _ {T : Type 0} where
 
   abbrev pub number_before : List (ℕ × T) → ℕ
   number_before es = before_entry (slice_get es 0)
+
+  -- items with the numbers from n on
+  abbrev pub numbered_from : ℕ → List T → List (ℕ × T)
+  numbered_from n [] = []
+  numbered_from n (x ∷ xs) = (n, x) ∷ numbered_from (n + 1) xs
+
+  -- the entries with fresh numbers, in the same order
+  abbrev pub renumbered : List (ℕ × T) → List (ℕ × T)
+  renumbered es = numbered_from (2 ^ 63) (items es)
+
+  -- the entries before one is put at the end, and before one is put at the front: with fresh numbers where
+  -- the numbers there are used up
+  abbrev pub with_free_end : List (ℕ × T) → List (ℕ × T)
+  with_free_end es = cond (is_end_used es) (renumbered es) es
+
+  abbrev pub with_free_front : List (ℕ × T) → List (ℕ × T)
+  with_free_front es = cond (is_front_used es) (renumbered es) es
 
 module _ {T : Type 0} (keys : T → List Key) where
   -- whether an item has a key

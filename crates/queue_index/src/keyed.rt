@@ -1,10 +1,11 @@
-ghost use Rattle.std.specs.Prelude.{◌≡◌, ◌<◌, ℕ, List, length, slice_index_or};
+ghost use Rattle.std.specs.Prelude.{◌≡◌, ◌<◌, ℕ, List, length, slice_index_or, IfOk};
 ghost use Rattle.queue_index.specs.declared.key.Key.{Key};
 
 use crate::key::Key;
+use std::alloc::{AllocError, Global};
 
 /// An entry of a [`KeyedQueue`](crate::KeyedQueue): it has keys, and a mark that may be set.
-pub trait Keyed {
+pub trait Keyed: Sized {
     // The keys of an entry.
     ghost keys: { Self → List Key };
 
@@ -23,6 +24,13 @@ pub trait Keyed {
     /// Sets the mark, which is no key.
     fn mark(&mut self)
         ensures { self.new ≡ marked self.old };
+
+    /// A copy of the entry.
+    ///
+    /// # Errors
+    /// Out of memory.
+    fn copy(&self, alloc: Global) -> Result<Self, AllocError>
+        ensures { IfOk result (λ x. x ≡ self.now) };
 
     ghost stays: { (x : Self) → keys (marked x) ≡ keys x };
 }

@@ -8,8 +8,9 @@
 //!     9: request of owner 7            (owner 3, name) 6, (owner 5, name) 8, (owner 7, name) 9, ..
 //! ```
 //!
-//! An entry keeps its number as long as it is in the queue. New entries go to the end, or to the front. Each
-//! entry has a place for each of its keys, so whoever asks for a key walks over the entries of that key
+//! New entries go to the end, or to the front. An entry keeps its number until the numbers at an end are used
+//! up, which takes 2^63 - 1 entries there without the queue ever being empty; then all entries get fresh ones,
+//! in the same order. Each entry has a place for each of its keys, so whoever asks for a key walks over the entries of that key
 //! alone. A key names a thing and says whether its entry has the thing exclusive, shared, or by name only.
 //! Two entries conflict where they have a thing in common, neither by name only, and one of the two has it
 //! exclusive.
@@ -25,12 +26,10 @@ mod entry;
 mod key;
 mod keyed;
 mod place;
-mod push_error;
 mod queue;
 mod rivals;
 
 pub use key::{EXCLUSIVE, Key, NAME, SHARED};
 pub use keyed::Keyed;
-pub use push_error::PushError;
 pub use queue::KeyedQueue;
 pub use rivals::rivals_of;

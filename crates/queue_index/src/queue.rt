@@ -1,15 +1,14 @@
-ghost use Rattle.std.specs.Prelude.{◌≡◌, ◌↔◌, IsErrOf, true, ◌<◌, ◌≤◌, ◌+◌, ◌^◌, ℕ, [], ◌∷◌, ◌++◌, OnErr, IfOk, IfSome, IfNone, None, option_copied, length};
+ghost use Rattle.std.specs.Prelude.{◌≡◌, ◌<◌, ◌≤◌, ◌+◌, ◌^◌, ℕ, [], ◌∷◌, ◌++◌, OnErr, IfOk, IfSome, IfNone, None, option_copied, length};
 ghost use Rattle.std.specs.Map.{keys_of};
 ghost use Rattle.std.specs.Ordering.{nat_cmp};
 ghost use Rattle.std.specs.List.{list_any};
 ghost use Rattle.std.specs.List.Sorted.{IsStrictlySortedBy};
-ghost use Rattle.queue_index.specs.Queue.{item_at, items, numbers, before, without, changed_at, touches, touching, touching_from, number_after, number_before, is_end_used, is_front_used};
+ghost use Rattle.queue_index.specs.Queue.{item_at, items, numbers, before, without, changed_at, touches, touching, touching_from, number_after, number_before, is_end_used, is_front_used, renumbered, with_free_end, with_free_front};
 
 use crate::entry::add_entry;
 use crate::key::Key;
 use crate::keyed::Keyed;
 use crate::place::{Place, first_place, remove_places};
-use crate::push_error::PushError;
 use std::alloc::{AllocError, Global};
 use std::collections::{BTreeMap, BTreeSet};
 use std::marker::Model;
@@ -72,55 +71,117 @@ impl<T: Keyed + Drop> KeyedQueue<T> {
     }
 
     /// Puts an entry at the end, and returns its number: one more than that of the last entry, and 2^63
-    /// where the queue is empty.
+    /// where the queue is empty. Where the last entry has the last number, 2^64 - 2, all entries first get
+    /// fresh numbers, from 2^63 on.
     ///
     /// # Errors
-    /// `Numbers` exactly where the last entry has the number 2^64 - 2, and else `Memory` where memory runs
-    /// out. The queue is unchanged.
-    pub fn push_back(&mut self, item: T) -> Result<u64, PushError>
+    /// Out of memory; so is a queue of 2^63 - 1 entries, which no memory holds. The queue is unchanged.
+    pub fn push_back(&mut self, alloc: Global, item: T) -> Result<u64, AllocError>
+        ensures added { IfOk result (λ n. self.new ≡ with_free_end self.old ++ (n, item) ∷ []) }
+        ensures number { IfOk result (λ n. n ≡ number_after (with_free_end self.old)) }
+        ensures err { OnErr result (self.new ≡ self.old) }
+    {
+        if self.is_end_used() {
+            let mut fresh = self.renumbered(alloc)?;
+            let number = fresh.append(item)?;
+            *self = fresh;
+            return Ok(number);
+        }
+        let number = self.append(item)?;
+        Ok(number)
+    }
+
+    /// Puts an entry at the front, and returns its number: one less than that of the first entry, and 2^63
+    /// where the queue is empty. Where the first entry has the number 0, all entries first get fresh
+    /// numbers, from 2^63 on.
+    ///
+    /// # Errors
+    /// Out of memory; so is a queue of 2^63 - 1 entries, which no memory holds. The queue is unchanged.
+    pub fn push_front(&mut self, alloc: Global, item: T) -> Result<u64, AllocError>
+        ensures added { IfOk result (λ n. self.new ≡ (n, item) ∷ with_free_front self.old) }
+        ensures number { IfOk result (λ n. n ≡ number_before (with_free_front self.old)) }
+        ensures err { OnErr result (self.new ≡ self.old) }
+    {
+        if self.is_front_used() {
+            let mut fresh = self.renumbered(alloc)?;
+            let number = fresh.prepend(item)?;
+            *self = fresh;
+            return Ok(number);
+        }
+        let number = self.prepend(item)?;
+        Ok(number)
+    }
+
+    // Whether the last entry has the last number.
+    fn is_end_used(&self) -> bool
+        ensures { result ≡ is_end_used self.now }
+    {
+        let Some((last, _)) = self.held.last_key_value() else {
+            return false;
+        };
+        *last == LAST
+    }
+
+    // Whether the first entry has the first number.
+    fn is_front_used(&self) -> bool
+        ensures { result ≡ is_front_used self.now }
+    {
+        let Some((first, _)) = self.held.first_key_value() else {
+            return false;
+        };
+        *first == 0
+    }
+
+    // A queue of copies of the items, in the same order, with fresh numbers.
+    fn renumbered(&self, alloc: Global) -> Result<KeyedQueue<T>, AllocError>
+        ensures { IfOk result (λ q. q ≡ renumbered self.now) }
+    {
+        let mut fresh = KeyedQueue::new(alloc);
+        for item in self.held.values() {
+            let copy = item.copy(alloc)?;
+            fresh.append(copy)?;
+        }
+        Ok(fresh)
+    }
+
+    // Puts an entry at the end, where there is a number for it.
+    fn append(&mut self, item: T) -> Result<u64, AllocError>
         ensures added { IfOk result (λ n. self.new ≡ self.old ++ (n, item) ∷ []) }
         ensures number { IfOk result (λ n. n ≡ number_after self.old) }
-        ensures numbers { IsErrOf result PushError.Numbers ↔ is_end_used self.old ≡ true }
         ensures err { OnErr result (self.new ≡ self.old) }
     {
         let number = match self.held.last_key_value() {
             None => MIDDLE,
             Some((last, _)) => {
                 if *last == LAST {
-                    return Err(PushError::Numbers);
+                    return Err(AllocError);
                 }
                 *last + 1
             }
         };
         let Ok(()) = add_entry(&mut self.held, &mut self.places, number, item) else {
-            return Err(PushError::Memory);
+            return Err(AllocError);
         };
         Ok(number)
     }
 
-    /// Puts an entry at the front, and returns its number: one less than that of the first entry, and 2^63
-    /// where the queue is empty.
-    ///
-    /// # Errors
-    /// `Numbers` exactly where the first entry has the number 0, and else `Memory` where memory runs out.
-    /// The queue is unchanged.
-    pub fn push_front(&mut self, item: T) -> Result<u64, PushError>
+    // Puts an entry at the front, where there is a number for it.
+    fn prepend(&mut self, item: T) -> Result<u64, AllocError>
         ensures added { IfOk result (λ n. self.new ≡ (n, item) ∷ self.old) }
         ensures number { IfOk result (λ n. n ≡ number_before self.old) }
-        ensures numbers { IsErrOf result PushError.Numbers ↔ is_front_used self.old ≡ true }
         ensures err { OnErr result (self.new ≡ self.old) }
     {
         let number = match self.held.first_key_value() {
             None => MIDDLE,
             Some((first, _)) => {
                 if *first == 0 {
-                    return Err(PushError::Numbers);
+                    return Err(AllocError);
                 }
                 *first - 1
             }
         };
         let Ok(()) = add_entry(&mut self.held, &mut self.places, number, item) else {
-            return Err(PushError::Memory);
+            return Err(AllocError);
         };
         Ok(number)
     }

@@ -93,18 +93,83 @@ fn graphs(alloc: Global) -> Result<Seq<ReportGraph>, AllocError> {
     Ok(Seq::from_vec(vec![in alloc; graph]?))
 }
 
-// A report with a line of each kind.
-#[test]
-fn basic(rt: HostRuntime) -> Result<(), Fail> {
-    let alloc = rt.alloc();
-    let report = Report {
-        calls: calls(alloc)?,
-        history: Seq::from_vec(Vec::from_slice(alloc, &[(3, 1), (12, 2)])?),
-        heals: heals(alloc)?,
-        skips: Seq::from_vec(vec![in alloc; (CELL, SkipCause::Unsettled)]?),
-        graphs: graphs(alloc)?,
+// What a report has lines of.
+#[derive(Clone, Copy)]
+enum Lines {
+    Calls,
+    History,
+    Heals,
+    Skips,
+    Graphs,
+}
+
+// Puts lines of one kind into a report.
+fn put(alloc: Global, report: &mut Report, lines: Lines) -> Result<(), AllocError> {
+    match lines {
+        Lines::Calls => report.calls = calls(alloc)?,
+        Lines::History => {
+            report.history = Seq::from_vec(Vec::from_slice(alloc, &[(3, 1), (12, 2)])?);
+        }
+        Lines::Heals => report.heals = heals(alloc)?,
+        Lines::Skips => {
+            report.skips = Seq::from_vec(vec![in alloc; (CELL, SkipCause::Unsettled)]?);
+        }
+        Lines::Graphs => report.graphs = graphs(alloc)?,
+    }
+    Ok(())
+}
+
+fn report_with(alloc: Global, kinds: &[Lines]) -> Result<Report, AllocError> {
+    let mut report = Report {
+        calls: Seq::new(alloc),
+        history: Seq::new(alloc),
+        heals: Seq::new(alloc),
+        skips: Seq::new(alloc),
+        graphs: Seq::new(alloc),
     };
-    let want = b"report 1\n\
+    for kind in kinds {
+        put(alloc, &mut report, *kind)?;
+    }
+    Ok(report)
+}
+
+const REPORTS: [(&[Lines], &[u8]); 7] = [
+    (&[], b"report 1\nhistory 0\nend\n"),
+    (
+        &[Lines::Calls],
+        b"report 1\n\
+        call 1 session b1 line 11 places 2,10 error 5 EIO split b1 row 0123456789abcdef00000000fedcba98/metadata b1 1 7 0,0,1 3\n\
+        history 0\nend\n",
+    ),
+    (
+        &[Lines::History],
+        b"report 1\nhistory 2\n\
+        entry 1 call 3 part 1\nentry 2 call 12 part 2\nend\n",
+    ),
+    (
+        &[Lines::Heals],
+        b"report 1\nhistory 0\n\
+        heal 0123456789abcdef00000000fedcba98/metadata from b1 to b2\nend\n",
+    ),
+    (
+        &[Lines::Skips],
+        b"report 1\nhistory 0\n\
+        skip 0123456789abcdef00000000fedcba98/metadata unsettled\nend\n",
+    ),
+    (
+        &[Lines::Graphs],
+        b"report 1\nhistory 0\n\
+        graph 1 b1 winds 40 ended 39 open\nend\n",
+    ),
+    (
+        &[
+            Lines::Calls,
+            Lines::History,
+            Lines::Heals,
+            Lines::Skips,
+            Lines::Graphs,
+        ],
+        b"report 1\n\
         call 1 session b1 line 11 places 2,10 error 5 EIO split b1 row 0123456789abcdef00000000fedcba98/metadata b1 1 7 0,0,1 3\n\
         history 2\n\
         entry 1 call 3 part 1\n\
@@ -112,8 +177,17 @@ fn basic(rt: HostRuntime) -> Result<(), Fail> {
         heal 0123456789abcdef00000000fedcba98/metadata from b1 to b2\n\
         skip 0123456789abcdef00000000fedcba98/metadata unsettled\n\
         graph 1 b1 winds 40 ended 39 open\n\
-        end\n";
-    let text = print(alloc, &report)?;
-    assert!(rt; text.as_slice() == want.as_slice());
+        end\n",
+    ),
+];
+
+#[test]
+fn reports(rt: HostRuntime) -> Result<(), Fail> {
+    let alloc = rt.alloc();
+    for (kinds, want) in &REPORTS {
+        let report = report_with(alloc, kinds)?;
+        let text = print(alloc, &report)?;
+        assert!(rt; text.as_slice() == *want);
+    }
     Ok(())
 }

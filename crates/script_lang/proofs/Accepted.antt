@@ -14,14 +14,14 @@ use Rattle.volfile.proofs.WellRead.{line_kept, suc_some, not_false}
 use Rattle.volfile.proofs.Whole.{volfile_whole}
 use Rattle.volfile.specs.declared.errors.VolKind.{VolKind}
 use Rattle.volfile.specs.declared.volumes.Volume.{Volume}
+use Rattle.fop_types.specs.Bounds.{IsCall}
 use Rattle.fop_types.specs.declared.calls.Call.{Call}
 use Rattle.script_lang.specs.WordForms.{place_of}
 use Rattle.script_lang.specs.CallText.{call_at}
 use Rattle.script_lang.specs.ControlText.{volfile_at, control_at}
 use Rattle.script_lang.specs.StatementText.{is_brick_used, brick_added, brick_read, is_volfile, volfile_named, volfile_begun, started, start_read, phases_with, phases_read, phase_begun, with_call, call_added, call_said, call_read, is_great_action, control_added, control_read, said_of_volfiles, said_in_phases, said_in, statement}
 use Rattle.script_lang.specs.ScriptText.{nothing_said, line_refusal, unless_refused, said_if_plain, volfile_goes_on, inner_line_read, volfile_ended, end_read, volfile_line_read, line_read, has_start, text_ended, read_on, lines_read}
-use Rattle.script_lang.specs.Rooms.{HasRoom}
-use Rattle.script_lang.specs.Accepted.{HasBounds, IsControl, great_count, IsPhase, calls_of, with_mention, mentioned, AreNumbered, has_name, has_place, IsBrickLine, AreBricks, IsVolfileLine, AreVolfiles, AreSessions, IsAccepted, AcceptedKeepLimits}
+use Rattle.script_lang.specs.Accepted.{IsControl, great_count, IsPhase, calls_of, with_mention, mentioned, AreNumbered, has_name, has_place, IsBrickLine, AreBricks, IsVolfileLine, AreVolfiles, AreSessions, IsAccepted, AcceptedKeepLimits}
 use Rattle.script_lang.specs.declared.errors.ScriptKind.{ScriptKind}
 use Rattle.script_lang.specs.declared.drafts.Draft.{Draft}
 use Rattle.script_lang.specs.declared.drafts.Part.{Part}
@@ -36,6 +36,7 @@ use Rattle.script_lang.specs.declared.scripts.CallLine.{CallLine}
 use Rattle.script_lang.specs.declared.scripts.ControlLine.{ControlLine}
 use Rattle.script_lang.specs.declared.scripts.Phase.{Phase}
 use Rattle.script_lang.proofs.Gives.{Gives, Finds, gives, refuses, either, past, past_or, only_if}
+use Rattle.script_lang.proofs.LineNumbers.{LinesUpTo, nothing_lined, line_lined, after_few}
 use Rattle.script_lang.proofs.WordBounds.{call_given}
 use Rattle.script_lang.proofs.ControlBounds.{place_found, volfile_given, BothFit, control_given}
 
@@ -267,7 +268,7 @@ phase_keeps p d [] fits start is h = past (leb 4096 (length (phases_read d))) _ 
 phase_keeps p d (more ∷ rest) fits start is h = refuses _
 
 -- ---- calls
-call_more : (d : Draft) (sessions : List (List ℕ)) (number session : ℕ) (call : Call) → d.part ≡ part.Phases → KeepsIn part.Phases d → HasBounds call → d.call_count < 4096
+call_more : (d : Draft) (sessions : List (List ℕ)) (number session : ℕ) (call : Call) → d.part ≡ part.Phases → KeepsIn part.Phases d → IsCall call → d.call_count < 4096
     → AreSessions sessions (calls_of (d.phases ++ record { calls = d.calls; controls = d.controls } ∷ []) ++ record { line = number; session = session; call = call } ∷ [])
     → Keeps (with_call (record d { sessions = sessions }) number session call)
 call_more d sessions number session call is h bounds low named =
@@ -288,14 +289,14 @@ call_more d sessions number session call is h bounds low named =
       counted = ap (λ l. length l) more ∙ push ∙ ap (λ n. n + 1) h.counted;
       few_calls = omega (arith, low);
       phases = all_push (IsPhase (length d.bricks) (length d.volfiles)) d.phases _ parts.0 (record {
-        calls = all_push (λ l. HasBounds l.call) d.calls line parts.1.calls bounds;
+        calls = all_push (λ l. IsCall l.call) d.calls line parts.1.calls bounds;
         controls = parts.1.controls;
         one_great = parts.1.one_great;
       });
       great = h.great;
     })
 
-known_keeps : (d : Draft) (number session : ℕ) (call : Call) → d.part ≡ part.Phases → KeepsIn part.Phases d → HasBounds call → session < length d.sessions → d.call_count < 4096
+known_keeps : (d : Draft) (number session : ℕ) (call : Call) → d.part ≡ part.Phases → KeepsIn part.Phases d → IsCall call → session < length d.sessions → d.call_count < 4096
     → Keeps (with_call d number session call)
 known_keeps d number session call is h bounds known low =
     let line : CallLine = record { line = number; session = session; call = call } in
@@ -309,7 +310,7 @@ known_keeps d number session call is h bounds known low =
       all = mentioned_push 0 calls line ∙ known_session (mentioned 0 calls) session (omega (arith, s.all, known)) ∙ s.all;
     })
 
-new_keeps : (d : Draft) (number : ℕ) (name : List ℕ) (call : Call) → d.part ≡ part.Phases → KeepsIn part.Phases d → HasBounds call → is_name name ≡ true
+new_keeps : (d : Draft) (number : ℕ) (name : List ℕ) (call : Call) → d.part ≡ part.Phases → KeepsIn part.Phases d → IsCall call → is_name name ≡ true
     → AllByRecursion (λ s. is_text s name ≡ false) d.sessions → length d.sessions < 64 → d.call_count < 4096
     → Keeps (with_call (record d { sessions = d.sessions ++ name ∷ [] }) number (length d.sessions) call)
 new_keeps d number name call is h bounds named new room low =
@@ -325,7 +326,7 @@ new_keeps d number name call is h bounds named new room low =
       all = mentioned_push 0 calls line ∙ new_session (mentioned 0 calls) (length d.sessions) (sym s.all) ∙ ap (λ n. n + 1) s.all ∙ sym push;
     })
 
-call_added_keeps : (d : Draft) (number : ℕ) (name : List ℕ) (place : Option ℕ) (call : Call) → d.part ≡ part.Phases → KeepsIn part.Phases d → HasBounds call → is_name name ≡ true
+call_added_keeps : (d : Draft) (number : ℕ) (name : List ℕ) (place : Option ℕ) (call : Call) → d.part ≡ part.Phases → KeepsIn part.Phases d → IsCall call → is_name name ≡ true
     → place_of (λ s. is_text s name) d.sessions ≡ place → Gives KeepsReading (call_added d number name place call)
 call_added_keeps d number name None call is h bounds named at =
     past_or (leb 4096 d.call_count) (leb 64 (length d.sessions)) _ _ (λ low room.
@@ -334,7 +335,7 @@ call_added_keeps d number name (Some session) call is h bounds named at =
     let known : session < length d.sessions = (subst (Finds (λ k. k < length d.sessions)) at (place_found (λ s. is_text s name) d.sessions)).holds in
     past (leb 4096 d.call_count) _ _ (λ low. gives _ (known_keeps d number session call is h bounds known (leb-false 4096 d.call_count low)))
 
-call_said_keeps : (d : Draft) (number : ℕ) (name : List ℕ) (said : Result Call ScriptKind) → d.part ≡ part.Phases → KeepsIn part.Phases d → Gives HasBounds said
+call_said_keeps : (d : Draft) (number : ℕ) (name : List ℕ) (said : Result Call ScriptKind) → d.part ≡ part.Phases → KeepsIn part.Phases d → Gives IsCall said
     → Gives KeepsReading (call_said d number name said)
 call_said_keeps d number name (Err kind) is h bounds = refuses kind
 call_said_keeps d number name (Ok call) is h bounds = only_if (is_name name) _ _ (λ named. call_added_keeps d number name _ call is h bounds.holds named refl)
@@ -379,7 +380,7 @@ control_more d number when action is h fits one =
       few_calls = h.few_calls;
       phases = all_push (IsPhase (length d.bricks) (length d.volfiles)) d.phases then parts.0 (record {
         calls = parts.1.calls;
-        controls = all_push (IsControl (length d.bricks) (length d.volfiles)) d.controls line parts.1.controls (record { when = fits.0; action = fits.1 });
+        controls = all_push (IsControl (length d.bricks) (length d.volfiles)) d.controls line parts.1.controls (record { when = fits.0; action = fits.1; allowed = fits.2 });
         one_great = subst (λ n. n ≤ 1) (sym (great_push d.controls line)) (great_more (is_great_action action) d.is_great (great_count d.controls) one h.great parts.1.one_great);
       });
       great = λ off. great_push d.controls line ∙ great_after (is_great_action action) d.is_great (great_count d.controls) h.great off;
@@ -474,9 +475,9 @@ started_fits part.Volfiles start volfiles is fits = absurd cc
 started_fits part.Start start volfiles is fits = fits
 started_fits part.Phases start volfiles is fits = fits
 
-text_keeps : (r : Reading) (number : ℕ) → KeepsReading r → Gives IsAccepted (text_ended r number)
-text_keeps (InVolfile d name r) number h = refuses _
-text_keeps (InScript d) number h =
+text_keeps : (r : Reading) (number : ℕ) → KeepsReading r → LinesUpTo number r → Gives IsAccepted (text_ended r number)
+text_keeps (InVolfile d name r) number h lines = refuses _
+text_keeps (InScript d) number h lines =
     only_if (has_start d.part) _ _ (λ is.
     gives _ (record {
       bricks = h.bricks;
@@ -486,6 +487,7 @@ text_keeps (InScript d) number h =
       few_phases = h.few_phases;
       few_calls = omega (arith, h.counted, h.few_calls);
       phases = h.phases;
+      lines = lines.lined;
     }))
 
 pub nothing_keeps : KeepsReading nothing_said
@@ -504,22 +506,20 @@ nothing_keeps =
       great = λ e. refl;
     }
 
-lines_keep : (lines : List (List ℕ)) (r : Reading) (number : ℕ) → KeepsReading r → Gives IsAccepted (lines_read lines r number)
-lines_keep [] r number h = text_keeps r number h
-lines_keep (line ∷ lines) r number h = on (line_read r (line_after number) line) (line_keeps r (line_after number) line h) (λ s k. lines_keep lines s (line_after number) k)
+lines_keep : (lines : List (List ℕ)) (r : Reading) (number : ℕ) → number ≤ 4294967295 → KeepsReading r → LinesUpTo number r → Gives IsAccepted (lines_read lines r number)
+lines_keep [] r number few h lined = text_keeps r number h lined
+lines_keep (line ∷ lines) r number few h lined =
+    on (line_read r (line_after number) line) (line_keeps r (line_after number) line h) (line_lined number r line few lined) (λ s k l. lines_keep lines s (line_after number) (after_few number few) k l)
   where
-    on : (x : Result Reading ScriptKind) → Gives KeepsReading x → ((s : Reading) → KeepsReading s → Gives IsAccepted (lines_read lines s (line_after number)))
+    on : (x : Result Reading ScriptKind) → Gives KeepsReading x → Gives (LinesUpTo (line_after number)) x
+        → ((s : Reading) → KeepsReading s → LinesUpTo (line_after number) s → Gives IsAccepted (lines_read lines s (line_after number)))
         → Gives IsAccepted (read_on x (line_after number) (λ s. lines_read lines s (line_after number)))
-    on (Ok s) k more = more s k.holds
-    on (Err kind) k more = refuses _
+    on (Ok s) k l more = more s k.holds l.holds
+    on (Err kind) k l more = refuses _
 
 pub accepted_keeps : AcceptedKeepLimits
-accepted_keeps text script is = (subst (Gives IsAccepted) is (lines_keep (lines_of text) nothing_said 0 nothing_keeps)).holds
+accepted_keeps text script is = (subst (Gives IsAccepted) is (lines_keep (lines_of text) nothing_said 0 (omega arith) nothing_keeps nothing_lined)).holds
 
 -- ---- for the loop over lines
-pub room_of : (r : Reading) → KeepsReading r → HasRoom r
-room_of (InScript d) h = tt
-room_of (InVolfile d name r) h = h.room
-
 pub next_keeps : (r s : Reading) (number : ℕ) (line : List ℕ) → KeepsReading r → line_read r number line ≡ Ok s → KeepsReading s
 next_keeps r s number line h took = (subst (Gives KeepsReading) took (line_keeps r number line h)).holds

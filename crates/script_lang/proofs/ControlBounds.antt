@@ -1,12 +1,15 @@
 -- The bounds of what the words of controls give.
-use Rattle.std.proofs.Common.{◌≡◌, ℕ, suc, ◌<◌, ◌≤◌, Bool, true, false, cond, List, [], ◌∷◌, length, codes, Option, Some, None, Result, Ok, Err, arith}
+use Rattle.std.proofs.Common.{◌≡◌, ℕ, suc, ◌<◌, ◌≤◌, Bool, true, false, cond, ◌||◌, List, [], ◌∷◌, length, codes, Option, Some, None, Result, Ok, Err, refl, sym, subst, ◌∙◌, arith}
 use Rattle.std.specs.Option.{option_map}
+use Rattle.std.specs.Cmp.{first_so, second_so}
 use Rattle.volfile.specs.TextLines.{is_text, is_name}
+use Rattle.volfile.proofs.Places.{same_word}
+use Rattle.volfile.proofs.WellRead.{ok_same}
 use Rattle.fop_types.specs.declared.messages.Proc.{Proc}
 use Rattle.fop_types.specs.declared.messages.Proc.TheVariants.{Lock, Unlock, Mark, Op, Post, Fetch, Replace, Clear, Settle, Index, Open, Release}
 use Rattle.script_lang.specs.WordForms.{number_at, proc_at, place_of}
 use Rattle.script_lang.specs.ControlText.{both, mapped, formed, defined, brick_at, volfile_at, nth_at, served_at, fault_proc_at, nth_request_at, action_of_one, action_of_two, action_of_three, action_at, request_at, may_stand_before, kept_before, before_at, after_at, control_at}
-use Rattle.script_lang.specs.Accepted.{IsNth, IsWhen, IsAction}
+use Rattle.script_lang.specs.Accepted.{IsNth, IsWhen, IsAction, IsBefore, Allows}
 use Rattle.script_lang.specs.declared.errors.ScriptKind.{ScriptKind}
 use Rattle.script_lang.specs.declared.scripts.Action.{Action}
 use Rattle.script_lang.specs.declared.scripts.Action.TheVariants.{Up, Cut, Heal, Switch}
@@ -26,6 +29,15 @@ both_given (Ok a) (Ok b) h k = gives _ (h.holds, k.holds)
 both_given (Ok a) (Err kind) h k = refuses kind
 both_given (Err kind) (Ok b) h k = refuses kind
 both_given (Err kind) (Err other) h k = refuses _
+
+-- what gives a value gives that one
+itself : {A : Type 0} (r : Result A ScriptKind) → Gives (λ a. r ≡ Ok a) r
+itself (Ok a) = gives a refl
+itself (Err kind) = refuses kind
+
+also : {A : Type 0} {P Q : A → Type 0} (r : Result A ScriptKind) → Gives P r → Gives Q r → Gives (λ a. P a × Q a) r
+also (Ok a) h k = gives a (h.holds, k.holds)
+also (Err kind) h k = refuses kind
 
 formed_given : {A : Type 0} {P : A → Type 0} (o : Option A) → Finds P o → Gives P (formed o)
 formed_given None h = refuses _
@@ -93,9 +105,10 @@ any_proc (Some p) = gives p tt
 nth_request_given : (P : Proc → Type 0) (proc : Result Proc ScriptKind) (word : List ℕ) → Gives P proc → Gives (λ r. P r.proc × IsNth r.nth) (nth_request_at proc word)
 nth_request_given P proc word h = mapped_given _ _ (both_given proc (nth_at word) h (nth_given word)) (λ p k. k)
 
-request_given : (bricks : List BrickLine) (brick proc nth : List ℕ) → Gives (λ r. (r.brick < length bricks) × IsNth r.nth) (request_at bricks brick proc nth)
+request_given : (bricks : List BrickLine) (brick proc nth : List ℕ) → Gives (λ r. (r.brick < length bricks) × IsNth r.nth × (brick_at bricks brick ≡ Ok r.brick)) (request_at bricks brick proc nth)
 request_given bricks brick proc nth =
-    mapped_given _ _ (both_given _ _ (brick_given bricks brick) (nth_request_given (λ p. Unit {0}) _ nth (any_proc (proc_at proc)))) (λ p k. (k.0, k.1.1))
+    mapped_given _ _ (both_given _ _ (also (brick_at bricks brick) (brick_given bricks brick) (itself (brick_at bricks brick))) (nth_request_given (λ p. Unit {0}) _ nth (any_proc (proc_at proc))))
+    (λ p k. (k.0.0, k.1.1, k.0.1))
 
 -- ---- actions
 module _ (bricks : List BrickLine) (volfiles : List NamedVolfile) where
@@ -123,13 +136,47 @@ module _ (bricks : List BrickLine) (volfiles : List NamedVolfile) where
   action_given word (a ∷ b ∷ c ∷ []) = three_given word a b c
   action_given word (a ∷ b ∷ c ∷ d ∷ more) = refuses _
 
-  kept_given : (may : Bool) (action : Result Action ScriptKind) → Gives Fits action → Gives Fits (kept_before may action)
-  kept_given true action h = h
+  kept_given : {P : Action → Type 0} (may : Bool) (action : Result Action ScriptKind) → (may ≡ true → Gives P action) → Gives P (kept_before may action)
+  kept_given true action h = h refl
   kept_given false (Ok action) h = refuses _
   kept_given false (Err kind) h = refuses _
 
+  -- ---- `down` and `fault` of the brick that a word names
+  abbrev OfBrick : List ℕ → Action → Type 0
+  OfBrick word action = (b : ℕ) → brick_at bricks word ≡ Ok b → IsBefore b action
+
+  any_given : {A : Type 0} (r : Result A ScriptKind) → Gives (λ a. Unit {0}) r
+  any_given (Ok a) = gives a tt
+  any_given (Err kind) = refuses kind
+
+  down_given : (a : List ℕ) (more : List (List ℕ)) → Gives (OfBrick a) (action_at bricks volfiles (codes "down") (a ∷ more))
+  down_given a [] = refuses _
+  down_given a (b ∷ []) = mapped_given _ _ (both_given _ _ (itself (brick_at bricks a)) (any_given (served_at b))) (λ p k n e. ok_same p.0 n (sym k.0 ∙ e))
+  down_given a (b ∷ c ∷ []) = refuses _
+  down_given a (b ∷ c ∷ d ∷ more) = refuses _
+
+  fault_given : (a : List ℕ) (more : List (List ℕ)) → Gives (OfBrick a) (action_at bricks volfiles (codes "fault") (a ∷ more))
+  fault_given a [] = refuses _
+  fault_given a (b ∷ []) = refuses _
+  fault_given a (b ∷ c ∷ []) = mapped_given _ _ (both_given _ _ (itself (brick_at bricks a)) (any_given (nth_request_at (fault_proc_at b) c))) (λ p k n e. ok_same p.0 n (sym k.0 ∙ e))
+  fault_given a (b ∷ c ∷ d ∷ more) = refuses _
+
+  same_brick : (word a : List ℕ) (more : List (List ℕ)) → (is_text word (codes "down") || is_text word (codes "fault")) ≡ true → Gives (OfBrick a) (action_at bricks volfiles word (a ∷ more))
+  same_brick word a more e = by_word (is_text word (codes "down")) (is_text word (codes "fault")) refl refl e
+    where
+      by_word : (d f : Bool) → is_text word (codes "down") ≡ d → is_text word (codes "fault") ≡ f → (d || f) ≡ true → Gives (OfBrick a) (action_at bricks volfiles word (a ∷ more))
+      by_word true f is so h = subst (λ w. Gives (OfBrick a) (action_at bricks volfiles w (a ∷ more))) (sym (same_word word (codes "down") is)) (down_given a more)
+      by_word false true is so h = subst (λ w. Gives (OfBrick a) (action_at bricks volfiles w (a ∷ more))) (sym (same_word word (codes "fault") so)) (fault_given a more)
+      by_word false false is so h = absurd cc
+
+  of_brick : (brick word : List ℕ) (more : List (List ℕ)) → may_stand_before brick word more ≡ true → Gives (OfBrick brick) (action_at bricks volfiles word more)
+  of_brick brick word [] e = absurd cc
+  of_brick brick word (a ∷ more) e =
+      let same : a ≡ brick = same_word a brick (second_so (is_text word (codes "down") || is_text word (codes "fault")) (is_text a brick) e) in
+      subst (λ w. Gives (OfBrick w) (action_at bricks volfiles word (a ∷ more))) same (same_brick word a more (first_so (is_text word (codes "down") || is_text word (codes "fault")) (is_text a brick) e))
+
   abbrev pub BothFit : When × Action → Type 0
-  BothFit said = IsWhen (length bricks) said.0 × Fits said.1
+  BothFit said = IsWhen (length bricks) said.0 × Fits said.1 × Allows said.0 said.1
 
   before_given : (words : List (List ℕ)) → Gives BothFit (before_at bricks volfiles words)
   before_given [] = refuses _
@@ -137,17 +184,20 @@ module _ (bricks : List BrickLine) (volfiles : List NamedVolfile) where
   before_given (brick ∷ proc ∷ []) = refuses _
   before_given (brick ∷ proc ∷ nth ∷ []) = refuses _
   before_given (brick ∷ proc ∷ nth ∷ word ∷ more) =
-      mapped_given _ _ (both_given _ _ (request_given bricks brick proc nth) (kept_given (may_stand_before brick word more) _ (action_given word more))) (λ p k. k)
+      mapped_given _ _
+      (both_given _ _ (request_given bricks brick proc nth)
+      (kept_given (may_stand_before brick word more) _ (λ may. also (action_at bricks volfiles word more) (action_given word more) (of_brick brick word more may))))
+      (λ p k. ((k.0.0, k.0.1), k.1.0, k.1.1 p.0.brick k.0.2))
 
   after_given : (words : List (List ℕ)) → Gives BothFit (after_at bricks volfiles words)
   after_given [] = refuses _
   after_given (brick ∷ []) = refuses _
   after_given (brick ∷ proc ∷ []) = refuses _
   after_given (brick ∷ proc ∷ nth ∷ []) = refuses _
-  after_given (brick ∷ proc ∷ nth ∷ word ∷ more) = mapped_given _ _ (both_given _ _ (request_given bricks brick proc nth) (action_given word more)) (λ p k. k)
+  after_given (brick ∷ proc ∷ nth ∷ word ∷ more) = mapped_given _ _ (both_given _ _ (request_given bricks brick proc nth) (action_given word more)) (λ p k. ((k.0.0, k.0.1), k.1, tt))
 
   pub control_given : (words : List (List ℕ)) → Gives BothFit (control_at bricks volfiles words)
   control_given [] = refuses _
   control_given (word ∷ more) =
       either (is_text word (codes "before")) _ _ (before_given more)
-      (either (is_text word (codes "after")) _ _ (after_given more) (mapped_given _ _ (action_given word more) (λ action k. (tt, k))))
+      (either (is_text word (codes "after")) _ _ (after_given more) (mapped_given _ _ (action_given word more) (λ action k. (tt, k, tt))))

@@ -2,6 +2,7 @@ pub mod Accepted
 pub mod ControlBounds
 pub mod Counts
 pub mod Gives
+pub mod LineNumbers
 pub mod Modes
 pub mod Parts
 pub mod TextRead

@@ -1,25 +1,30 @@
 -- The bounds of what the words of calls and controls give.
-use Rattle.std.proofs.Common.{◌≡◌, ℕ, ◌<◌, ◌≤◌, ◌==◌, true, ◌&&◌, leb, List, [], ◌∷◌, length, take, drop, codes, Option, Some, None, refl, subst, sym, arith}
+use Rattle.std.proofs.Common.{◌≡◌, ℕ, ◌<◌, ◌≤◌, ◌==◌, true, ◌&&◌, leb, List, [], ◌∷◌, length, take, drop, codes, Option, Some, None, subst, sym, arith}
 use Rattle.std.specs.Cmp.{first_so, second_so}
 use Rattle.std.specs.List.{list_all}
 use Rattle.std.proofs.lemmas.Bool.{leb-true}
 use Rattle.std.proofs.lemmas.List.{length-replicate}
 use Rattle.xl_base.specs.Words.{decimal_of, hex_of}
 use Rattle.volfile.specs.TextLines.{front_len, is_text, parts_between}
+use Rattle.volfile.proofs.Places.{same_word}
+use Rattle.fop_types.specs.Bounds.{Each, is_component, IsComponent, IsPath, IsMode, IsUnit, IsUserAttrName, IsSessionFd, IsCall}
 use Rattle.fop_types.specs.declared.calls.Call.{Call}
 use Rattle.fop_types.specs.declared.calls.Call.TheVariants as call
-use Rattle.script_lang.specs.WordForms.{begins, is_slash, is_component, path_with, path_at, is_octal, octal_after, nine_bits, mode_at, within, number_at, fd_at, at_most, visible_bytes, copies_of, repeated_at, data_at, attr_at}
+use Rattle.script_lang.specs.WordForms.{begins, is_slash, path_with, path_at, is_octal, octal_after, nine_bits, mode_at, within, number_at, fd_at, at_most, visible_bytes, copies_of, repeated_at, data_at, attr_at}
 use Rattle.script_lang.specs.CallText.{made1, made2, made3, misfit, call_of_one, call_of_path, call_of_two, set_attr, call_of_three, call_at}
-use Rattle.script_lang.specs.Accepted.{IsPath, IsMode, IsAttrName, HasBounds}
 use Rattle.script_lang.proofs.Gives.{Gives, Finds, gives, refuses, finds, none, either, one_of, found_if}
 
 -- ---- words
+components : (parts : List (List ℕ)) → list_all is_component parts ≡ true → Each IsComponent parts
+components [] h = tt
+components (part ∷ parts) h = (first_so (is_component part) (list_all is_component parts) h, components parts (second_so (is_component part) (list_all is_component parts) h))
+
 path_with_found : (parts : List (List ℕ)) → Finds IsPath (path_with parts)
-path_with_found parts = found_if (list_all is_component parts) _ (λ is. finds _ is)
+path_with_found parts = found_if (list_all is_component parts) _ (λ is. finds _ (components parts is))
 
 pub path_found : (word : List ℕ) → Finds IsPath (path_at word)
 path_found word =
-    one_of (is_text word (codes "/")) _ _ (finds _ refl) (found_if (begins word (codes "/")) _ (λ is. path_with_found (parts_between is_slash (drop 1 word))))
+    one_of (is_text word (codes "/")) _ _ (finds _ tt) (found_if (begins word (codes "/")) _ (λ is. path_with_found (parts_between is_slash (drop 1 word))))
 
 nine_found : (n : ℕ) → Finds IsMode (nine_bits n)
 nine_found n = found_if (leb n 511) _ (λ is. finds n (leb-true n 511 is))
@@ -38,11 +43,11 @@ fitted : {A : Type 0} {P Q : A → Type 0} (o : Option A) → ((a : A) → P a �
 fitted None leads h = none
 fitted (Some a) leads h = finds a (leads a h.holds)
 
-pub fd_found : (word : List ℕ) → Finds (λ fd. fd < 256) (fd_at word)
-fd_found word = fitted (number_at 0 255 word) (λ fd h. omega (arith, h.1)) (number_found 0 255 word)
+pub fd_found : (word : List ℕ) → Finds IsSessionFd (fd_at word)
+fd_found word = fitted (number_at 0 255 word) (λ fd h. h.1) (number_found 0 255 word)
 
-pub size_found : (word : List ℕ) → Finds (λ n. n < 4294967296) (number_at 0 4294967295 word)
-size_found word = fitted (number_at 0 4294967295 word) (λ n h. omega (arith, h.1)) (number_found 0 4294967295 word)
+pub size_found : (word : List ℕ) → Finds IsUnit (number_at 0 4294967295 word)
+size_found word = fitted (number_at 0 4294967295 word) (λ n h. let low : n < 4294967296 = omega (arith, h.1) in low) (number_found 0 4294967295 word)
 
 pub count_found : (word : List ℕ) → Finds (λ n. n ≤ 65536) (number_at 0 65536 word)
 count_found word = fitted (number_at 0 65536 word) (λ n h. h.1) (number_found 0 65536 word)
@@ -69,69 +74,65 @@ data_found limit word =
     (one_of (begins word (codes "z:")) _ _ (copies_found limit (number_at 0 limit (drop 2 word)) (Some 0) (upper_found limit (drop 2 word)))
     (found_if (begins word (codes "r:")) _ (λ is. repeated_found limit (drop 2 word)))))
 
-pub attr_found : (word : List ℕ) → Finds IsAttrName (attr_at word)
+pub attr_found : (word : List ℕ) → Finds IsUserAttrName (attr_at word)
 attr_found word =
     found_if (begins word (codes "user.") && leb 6 (length word) && leb (length word) 64) _ (λ is.
     let two : (begins word (codes "user.") && leb 6 (length word)) ≡ true = first_so (begins word (codes "user.") && leb 6 (length word)) (leb (length word) 64) is in
-    finds word (record {
-      prefix = first_so (begins word (codes "user.")) (leb 6 (length word)) two;
-      least = leb-true 6 (length word) (second_so (begins word (codes "user.")) (leb 6 (length word)) two);
-      most = leb-true (length word) 64 (second_so (begins word (codes "user.") && leb 6 (length word)) (leb (length word) 64) is);
-    }))
+    let prefix : codes "user." ≡ take 5 word = same_word (codes "user.") (take 5 word) (first_so (begins word (codes "user.")) (leb 6 (length word)) two) in
+    let least = leb-true 6 (length word) (second_so (begins word (codes "user.")) (leb 6 (length word)) two) in
+    let most = leb-true (length word) 64 (second_so (begins word (codes "user.") && leb 6 (length word)) (leb (length word) 64) is) in
+    finds word ((least, most), sym prefix))
 
 -- ---- calls
-one : {A : Type 0} (P : A → Type 0) (f : A → Call) (a : Option A) → Finds P a → ((x : A) → P x → HasBounds (f x)) → Gives HasBounds (made1 f a)
+one : {A : Type 0} (P : A → Type 0) (f : A → Call) (a : Option A) → Finds P a → ((x : A) → P x → IsCall (f x)) → Gives IsCall (made1 f a)
 one P f None h leads = refuses _
 one P f (Some a) h leads = gives _ (leads a h.holds)
 
-two : {A B : Type 0} (P : A → Type 0) (Q : B → Type 0) (f : A → B → Call) (a : Option A) (b : Option B) → Finds P a → Finds Q b → ((x : A) (y : B) → P x → Q y → HasBounds (f x y)) → Gives HasBounds (made2 f a b)
+two : {A B : Type 0} (P : A → Type 0) (Q : B → Type 0) (f : A → B → Call) (a : Option A) (b : Option B) → Finds P a → Finds Q b → ((x : A) (y : B) → P x → Q y → IsCall (f x y)) → Gives IsCall (made2 f a b)
 two P Q f None b h k leads = refuses _
 two P Q f (Some a) None h k leads = refuses _
 two P Q f (Some a) (Some b) h k leads = gives _ (leads a b h.holds k.holds)
 
 three : {A B C : Type 0} (P : A → Type 0) (Q : B → Type 0) (R : C → Type 0) (f : A → B → C → Call) (a : Option A) (b : Option B) (c : Option C) → Finds P a → Finds Q b → Finds R c
-    → ((x : A) (y : B) (z : C) → P x → Q y → R z → HasBounds (f x y z)) → Gives HasBounds (made3 f a b c)
+    → ((x : A) (y : B) (z : C) → P x → Q y → R z → IsCall (f x y z)) → Gives IsCall (made3 f a b c)
 three P Q R f None b c h k l leads = refuses _
 three P Q R f (Some a) None c h k l leads = refuses _
 three P Q R f (Some a) (Some b) None h k l leads = refuses _
 three P Q R f (Some a) (Some b) (Some c) h k l leads = gives _ (leads a b c h.holds k.holds l.holds)
 
-abbrev IsFd : ℕ → Type 0
-IsFd fd = fd < 256
-
-one_given : (word a : List ℕ) → Gives HasBounds (call_of_one word a)
+one_given : (word a : List ℕ) → Gives IsCall (call_of_one word a)
 one_given word a =
     let path = path_found a in
     either (is_text word (codes "rmdir")) _ _ (one IsPath call.Rmdir _ path (λ x h. h))
     (either (is_text word (codes "unlink")) _ _ (one IsPath call.Unlink _ path (λ x h. h))
     (either (is_text word (codes "stat")) _ _ (one IsPath call.Stat _ path (λ x h. h))
     (either (is_text word (codes "list")) _ _ (one IsPath call.List _ path (λ x h. h))
-    (either (is_text word (codes "close")) _ _ (one IsFd call.Close _ (fd_found a) (λ x h. h)) (refuses (misfit word))))))
+    (either (is_text word (codes "close")) _ _ (one IsSessionFd call.Close _ (fd_found a) (λ x h. h)) (refuses (misfit word))))))
 
-path_given : (word a b : List ℕ) → Gives HasBounds (call_of_path word a b)
+path_given : (word a b : List ℕ) → Gives IsCall (call_of_path word a b)
 path_given word a b =
     let path = path_found a in
     either (is_text word (codes "mkdir")) _ _ (two IsPath IsMode call.Mkdir _ _ path (mode_found b) (λ x y h k. (h, k)))
     (either (is_text word (codes "rename")) _ _ (two IsPath IsPath call.Rename _ _ path (path_found b) (λ x y h k. (h, k)))
     (either (is_text word (codes "chmod")) _ _ (two IsPath IsMode call.Chmod _ _ path (mode_found b) (λ x y h k. (h, k)))
-    (either (is_text word (codes "truncate")) _ _ (two IsPath (λ n. n < 4294967296) call.Truncate _ _ path (size_found b) (λ x y h k. (h, k)))
-    (either (is_text word (codes "getattr")) _ _ (two IsPath IsAttrName call.GetAttr _ _ path (attr_found b) (λ x y h k. (h, k)))
-    (either (is_text word (codes "delattr")) _ _ (two IsPath IsAttrName call.DelAttr _ _ path (attr_found b) (λ x y h k. (h, k))) (refuses (misfit word)))))))
+    (either (is_text word (codes "truncate")) _ _ (two IsPath IsUnit call.Truncate _ _ path (size_found b) (λ x y h k. (h, k)))
+    (either (is_text word (codes "getattr")) _ _ (two IsPath IsUserAttrName call.GetAttr _ _ path (attr_found b) (λ x y h k. (h, k)))
+    (either (is_text word (codes "delattr")) _ _ (two IsPath IsUserAttrName call.DelAttr _ _ path (attr_found b) (λ x y h k. (h, k))) (refuses (misfit word)))))))
 
-two_given : (word a b : List ℕ) → Gives HasBounds (call_of_two word a b)
+two_given : (word a b : List ℕ) → Gives IsCall (call_of_two word a b)
 two_given word a b =
     let fd = fd_found a in
-    either (is_text word (codes "open")) _ _ (two IsFd IsPath call.Open _ _ fd (path_found b) (λ x y h k. (h, k)))
-    (either (is_text word (codes "read")) _ _ (two IsFd (λ n. n ≤ 65536) call.Read _ _ fd (count_found b) (λ x y h k. (h, k)))
-    (either (is_text word (codes "write")) _ _ (two IsFd (λ bs. length bs ≤ 65536) call.Write _ _ fd (data_found 65536 b) (λ x y h k. (h, k)))
-    (either (is_text word (codes "seek")) _ _ (two IsFd (λ n. n < 4294967296) call.Seek _ _ fd (size_found b) (λ x y h k. (h, k))) (path_given word a b))))
+    either (is_text word (codes "open")) _ _ (two IsSessionFd IsPath call.Open _ _ fd (path_found b) (λ x y h k. (h, k)))
+    (either (is_text word (codes "read")) _ _ (two IsSessionFd (λ n. n ≤ 65536) call.Read _ _ fd (count_found b) (λ x y h k. (h, k)))
+    (either (is_text word (codes "write")) _ _ (two IsSessionFd (λ bs. length bs ≤ 65536) call.Write _ _ fd (data_found 65536 b) (λ x y h k. (h, k)))
+    (either (is_text word (codes "seek")) _ _ (two IsSessionFd IsUnit call.Seek _ _ fd (size_found b) (λ x y h k. (h, k))) (path_given word a b))))
 
-three_given : (word a b c : List ℕ) → Gives HasBounds (call_of_three word a b c)
+three_given : (word a b c : List ℕ) → Gives IsCall (call_of_three word a b c)
 three_given word a b c =
-    either (is_text word (codes "create")) _ _ (three IsFd IsPath IsMode call.Create _ _ _ (fd_found a) (path_found b) (mode_found c) (λ x y z h k l. (h, k, l)))
-    (either (is_text word (codes "setattr")) _ _ (three IsPath IsAttrName (λ bs. length bs ≤ 1024) set_attr _ _ _ (path_found a) (attr_found b) (data_found 1024 c) (λ x y z h k l. (h, k, l))) (refuses (misfit word)))
+    either (is_text word (codes "create")) _ _ (three IsSessionFd IsPath IsMode call.Create _ _ _ (fd_found a) (path_found b) (mode_found c) (λ x y z h k l. (h, k, l)))
+    (either (is_text word (codes "setattr")) _ _ (three IsPath IsUserAttrName (λ bs. length bs ≤ 1024) set_attr _ _ _ (path_found a) (attr_found b) (data_found 1024 c) (λ x y z h k l. (h, (k, l)))) (refuses (misfit word)))
 
-pub call_given : (word : List ℕ) (rest : List (List ℕ)) → Gives HasBounds (call_at word rest)
+pub call_given : (word : List ℕ) (rest : List (List ℕ)) → Gives IsCall (call_at word rest)
 call_given word [] = refuses (misfit word)
 call_given word (a ∷ []) = one_given word a
 call_given word (a ∷ b ∷ []) = two_given word a b

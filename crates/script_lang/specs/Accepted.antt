@@ -1,14 +1,11 @@
 -- What every accepted script keeps to: its limits, names that differ, controls of bricks and volfiles that are
--- there, sessions by first mention, and the bounds of each call's words.
-use Rattle.std.specs.Prelude.{◌≡◌, ◌<◌, ◌≤◌, ⊤, ℕ, ◌+◌, ◌==◌, ◌&&◌, Bool, true, if◌then◌else◌, List, [], ◌∷◌, length, codes, flat_map, Ok}
-use Rattle.std.specs.List.{AllByRecursion, IsDistinct, list_all}
+-- there, sessions by first mention, the bounds of each call's words, and lines in order.
+use Rattle.std.specs.Prelude.{◌≡◌, ◌<◌, ◌≤◌, ⊤, ℕ, ◌+◌, ◌==◌, ◌&&◌, Bool, true, if◌then◌else◌, List, [], ◌∷◌, length, map, max, flat_map, ◌⊎◌, Ok}
+use Rattle.std.specs.List.{AllByRecursion, IsDistinct}
 use Rattle.volfile.specs.TextLines.{is_text, is_name, is_visible_word}
 use Rattle.volfile.specs.Volumes.{IsVolfile}
-use Rattle.fop_types.specs.declared.calls.Path.{Path}
-use Rattle.fop_types.specs.declared.calls.Call.{Call}
-use Rattle.fop_types.specs.declared.calls.Call.TheVariants.{Mkdir, Rmdir, Create, Unlink, Rename, Open, Stat, List as ListNames, Chmod, Truncate, SetAttr, GetAttr, DelAttr, Read, Write, Seek, Close}
+use Rattle.fop_types.specs.Bounds.{IsCall}
 use Rattle.fop_types.specs.declared.messages.Proc.TheVariants.{Unlock}
-use Rattle.script_lang.specs.WordForms.{begins, is_component}
 use Rattle.script_lang.specs.StatementText.{is_great_action}
 use Rattle.script_lang.specs.ScriptText.{parsed}
 use Rattle.script_lang.specs.declared.scripts.Action.{Action}
@@ -21,40 +18,6 @@ use Rattle.script_lang.specs.declared.scripts.CallLine.{CallLine}
 use Rattle.script_lang.specs.declared.scripts.ControlLine.{ControlLine}
 use Rattle.script_lang.specs.declared.scripts.Phase.{Phase}
 use Rattle.script_lang.specs.declared.scripts.Script.{Script}
-
--- ---- the words of a call
--- components of one byte or more, of the bytes 33 to 126 without `/`, none of them `.` or `..`
-abbrev pub IsPath : Path → Type 0
-IsPath path = list_all is_component path.parts ≡ true
-
--- the nine bits of a mode
-abbrev pub IsMode : ℕ → Type 0
-IsMode mode = mode ≤ 511
-
--- 6 to 64 bytes that begin with `user.`
-pub record IsAttrName (name : List ℕ) : Type 0 where
-  pub prefix : begins name (codes "user.") ≡ true
-  pub least : 6 ≤ length name
-  pub most : length name ≤ 64
-
-abbrev pub HasBounds : Call → Type 0
-HasBounds (Mkdir path mode) = IsPath path × IsMode mode
-HasBounds (Rmdir path) = IsPath path
-HasBounds (Create fd path mode) = (fd < 256) × IsPath path × IsMode mode
-HasBounds (Unlink path) = IsPath path
-HasBounds (Rename path target) = IsPath path × IsPath target
-HasBounds (Open fd path) = (fd < 256) × IsPath path
-HasBounds (Stat path) = IsPath path
-HasBounds (ListNames path) = IsPath path
-HasBounds (Chmod path mode) = IsPath path × IsMode mode
-HasBounds (Truncate path size) = IsPath path × (size < 4294967296)
-HasBounds (SetAttr path attr) = IsPath path × IsAttrName attr.name × (length attr.value ≤ 1024)
-HasBounds (GetAttr path name) = IsPath path × IsAttrName name
-HasBounds (DelAttr path name) = IsPath path × IsAttrName name
-HasBounds (Read fd count) = (fd < 256) × (count ≤ 65536)
-HasBounds (Write fd bytes) = (fd < 256) × (length bytes ≤ 65536)
-HasBounds (Seek fd offset) = (fd < 256) × (offset < 4294967296)
-HasBounds (Close fd) = fd < 256
 
 -- ---- controls, over so many bricks and volfiles
 -- the place of a request among those of its procedure in a phase
@@ -75,9 +38,24 @@ IsAction bricks volfiles (Fault brick proc nth) = (brick < bricks) × IsNth nth 
 IsAction bricks volfiles Heal = ⊤
 IsAction bricks volfiles (Switch volfile) = volfile < volfiles
 
+-- directly before a request to a brick only that brick goes down, or answers a later request with a fault
+abbrev pub IsBefore : ℕ → Action → Type 0
+IsBefore brick (Down other served) = other ≡ brick
+IsBefore brick (Up other) = ⊥
+IsBefore brick (Cut other) = ⊥
+IsBefore brick (Fault other proc nth) = other ≡ brick
+IsBefore brick Heal = ⊥
+IsBefore brick (Switch volfile) = ⊥
+
+abbrev pub Allows : When → Action → Type 0
+Allows Now action = ⊤
+Allows (Before brick proc nth) action = IsBefore brick action
+Allows (After brick proc nth) action = ⊤
+
 pub record IsControl (bricks volfiles : ℕ) (line : ControlLine) : Type 0 where
   pub when : IsWhen bricks line.when
   pub action : IsAction bricks volfiles line.action
+  pub allowed : Allows line.when line.action
 
 -- how many of them are a heal or a switch
 abbrev pub great_count : List ControlLine → ℕ
@@ -85,9 +63,34 @@ great_count [] = 0
 great_count (line ∷ lines) = if is_great_action line.action then great_count lines + 1 else great_count lines
 
 pub record IsPhase (bricks volfiles : ℕ) (phase : Phase) : Type 0 where
-  pub calls : AllByRecursion (λ line. HasBounds line.call) phase.calls
+  pub calls : AllByRecursion (λ line. IsCall line.call) phase.calls
   pub controls : AllByRecursion (IsControl bricks volfiles) phase.controls
   pub one_great : great_count phase.controls ≤ 1
+
+-- ---- lines
+-- a later line: its number is greater, until numbers stay at the greatest of 32 bits
+abbrev pub IsBehind : ℕ → ℕ → Type 0
+IsBehind line later = (line < later) ⊎ (later ≡ 4294967295)
+
+-- lines that rise, the first of them behind `last`
+abbrev pub AreRising : ℕ → List ℕ → Type 0
+AreRising last [] = ⊤
+AreRising last (line ∷ lines) = IsBehind last line × AreRising line lines
+
+-- the last of these lines, or `last` where there are none
+abbrev pub last_of : ℕ → List ℕ → ℕ
+last_of last [] = last
+last_of last (line ∷ lines) = last_of line lines
+
+-- the last line of a phase behind `last`
+abbrev pub last_in : ℕ → Phase → ℕ
+last_in last phase = max (last_of last (map (λ c. c.line) phase.calls)) (last_of last (map (λ c. c.line) phase.controls))
+
+-- the lines of a phase's calls rise, those of its controls rise, and all are behind those of earlier phases
+abbrev pub AreLined : ℕ → List Phase → Type 0
+AreLined last [] = ⊤
+AreLined last (phase ∷ phases) =
+    AreRising last (map (λ c. c.line) phase.calls) × AreRising last (map (λ c. c.line) phase.controls) × AreLined (last_in last phase) phases
 
 -- ---- sessions
 abbrev pub calls_of : List Phase → List CallLine
@@ -150,6 +153,7 @@ pub record IsAccepted (script : Script) : Type 0 where
   pub few_phases : length script.phases ≤ 4096
   pub few_calls : length (calls_of script.phases) ≤ 4096
   pub phases : AllByRecursion (IsPhase (length script.bricks) (length script.volfiles)) script.phases
+  pub lines : AreLined 0 script.phases
 
 abbrev pub AcceptedKeepLimits : Type 0
 AcceptedKeepLimits = (text : List ℕ) (script : Script) → parsed text ≡ Ok script → IsAccepted script

@@ -1,11 +1,12 @@
 -- The forms of words in a script: paths, modes, numbers, data, names of attributes and of procedures, and
 -- names of what was defined before. `None` where a word has not the form. Paths and their components are
 -- those of POSIX.1-2017, over visible bytes alone.
-use Rattle.std.specs.Prelude.{ℕ, suc, ◌+◌, ◌-◌, ◌*◌, ◌==◌, ◌&&◌, nat_le, not, Bool, if◌then◌else◌, List, [], ◌∷◌, length, take, drop, replicate, codes, Option, Some, None}
+use Rattle.std.specs.Prelude.{ℕ, suc, ◌+◌, ◌-◌, ◌*◌, ◌==◌, ◌&&◌, nat_le, Bool, if◌then◌else◌, List, [], ◌∷◌, length, take, drop, replicate, codes, Option, Some, None}
 use Rattle.std.specs.List.{list_all, starts_with}
 use Rattle.std.specs.Option.{option_map}
 use Rattle.xl_base.specs.Words.{decimal_of, hex_of}
 use Rattle.volfile.specs.TextLines.{parts_between, front_len, is_visible, is_text}
+use Rattle.fop_types.specs.Bounds.{is_component}
 use Rattle.fop_types.specs.declared.calls.Path.{Path}
 use Rattle.fop_types.specs.declared.messages.Proc.{Proc}
 use Rattle.fop_types.specs.declared.messages.Proc.TheVariants.{Lock, Unlock, Mark, Op, Post, Fetch, Replace, Clear, Settle, Index, Open, Release}
@@ -17,13 +18,6 @@ begins word text = starts_with ◌==◌ word text
 -- ---- PATH
 abbrev pub is_slash : ℕ → Bool
 is_slash b = b == 47
-
-abbrev pub is_component_byte : ℕ → Bool
-is_component_byte b = is_visible b && not (b == 47)
-
--- one byte or more, and neither `.` nor `..`
-abbrev pub is_component : List ℕ → Bool
-is_component part = nat_le 1 (length part) && list_all is_component_byte part && not (is_text part (codes ".")) && not (is_text part (codes ".."))
 
 abbrev pub path_with : List (List ℕ) → Option Path
 path_with parts = if list_all is_component parts then Some (record { parts = parts }) else None

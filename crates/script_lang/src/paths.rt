@@ -1,7 +1,8 @@
 ghost use Rattle.std.specs.Prelude.{◌≡◌, ◌<◌, ◌≤◌, ◌+◌, ◌∷◌, length, drop, IfOk};
 ghost use Rattle.std.specs.List.{list_all};
 ghost use Rattle.volfile.specs.TextLines.{front_len, parts_between};
-ghost use Rattle.script_lang.specs.WordForms.{is_component as is_component_word, is_component_byte, is_slash, path_at};
+ghost use Rattle.fop_types.specs.Bounds.{is_component as is_component_word, is_name_byte};
+ghost use Rattle.script_lang.specs.WordForms.{is_slash, path_at};
 
 use crate::words::{begins_with, front, is_word};
 use fop_types::{Path, Seq};
@@ -53,11 +54,11 @@ fn are_components(parts: &[Seq<u8>]) -> bool
 fn is_component(part: &[u8]) -> bool
     ensures { result ≡ is_component_word part.now }
 {
-    1 <= part.len() && are_component_bytes(part) && !is_word(part, b".") && !is_word(part, b"..")
+    1 <= part.len() && are_component_bytes(part) && !(is_word(part, b".") || is_word(part, b".."))
 }
 
 fn are_component_bytes(part: &[u8]) -> bool
-    ensures { result ≡ list_all is_component_byte part.now }
+    ensures { result ≡ list_all is_name_byte part.now }
 {
     part.iter().all(|b| 33 <= *b && *b <= 126 && *b != b'/')
 }

@@ -1,5 +1,5 @@
 ghost use Rattle.std.specs.Prelude.{◌≡◌, ◌<◌, [], map, IfOk, OnOk};
-ghost use Rattle.script_lang.specs.Rooms.{Leaves};
+ghost use Rattle.script_lang.specs.code.Readings.{Leaves};
 ghost use Rattle.script_lang.specs.StatementText.{call_added, call_read, call_said, control_added, control_read, is_great_action, new_phase, phases_read, phases_with, with_call as call_put};
 ghost use Rattle.script_lang.specs.declared.drafts.Reading.TheVariants.{InScript};
 

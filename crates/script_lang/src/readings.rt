@@ -1,7 +1,7 @@
 ghost use Rattle.std.specs.Prelude.{◌≡◌, ◌<◌, ◌∷◌, None, map, length, IfOk, IfSome};
 ghost use Rattle.std.specs.List.{list_all};
 ghost use Rattle.volfile.specs.TextLines.{is_blank as is_blank_byte, is_text_byte as is_byte_of_text, words_of};
-ghost use Rattle.script_lang.specs.Rooms.{HasRoom, Leaves, reading_of};
+ghost use Rattle.script_lang.specs.code.Readings.{HasCapacity, Leaves, reading_of};
 ghost use Rattle.script_lang.specs.ScriptText.{end_read, inner_line_read, is_comment as is_comment_line, is_long as is_long_line, line_read, line_refusal, said_if_plain, script_line_read, volfile_ended, volfile_line_read};
 
 use crate::drafts::{Draft, Inside};
@@ -20,7 +20,7 @@ pub(crate) fn with_line(
     number: u32,
     line: &[u8],
 ) -> Refused
-    requires { HasRoom (reading_of draft.old inside.old) }
+    requires { HasCapacity (reading_of draft.old inside.old) }
     ensures { IfOk result (λ no. Leaves (line_read (reading_of draft.old inside.old) number line.now) no (reading_of draft.new inside.new)) }
 {
     match &*inside {

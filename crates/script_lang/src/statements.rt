@@ -1,5 +1,5 @@
 ghost use Rattle.std.specs.Prelude.{◌≡◌, None, map, IfOk};
-ghost use Rattle.script_lang.specs.Rooms.{Leaves, reading_of};
+ghost use Rattle.script_lang.specs.code.Readings.{Leaves, reading_of};
 ghost use Rattle.script_lang.specs.StatementText.{brick_added, brick_read, has_words, is_brick_used, phase_begun, said_in, said_in_phases, said_of_volfiles, start_read, started, statement as statement_read, volfile_begun, volfile_named};
 ghost use Rattle.script_lang.specs.declared.drafts.Reading.TheVariants.{InScript};
 

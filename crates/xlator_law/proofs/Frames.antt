@@ -3,12 +3,15 @@
 use Rattle.std.proofs.Common.{◌≡◌, refl, sym, ap, subst, ◌∙◌}
 use Rattle.std.proofs.Common.{arith}
 use Rattle.std.proofs.lemmas.Bool.{eqb-true}
+use Rattle.std.proofs.lemmas.List.{append-nil, append_assoc}
 use Rattle.std.specs.Prelude.{ℕ, ◌+◌, ◌<◌, ◌≤◌, ◌==◌, ◌&&◌, ◌||◌, Bool, true, false, not, List, [], ◌∷◌, ◌++◌}
 use Rattle.xlator_law.specs.declared.step.Step.{Step}
 use Rattle.xlator_law.specs.declared.step.Step.TheVariants.{Wind, Wait, Unwind}
-use Rattle.xlator_law.specs.Law.{Slots, no_slots, without, with_winds, is_wound, AreFresh, AreWithin, wind_cost, Promise, IsStepFrom}
-use Rattle.xlator_law.specs.Frames.{one_if, times_answered, times_wound, winds_of, IsTrace, IsBounded, FramesAreBounded}
-use Rattle.xlator_law.specs.Frames.IsTrace.{Entered, Resumed, WentOn}
+use Rattle.xlator_law.specs.declared.winds.Entry.{Entry}
+use Rattle.xlator_law.specs.Law.{Slots, no_slots, without, with_winds, is_wound, AreFresh, AreWithin, wind_cost, Promise, Cause, IsStepFrom}
+use Rattle.xlator_law.specs.Frames.{one_if, times_answered, times_wound, Event, winds_in, replies_in, winds_of, IsTrace, IsBounded, any_step, FramesAreBounded}
+use Rattle.xlator_law.specs.Frames.Event.{Wound, Answered, WentOn}
+use Rattle.xlator_law.specs.Frames.IsTrace.{Entered, Resumed, Continued}
 
 in_append : {R : Type 0} (s : ℕ) (xs : List (ℕ × R)) (x : ℕ × R) → times_answered s (xs ++ x ∷ []) ≡ times_answered s xs + one_if (s == x.0)
 in_append s [] x = omega (arith)
@@ -62,6 +65,32 @@ module _ {F : Type 0} where
     by_case true e later i = subst (λ n. n < slots) (sym (eqb-true s w.1 e)) h.1
     by_case false e later i = later i
 
+-- what the events of a further step add
+module _ {F R : Type 0} where
+  answered_winds : (es : List (Event F R)) (slot : ℕ) (reply : R) (ws : List (ℕ × ℕ × F)) → winds_in (es ++ Answered slot reply ∷ Wound ws ∷ []) ≡ winds_in es ++ ws
+  answered_winds [] slot reply ws = append-nil ws
+  answered_winds (Wound winds ∷ es) slot reply ws = ap (λ (l : List (ℕ × ℕ × F)). winds ++ l) (answered_winds es slot reply ws) ∙ sym (append_assoc winds (winds_in es) ws)
+  answered_winds (Answered s r ∷ es) slot reply ws = answered_winds es slot reply ws
+  answered_winds (WentOn ∷ es) slot reply ws = answered_winds es slot reply ws
+
+  answered_replies : (es : List (Event F R)) (slot : ℕ) (reply : R) (ws : List (ℕ × ℕ × F)) → replies_in (es ++ Answered slot reply ∷ Wound ws ∷ []) ≡ replies_in es ++ (slot, reply) ∷ []
+  answered_replies [] slot reply ws = refl
+  answered_replies (Wound winds ∷ es) slot reply ws = answered_replies es slot reply ws
+  answered_replies (Answered s r ∷ es) slot reply ws = ap (λ (l : List (ℕ × R)). (s, r) ∷ l) (answered_replies es slot reply ws)
+  answered_replies (WentOn ∷ es) slot reply ws = answered_replies es slot reply ws
+
+  went_winds : (es : List (Event F R)) (ws : List (ℕ × ℕ × F)) → winds_in (es ++ WentOn ∷ Wound ws ∷ []) ≡ winds_in es ++ ws
+  went_winds [] ws = append-nil ws
+  went_winds (Wound winds ∷ es) ws = ap (λ (l : List (ℕ × ℕ × F)). winds ++ l) (went_winds es ws) ∙ sym (append_assoc winds (winds_in es) ws)
+  went_winds (Answered s r ∷ es) ws = went_winds es ws
+  went_winds (WentOn ∷ es) ws = went_winds es ws
+
+  went_replies : (es : List (Event F R)) (ws : List (ℕ × ℕ × F)) → replies_in (es ++ WentOn ∷ Wound ws ∷ []) ≡ replies_in es
+  went_replies [] ws = refl
+  went_replies (Wound winds ∷ es) ws = went_replies es ws
+  went_replies (Answered s r ∷ es) ws = ap (λ (l : List (ℕ × R)). (s, r) ∷ l) (went_replies es ws)
+  went_replies (WentOn ∷ es) ws = went_replies es ws
+
 -- where each slot was wound as often as it was answered, and once more where it is in `before`
 module _ {F R L : Type 0} (p : Promise F L) (fop : F) where
   -- a step that is paid out of `most` takes a bounded frame on
@@ -104,19 +133,26 @@ module _ {F R L : Type 0} (p : Promise F L) (fop : F) where
     narrow = λ s is. absurd cc;
   }
 
-  pub bounded : (winds : List (ℕ × ℕ × F)) (replies : List (ℕ × R)) (step : Step F R L) → IsTrace p fop winds replies step → IsBounded p fop winds replies step
-  bounded _ _ _ (Entered step is) = taken no_slots (p.cost fop) [] [] step is (omega (arith)) tt (λ s. refl) (λ s i. absurd cc)
-  bounded _ _ _ (Resumed winds replies sent local slot reply step trace waits is) =
-      let old = bounded winds replies (Wind sent local) trace in
-      taken (without slot (p.unanswered local)) (p.left local) winds (replies ++ (slot, reply) ∷ []) step is old.paid old.within
-      (λ s. let a = old.answered s in let i = in_append s replies (slot, reply) in let t = without_times (p.unanswered local) slot s waits in omega (arith, a, i, t))
-      (λ s i. old.narrow s (first (p.unanswered local s) (not (s == slot)) i)) where
+module _ {F R L : Type 0} (p : Promise F L) (made : Cause F R L → Step F R L → Type 0) (entry : Entry) (fop : F) where
+  as_lists : (winds winds2 : List (ℕ × ℕ × F)) (replies replies2 : List (ℕ × R)) (step : Step F R L) → winds2 ≡ winds → replies2 ≡ replies → IsBounded p fop winds replies step → IsBounded p fop winds2 replies2 step
+  as_lists winds winds2 replies replies2 step w r is = subst (λ (l : List (ℕ × ℕ × F)). IsBounded p fop l replies2 step) (sym w) (subst (λ (l : List (ℕ × R)). IsBounded p fop winds l step) (sym r) is)
+
+  pub bounded : (events : List (Event F R)) (step : Step F R L) → IsTrace p made entry fop events step → IsBounded p fop (winds_in events) (replies_in events) step
+  bounded _ _ (Entered step is makes) =
+      as_lists (winds_of step) _ [] _ step (append-nil (winds_of step)) refl (taken p fop no_slots (p.cost fop) [] [] step is (omega (arith)) tt (λ s. refl) (λ s i. absurd cc))
+  bounded _ _ (Resumed events sent local slot reply step trace waits is makes) =
+      let old = bounded events (Wind sent local) trace in
+      as_lists (winds_in events ++ winds_of step) _ (replies_in events ++ (slot, reply) ∷ []) _ step (answered_winds events slot reply (winds_of step)) (answered_replies events slot reply (winds_of step))
+      (taken p fop (without slot (p.unanswered local)) (p.left local) (winds_in events) (replies_in events ++ (slot, reply) ∷ []) step is old.paid old.within
+      (λ s. let a = old.answered s in let i = in_append s (replies_in events) (slot, reply) in let t = without_times (p.unanswered local) slot s waits in omega (arith, a, i, t))
+      (λ s i. old.narrow s (first (p.unanswered local s) (not (s == slot)) i))) where
         first : (a b : Bool) → (a && b) ≡ true → a ≡ true
         first true b h = refl
         first false b h = absurd cc
-  bounded _ _ _ (WentOn winds replies local step trace is) =
-      let old = bounded winds replies (Wait local) trace in
-      taken (p.unanswered local) (p.left local) winds replies step is old.paid old.within old.answered old.narrow
+  bounded _ _ (Continued events local step trace is makes) =
+      let old = bounded events (Wait local) trace in
+      as_lists (winds_in events ++ winds_of step) _ (replies_in events) _ step (went_winds events (winds_of step)) (went_replies events (winds_of step))
+      (taken p fop (p.unanswered local) (p.left local) (winds_in events) (replies_in events) step is old.paid old.within old.answered old.narrow)
 
 pub frames : (F R L : Type 0) → FramesAreBounded F R L
-frames F R L = bounded {F = F} {R = R} {L = L}
+frames F R L p entry fop events step trace = bounded p any_step entry fop events step trace

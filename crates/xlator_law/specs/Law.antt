@@ -5,6 +5,7 @@
 use Rattle.std.specs.Prelude.{ℕ, ◌≡◌, ◌<◌, ◌≤◌, ◌+◌, ◌*◌, ◌==◌, ◌&&◌, ◌||◌, Bool, true, false, not, List, [], ◌∷◌}
 use Rattle.xlator_law.specs.declared.step.Step.{Step}
 use Rattle.xlator_law.specs.declared.step.Step.TheVariants.{Wind, Wait, Unwind}
+use Rattle.xlator_law.specs.declared.winds.Entry.{Entry}
 
 -- a set of slots, as a test of each number
 abbrev pub Slots : Type 0
@@ -50,7 +51,7 @@ breadth p = p.slots * (1 + p.below)
 
 -- Why a frame takes a step: a fop enters, the wind in a slot is answered, or what it waited for has come.
 pub data Cause (F R L : Type 0) : Type 0 where
-  Enter : (fop : F) → Cause F R L
+  Enter : (entry : Entry) → (fop : F) → Cause F R L
   Reply : (local : L) → (slot : ℕ) → (reply : R) → Cause F R L
   Go : (local : L) → Cause F R L
 
@@ -81,13 +82,13 @@ module _ {F : Type 0} where
 module _ {F R L : Type 0} (p : Promise F L) where
   -- the slots that stay unanswered whatever the step does
   abbrev pub before : Cause F R L → Slots
-  before (Enter fop) = no_slots
+  before (Enter entry fop) = no_slots
   before (Reply local slot reply) = without slot (p.unanswered local)
   before (Go local) = p.unanswered local
 
   -- what the step may spend
   abbrev pub most : Cause F R L → ℕ
-  most (Enter fop) = p.cost fop
+  most (Enter entry fop) = p.cost fop
   most (Reply local slot reply) = p.left local
   most (Go local) = p.left local
 
@@ -120,3 +121,10 @@ module _ {F R L : Type 0} (p : Promise F L) where
   -- the step meets the law
   abbrev pub IsStep : Cause F R L → Step F R L → Type 0
   IsStep cause step = IsStepFrom (before p cause) (most p cause) step
+
+module _ {F R L : Type 0} where
+  -- the step winds these and keeps this local
+  abbrev pub WindsThese : List (ℕ × ℕ × F) → L → Step F R L → Type 0
+  WindsThese ws local (Wind winds kept) = (winds.items ≡ ws) × (kept ≡ local)
+  WindsThese ws local (Wait kept) = ⊥
+  WindsThese ws local (Unwind reply) = ⊥

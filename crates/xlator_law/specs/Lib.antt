@@ -1,4 +1,5 @@
 pub mod Law
 pub mod Frames
+pub mod Open
 pub mod Samples
 pub mod Numbers

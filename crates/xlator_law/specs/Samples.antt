@@ -1,14 +1,15 @@
--- What the sample translators promise.
-use Rattle.std.specs.Prelude.{ℕ, ◌≡◌, Bool, true, false, ◌+◌, ◌==◌, ◌&&◌, ◌||◌, [], ◌∷◌}
+-- What the sample translators promise, and what their steps make of what causes them.
+use Rattle.std.specs.Prelude.{ℕ, ◌≡◌, Bool, true, false, not, ◌+◌, ◌==◌, ◌&&◌, ◌||◌, [], ◌∷◌}
 use Rattle.xlator_law.specs.declared.step.Step.{Step}
-use Rattle.xlator_law.specs.declared.step.Step.TheVariants.{Wind, Wait, Unwind}
+use Rattle.xlator_law.specs.declared.step.Step.TheVariants.{Wait, Unwind}
 use Rattle.xlator_law.specs.declared.samples.Relay.{Relay}
 use Rattle.xlator_law.specs.declared.samples.Pair.{Pair}
 use Rattle.xlator_law.specs.declared.samples.Waits.{Waits}
 use Rattle.xlator_law.specs.declared.samples.Gate.{Gate}
 use Rattle.xlator_law.specs.declared.samples.Gated.{Gated}
 use Rattle.xlator_law.specs.declared.samples.Gated.TheVariants.{Held, Passed}
-use Rattle.xlator_law.specs.Law.{Promise, Slots}
+use Rattle.xlator_law.specs.Law.{Promise, Slots, Cause, WindsThese}
+use Rattle.xlator_law.specs.Law.Cause.{Enter, Reply, Go}
 
 -- slot 0 waits for the first child, slot 1 for the second
 abbrev pub waits : Waits → Slots
@@ -16,6 +17,10 @@ waits w s = (w.first && s == 0) || (w.second && s == 1)
 
 abbrev pub is_some : Waits → Bool
 is_some w = w.first || w.second
+
+-- what still waits once this slot was answered
+abbrev pub rest_of : Waits → ℕ → Waits
+rest_of w slot = record { first = w.first && not (slot == 0); second = w.second && not (slot == 1) }
 
 module _ {F : Type 0} where
   abbrev pub relay_promise : Relay → Promise F (Unit {0})
@@ -69,9 +74,41 @@ module _ {F : Type 0} where
     left = gate_left g.below;
   }
 
-module _ {F R L : Type 0} where
-  -- the step winds this fop to child 0, in slot 0, and keeps this local
-  abbrev pub WindsOne : F → L → Step F R L → Type 0
-  WindsOne fop local (Wind winds kept) = (winds.items ≡ (0, 0, fop) ∷ []) × (kept ≡ local)
-  WindsOne fop local (Wait kept) = ⊥
-  WindsOne fop local (Unwind reply) = ⊥
+module _ {F R : Type 0} where
+  -- a relay hands the fop on, and the reply back
+  abbrev pub RelaySteps : Cause F R (Unit {0}) → Step F R (Unit {0}) → Type 0
+  RelaySteps (Enter entry fop) step = WindsThese ((0, 0, fop) ∷ []) tt step
+  RelaySteps (Reply local slot reply) step = step ≡ Unwind reply
+  RelaySteps (Go local) step = Unit {0}
+
+  -- after an answer a pair waits on while it has to, and else hands the reply back
+  abbrev pub PairAnswers : Bool → Waits → R → Step F R Waits → Type 0
+  PairAnswers true rest reply step = WindsThese [] rest step
+  PairAnswers false rest reply step = step ≡ Unwind reply
+
+  -- a pair hands the fop on to both of its children
+  abbrev pub PairSteps : Cause F R Waits → Step F R Waits → Type 0
+  PairSteps (Enter entry fop) step = WindsThese ((0, 0, fop) ∷ (1, 1, fop) ∷ []) (record { first = true; second = true }) step
+  PairSteps (Reply local slot reply) step = PairAnswers (is_some (rest_of local slot)) (rest_of local slot) reply step
+  PairSteps (Go local) step = Unit {0}
+
+  -- a gate that goes on hands on the fop that it held
+  abbrev pub GateGoes : Gated F → Step F R (Gated F) → Type 0
+  GateGoes (Held fop) step = WindsThese ((0, 0, fop) ∷ []) Passed step
+  GateGoes Passed step = Unit {0}
+
+  abbrev pub GateSteps : Cause F R (Gated F) → Step F R (Gated F) → Type 0
+  GateSteps (Enter entry fop) step = step ≡ Wait (Held fop)
+  GateSteps (Reply local slot reply) step = step ≡ Unwind reply
+  GateSteps (Go local) step = GateGoes local step
+
+  module _ {C : Type 0} where
+    -- no sample changes itself or the context
+    abbrev pub relay_makes : Relay → C → Cause F R (Unit {0}) → Step F R (Unit {0}) → Relay → C → Type 0
+    relay_makes old cx cause step new cx_new = RelaySteps cause step × (new ≡ old) × (cx_new ≡ cx)
+
+    abbrev pub pair_makes : Pair → C → Cause F R Waits → Step F R Waits → Pair → C → Type 0
+    pair_makes old cx cause step new cx_new = PairSteps cause step × (new ≡ old) × (cx_new ≡ cx)
+
+    abbrev pub gate_makes : Gate → C → Cause F R (Gated F) → Step F R (Gated F) → Gate → C → Type 0
+    gate_makes old cx cause step new cx_new = GateSteps cause step × (new ≡ old) × (cx_new ≡ cx)

@@ -18,7 +18,8 @@
 //!
 //! The law is [`Xlator`]'s contract. It keeps the slots apart, and it bounds the winds: each frame has a
 //! cost, and each wind with all that it causes below is paid out of it. A node has a number of slots too,
-//! so its frames and all below them have a bounded number of winds open at once.
+//! so its frames and all below them have a bounded number of winds open at once. What a node's steps do
+//! beyond that, each translator says in a word of its own, `makes`.
 //!
 //! [`samples`] has three small translators that meet it.
 //!
@@ -31,7 +32,7 @@ mod step;
 mod winds;
 mod xlator;
 
-pub use law::frames_are_bounded;
+pub use law::{frames_are_bounded, open_winds_are_bounded};
 pub use step::Step;
-pub use winds::{Parent, Place, Settled, Stop, WindNo};
+pub use winds::{Entry, Parent, Place, Settled, Stop, WindNo};
 pub use xlator::Xlator;

@@ -1,9 +1,10 @@
 //! Three translators that meet the law, as models for those of a graph: one that hands each fop on to its
 //! child, one that sends it to two children at once, and one that waits before it hands it on.
-ghost use Rattle.std.specs.Prelude.{IfOk};
-ghost use Rattle.xlator_law.specs.Samples.{WindsOne};
+ghost use Rattle.std.specs.Prelude.{IfOk, [], ◌∷◌};
+ghost use Rattle.xlator_law.specs.Law.{WindsThese};
 
 use crate::step::Step;
+use crate::winds::Entry;
 use crate::xlator::Xlator;
 use std::alloc::{AllocError, Global};
 
@@ -12,7 +13,7 @@ fn one<F, R, L>(alloc: Global, fop: F, local: L) -> Result<Step<F, R, L>, AllocE
 where
     F: Drop,
     L: Drop,
-    ensures { IfOk result (λ step. WindsOne fop local step) }
+    ensures { IfOk result (λ step. WindsThese ((0, 0, fop) ∷ []) local step) }
 {
     let mut winds = Vec::new(alloc);
     winds.push((0, 0, fop))?;
@@ -30,11 +31,19 @@ pub struct Relay {
 impl<F: Drop, R, C> Xlator<F, R, C> for Relay {
     type Local = ();
 
-    ghost use Rattle.xlator_law.specs.Samples.{relay_promise};
+    ghost use Rattle.xlator_law.specs.Samples.{relay_promise, relay_makes};
 
     ghost promise = { relay_promise };
 
-    fn enter(&mut self, alloc: Global, _cx: &mut C, fop: F) -> Result<Step<F, R, ()>, AllocError> {
+    ghost makes = { relay_makes };
+
+    fn enter(
+        &mut self,
+        alloc: Global,
+        _cx: &mut C,
+        _entry: Entry,
+        fop: F,
+    ) -> Result<Step<F, R, ()>, AllocError> {
         let step = one(alloc, fop, ())?;
         Ok(step)
     }
@@ -83,14 +92,17 @@ pub struct Pair {
 impl<F: Copy + Drop, R: Drop, C> Xlator<F, R, C> for Pair {
     type Local = Waits;
 
-    ghost use Rattle.xlator_law.specs.Samples.{pair_promise};
+    ghost use Rattle.xlator_law.specs.Samples.{pair_promise, pair_makes};
 
     ghost promise = { pair_promise };
+
+    ghost makes = { pair_makes };
 
     fn enter(
         &mut self,
         alloc: Global,
         _cx: &mut C,
+        _entry: Entry,
         fop: F,
     ) -> Result<Step<F, R, Waits>, AllocError> {
         let mut winds = Vec::new(alloc);
@@ -154,14 +166,17 @@ pub struct Gate {
 impl<F: Drop, R, C> Xlator<F, R, C> for Gate {
     type Local = Gated<F>;
 
-    ghost use Rattle.xlator_law.specs.Samples.{gate_promise};
+    ghost use Rattle.xlator_law.specs.Samples.{gate_promise, gate_makes};
 
     ghost promise = { gate_promise };
+
+    ghost makes = { gate_makes };
 
     fn enter(
         &mut self,
         _alloc: Global,
         _cx: &mut C,
+        _entry: Entry,
         fop: F,
     ) -> Result<Step<F, R, Gated<F>>, AllocError> {
         Ok(Step::Wait(Gated::Held(fop)))

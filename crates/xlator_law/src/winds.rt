@@ -76,6 +76,14 @@ pub struct Place {
     pub parent: Option<WindNo>,
 }
 
+/// What a fop enters as: the number of its frame, and the call that the frame is of. No other frame that is
+/// open has this number.
+#[derive(Clone, Copy, PartialEq, Eq)]
+pub struct Entry {
+    pub frame: u32,
+    pub call: u32,
+}
+
 /// What came of settling a wind: it was pending and this step ended that, or it was not, and the word
 /// that was seen instead.
 #[derive(Clone, Copy, PartialEq, Eq)]

@@ -4,6 +4,7 @@ ghost use Rattle.xlator_law.specs.Law.Cause.{Enter, Reply, Go};
 ghost use Rattle.xlator_law.specs.declared.step.Step.{Step};
 
 use crate::step::Step;
+use crate::winds::Entry;
 use std::alloc::{AllocError, Global};
 
 /// A translator over fops `F`, replies `R` and a context `C` that it shares with its graph.
@@ -11,7 +12,8 @@ use std::alloc::{AllocError, Global};
 /// Its law is the contract of its calls. `promise` is what a node promises of its frames, and no call
 /// changes it: how many children and slots there are, what a fop costs, and which slots of a local wait
 /// for an answer. `makes` is what a node's steps do beyond that, in the words of the node's own kind, with
-/// the node and the context before and after the step.
+/// the node and the context before and after the step. Each translator says it, since nothing else says
+/// which step its cause makes.
 ///
 /// The winds of a step go to children that there are, in slots that there are; the slots differ, and none
 /// of them was unanswered. A local's unanswered slots are those from before, without the one that
@@ -25,9 +27,10 @@ pub trait Xlator<F, R, C> {
 
     ghost promise: { Self → Promise F Self.Local };
 
-    ghost makes: { Self → C → Cause F R Self.Local → Step F R Self.Local → Self → C → Type 0 } = { λ _ _ _ _ _ _. Unit {0} };
+    ghost makes: { Self → C → Cause F R Self.Local → Step F R Self.Local → Self → C → Type 0 };
 
-    /// Takes a fop that comes from above, as the first step of its frame.
+    /// Takes a fop that comes from above, as the first step of its frame. `entry` is the number of that
+    /// frame and its call: a node that queues its frames keeps the number, and goes on with it later.
     ///
     /// # Errors
     /// Out of memory.
@@ -35,10 +38,11 @@ pub trait Xlator<F, R, C> {
         &mut self,
         alloc: Global,
         cx: &mut C,
+        entry: Entry,
         fop: F,
     ) -> Result<Step<F, R, Self::Local>, AllocError>
-        ensures step { IfOk result (λ step. IsStep (promise self.old) (Enter fop) step) }
-        ensures made { IfOk result (λ step. makes self.old cx.old (Enter fop) step self.new cx.new) }
+        ensures step { IfOk result (λ step. IsStep (promise self.old) (Enter entry fop) step) }
+        ensures made { IfOk result (λ step. makes self.old cx.old (Enter entry fop) step self.new cx.new) }
         ensures promise { promise self.new ≡ promise self.old };
 
     /// Takes the reply of the wind in that slot, which was unanswered, as a further step of the frame.

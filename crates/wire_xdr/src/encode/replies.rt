@@ -1,4 +1,5 @@
 ghost use Rattle.std.specs.Prelude.{◌≡◌, ◌++◌, OnOk};
+ghost use Rattle.wire_xdr.specs.Xdr.{unit, hyper};
 ghost use Rattle.wire_xdr.specs.MessageText.{done_text, rep_text};
 ghost use Rattle.wire_xdr.specs.WireText.{out_text, output_text};
 
@@ -63,33 +64,32 @@ fn put_rep(out: &mut Vec<u8>, rep: &BrickRep) -> Result<(), AllocError>
     }
 }
 
+fn put_reply(out: &mut Vec<u8>, wind: u64, rep: &BrickRep) -> Result<(), AllocError>
+    ensures { OnOk result (out.new.items ≡ out.old.items ++ (unit 0 ++ (hyper wind ++ rep_text rep.now))) }
+{
+    put_unit(out, 0)?;
+    put_hyper(out, wind)?;
+    put_rep(out, rep)?;
+    Ok(())
+}
+
+fn put_connected(out: &mut Vec<u8>, graph: u32, version: u32) -> Result<(), AllocError>
+    ensures { OnOk result (out.new.items ≡ out.old.items ++ (unit 3 ++ (unit graph ++ unit version))) }
+{
+    put_units(out, 3, graph)?;
+    put_unit(out, version)?;
+    Ok(())
+}
+
 fn put_out_kind(out: &mut Vec<u8>, kind: &OutKind) -> Result<(), AllocError>
     ensures { OnOk result (out.new.items ≡ out.old.items ++ out_text kind.now) }
 {
     match kind {
-        OutKind::Reply { wind, rep } => {
-            put_unit(out, 0)?;
-            put_hyper(out, *wind)?;
-            put_rep(out, rep)?;
-            Ok(())
-        }
-        OutKind::Closed => {
-            put_unit(out, 1)?;
-            Ok(())
-        }
-        OutKind::Opened => {
-            put_unit(out, 2)?;
-            Ok(())
-        }
-        OutKind::Connected { graph, version } => {
-            put_units(out, 3, *graph)?;
-            put_unit(out, *version)?;
-            Ok(())
-        }
-        OutKind::Malformed { place } => {
-            put_units(out, 4, *place)?;
-            Ok(())
-        }
+        OutKind::Reply { wind, rep } => put_reply(out, *wind, rep),
+        OutKind::Closed => put_unit(out, 1),
+        OutKind::Opened => put_unit(out, 2),
+        OutKind::Connected { graph, version } => put_connected(out, *graph, *version),
+        OutKind::Malformed { place } => put_units(out, 4, *place),
     }
 }
 

@@ -4,7 +4,7 @@ use Rattle.dht_layout.proofs.layout.even.Goals as goal
 
 pub loop-set-preserved : goal.loop-set-preserved
 loop-set-preserved c = record {
-  so_far = one_more _ _ _ _ _ c.loop-set.invariant.so_far c.span_of.ensures c.push_reserved.ensures.items;
+  so_far = one_more _ _ _ _ _ c.loop-set.invariant.so_far c.even_span.ensures c.push_reserved.ensures.items;
   count = omega (arith, c.push_reserved.ensures.len, c.loop-set.invariant.count);
   room = omega (arith, c.push_reserved.ensures.capacity, c.loop-set.invariant.room);
 }

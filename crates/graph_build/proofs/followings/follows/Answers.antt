@@ -1,4 +1,4 @@
-use Rattle.std.proofs.Common.{arith, ap, ◌∙◌}
+use Rattle.std.proofs.Common.{ap, ◌∙◌}
 use Rattle.graph_build.specs.Follows.{sets_follow}
 use Rattle.graph_build.proofs.FollowLemmas.{too_short}
 use Rattle.graph_build.proofs.followings.follows.Goals as goal

@@ -1,6 +1,6 @@
-use Rattle.std.proofs.Common.{drop, ◌∙◌, ◌+◌, ◌<◌, arith, length, slice_set, true, slice_index_or}
+use Rattle.std.proofs.Common.{drop, ◌∙◌, ◌+◌, ◌<◌, arith, length, true, slice_index_or}
 use Rattle.std.proofs.lemmas.List.{drop_more, length-set}
-use Rattle.graph_build.proofs.MarkLemmas.{repeats_step, places_step, count_set, count_within, count_true}
+use Rattle.graph_build.proofs.MarkLemmas.{repeats_step, places_step, count_set, count_within}
 use Rattle.graph_build.proofs.marks.mark_all.Goals as goal
 
 pub loop-number-preserved : goal.loop-number-preserved

@@ -1,4 +1,3 @@
-use Rattle.std.proofs.Common.{refl}
 use Rattle.graph_build.proofs.MarkLemmas.{at_none}
 use Rattle.graph_build.proofs.marks.no_marks.Goals as goal
 

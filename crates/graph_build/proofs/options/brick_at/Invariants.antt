@@ -1,4 +1,4 @@
-use Rattle.std.proofs.Common.{◌≡◌, ◌≤◌, ◌+◌, ◌-◌, length, drop}
+use Rattle.std.proofs.Common.{◌≡◌, ◌≤◌, ◌-◌, length, drop}
 use Rattle.graph_build.specs.VolumeRules.{brick_at}
 use Rattle.graph_build.proofs.OptionLemmas.{later}
 use Rattle.graph_build.proofs.options.brick_at.Given as goal

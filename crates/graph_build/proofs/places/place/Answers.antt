@@ -1,4 +1,4 @@
-use Rattle.std.proofs.Common.{◌≡◌, arith, ◌∙◌, sym, ap, List, ℕ, Some, Option}
+use Rattle.std.proofs.Common.{◌≡◌, arith, ◌∙◌, sym, ap, List, ℕ, Some}
 use Rattle.volfile.specs.VolumeNames.{place_in, place_of}
 use Rattle.graph_build.proofs.PlaceLemmas.{place_below}
 use Rattle.graph_build.proofs.places.place.Goals as goal

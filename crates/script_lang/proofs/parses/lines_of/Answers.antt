@@ -1,6 +1,6 @@
 use Rattle.std.proofs.Common.{◌≡◌, Ok, ap, arith, subst, sym}
 use Rattle.volfile.specs.TextLines.{lines_of}
-use Rattle.script_lang.specs.Rooms.{Leaves, reading_of}
+use Rattle.script_lang.specs.code.Readings.{Leaves, reading_of}
 use Rattle.script_lang.specs.ScriptText.{line_read, lines_read}
 use Rattle.script_lang.proofs.Accepted.{KeepsReading, next_keeps, nothing_keeps}
 use Rattle.script_lang.proofs.TextRead.{taken}

@@ -1,6 +1,6 @@
 use Rattle.std.proofs.Common.{◌≡◌, ◌≤◌, ◌+◌, ◌-◌, length, drop}
 use Rattle.volfile.specs.TextLines.{lines_of}
-use Rattle.script_lang.specs.Rooms.{reading_of}
+use Rattle.script_lang.specs.code.Readings.{reading_of}
 use Rattle.script_lang.specs.ScriptText.{lines_read, parsed}
 use Rattle.script_lang.proofs.Accepted.{KeepsReading}
 use Rattle.script_lang.proofs.parses.lines_of.Given as goal

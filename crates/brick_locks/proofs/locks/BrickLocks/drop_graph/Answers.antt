@@ -5,6 +5,7 @@ use Rattle.brick_locks.specs.Locks.{owners, gone, freed}
 use Rattle.brick_locks.specs.declared.request.Request.{Request}
 use Rattle.brick_locks.specs.declared.owner.Owner.{Owner}
 use Rattle.brick_locks.proofs.Freeing.{graph_stays}
+use Rattle.brick_locks.proofs.Holders.{graph_holders}
 use Rattle.brick_locks.proofs.locks.BrickLocks.drop_graph.Goals as goal
 
 pub returns-clause-left : goal.returns-clause-left
@@ -15,3 +16,6 @@ returns-clause-gone c = c.in_ok-dropped.ensures.gone ∙ ap (λ (st : Request �
 
 pub returns-clause-granted : goal.returns-clause-granted
 returns-clause-granted c = c.in_ok-dropped.ensures.granted ∙ ap (λ (st : Request → Bool). owners (freed st c.args.self.now)) (graph_stays c.args.graph c.graph_key.result c.graph_key.ensures)
+
+pub returns-clause-holders : goal.returns-clause-holders
+returns-clause-holders c = graph_holders c.args.graph c.args.self.now _ _ (returns-clause-left c) (returns-clause-granted c)

@@ -1,4 +1,4 @@
-use Rattle.std.proofs.Common.{◌≡◌, ◌∙◌, ap, refl, arith, length, List, ℕ}
+use Rattle.std.proofs.Common.{◌∙◌, ap, refl, arith, length, List, ℕ}
 use Rattle.fop_types.specs.Paths.{last_part}
 use Rattle.fop_types.proofs.PathLemmas.{last_read}
 use Rattle.fop_types.proofs.calls.Path.last.Goals as goal

@@ -1,8 +1,11 @@
 use Rattle.std.proofs.Common.{arith}
-use Rattle.mount_locks.proofs.Counts.{room_first}
+use Rattle.mount_locks.proofs.Counts.{room_in_first, count_in_first}
 use Rattle.mount_locks.proofs.queue.RequestQueue.push_front.Goals as goal
 
 pub overflow_add-self : goal.overflow_add-self
 overflow_add-self c =
-    let low = room_first c.self.inside.requests c.push_front.new.self (c.in-Ok.number, c.args.request) c.self.inside.waiting c.len.result c.self.invariant c.in-Ok.ensures.added c.len.ensures in
+    let low = room_in_first c.self.inside.requests c.push_front.new.self (c.in_ok-number.number, c.args.request) c.self.inside.waiting c.len.result c.self.invariant c.in_ok-number.ensures.added c.len.ensures in
     omega (arith, low)
+
+pub invariant_of-self-2 : goal.invariant_of-self-2
+invariant_of-self-2 c = count_in_first c.self.inside.requests c.push_front.new.self c.in_ok-number.number c.args.request c.self.inside.waiting c.requires c.self.invariant c.in_ok-number.ensures.added

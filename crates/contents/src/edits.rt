@@ -1,0 +1,176 @@
+ghost use Rattle.std.specs.Prelude.{◌≡◌, ◌+◌, ◌≤◌, true, length, IsOk, OnOk, OnErr};
+ghost use Rattle.fop_types.specs.FileBytes.{file_limit};
+ghost use Rattle.fop_types.specs.StoreOps.{edited};
+ghost use Rattle.fop_types.specs.StoreOps.Edit.{PutBytes, Resize, PutMode, PutAttr, DropAttr, PutItem, DropItem, MarkRemoved};
+ghost use Rattle.contents.specs.Edits.{Fits, edited_by, is_sure};
+
+use crate::attrs::{insert_attr, remove_attr};
+use crate::file_bytes;
+use crate::names::{remove_item, rename_item};
+use fop_types::{Attr, Content, Item, Seq, insert_item};
+use std::alloc::{AllocError, Global};
+use std::mem;
+
+/// An edit of one cell's content. Of a file's bytes: a write, or another length. Of metadata: the mode, or one attribute. Of a
+/// directory's names: one name put in, dropped or renamed to an item of another name, and the mark of a removed
+/// directory. An item or an attribute that is put in takes the place of one of an equal name.
+#[derive(Drop)]
+pub enum Edit {
+    Write { offset: u32, bytes: Seq<u8> },
+    Resize(u32),
+    SetMode(u16),
+    PutAttr(Attr),
+    DropAttr(Seq<u8>),
+    PutItem(Item),
+    DropItem(Seq<u8>),
+    MarkRemoved,
+    Rename { name: Seq<u8>, item: Item },
+}
+
+fn write_bytes(
+    alloc: Global,
+    content: &mut Content,
+    offset: u32,
+    new: &[u8],
+) -> Result<(), AllocError>
+    requires { offset + length new.now ≤ file_limit }
+    ensures ok { OnOk result (content.new ≡ edited (PutBytes offset new.now) content.old) }
+    ensures err { OnErr result (content.new ≡ content.old) }
+{
+    match content {
+        Content::Bytes(bytes) => {
+            let mut held = mem::replace(bytes, Seq::new(alloc)).into_vec();
+            let done = file_bytes::write_at(&mut held, offset as usize, new);
+            *bytes = Seq::from_vec(held);
+            done
+        }
+        Content::Meta { .. } => Ok(()),
+        Content::Names { .. } => Ok(()),
+    }
+}
+
+fn resize_bytes(alloc: Global, content: &mut Content, size: u32) -> Result<(), AllocError>
+    ensures ok { OnOk result (content.new ≡ edited (Resize size) content.old) }
+    ensures err { OnErr result (content.new ≡ content.old) }
+{
+    match content {
+        Content::Bytes(bytes) => {
+            let mut held = mem::replace(bytes, Seq::new(alloc)).into_vec();
+            let done = file_bytes::resize(&mut held, size as usize);
+            *bytes = Seq::from_vec(held);
+            done
+        }
+        Content::Meta { .. } => Ok(()),
+        Content::Names { .. } => Ok(()),
+    }
+}
+
+fn set_mode(content: &mut Content, new: u16)
+    ensures { content.new ≡ edited (PutMode new) content.old }
+{
+    match content {
+        Content::Bytes(_) => {}
+        Content::Meta { mode, .. } => *mode = new,
+        Content::Names { .. } => {}
+    }
+}
+
+fn put_attr(content: &mut Content, attr: Attr) -> Result<(), AllocError>
+    ensures ok { OnOk result (content.new ≡ edited (PutAttr attr) content.old) }
+    ensures err { OnErr result (content.new ≡ content.old) }
+{
+    match content {
+        Content::Bytes(_) => Ok(()),
+        Content::Meta { attrs, .. } => insert_attr(attrs, attr),
+        Content::Names { .. } => Ok(()),
+    }
+}
+
+fn drop_attr(content: &mut Content, name: &[u8])
+    ensures { content.new ≡ edited (DropAttr name.now) content.old }
+{
+    match content {
+        Content::Bytes(_) => {}
+        Content::Meta { attrs, .. } => remove_attr(attrs, name),
+        Content::Names { .. } => {}
+    }
+}
+
+fn put_item(content: &mut Content, item: Item) -> Result<(), AllocError>
+    ensures ok { OnOk result (content.new ≡ edited (PutItem item) content.old) }
+    ensures err { OnErr result (content.new ≡ content.old) }
+{
+    match content {
+        Content::Bytes(_) => Ok(()),
+        Content::Meta { .. } => Ok(()),
+        Content::Names { items, .. } => insert_item(items, item),
+    }
+}
+
+fn drop_item(content: &mut Content, name: &[u8])
+    ensures { content.new ≡ edited (DropItem name.now) content.old }
+{
+    match content {
+        Content::Bytes(_) => {}
+        Content::Meta { .. } => {}
+        Content::Names { items, .. } => remove_item(items, name),
+    }
+}
+
+fn mark_removed(content: &mut Content)
+    ensures { content.new ≡ edited MarkRemoved content.old }
+{
+    match content {
+        Content::Bytes(_) => {}
+        Content::Meta { .. } => {}
+        Content::Names { removed, .. } => *removed = true,
+    }
+}
+
+fn rename(alloc: Global, content: &mut Content, name: &[u8], item: Item) -> Result<(), AllocError>
+    ensures ok { OnOk result (content.new ≡ edited_by (Edit.Rename name.now item) content.old) }
+    ensures err { OnErr result (content.new ≡ content.old) }
+{
+    match content {
+        Content::Bytes(_) => Ok(()),
+        Content::Meta { .. } => Ok(()),
+        Content::Names { items, .. } => rename_item(alloc, items, name, item),
+    }
+}
+
+/// Edits a content in its place. A write and another length may end at 65,536 at most; zero bytes fill what lies
+/// between a file's end and them. An edit of another aspect leaves the content as it is. A mode, a dropped attribute, a
+/// dropped name and a removed mark need no memory.
+///
+/// # Errors
+/// Out of memory, with nothing changed.
+pub fn edit_content(alloc: Global, content: &mut Content, edit: Edit) -> Result<(), AllocError>
+    requires { Fits edit }
+    ensures ok { OnOk result (content.new ≡ edited_by edit content.old) }
+    ensures err { OnErr result (content.new ≡ content.old) }
+    ensures sure { is_sure edit ≡ true → IsOk result }
+{
+    match edit {
+        Edit::Write { offset, bytes } => write_bytes(alloc, content, offset, bytes.as_slice()),
+        Edit::Resize(size) => resize_bytes(alloc, content, size),
+        Edit::SetMode(mode) => {
+            set_mode(content, mode);
+            Ok(())
+        }
+        Edit::PutAttr(attr) => put_attr(content, attr),
+        Edit::DropAttr(name) => {
+            drop_attr(content, name.as_slice());
+            Ok(())
+        }
+        Edit::PutItem(item) => put_item(content, item),
+        Edit::DropItem(name) => {
+            drop_item(content, name.as_slice());
+            Ok(())
+        }
+        Edit::MarkRemoved => {
+            mark_removed(content);
+            Ok(())
+        }
+        Edit::Rename { name, item } => rename(alloc, content, name.as_slice(), item),
+    }
+}

@@ -1,9 +1,0 @@
-use Rattle.std.proofs.Common.{◌∙◌, ap, sym, List, ℕ, ◌+◌, ◌++◌, take, drop, length}
-use Rattle.flat_fs.proofs.Bytes.{written_over}
-use Rattle.flat_fs.proofs.file_bytes.write.Goals as goal
-
-pub returns : goal.returns
-returns c =
-    c.overwrite.ensures
-    ∙ ap (λ (b : List ℕ). take c.args.offset b ++ c.args.new.now ++ drop (c.args.offset + length c.args.new.now) b) c.in_ok-pad.ensures
-    ∙ written_over c.args.bytes.now.items c.args.new.now c.args.offset (sym c.is_empty.ensures ∙ c.if-is_empty.false)

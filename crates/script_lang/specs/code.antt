@@ -1,0 +1,2 @@
+-- What the code keeps while it reads.
+pub mod Readings
