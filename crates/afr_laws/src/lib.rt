@@ -1,0 +1,22 @@
+//! What every state of one set keeps, over every list of steps, proved from the machine of `afr_machine`. These are
+//! the first of the facts by which a set of replicas is one atomic store; those of majorities and contents are not
+//! here yet.
+//!
+//! ```text
+//!   rows by counts        who accuses whom, soundness, quorums
+//!   lines and locks       what is on its way, held locks, connections, grants
+//!   numbers               what was drawn
+//! ```
+//!
+//! Each fact is about one brick, one transaction at a brick, or one connection, and has a proof for each
+//! step that can break it. The crate has definitions and laws alone: each public function has no body, and
+//! its contract is a law.
+#![tactic(auto)]
+
+mod rows;
+mod states;
+
+pub use rows::{
+    accusers_follow, quorums_meet, rows_show_accusers, sound_has_few_accusers, soundness_is_counted,
+};
+pub use states::{every_change_is_drawn, every_state_keeps_lines};

@@ -1,0 +1,5 @@
+pub mod Apart
+pub mod Drawn
+pub mod Least
+pub mod Places
+pub mod Steps

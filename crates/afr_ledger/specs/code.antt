@@ -1,0 +1,2 @@
+-- What the code keeps beside the changes.
+pub mod Places

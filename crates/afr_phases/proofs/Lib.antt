@@ -1,0 +1,4 @@
+pub mod Bits
+pub mod LockSteps
+pub mod Rows
+pub mod Sound

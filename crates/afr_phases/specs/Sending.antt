@@ -1,0 +1,11 @@
+-- What a phase sends: one request to each of some replicas, rising.
+use Rattle.std.specs.Prelude.{ℕ, Bool, List, [], ◌∷◌, if◌then◌else◌}
+use Rattle.fop_types.specs.declared.messages.BrickReq.{BrickReq}
+use Rattle.afr_phases.specs.Flags.{flag}
+
+abbrev pub sends_among : List ℕ → List Bool → BrickReq → List (ℕ × BrickReq)
+sends_among [] to req = []
+sends_among (k ∷ ks) to req = if flag to k then (k, req) ∷ sends_among ks to req else sends_among ks to req
+
+abbrev pub sends : List Bool → BrickReq → List (ℕ × BrickReq)
+sends to req = sends_among (0 ∷ 1 ∷ 2 ∷ 3 ∷ 4 ∷ []) to req

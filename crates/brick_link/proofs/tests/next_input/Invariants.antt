@@ -1,0 +1,6 @@
+use Rattle.brick_link.specs.Ends.{IsSameLink}
+use Rattle.brick_link.proofs.tests.next_input.Given as goal
+
+abbrev pub invariant-loop : goal.invariant-loop
+invariant-loop g l =
+    (goal.iterator-loop g).can_next l.iterator' × (goal.iterator-loop g).is_finite l.iterator' × IsSameLink l.fn.end l.end

@@ -1,0 +1,9 @@
+use Rattle.brick_link.specs.Ends.{IsSameLink}
+use Rattle.brick_link.proofs.tests.serve.Given as goal
+
+abbrev pub invariant-loop-number : goal.invariant-loop-number
+invariant-loop-number g l = IsSameLink l.fn.end l.end
+
+abbrev pub invariant-loop : goal.invariant-loop
+invariant-loop g l =
+    (goal.iterator-loop g).can_next l.iterator' × (goal.iterator-loop g).is_finite l.iterator' × IsSameLink l.fn.end l.end

@@ -1,0 +1,4 @@
+pub mod Followed
+pub mod Left
+pub mod Orders
+pub mod Runs

@@ -1,0 +1,5 @@
+pub mod Cursor
+pub mod DirNames
+pub mod Laws
+pub mod Search
+pub mod Steps

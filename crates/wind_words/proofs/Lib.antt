@@ -1,0 +1,10 @@
+pub mod Counts
+pub mod Others
+pub mod Counted
+pub mod Raised
+pub mod Keeping
+pub mod Joins
+pub mod Allowed
+pub mod Asked
+pub mod Told
+pub mod Slots

@@ -1,0 +1,5 @@
+pub mod Word
+pub mod Winds
+pub mod Rule
+pub mod Calls
+pub mod Steps
