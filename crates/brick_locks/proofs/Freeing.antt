@@ -18,19 +18,14 @@ use Rattle.brick_locks.specs.declared.request.Request.{Request}
 use Rattle.brick_locks.specs.Locks.{is_cell, has_cell, conflicts, is_kept_by, is_of, held, waiting, is_freed, freed, gone, owners, holds}
 use Rattle.brick_locks.specs.Keys.{owner_key, graph_key, keys_of}
 use Rattle.brick_locks.specs.Leaving.{other_owner, other_graph}
-use Rattle.brick_locks.specs.Walks.{meets, waits, picked, stays_waiting}
-use Rattle.queue_index.specs.Rivals.{is_rival, conflicts as by_keys}
+use Rattle.brick_locks.specs.Walks.{meets, waits, picked}
+use Rattle.queue_index.specs.Next.{is_next}
+use Rattle.queue_index.proofs.Stopping.{keeps, kept_is_next, next_is_kept}
 use Rattle.queue_index.proofs.Lists.{any_same, any_swap, any_map, any_filter, none, filter_filter, filter_all, filter_members, filter_map_is}
 use Rattle.brick_locks.proofs.Touches.{touches_owner, touches_graph, keys_meet}
 use Rattle.queue_index.proofs.Numbers.{any_numbers, number_in, set_is}
-use Rattle.brick_locks.proofs.Numbered.{held_is, waiting_is, freed_is, gone_is, picked_is, filter_numbers}
-
--- ---- the rivals that are found
-pub rivals_are : (k : Key) (es : List (ℕ × Request)) (found is : List ℕ) → IsStrictlySortedBy nat_cmp (keys_in es) → found ≡ numbers (filter (λ e. is_rival keys_of k es e.1) es) → is ≡ filter (is_at_number (stays_waiting k es) es) found → is ≡ numbers (filter (λ e. is_rival keys_of k es e.1 && stays_waiting k es e.0 e.1) es)
-rivals_are k es found is s all chosen =
-    chosen
-    ∙ ap (λ (l : List ℕ). filter (is_at_number (stays_waiting k es) es) l) all
-    ∙ filter_numbers (stays_waiting k es) (λ e. is_rival keys_of k es e.1) es es (founds es s)
+use Rattle.brick_locks.proofs.Numbered.{held_is, waiting_is, freed_is, gone_is, picked_is}
+use Rattle.brick_locks.proofs.Picked.{items_there, picked_left}
 
 -- ---- what stays
 in_touching : (k : Key) (es fs : List (ℕ × Request)) → IsStrictlySortedBy nat_cmp (keys_in es) → AllByRecursion (λ e. item_at e.0 es ≡ Some e.1) fs → AllByRecursion (λ e. not (list_any (λ n. is_eq (nat_cmp e.0 n)) (numbers (touching keys_of k es))) ≡ not (touches keys_of k e.1)) fs
@@ -90,84 +85,49 @@ conflict_flip r s =
     ap (λ (b : Bool). b && not (r.shared && s.shared)) (any_swap (λ c d. is_cell c d) r.cells s.cells ∙ any_same (λ d. list_any (λ c. is_cell c d) r.cells) (has_cell r) s.cells (λ d. any_same (λ c. is_cell c d) (is_cell d) r.cells (λ c. cell_flip c d)))
     ∙ ap (λ (b : Bool). list_any (has_cell r) s.cells && not b) (and_flip r.shared s.shared)
 
-or_parts : (p q a b c : Bool) → c ≡ (a || b) → ((p) || c) ≡ (cond q a (p || a) || cond q (p || b) b)
-or_parts true true a b c h = or_true a
-  where
-    or_true : (a : Bool) → true ≡ (a || true)
-    or_true true = refl
-    or_true false = refl
-or_parts true false a b c h = refl
-or_parts false true a b c h = h
-or_parts false false a b c h = h
-
-any_cond : {X : Type 0} (p : X → Bool) (b : Bool) (x : X) (xs : List X) → list_any p (cond b (x ∷ xs) xs) ≡ cond b (p x || list_any p xs) (list_any p xs)
-any_cond p true x xs = refl
-any_cond p false x xs = refl
-
-cond_of_not : (b x y : Bool) → cond (not b) x y ≡ cond b y x
-cond_of_not true x y = refl
-cond_of_not false x y = refl
-
-any_split : (p t : Request → Bool) (rs : List Request) → list_any p rs ≡ (list_any p (filter (λ r. not (t r)) rs) || list_any p (filter t rs))
-any_split p t [] = refl
-any_split p t (r ∷ rs) =
-    or_parts (p r) (t r) (list_any p (filter (λ r. not (t r)) rs)) (list_any p (filter t rs)) (list_any p rs) (any_split p t rs)
-    ∙ ap (λ (b : Bool). b || cond (t r) (p r || list_any p (filter t rs)) (list_any p (filter t rs))) (sym (any_cond p (not (t r)) r (filter (λ r. not (t r)) rs) ∙ cond_of_not (t r) (p r || list_any p (filter (λ r. not (t r)) rs)) (list_any p (filter (λ r. not (t r)) rs))))
-    ∙ ap (λ (b : Bool). list_any p (cond (not (t r)) (r ∷ filter (λ r. not (t r)) rs) (filter (λ r. not (t r)) rs)) || b) (sym (any_cond p (t r) r (filter t rs)))
-
--- what an earlier one passes, one of all passes
-any_before : (p t : Request → Bool) (n : ℕ) (es : List (ℕ × Request)) → list_any p (filter t (items (before n es))) ≡ true → list_any p (filter t (items es)) ≡ true
-any_before p t n [] h = h
-any_before p t n (e ∷ es) h = more (nat_lt e.0 n) refl (t e.1) refl (p e.1) refl (any_before p t n es)
-  where
-    more : (a : Bool) → nat_lt e.0 n ≡ a → (b : Bool) → t e.1 ≡ b → (c : Bool) → p e.1 ≡ c → (list_any p (filter t (items (before n es))) ≡ true → list_any p (filter t (items es)) ≡ true) → list_any p (cond (t e.1) (e.1 ∷ filter t (items es)) (filter t (items es))) ≡ true
-    more a x true y true z on = ap (λ (b : Bool). list_any p (cond b (e.1 ∷ filter t (items es)) (filter t (items es)))) y ∙ ap (λ (b : Bool). b || list_any p (filter t (items es))) z
-    more true x true y false z on = ap (λ (b : Bool). list_any p (cond b (e.1 ∷ filter t (items es)) (filter t (items es)))) y ∙ ap (λ (b : Bool). b || list_any p (filter t (items es))) z ∙ on (sym (ap (λ (b : Bool). list_any p (filter t (items (cond b (e ∷ before n es) (before n es))))) x ∙ ap (λ (b : Bool). list_any p (cond b (e.1 ∷ filter t (items (before n es))) (filter t (items (before n es))))) y ∙ ap (λ (b : Bool). b || list_any p (filter t (items (before n es)))) z) ∙ h)
-    more true x false y c z on = ap (λ (b : Bool). list_any p (cond b (e.1 ∷ filter t (items es)) (filter t (items es)))) y ∙ on (sym (ap (λ (b : Bool). list_any p (filter t (items (cond b (e ∷ before n es) (before n es))))) x ∙ ap (λ (b : Bool). list_any p (cond b (e.1 ∷ filter t (items (before n es))) (filter t (items (before n es))))) y) ∙ h)
-    more false x true y false z on = ap (λ (b : Bool). list_any p (cond b (e.1 ∷ filter t (items es)) (filter t (items es)))) y ∙ ap (λ (b : Bool). b || list_any p (filter t (items es))) z ∙ on (sym (ap (λ (b : Bool). list_any p (filter t (items (cond b (e ∷ before n es) (before n es))))) x) ∙ h)
-    more false x false y c z on = ap (λ (b : Bool). list_any p (cond b (e.1 ∷ filter t (items es)) (filter t (items es)))) y ∙ on (sym (ap (λ (b : Bool). list_any p (filter t (items (cond b (e ∷ before n es) (before n es))))) x) ∙ h)
-
-other_side : (w a b : Bool) → w ≡ (a || b) → w ≡ true → a ≡ false → b ≡ true
-other_side w a b is one off = sym (is ∙ ap (λ (x : Bool). x || b) off) ∙ one
-
-is_needed : (k : Key) (es : List (ℕ × Request)) (n : ℕ) (r : Request) → is_kept_by (items (before n es)) r ≡ true → is_kept_by (filter (λ s. not (touches keys_of k s)) (items (before n es))) r ≡ false → is_rival keys_of k es r ≡ true
-is_needed k es n r kept free =
-    any_same (λ s. by_keys keys_of s r) (conflicts r) (items (touching keys_of k es)) (λ s. keys_meet s r ∙ sym (conflict_flip r s))
-    ∙ ap (list_any (conflicts r)) (sym (filter_map_is (touches keys_of k) (λ (e : ℕ × Request). e.1) es))
-    ∙ any_before (conflicts r) (touches keys_of k) n es (other_side _ _ _ (any_split (conflicts r) (touches keys_of k) (items (before n es))) kept free)
-
 -- what stood before a number and stays
 before_left : (st : Request → Bool) (n : ℕ) (es : List (ℕ × Request)) → items (before n (filter (λ e. st e.1) es)) ≡ filter st (items (before n es))
 before_left st n es =
     ap (λ (l : List (ℕ × Request)). items l) (filter_filter (λ e. nat_lt e.0 n) (λ e. st e.1) es ∙ filter_agree (λ e. st e.1 && nat_lt e.0 n) (λ e. nat_lt e.0 n && st e.1) (λ e. and_flip (st e.1) (nat_lt e.0 n)) es ∙ sym (filter_filter (λ e. st e.1) (λ e. nat_lt e.0 n) es))
     ∙ sym (filter_map_is st (λ e. e.1) (before n es))
 
-choose : (st riv wt w2 : Bool) → (wt ≡ true → w2 ≡ false → riv ≡ true) → (st && ((riv && (st && wt)) && not w2)) ≡ (st && (wt && not w2))
-choose false riv wt w2 h = refl
-choose true true wt w2 h = refl
-choose true false false w2 h = refl
-choose true false true true h = refl
-choose true false true false h = absurd (let t = h refl refl in cc)
+-- ---- what conflicts by its keys with one before a number
+kept_by_keys : (q : ℕ) (r : Request) (es : List (ℕ × Request)) → list_any (keeps keys_of q r) es ≡ is_kept_by (items (before q es)) r
+kept_by_keys q r es =
+    any_same (keeps keys_of q r) (λ e. nat_lt e.0 q && conflicts r e.1) es (λ e. ap (λ (b : Bool). nat_lt e.0 q && b) (keys_meet e.1 r ∙ sym (conflict_flip r e.1)))
+    ∙ sym (any_map (conflicts r) (λ (e : ℕ × Request). e.1) (before q es) ∙ any_filter (λ e. conflicts r e.1) (λ e. nat_lt e.0 q) es)
 
-twice : (t riv wt : Bool) → (not t && (riv && (not t && wt))) ≡ (riv && (not t && wt))
-twice true true wt = refl
-twice true false wt = refl
-twice false riv wt = refl
+kept_by_left : (st : Request → Bool) (q : ℕ) (r : Request) (es : List (ℕ × Request)) → list_any (λ e. st e.1 && keeps keys_of q r e) es ≡ is_kept_by (filter st (items (before q es))) r
+kept_by_left st q r es =
+    sym (any_filter (keeps keys_of q r) (λ e. st e.1) es)
+    ∙ kept_by_keys q r (filter (λ e. st e.1) es)
+    ∙ ap (λ (l : List Request). is_kept_by l r) (before_left st q es)
 
-pub freed_are : (k : Key) (es fs : List (ℕ × Request)) (ns : List ℕ) (os : List Owner) → IsStrictlySortedBy nat_cmp (keys_in es) → IsStrictlySortedBy nat_cmp (keys_in fs) → fs ≡ filter (λ e. not (touches keys_of k e.1)) es → ns ≡ numbers (filter (λ e. is_rival keys_of k es e.1 && stays_waiting k es e.0 e.1) es) → os ≡ picked (λ n r. not (waits fs n r)) fs ns → os ≡ owners (freed (λ r. not (touches keys_of k r)) (items es))
-freed_are k es fs ns os s t left found is =
-    let st = λ (e : ℕ × Request). not (touches keys_of k e.1) in
-    let w = λ (e : ℕ × Request). is_rival keys_of k es e.1 && stays_waiting k es e.0 e.1 in
-    let chosen : ns ≡ numbers (filter w fs) = found ∙ ap (λ (l : List (ℕ × Request)). numbers l) (sym (ap (filter w) left ∙ filter_filter w st es ∙ filter_agree (λ e. st e && w e) w (λ e. twice (touches keys_of k e.1) (is_rival keys_of k es e.1) (waits es e.0 e.1)) es)) in
+comes_next : (k : Key) (es : List (ℕ × Request)) (n : ℕ) (r : Request) → IsStrictlySortedBy nat_cmp (keys_in es) → is_kept_by (items (before n es)) r ≡ true → is_kept_by (filter (λ s. not (touches keys_of k s)) (items (before n es))) r ≡ false → is_next keys_of k es n r ≡ true
+comes_next k es n r s kept free = kept_is_next keys_of k n r es s (kept_by_keys n r es ∙ kept) (kept_by_left (λ s. not (touches keys_of k s)) n r es ∙ free)
+
+-- ---- an entry among those that stay
+choose : (st nxt wt w2 : Bool) → (nxt ≡ true → wt ≡ true) → (wt ≡ true → w2 ≡ false → nxt ≡ true) → ((nxt && st) && not w2) ≡ (st && (wt && not w2))
+choose true true wt w2 h k = ap (λ (b : Bool). b && not w2) (sym (h refl))
+choose false true wt w2 h k = refl
+choose true false true true h k = refl
+choose true false true false h k = absurd (let t = k refl refl in cc)
+choose true false false w2 h k = refl
+choose false false wt w2 h k = refl
+
+pub freed_are : (k : Key) (es fs : List (ℕ × Request)) (ns : List ℕ) (os : List Owner) → IsStrictlySortedBy nat_cmp (keys_in es) → fs ≡ filter (λ e. not (touches keys_of k e.1)) es → ns ≡ numbers (filter (λ e. is_next keys_of k es e.0 e.1) es) → os ≡ picked (λ n r. not (waits fs n r)) fs ns → os ≡ owners (freed (λ r. not (touches keys_of k r)) (items es))
+freed_are k es fs ns os s left found is =
+    let stays = λ (r : Request). not (touches keys_of k r) in
+    let st = λ (e : ℕ × Request). stays e.1 in
+    let w = λ (e : ℕ × Request). is_next keys_of k es e.0 e.1 in
     is
-    ∙ ap (λ (l : List ℕ). picked (λ n r. not (waits fs n r)) fs l) chosen
-    ∙ picked_is (λ n r. not (waits fs n r)) w fs fs (founds fs t)
-    ∙ ap (λ (l : List (ℕ × Request)). owners (items (filter (λ e. w e && not (waits l e.0 e.1)) l))) left
-    ∙ ap (λ (l : List (ℕ × Request)). owners (items l)) (filter_filter (λ e. w e && not (waits (filter st es) e.0 e.1)) st es
-    ∙ filter_agree (λ e. st e && (w e && not (waits (filter st es) e.0 e.1))) (λ e. is_freed (λ r. not (touches keys_of k r)) (items (before e.0 es)) e.1) (λ e.
-    ap (λ (l : List Request). st e && (w e && not (is_kept_by l e.1))) (before_left (λ r. not (touches keys_of k r)) e.0 es)
-    ∙ choose (st e) (is_rival keys_of k es e.1) (waits es e.0 e.1) (is_kept_by (filter (λ r. not (touches keys_of k r)) (items (before e.0 es))) e.1) (is_needed k es e.0 e.1)) es)
-    ∙ ap (λ (l : List Request). owners l) (sym (freed_is (λ r. not (touches keys_of k r)) es s))
+    ∙ ap (λ (l : List ℕ). picked (λ n r. not (waits fs n r)) fs l) found
+    ∙ ap (λ (l : List (ℕ × Request)). picked (λ n r. not (waits l n r)) l (numbers (filter w es))) left
+    ∙ picked_left (λ n r. not (waits (filter st es) n r)) w st (filter st es) es (items_there st es s)
+    ∙ ap (λ (l : List (ℕ × Request)). owners (items l)) (filter_agree (λ e. (w e && st e) && not (waits (filter st es) e.0 e.1)) (λ e. is_freed stays (items (before e.0 es)) e.1) (λ e.
+    ap (λ (l : List Request). (w e && st e) && not (is_kept_by l e.1)) (before_left stays e.0 es)
+    ∙ choose (st e) (w e) (waits es e.0 e.1) (is_kept_by (filter stays (items (before e.0 es))) e.1) (λ h. sym (kept_by_keys e.0 e.1 es) ∙ next_is_kept keys_of k e.0 e.1 es h) (comes_next k es e.0 e.1 s)) es)
+    ∙ ap (λ (l : List Request). owners l) (sym (freed_is stays es s))
 
 -- ---- whether an owner holds
 pub holds_is : (o : Owner) (k : Key) (es : List (ℕ × Request)) (ns : List ℕ) (b : Bool) → k ≡ owner_key o → IsStrictlySortedBy nat_cmp (keys_in es) → ns ≡ numbers (touching keys_of k es) → b ≡ list_any (is_at_number (λ n r. not (waits es n r)) es) ns → b ≡ holds o (items es)

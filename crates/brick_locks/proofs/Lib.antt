@@ -2,6 +2,7 @@ pub mod Apart
 pub mod Touches
 pub mod Numbered
 pub mod Rests
+pub mod Picked
 pub mod Freeing
 pub mod Fates
 pub mod Laws

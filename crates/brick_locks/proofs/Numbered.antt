@@ -118,19 +118,3 @@ picked_is p q es (e ∷ fs) h = elim (q e) as (λ (b : Bool). picked p es (numbe
     first : (b : Bool) (l : List (ℕ × Request)) → with_owner (cond b (Some e.1.owner) None) (owners (items l)) ≡ owners (items (cond b (e ∷ l) l))
     first true l = refl
     first false l = refl
-
-pub filter_numbers : (p : ℕ → Request → Bool) (q : ℕ × Request → Bool) (es fs : List (ℕ × Request)) → AllByRecursion (λ e. item_at e.0 es ≡ Some e.1) fs → filter (is_at_number p es) (numbers (filter q fs)) ≡ numbers (filter (λ e. q e && p e.0 e.1) fs)
-filter_numbers p q es [] h = refl
-filter_numbers p q es (e ∷ fs) h = elim (q e) as (λ (b : Bool). filter (is_at_number p es) (numbers (cond b (e ∷ filter q fs) (filter q fs))) ≡ numbers (cond (b && p e.0 e.1) (e ∷ filter (λ e. q e && p e.0 e.1) fs) (filter (λ e. q e && p e.0 e.1) fs))) [
-  | true ↦
-      ap (λ (o : Option Request). cond (passes p e.0 o) (e.0 ∷ filter (is_at_number p es) (numbers (filter q fs))) (filter (is_at_number p es) (numbers (filter q fs)))) h.0
-      ∙ ap (λ (l : List ℕ). cond (p e.0 e.1) (e.0 ∷ l) l) (filter_numbers p q es fs h.1)
-      ∙ first (p e.0 e.1) (filter (λ e. q e && p e.0 e.1) fs)
-  | false ↦ filter_numbers p q es fs h.1
-]
-  where
-    first : (b : Bool) (l : List (ℕ × Request)) → cond b (e.0 ∷ numbers l) (numbers l) ≡ numbers (cond b (e ∷ l) l)
-    first true l = refl
-    first false l = refl
-
--- ---- whether a number is among them

@@ -37,7 +37,3 @@ with_owner (Some o) os = o ∷ os
 abbrev pub picked : (ℕ → Request → Bool) → List (ℕ × Request) → List ℕ → List Owner
 picked p es [] = []
 picked p es (n ∷ ns) = with_owner (owner_at p es n) (picked p es ns)
-
--- whether a request stays though those of a key leave, and waits
-abbrev pub stays_waiting : Key → List (ℕ × Request) → ℕ → Request → Bool
-stays_waiting k es n r = not (touches keys_of k r) && waits es n r

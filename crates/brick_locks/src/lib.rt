@@ -24,9 +24,10 @@
 //!
 //! - `knows` is of the order log n.
 //! - `ask` looks, for each of its cells, at the first request that conflicts: of the order log n a cell.
-//! - `release` and `drop_graph` take their requests out, of the order log n for each cell of these, and look
-//!   at each request that conflicts with one of them, of the order log n for each cell of it. All others
-//!   stay as they are, so they are not looked at.
+//! - `release` and `drop_graph` take their requests out, of the order log n for each cell of these. On each
+//!   cell they look at the requests behind one that leaves up to the first exclusive one, and at the shared
+//!   ones among them only where the one that leaves is exclusive: each of the order log n for each cell of
+//!   it. A request behind an exclusive one of its cell conflicts with it, so nothing changes for it.
 //! - `drop_all` looks at every request.
 //!
 //! Called by the brick, for its requests lock and unlock, and where it connects, disconnects or goes
@@ -36,7 +37,6 @@
 mod locks;
 mod owner;
 mod request;
-mod rivals;
 mod walk;
 
 pub use locks::{Asked, BrickLocks, Dropped};

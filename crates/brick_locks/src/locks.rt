@@ -9,10 +9,9 @@ ghost use Rattle.brick_locks.specs.Fate.{fate_after};
 
 use crate::owner::Owner;
 use crate::request::{Request, graph_key, owner_key};
-use crate::rivals::waiting_rivals;
 use crate::walk::{any_holds, is_kept, push_holders, remove_all, waiting_owners};
 use fop_types::{Cell, Seq};
-use queue_index::{Key, KeyedQueue};
+use queue_index::{Key, KeyedQueue, next_rivals_of};
 use std::alloc::{AllocError, Global};
 use std::marker::Model;
 
@@ -187,11 +186,11 @@ impl BrickLocks {
         self.queue.numbers_rise();
         let numbers = self.queue.numbers_of(alloc, key)?;
         let gone = waiting_owners(alloc, &self.queue, &numbers)?;
-        let rivals = waiting_rivals(alloc, &self.queue, key)?;
-        let mut granted = Vec::with_capacity(alloc, rivals.len())?;
+        let next = next_rivals_of(alloc, &self.queue, key)?;
+        let mut granted = Vec::with_capacity(alloc, next.len())?;
         remove_all(&mut self.queue, &numbers);
         self.queue.numbers_rise();
-        push_holders(&self.queue, &rivals, &mut granted);
+        push_holders(&self.queue, next, &mut granted);
         Ok(Dropped {
             gone,
             granted: Seq::from_vec(granted),

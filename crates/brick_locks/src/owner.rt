@@ -1,5 +1,6 @@
-/// Who asks for a lock: one call of one graph. An owner has at most one request at a time, on all its cells.
-#[derive(Clone, Copy, PartialEq, Eq)]
+/// Who asks for a lock: one call of one graph. An owner has at most one request at a time, on all its cells. Owners
+/// are ordered by graph and then by call.
+#[derive(Clone, Copy, PartialEq, Eq, PartialOrd, Ord)]
 pub struct Owner {
     /// The number of the graph, as its client connected with it.
     pub graph: u32,

@@ -1,6 +1,5 @@
 ghost use Rattle.std.specs.Prelude.{◌≡◌};
-ghost use Rattle.queue_index.specs.Places.{has_key};
-ghost use Rattle.brick_locks.specs.Keys.{owner_key, graph_key, cell_key, keys_of};
+ghost use Rattle.brick_locks.specs.Keys.{owner_key, graph_key, cell_key};
 
 use crate::owner::Owner;
 use fop_types::{Cell, Seq};
@@ -53,20 +52,6 @@ pub(crate) fn cell_key(cell: Cell, shared: bool) -> Key
         hi: cell.gfid.hi,
         lo: cell.gfid.lo,
         mode,
-    }
-}
-
-impl Request {
-    /// Whether one of its keys is this one.
-    pub(crate) fn has_key(&self, key: Key) -> bool
-        ensures { result ≡ has_key key (keys_of self.now) }
-    {
-        for at in 0..self.key_count() {
-            if key == self.key(at) {
-                return true;
-            }
-        }
-        false
     }
 }
 

@@ -11,6 +11,7 @@ use crate::request::{Request, cell_key};
 use fop_types::{Cell, Seq};
 use queue_index::KeyedQueue;
 use std::alloc::{AllocError, Global};
+use std::collections::BTreeSet;
 
 /// Whether a request on a cell conflicts with one before its number.
 fn is_barred(queue: &KeyedQueue<Request>, number: u64, cell: Cell, shared: bool) -> bool
@@ -108,14 +109,18 @@ pub(crate) fn waiting_owners(
     Ok(owners)
 }
 
-/// The owners of those of these numbers whose requests hold. It allocates nothing.
-pub(crate) fn push_holders(queue: &KeyedQueue<Request>, numbers: &[u64], owners: &mut Vec<Owner>)
+/// The owners of those of these numbers whose requests are there and hold. It allocates nothing.
+pub(crate) fn push_holders(
+    queue: &KeyedQueue<Request>,
+    mut numbers: BTreeSet<u64>,
+    owners: &mut Vec<Owner>,
+)
     requires none { owners.old.items ≡ [] }
-    requires room { length numbers.now ≤ vec_capacity owners.old }
-    ensures { owners.new.items ≡ picked (λ n r. not (waits queue.now n r)) queue.now numbers.now }
+    requires room { length numbers.keys ≤ vec_capacity owners.old }
+    ensures { owners.new.items ≡ picked (λ n r. not (waits queue.now n r)) queue.now numbers.keys }
 {
-    for number in numbers {
-        let Some(owner) = holder(queue, *number) else {
+    while let Some(number) = numbers.pop_first() {
+        let Some(owner) = holder(queue, number) else {
             continue;
         };
         owners.push_reserved(owner);

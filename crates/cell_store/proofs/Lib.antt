@@ -1,6 +1,7 @@
 pub mod Copies
 pub mod Edits
 pub mod Entries
+pub mod Listed
 pub mod Looks
 pub mod Orders
 pub mod Places

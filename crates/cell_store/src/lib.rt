@@ -22,6 +22,7 @@
 
 mod adding;
 mod applying;
+mod cell_laws;
 mod counters;
 mod counting;
 mod dump;
@@ -32,6 +33,7 @@ mod lookups;
 mod steps;
 mod store;
 
+pub use cell_laws::counts_change_the_listed;
 pub use kept::Kept;
 pub use laws::ops_change_copies;
 pub use store::Store;

@@ -1,5 +1,5 @@
--- What is known of each volume: what it stands over, where the way down from it leads, and that no two ways down from
--- below it meet. Each volume has an owner, the unused volume in whose tree it stands, so two trees that are unused
+-- What is known of each volume: what it is over, where the way down from it leads, and that no two ways down from
+-- below it meet. Each volume has an owner, the unused volume in whose tree it is, so two trees that are unused
 -- have nothing in common.
 use Rattle.std.proofs.Common.{◌≡◌, ℕ, zero, suc, ◌<◌, ◌≤◌, ◌==◌, ◌||◌, Bool, true, false, cond, List, [], ◌∷◌, ◌++◌, length, flat_map, Option, Some, None, refl, sym, ap, subst, ◌∙◌, arith}
 use Rattle.std.specs.Prelude.{⊤}
@@ -166,7 +166,7 @@ entry_old known f entries i g low e =
     }
 
 -- ---- the volume that is added
--- below it stand unused volumes alone, so what they lead to belongs to them
+-- below it are unused volumes alone, so what they lead to belongs to them
 owner_of_bottom : (known : List Info) (h : Holds known) (p : ℕ) → p < length known → is_used known p ≡ false → h.owner (bottom_at known p) ≡ p
 owner_of_bottom known h p low unused =
     let g = some_at known p low in

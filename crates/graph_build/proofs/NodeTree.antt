@@ -1,4 +1,4 @@
--- The nodes of a plan are a tree: each stands below its one parent, and is reached from the top.
+-- The nodes of a plan are a tree: each is below its one parent, and is reached from the top.
 use Rattle.std.proofs.Common.{inl, inr, ◌≡◌, ℕ, zero, suc, ◌+◌, ◌-◌, ◌<◌, ◌≤◌, Bool, true, List, [], ◌∷◌, ◌++◌, length, Option, Some, refl, sym, ap, subst, ◌∙◌, arith}
 use Rattle.std.specs.Prelude.{◌⊎◌}
 use Rattle.std.specs.List.{slice_get}

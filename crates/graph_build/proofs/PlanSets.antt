@@ -149,7 +149,7 @@ module _ (volumes : List Volume) (each : AreVolumes [] volumes) (infos : List In
       let two : brick_in (slice_get infos q) ≡ d.brick = ap brick_in d.at ∙ ap brick_as d.role in
       h.bricks p q c.brick c.info d.info c.at d.at c.role (d.role ∙ ap Client (sym two ∙ sym same ∙ one))
 
-  -- ---- what stands below a replicate volume is plain, and below a distribute volume nothing distributes
+  -- ---- what is below a replicate volume is plain, and below a distribute volume nothing distributes
   plain_below : (first : Tree) (ps : List ℕ) → (gathered first infos ps).plain ≡ true → AllByRecursion (λ p. p < length infos) ps → (first.plain ≡ true) × AllByRecursion (λ p. (f : Info) → slice_get infos p ≡ Some f → f.tree.plain ≡ true) ps
   plain_below first [] e low = (e, tt)
   plain_below first (p ∷ ps) e low =

@@ -19,7 +19,7 @@ pub record IsSet (place : ℕ) (s : SetPlan) : Type 0 where
   pub few : length s.bricks ≤ 3
   pub client_names : AllByRecursion (λ name. is_name name ≡ true) s.clients
 
--- sets whose first stands at this place
+-- sets whose first is at this place
 abbrev pub AreSetsFrom : ℕ → List SetPlan → Type 0
 AreSetsFrom place [] = ⊤
 AreSetsFrom place (s ∷ ss) = IsSet place s × AreSetsFrom (place + 1) ss

@@ -1,6 +1,6 @@
 -- When a volfile is refused as a plan: the first volume of which a rule does not hold, with the first such
 -- rule in the order of `PlanKind`; that each volume but the last is used comes after all others. A volume
--- stands over earlier ones, so what is known of a volume comes from what is known of those.
+-- is over earlier ones, so what is known of a volume comes from what is known of those.
 use Rattle.std.specs.Prelude.{ℕ, ◌+◌, ◌==◌, ◌&&◌, ◌||◌, not, nat_le, nat_lt, Bool, true, false, if◌then◌else◌, List, [], ◌∷◌, ◌++◌, length, codes, Option, Some, None, Result, Ok, Err}
 use Rattle.std.specs.List.{list_any, slice_get}
 use Rattle.volfile.specs.TextLines.{is_text}
@@ -31,12 +31,12 @@ abbrev pub has_place : ℕ → List ℕ → Bool
 has_place q [] = false
 has_place q (p ∷ ps) = (q == p) || has_place q ps
 
--- whether the test holds of a place in the list, or one stands there twice
+-- whether the test holds of a place in the list, or one is there twice
 abbrev pub repeats : (ℕ → Bool) → List ℕ → Bool
 repeats test [] = false
 repeats test (p ∷ ps) = test p || repeats (λ q. (q == p) || test q) ps
 
--- ---- what stands below a volume
+-- ---- what is below a volume
 -- no path, and nothing that is no client
 abbrev pub no_tree : Tree
 no_tree = record { depth = 0; plain = true; distribute = false; cache = false; queue = false }
@@ -63,7 +63,7 @@ grown (IoCache pages) t = record { depth = t.depth + 1; plain = false; distribut
 grown IoThreads t = record { depth = t.depth + 1; plain = false; distribute = t.distribute; cache = t.cache; queue = true }
 grown Pass t = record { depth = t.depth + 1; plain = t.plain; distribute = t.distribute; cache = t.cache; queue = t.queue }
 
--- whether the tree may not stand below: below replicate all else than clients and pass-through volumes over
+-- whether the tree may not be below: below replicate all else than clients and pass-through volumes over
 -- one, below distribute another, io-cache and io-threads, below io-cache another
 abbrev pub is_nested : Role → Tree → Bool
 is_nested (Client brick) t = false

@@ -1,6 +1,6 @@
--- The plan of a volfile whose volumes are known. Its sets stand in the order of the distribute volume's
--- subvolumes; without one the way down from the last volume leads to the one set. Its nodes stand in the
--- file's order, each behind those below it; a node that was put in stands behind what it was put in for;
+-- The plan of a volfile whose volumes are known. Its sets are in the order of the distribute volume's
+-- subvolumes; without one the way down from the last volume leads to the one set. Its nodes are in the
+-- file's order, each behind those below it; a node that was put in is behind what it was put in for;
 -- the last node is the top.
 use Rattle.std.specs.Prelude.{ℕ, ◌+◌, ◌-◌, ◌/◌, ◌==◌, Bool, true, false, if◌then◌else◌, List, [], ◌∷◌, ◌++◌, length, Option, Some, None, Result, Ok, Err}
 use Rattle.std.specs.List.{slice_get}
@@ -28,7 +28,7 @@ is_distribute (IoCache pages) = false
 is_distribute IoThreads = false
 is_distribute Pass = false
 
--- what the distribute volume stands over, where there is one
+-- what the distribute volume is over, where there is one
 abbrev pub distributed : List Info → Option (List ℕ)
 distributed [] = None
 distributed (f ∷ fs) = if is_distribute f.role then Some f.below else distributed fs
@@ -85,7 +85,7 @@ abbrev pub bricks_at : List Info → List ℕ → List ℕ
 bricks_at infos [] = []
 bricks_at infos (p ∷ ps) = brick_in (slice_get infos p) ∷ bricks_at infos ps
 
--- the set with this number and name whose clients stand at these places
+-- the set with this number and name whose clients are at these places
 abbrev pub set_with : List Volume → List Info → ℕ → List ℕ → List ℕ → SetPlan
 set_with volumes infos number name members = record { number = number; name = name; bricks = bricks_at infos members; clients = names_at volumes members; q = (length members + 1) / 2 }
 

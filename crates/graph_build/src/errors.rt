@@ -20,7 +20,7 @@ pub enum PlanKind {
     BadOption,
     /// A subvolume is used by an earlier volume, or twice by this one.
     UsedTwice,
-    /// What stands below may not stand there.
+    /// What is below may not be there.
     NestedCluster,
     /// A path down has more than 24 volumes.
     TooDeep,

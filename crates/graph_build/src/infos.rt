@@ -11,7 +11,7 @@ pub(crate) enum Role {
     Pass,
 }
 
-// What stands in a tree of volumes: the number of volumes on its longest path; whether all that it has are
+// What is in a tree of volumes: the number of volumes on its longest path; whether all that it has are
 // clients and pass-through volumes over one; whether there is a distribute volume, an io-cache, and an
 // io-cache or io-threads.
 #[derive(Clone, Copy)]

@@ -8,10 +8,10 @@
 //!   volume v  debug/io-stats       3 Pass over 2            the last node is the top
 //! ```
 //!
-//! [`build`] goes over the volumes once. Of each it learns its role, what stands below it and whether a
-//! rule is broken, from what is known of the volumes that it names, which all stand before it; marks show
+//! [`build`] goes over the volumes once. Of each it learns its role, what is below it and whether a
+//! rule is broken, from what is known of the volumes that it names, which all are before it; marks show
 //! which volumes are used and which bricks are taken. A set is a replicate volume, or a client below none;
-//! sets stand in the order of the distribute volume's subvolumes, and without one there is one set. Then
+//! sets are in the order of the distribute volume's subvolumes, and without one there is one set. Then
 //! the nodes are laid out in the file's order, each node that is put in directly behind what it was put in
 //! for. [`follows`] says whether one plan may come after another in a graph switch.
 //!

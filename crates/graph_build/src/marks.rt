@@ -12,7 +12,7 @@ pub(crate) fn no_marks() -> [bool; 256]
     [false; 256]
 }
 
-// Marks these numbers, and says whether one was marked before or stands there twice. Then some may be
+// Marks these numbers, and says whether one was marked before or is there twice. Then some may be
 // unmarked.
 pub(crate) fn mark_all(flags: &mut [bool; 256], numbers: &[u8]) -> bool
     requires size { length flags.old ≡ 256 }

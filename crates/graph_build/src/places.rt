@@ -6,7 +6,7 @@ use fop_types::Seq;
 use std::alloc::{AllocError, Global};
 use volfile::{Volume, VolumeNames};
 
-// Where each name first stands among the volumes.
+// Where each name first is among the volumes.
 pub(crate) fn names_of(alloc: Global, volumes: &[Volume]) -> Result<VolumeNames, AllocError>
     ensures { IfOk result (λ names. (name : List ℕ) → place_in names name ≡ place_of name volumes.now) }
 {

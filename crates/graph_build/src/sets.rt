@@ -23,7 +23,7 @@ fn is_distribute(role: Role) -> bool
     }
 }
 
-// What the distribute volume stands over, where there is one.
+// What the distribute volume is over, where there is one.
 pub(crate) fn distributed(infos: &[Info]) -> Option<&Seq<u8>>
     requires few { AllByRecursion IsFew infos.now }
     ensures is { option_copied result ≡ distributed_of infos.now }

@@ -70,7 +70,7 @@ pub(crate) fn grown(role: Role, tree: Tree) -> Tree
     tree
 }
 
-// Whether the tree may not stand below a volume of this role.
+// Whether the tree may not be below a volume of this role.
 pub(crate) fn is_nested(role: Role, tree: Tree) -> bool
     ensures { result ≡ is_nested_over role tree }
 {

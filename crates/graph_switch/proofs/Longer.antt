@@ -1,5 +1,5 @@
 -- A plan that follows has at least as many sets.
-use Rattle.std.proofs.Common.{◌≡◌, ℕ, ◌≤◌, suc, Bool, true, List, [], ◌∷◌, length, arith}
+use Rattle.std.proofs.Common.{◌≡◌, ◌≤◌, true, List, [], ◌∷◌, length, arith}
 use Rattle.std.proofs.lemmas.Bool.{and_parts}
 use Rattle.graph_build.specs.Follows.{is_same_set, sets_follow}
 use Rattle.fop_types.specs.declared.jobs.SetPlan.{SetPlan}

@@ -1,7 +1,7 @@
 -- Which plans may follow those so far, the current one last, and which descriptors a new graph opens again.
 -- Ours; GlusterFS compares volfiles in glusterfs_volfile_reconfigure and opens descriptors again in
 -- fuse_migrate_fd.
-use Rattle.std.specs.Prelude.{ℕ, ◌-◌, ◌&&◌, Bool, true, List, map, length, drop, Option, Some, None, slice_get}
+use Rattle.std.specs.Prelude.{◌-◌, ◌&&◌, Bool, true, List, map, length, drop, Option, Some, None, slice_get}
 use Rattle.std.specs.List.{list_all}
 use Rattle.std.specs.FinMap as fin
 use Rattle.fop_types.specs.declared.jobs.SetPlan.{SetPlan}

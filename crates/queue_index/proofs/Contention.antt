@@ -82,7 +82,7 @@ module _ {T : Type 0} (keys : T → List Key) where
       ∙ ap (λ (l : Key). f || passes (λ _ x. list_any (λ k. touches keys k x) (of_mode 0 k ∷ l ∷ [])) q o) js
       ∙ with_keys k (of_mode 0 k ∷ of_mode 1 k ∷ []) q o f (ap (λ (b : Bool). cond b (of_mode 0 k ∷ of_mode 1 k ∷ []) (cond (k.mode == 1) (of_mode 0 k ∷ []) [])) mode)
 
-  other_mode : (k : Key) (b : Bool) → (k.mode == 0) ≡ false → (k.mode == 1) ≡ b → rival_keys k ≡ cond b (of_mode 0 k ∷ []) []
+  pub other_mode : (k : Key) (b : Bool) → (k.mode == 0) ≡ false → (k.mode == 1) ≡ b → rival_keys k ≡ cond b (of_mode 0 k ∷ []) []
   other_mode k b off is = ap (λ (c : Bool). cond c (of_mode 0 k ∷ of_mode 1 k ∷ []) (cond (k.mode == 1) (of_mode 0 k ∷ []) [])) off ∙ ap (λ (c : Bool). cond c (of_mode 0 k ∷ []) []) is
 
   pub put_shared : (k i : Key) (q : ℕ) (o : Option T) (f g : Bool) → (k.mode == 0) ≡ false → (k.mode == 1) ≡ true → i ≡ of_mode 0 k → g ≡ (f || passes (λ _. touches keys i) q o) → g ≡ (f || passes (λ _. meets_key keys k) q o)

@@ -7,3 +7,6 @@ pub mod Numbers
 pub mod Touching
 pub mod Contention
 pub mod Renumbered
+pub mod Runs
+pub mod Following
+pub mod Stopping

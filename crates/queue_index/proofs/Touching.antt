@@ -129,7 +129,7 @@ module _ {T : Type 0} (keys : T → List Key) where
   any_number k n [] = refl
   any_number k n (e ∷ es) = any_step k n e es (nat_lt e.0 n) (touches keys k e.1) refl refl (any_number k n es)
 
-  all_late : (k : Key) (f n : ℕ) (es : List (ℕ × T)) → n ≤ f → list_any (λ j. nat_lt j n) (numbers (touching_from keys k f es)) ≡ false
+  pub all_late : (k : Key) (f n : ℕ) (es : List (ℕ × T)) → n ≤ f → list_any (λ j. nat_lt j n) (numbers (touching_from keys k f es)) ≡ false
   all_late k f n [] h = refl
   all_late k f n (e ∷ es) h = elim (nat_le f e.0 && touches keys k e.1) as (λ (b : Bool). (nat_le f e.0 && touches keys k e.1) ≡ b → list_any (λ j. nat_lt j n) (numbers (cond b (e ∷ touching_from keys k f es) (touching_from keys k f es))) ≡ false) [
     | true ↦ λ t. ap (λ (b : Bool). b || list_any (λ j. nat_lt j n) (numbers (touching_from keys k f es))) (le-ltb e.0 n (let low = leb-true f e.0 (and_parts (nat_le f e.0) (touches keys k e.1) t).0 in omega (arith, low, h))) ∙ all_late k f n es h

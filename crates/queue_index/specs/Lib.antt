@@ -2,3 +2,4 @@ pub mod Places
 pub mod Queue
 pub mod Whole
 pub mod Rivals
+pub mod Next

@@ -25,11 +25,13 @@
 mod entry;
 mod key;
 mod keyed;
+mod next;
 mod place;
 mod queue;
 mod rivals;
 
 pub use key::{EXCLUSIVE, Key, NAME, SHARED};
 pub use keyed::Keyed;
+pub use next::next_rivals_of;
 pub use queue::KeyedQueue;
 pub use rivals::rivals_of;

@@ -117,7 +117,7 @@ fn add_numbers_of<T: Keyed + Drop>(
     Ok(())
 }
 
-fn with_mode(key: Key, mode: u8) -> Key
+pub(crate) fn with_mode(key: Key, mode: u8) -> Key
     ensures { result ≡ of_mode mode key }
 {
     Key {

@@ -4,7 +4,7 @@ use Rattle.std.proofs.lemmas.List.{drop-drop}
 use Rattle.volfile.specs.TextLines.{parts_between, onto_first, front_len}
 use Rattle.script_lang.specs.WordForms.{is_slash}
 
--- the first part is the last where no slash stands
+-- the first part is the last where no slash is
 pub parts_last : (bs : List ℕ) → front_len is_slash bs ≡ length bs → parts_between is_slash bs ≡ take (front_len is_slash bs) bs ∷ []
 parts_last [] all = refl
 parts_last (b ∷ bs) all =

@@ -96,7 +96,7 @@ abbrev pub request_at : List BrickLine → List ℕ → List ℕ → List ℕ �
 request_at bricks brick proc nth =
     mapped (λ p. record { brick = p.0; proc = p.1.proc; nth = p.1.nth }) (both (brick_at bricks brick) (nth_request_at (formed (proc_at proc)) nth))
 
--- before a request only a `down` or a `fault` of its own brick may stand
+-- before a request only a `down` or a `fault` of its own brick is allowed
 abbrev pub may_stand_before : List ℕ → List ℕ → List (List ℕ) → Bool
 may_stand_before brick word [] = false
 may_stand_before brick word (a ∷ more) = (is_text word (codes "down") || is_text word (codes "fault")) && is_text a brick

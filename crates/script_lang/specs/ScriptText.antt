@@ -34,7 +34,7 @@ is_comment (b ∷ bs) = if is_blank b then is_comment bs else b == 35
 abbrev pub is_long : List ℕ → Bool
 is_long line = nat_le 140001 (length line)
 
--- a line that says something has bytes that may stand there, and not too many
+-- a line that says something has bytes that may be there, and not too many
 abbrev pub line_refusal : List ℕ → Option ScriptKind
 line_refusal line = if not (list_all is_text_byte line) then Some BadByte else if is_long line then Some LongLine else None
 

@@ -130,7 +130,7 @@ control_added d number (Ok said) =
 abbrev pub control_read : Draft → ℕ → List (List ℕ) → Result Reading ScriptKind
 control_read d number words = control_added d number (control_at d.bricks d.volfiles words)
 
--- ---- the statement that may stand there by what was begun last
+-- ---- the statement that may be there by what was begun last
 abbrev pub said_of_volfiles : Draft → List ℕ → List (List ℕ) → Result Reading ScriptKind
 said_of_volfiles d word rest = if is_text word (codes "volfile") then volfile_begun d rest else if is_text word (codes "start") then start_read d rest else Err Unexpected
 

@@ -92,7 +92,7 @@ fn said_after(
     Ok((when, action))
 }
 
-// Before a request only a `down` or a `fault` of its own brick may stand.
+// Before a request only a `down` or a `fault` of its own brick is allowed.
 fn may_stand_before(brick: &[u8], word: &[u8], rest: &[&[u8]]) -> bool
     ensures { result ≡ may_stand brick.now word.now (map (λ w. w.now) rest.now) }
 {

@@ -6,11 +6,11 @@ use volfile::VolKind;
 /// `Later` are no answers of `parse`: the program's top call gives them.
 #[derive(Clone, Copy, PartialEq, Eq)]
 pub enum ScriptKind {
-    /// A byte outside 32 to 126, tab and carriage return stands outside a volfile or a comment.
+    /// A byte outside 32 to 126, tab and carriage return is outside a volfile or a comment.
     BadByte,
     /// The line has more than 140,000 bytes, its line feed not counted.
     LongLine,
-    /// The first word may not stand there.
+    /// The first word may not be there.
     Unexpected,
     /// The number of words is wrong for the statement, the call or the action.
     WordCount,

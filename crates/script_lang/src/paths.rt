@@ -4,9 +4,10 @@ ghost use Rattle.volfile.specs.TextLines.{front_len, parts_between};
 ghost use Rattle.fop_types.specs.Bounds.{is_component as is_component_word, is_name_byte};
 ghost use Rattle.script_lang.specs.WordForms.{is_slash, path_at};
 
-use crate::words::{begins_with, front, is_word};
+use crate::words::{begins_with, is_word};
 use fop_types::{Path, Seq};
 use std::alloc::{AllocError, Global};
+use volfile::len_to;
 
 // The path that a word writes, in one pass over its bytes and one over its components.
 pub(crate) fn path_of(alloc: Global, word: &[u8]) -> Result<Option<Path>, AllocError>
@@ -36,7 +37,7 @@ fn parts_of(alloc: Global, joined: &[u8]) -> Result<Seq<Seq<u8>>, AllocError>
     let mut at = 0;
     loop {
         let rest = &joined[at..];
-        let end = front(b'/', rest);
+        let end = len_to(b'/', rest);
         parts.push(Seq::from_bytes(alloc, &rest[..end])?)?;
         if end == rest.len() {
             return Ok(parts);

@@ -33,7 +33,7 @@ pub(crate) fn statement(
     }
 }
 
-// The statement that may stand there by what was begun last.
+// The statement that may be there by what was begun last.
 fn said(
     alloc: Global,
     draft: &mut Draft,

@@ -1,12 +1,13 @@
 ghost use Rattle.std.specs.Prelude.{◌≡◌, ◌==◌, ◌≤◌, length, drop, ◌+◌, Some, IfOk};
 ghost use Rattle.std.specs.List.{list_all};
 ghost use Rattle.xl_base.specs.Words.{hex_of as hex_at};
-ghost use Rattle.volfile.specs.TextLines.{front_len, is_text, is_visible};
+ghost use Rattle.volfile.specs.TextLines.{is_text, is_visible};
 ghost use Rattle.script_lang.specs.WordForms.{at_most, attr_at, begins, copies_of, data_at, only_byte, proc_at, repeated_at, visible_bytes};
 
 use crate::numbers::number_of;
 use fop_types::{Proc, Seq};
 use std::alloc::{AllocError, Global};
+use volfile::len_to;
 use xl_base::hex;
 
 pub(crate) fn is_word(word: &[u8], text: &[u8]) -> bool
@@ -19,21 +20,6 @@ pub(crate) fn begins_with(word: &[u8], text: &[u8]) -> bool
     ensures { result ≡ begins word.now text.now }
 {
     word.starts_with(text)
-}
-
-// How many bytes stand before the first `stop`.
-pub(crate) fn front(stop: u8, bytes: &[u8]) -> usize
-    ensures len { result ≡ front_len (λ b. b == stop) bytes.now }
-    ensures within { result ≤ length bytes.now }
-{
-    let mut at = 0;
-    while at < bytes.len() {
-        if bytes[at] == stop {
-            return at;
-        }
-        at += 1;
-    }
-    at
 }
 
 // The data that a word writes, of at most `limit` bytes.
@@ -89,12 +75,12 @@ fn hexadecimal_of(alloc: Global, limit: u32, digits: &[u8]) -> Result<Option<Seq
 fn repeated_of(alloc: Global, limit: u32, rest: &[u8]) -> Result<Option<Seq<u8>>, AllocError>
     ensures { IfOk result (λ found. found ≡ repeated_at limit rest.now) }
 {
-    let end = front(b':', rest);
+    let end = len_to(b':', rest);
     let byte = byte_of(alloc, behind(rest, end))?;
     copies(alloc, number_of(0, limit, &rest[..end]), byte)
 }
 
-// What stands behind the byte at `end`, and nothing where there is none.
+// What is behind the byte at `end`, and nothing where there is none.
 fn behind(bytes: &[u8], end: usize) -> &[u8]
     ensures { result.now ≡ drop (end + 1) bytes.now }
 {

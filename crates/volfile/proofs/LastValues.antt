@@ -5,7 +5,7 @@ use Rattle.volfile.specs.declared.volumes.OptionLine.{OptionLine}
 use Rattle.volfile.specs.TextLines.{is_text}
 use Rattle.volfile.specs.Options.{or_value, last_value}
 
--- a value that the last lines give stands for all
+-- a value that the last lines give is that of all
 pub last_from : (n : ℕ) (os : List OptionLine) (key v : List ℕ) → last_value (drop n os) key ≡ Some v → last_value os key ≡ Some v
 last_from zero os key v e = e
 last_from (suc n) [] key v e = absurd cc

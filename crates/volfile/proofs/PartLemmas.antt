@@ -75,7 +75,7 @@ line_cut text rest at n within is len short =
     let cut = lines_cut rest (omega (arith, ap length is, length-drop at text)) in
     ap lines_of (sym is) ∙ cut ∙ ap (λ k. take k rest ∷ lines_of (drop (k + 1) rest)) (sym len) ∙ ap (λ l. take n rest ∷ lines_of l) (behind text rest at n is short)
 
--- a part stands as a word where it is not empty
+-- a part is a word where it is not empty
 pub non_empty_first : (w : List ℕ) (ws : List (List ℕ)) → non_empty (w ∷ ws) ≡ with_word w (non_empty ws)
 non_empty_first [] ws = refl
 non_empty_first (b ∷ bs) ws = refl
@@ -104,7 +104,7 @@ pub part_cut : (line rest : List ℕ) (at n : ℕ) → rest ≡ drop at line →
 part_cut line rest at n is len short =
     ap words_of (sym is) ∙ word_cut rest n len short ∙ ap (λ l. with_word (take n rest) (words_of l)) (behind line rest at n is short)
 
--- what stands before a comment is a prefix of the line
+-- what is before a comment is a prefix of the line
 pub comment_front : (line : List ℕ) (inside : Bool) → take (length (before_comment inside line)) line ≡ before_comment inside line
 comment_front [] inside = refl
 comment_front (b ∷ bs) inside =

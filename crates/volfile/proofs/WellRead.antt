@@ -102,7 +102,7 @@ parts_clear (b ∷ bs) inside text back =
     quoted false is hash first texts second backs rest =
         rw is (onto inside b (parts_between is_quote (before_comment inside bs)) first second is hash (rest inside texts backs))
 
--- ---- the words of what stands outside
+-- ---- the words of what is outside
 abbrev pub ArePlain : List (List ℕ) → Type 0
 ArePlain [] = ⊤
 ArePlain (w ∷ ws) = (is_plain_word w ≡ true) × ArePlain ws

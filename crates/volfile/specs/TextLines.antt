@@ -33,7 +33,7 @@ is_blank b = (b == 32) || (b == 9) || (b == 13)
 abbrev pub words_of : List ℕ → List (List ℕ)
 words_of line = non_empty (parts_between is_blank line)
 
--- how many bytes stand before the first that passes the test
+-- how many bytes are before the first that passes the test
 abbrev pub front_len : (ℕ → Bool) → List ℕ → ℕ
 front_len test [] = 0
 front_len test (b ∷ bs) = if test b then 0 else suc (front_len test bs)
@@ -43,7 +43,7 @@ abbrev pub with_word : List ℕ → List (List ℕ) → List (List ℕ)
 with_word [] words = words
 with_word (b ∷ bs) words = (b ∷ bs) ∷ words
 
--- a byte that may stand in a text: 32 to 126, tab, carriage return
+-- a byte that may be in a text: 32 to 126, tab, carriage return
 abbrev pub is_text_byte : ℕ → Bool
 is_text_byte b = (nat_le 32 b && nat_le b 126) || (b == 9) || (b == 13)
 
@@ -67,6 +67,6 @@ is_name w = nat_le 1 (length w) && nat_le (length w) 64 && list_all is_name_byte
 abbrev pub is_text : List ℕ → List ℕ → Bool
 is_text word text = pointwise ◌==◌ word text
 
--- the number of the line after: it stands still at the greatest number of 32 bits
+-- the number of the line after: it stays at the greatest number of 32 bits
 abbrev pub line_after : ℕ → ℕ
 line_after number = if nat_lt number 4294967295 then number + 1 else number

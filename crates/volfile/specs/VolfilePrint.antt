@@ -1,5 +1,5 @@
 -- The one form of a volfile: each statement on a line of its own with single spaces, its type, options
--- and subvolumes in this order. A value stands between quotes only where it holds a space, a tab, a
+-- and subvolumes in this order. A value is between quotes only where it holds a space, a tab, a
 -- carriage return or `#`, or is empty.
 use Rattle.std.specs.Prelude.{ℕ, ◌==◌, ◌||◌, not, Bool, if◌then◌else◌, List, [], ◌∷◌, ◌++◌, length, codes, flat_map}
 use Rattle.std.specs.List.{list_all}

@@ -23,7 +23,7 @@ abbrev pub nothing_read : Reading
 nothing_read = record { volumes = []; block = None }
 
 -- ---- from a line to its words
--- what stands before the comment, which begins at the first `#` outside a quoted text
+-- what is before the comment, which begins at the first `#` outside a quoted text
 abbrev pub before_comment : Bool → List ℕ → List ℕ
 before_comment inside [] = []
 before_comment inside (b ∷ bs) = if (b == 35) && not inside then [] else b ∷ before_comment (if b == 34 then not inside else inside) bs
@@ -51,7 +51,7 @@ is_option_and_key (word ∷ []) = false
 is_option_and_key (word ∷ key ∷ []) = is_text word (codes "option")
 is_option_and_key (word ∷ key ∷ more ∷ rest) = false
 
--- the words of a line that its quotes cut into these parts: one quoted text may stand, apart from the
+-- the words of a line that its quotes cut into these parts: one quoted text may be there, apart from the
 -- words before and behind it, as an option's value
 abbrev pub words_around : List (List ℕ) → Option (List (List ℕ))
 words_around [] = None

@@ -1,4 +1,4 @@
--- Where names stand: a map from names to numbers, and the same by a walk over the volumes.
+-- The places of names: a map from names to numbers, and the same by a walk over the volumes.
 use Rattle.std.specs.Prelude.{◌≡◌, ⊤, ℕ, suc, if◌then◌else◌, List, [], ◌∷◌, Option, Some, None}
 use Rattle.std.specs.Option.{option_map}
 use Rattle.std.specs.Map.{lookup}

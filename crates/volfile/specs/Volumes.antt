@@ -29,7 +29,7 @@ pub record IsVolfile (v : Volfile) : Type 0 where
   pub reads : ReadsAs text v
 
 -- ---- the form of each volume
--- a byte of a word that stands without quotes
+-- a byte of a word without quotes
 abbrev pub is_plain : ℕ → Bool
 is_plain b = nat_le 33 b && nat_le b 126 && not (b == 34) && not (b == 35) && not (b == 96)
 
@@ -57,7 +57,7 @@ pub record IsBlock (before : List Volume) (v : Volume) : Type 0 where
   pub names : list_all is_name v.subvolumes ≡ true
   pub defined : list_all (is_defined before) v.subvolumes ≡ true
 
--- volumes that stand one after the other behind these
+-- volumes that come one after the other behind these
 abbrev pub AreVolumes : List Volume → List Volume → Type 0
 AreVolumes before [] = ⊤
 AreVolumes before (v ∷ vs) = IsBlock before v × ((length v.kind == 0) ≡ false) × AreVolumes (before ++ v ∷ []) vs

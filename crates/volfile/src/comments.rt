@@ -12,7 +12,7 @@ pub(crate) fn before_comment(line: &[u8]) -> &[u8]
     &line[..len_to_comment(line)]
 }
 
-// How many bytes stand before the first comment sign outside a quoted text.
+// How many bytes are before the first comment sign outside a quoted text.
 fn len_to_comment(line: &[u8]) -> usize
     ensures len { result ≡ length (front_of false line.now) }
     ensures within { result ≤ length line.now }

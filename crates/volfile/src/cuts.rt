@@ -3,8 +3,8 @@ ghost use Rattle.volfile.specs.TextLines.{front_len, is_blank as is_blank_byte, 
 
 use std::alloc::{AllocError, Global};
 
-/// The number of the line after the one with this number, or before all lines, where it is 0. It stands
-/// still at 4294967295.
+/// The number of the line after the one with this number, or before all lines, where it is 0. It stays
+/// at 4294967295.
 pub fn line_after(number: u32) -> u32
     ensures { result ≡ number_after number }
 {
@@ -15,8 +15,8 @@ pub fn line_after(number: u32) -> u32
     }
 }
 
-// How many bytes stand before the first `stop`.
-pub(crate) fn len_to(stop: u8, bytes: &[u8]) -> usize
+/// How many bytes are before the first `stop`: all of them where there is none.
+pub fn len_to(stop: u8, bytes: &[u8]) -> usize
     ensures len { result ≡ front_len (λ b. b == stop) bytes.now }
     ensures within { result ≤ length bytes.now }
 {
@@ -48,7 +48,7 @@ pub(crate) fn is_blank(byte: u8) -> bool
     byte == b' ' || byte == b'\t' || byte == b'\r'
 }
 
-// How many bytes stand before the first blank.
+// How many bytes are before the first blank.
 fn len_to_blank(bytes: &[u8]) -> usize
     ensures len { result ≡ front_len is_blank_byte bytes.now }
     ensures within { result ≤ length bytes.now }
@@ -63,7 +63,7 @@ fn len_to_blank(bytes: &[u8]) -> usize
     at
 }
 
-// What stands at the place before the next blank: a word, or nothing.
+// What is at the place before the next blank: a word, or nothing.
 fn first_part(line: &[u8], at: usize) -> &[u8]
     requires { at < length line.now }
     ensures cut { words_of (drop at line.now) ≡ with_word result.now (words_of (drop (at + (length result.now + 1)) line.now)) }

@@ -7,7 +7,7 @@ use crate::volumes::Volume;
 use std::alloc::{AllocError, AllocFailed, Global};
 use std::marker::Model;
 
-// The volumes whose blocks have ended, each with a name of its own, and where each name stands. Contracts
+// The volumes whose blocks have ended, each with a name of its own, and where each name is. Contracts
 // see it as the list of the volumes.
 #[derive(Drop)]
 pub(crate) struct Defined {

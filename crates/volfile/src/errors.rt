@@ -4,13 +4,13 @@ use std::alloc::AllocError;
 /// reported.
 #[derive(Clone, Copy, PartialEq, Eq)]
 pub enum VolKind {
-    /// A byte outside 32 to 126, tab and carriage return stands outside a comment.
+    /// A byte outside 32 to 126, tab and carriage return is outside a comment.
     BadByte,
-    /// A backquote stands outside a comment.
+    /// A backquote is outside a comment.
     Backquote,
     /// A quoted text does not end in its line, or touches a word, or is not an option's value.
     OpenQuote,
-    /// The first word is no statement that may stand there; a second `type` or `subvolumes` is one.
+    /// The first word is no statement that may be there; a second `type` or `subvolumes` is one.
     Unexpected,
     /// The number of words is wrong.
     WordCount,
@@ -31,7 +31,7 @@ pub enum VolKind {
 }
 
 /// Why a volfile is refused. `line` is the number of the first line that is refused, from 1; where the
-/// text ends too early it is the number of lines. Numbers stand still at 4294967295.
+/// text ends too early it is the number of lines. Numbers stay at 4294967295.
 #[derive(Clone, Copy, PartialEq, Eq)]
 pub enum VolError {
     At { line: u32, kind: VolKind },

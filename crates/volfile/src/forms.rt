@@ -39,7 +39,7 @@ fn are_visible(word: &[u8]) -> bool
     word.iter().all(|b| 33 <= *b && *b <= 126)
 }
 
-/// Whether a byte may stand in a text: 32 to 126, tab, carriage return.
+/// Whether a byte may be in a text: 32 to 126, tab, carriage return.
 pub fn is_text_byte(byte: u8) -> bool
     ensures { result ≡ is_byte_of_text byte }
 {

@@ -35,7 +35,7 @@ mod readers;
 mod statements;
 mod volumes;
 
-pub use cuts::{first_line, line_after, words};
+pub use cuts::{first_line, len_to, line_after, words};
 pub use errors::{VolError, VolKind};
 pub use forms::{is_name, is_same, is_text_byte, is_visible_word};
 pub use names::VolumeNames;

@@ -8,8 +8,8 @@ use crate::cuts::{add_words, is_blank, len_to, words};
 use crate::forms::is_same;
 use std::alloc::{AllocError, Global};
 
-// The words of a line without its comment, the quoted text among them, and `None` where a quote stands
-// where it may not.
+// The words of a line without its comment, the quoted text among them, and `None` where a quote is
+// where it may not be.
 pub(crate) fn words_said(alloc: Global, said: &[u8]) -> Result<Option<Vec<&[u8]>>, AllocError>
     ensures { IfOk result (λ found. option_map (λ ws. map (λ w. w.now) ws.items) found ≡ said_words said.now) }
 {
@@ -49,7 +49,7 @@ fn add_text<'a>(
     Ok(())
 }
 
-// Whether a quoted text may stand behind the words found, which `before` has, and before `behind`.
+// Whether a quoted text may be behind the words found, which `before` has, and before `behind`.
 fn may_stand(found: &[&[u8]], before: &[u8], behind: &[u8]) -> bool
     ensures { result ≡ (are_option_and_key (map (λ w. w.now) found.now) && is_blank_at_end before.now && is_blank_at_front behind.now) }
 {

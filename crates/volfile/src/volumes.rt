@@ -14,7 +14,7 @@ pub struct OptionLine {
 
 /// A volume of a volfile: one translator of a graph. `line` is the number of its `volume` line, from 1;
 /// `kind` its type, as `cluster/replicate`; `options` all of its option lines in order, of which the last
-/// with a key counts; `subvolumes` the names of what stands below it.
+/// with a key counts; `subvolumes` the names of what is below it.
 #[derive(Drop)]
 pub struct Volume {
     pub line: u32,

@@ -25,5 +25,5 @@ mod limits;
 
 pub use decode::{decode_rep, decode_req};
 pub use decoded::{DecodeError, Decoded};
-pub use encode::{encode_rep, encode_req};
+pub use encode::{copy_bytes, encode_rep, encode_req, rep_bytes};
 pub use fop_types::{BrickRep, BrickReq, DoneArm, Input, OutKind, Output, Proc, StoreOp};

@@ -83,7 +83,7 @@ fn items_len(items: &[Item]) -> usize
 
 /// The length of a content.
 #[tactic(auto, using(crate::proofs::Sizes::joined_size, crate::proofs::QuadLaws::unit_size))]
-fn content_len(content: &Content) -> usize
+pub fn content_len(content: &Content) -> usize
     ensures { result ≡ saturating_len (content_text content.now) }
 {
     match content {

@@ -15,7 +15,7 @@ pub returns-clause-gone : goal.returns-clause-gone
 returns-clause-gone c = rw (← c.self.view_is) (gone_are c.args.key c.self.inside.queue c.deref.result.now c.in_ok-gone.gone c.numbers_rise.ensures (c.deref.ensures.value ∙ c.in_ok-numbers.ensures) c.in_ok-gone.ensures)
 
 pub returns-clause-granted : goal.returns-clause-granted
-returns-clause-granted c = rw (← c.self.view_is) (c.from_vec.ensures ∙ freed_are c.args.key c.self.inside.queue c.remove_all.new.queue c.deref-3.result.now c.push_holders.new.owners.items c.numbers_rise.ensures c.numbers_rise-2.ensures (left_is c.args.key c.self.inside.queue c.remove_all.new.queue c.deref-2.result.now c.numbers_rise.ensures (c.deref-2.ensures.value ∙ c.in_ok-numbers.ensures) c.remove_all.ensures) (c.deref-3.ensures.value ∙ c.in_ok-rivals.ensures) c.push_holders.ensures)
+returns-clause-granted c = rw (← c.self.view_is) (c.from_vec.ensures ∙ freed_are c.args.key c.self.inside.queue c.remove_all.new.queue c.in_ok-next.next.keys c.push_holders.new.owners.items c.numbers_rise.ensures (left_is c.args.key c.self.inside.queue c.remove_all.new.queue c.deref-2.result.now c.numbers_rise.ensures (c.deref-2.ensures.value ∙ c.in_ok-numbers.ensures) c.remove_all.ensures) c.in_ok-next.ensures c.push_holders.ensures)
 
 pub invariant_of-self : goal.invariant_of-self
 invariant_of-self c = differ_left (λ r. not (touches keys_of c.args.key r)) c.self.inside.queue c.remove_all.new.queue (items_left c.args.key c.self.inside.queue c.remove_all.new.queue (left_is c.args.key c.self.inside.queue c.remove_all.new.queue c.deref-2.result.now c.numbers_rise.ensures (c.deref-2.ensures.value ∙ c.in_ok-numbers.ensures) c.remove_all.ensures)) c.self.invariant

@@ -1,0 +1,15 @@
+pub mod Failing
+pub mod Kept
+pub mod Leaving
+pub mod Legal
+pub mod Lockings
+pub mod Once
+pub mod Orderly
+pub mod Owners
+pub mod Plain
+pub mod Puts
+pub mod Replies
+pub mod Runs
+pub mod Sorted
+pub mod Stored
+pub mod Taken

@@ -1,0 +1,9 @@
+use Rattle.std.proofs.Common.{◌≡◌, drop}
+use Rattle.brick_machine.specs.Locking.{left_waiting, gone_replies}
+use Rattle.brick_machine.specs.code.Outs.{put_out}
+use Rattle.brick_machine.proofs.waiters.Waiters.say_gone_each.Given as goal
+
+abbrev pub invariant-loop-owner : goal.invariant-loop-owner
+invariant-loop-owner l =
+    (left_waiting l.self (drop l.owner-index l.owners) ≡ left_waiting l.fn.self l.owners)
+    × (put_out l.outs (gone_replies l.self (drop l.owner-index l.owners)) ≡ put_out l.fn.outs (gone_replies l.fn.self l.owners))
