@@ -18,7 +18,7 @@ use Rattle.afr_laws.specs.Senders.{EachInput, EachOutput, EachAt, Each}
 use Rattle.afr_laws.specs.Connections.{is_control_of, has_control, IsOrdered, IsEarlier, ConnectsFirst}
 use Rattle.afr_laws.proofs.Senders.{answering_each, served_each, steered_each}
 
-or_true : (a b : Bool) → b ≡ true → (a || b) ≡ true
+pub or_true : (a b : Bool) → b ≡ true → (a || b) ≡ true
 or_true true b e = refl
 or_true false b e = e
 
@@ -26,7 +26,7 @@ or_assoc : (a b c : Bool) → ((a || b) || c) ≡ (a || (b || c))
 or_assoc true b c = refl
 or_assoc false b c = refl
 
-has_append : (g : ℕ) (xs ys : List Input) → has_control g (xs ++ ys) ≡ (has_control g xs || has_control g ys)
+pub has_append : (g : ℕ) (xs ys : List Input) → has_control g (xs ++ ys) ≡ (has_control g xs || has_control g ys)
 has_append g [] ys = refl
 has_append g (Asked by ask ∷ xs) ys = has_append g xs ys
 has_append g (Steered control ∷ xs) ys = ap (λ b. is_control_of g control || b) (has_append g xs ys) ∙ sym (or_assoc (is_control_of g control) (has_control g xs) (has_control g ys))

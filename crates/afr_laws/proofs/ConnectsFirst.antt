@@ -51,19 +51,19 @@ module _ (m : State) where
   taken_link k Opened j g = inl refl
   taken_link k (Connected graph) j g = inl refl
 
-  front_link : (k : ℕ) (os : List Output) (j g : ℕ) → IsSameOrClosed (m.links j g) ((take_in_front m k os).links j g)
+  pub front_link : (k : ℕ) (os : List Output) (j g : ℕ) → IsSameOrClosed (m.links j g) ((take_in_front m k os).links j g)
   front_link k [] j g = inl refl
   front_link k (o ∷ os) j g = taken_link k o j g
 
 -- a connection that is cut is closed
-cut_closed : (m : State) (k g : ℕ) → ((without_links m k (λ other. other == g)).links k g).is_open ≡ false
+pub cut_closed : (m : State) (k g : ℕ) → ((without_links m k (λ other. other == g)).links k g).is_open ≡ false
 cut_closed m k g =
     ap (λ (f : ℕ → Link). (f g).is_open) (at_same m.links k (λ h. if h == g then closed (m.links k h) else m.links k h))
     ∙ ap (λ b. (if b then closed (m.links k g) else m.links k g).is_open) (eq-eqb g g refl)
 
 -- ---- the inputs that are taken
 
-no_control : (g : ℕ) (by : Sender) (asks : List Ask) → has_control g (inputs_of by asks) ≡ false
+pub no_control : (g : ℕ) (by : Sender) (asks : List Ask) → has_control g (inputs_of by asks) ≡ false
 no_control g by [] = refl
 no_control g by (a ∷ rest) = no_control g by rest
 
@@ -71,11 +71,12 @@ ordered_inputs : (g : ℕ) (link : Link) (by : Sender) (asks : List Ask) → (by
 ordered_inputs g link by [] current = tt
 ordered_inputs g link by (a ∷ rest) current = (λ of. current of ∙ ap not (sym (no_control g by rest)), ordered_inputs g link by rest current)
 
-alone_control : (g : ℕ) (control : Control) → IsSentAlone control → is_control_of g control ≡ false
-alone_control g (Control.Down late) h = refl
-alone_control g Control.Up h = refl
-alone_control g (Control.Connect other) h = absurd h
-alone_control g (Control.Disconnect other) h = absurd h
+-- of a graph with an open connection no control goes alone
+pub alone_control : (m : State) (k g : ℕ) (control : Control) → (m.links k g).is_open ≡ true → IsSentAlone m k control → is_control_of g control ≡ false
+alone_control m k g (Control.Down late) is_open h = refl
+alone_control m k g Control.Up is_open h = refl
+alone_control m k g (Control.Connect other) is_open h = absurd h
+alone_control m k g (Control.Disconnect other) is_open h = ne_eqb other g (λ e. absurd (let no : true ≡ false = sym is_open ∙ ap (λ n. (m.links k n).is_open) (sym e) ∙ h in cc))
 
 module _ (size : Size) (m : State) (c : ConnectsComeFirst m) (j g : ℕ) where
   -- the connection stays open, and what the brick takes has no control of the graph
@@ -148,7 +149,7 @@ module _ (size : Size) (m : State) (k g : ℕ) (numbered : AreNumbered m) (c : C
 step_connects : (size : Size) (m : State) (step : Step) → AreNumbered m → Allowed size m step → ConnectsComeFirst m → ConnectsComeFirst (after size m step)
 step_connects size m (Step.Turns t turn) numbered h c j g is_open = first_or_closed size m c j g (Step.Turns t turn) h (inl (ap (λ (f : ℕ → ℕ → Link). f j g) (turn_links m size t turn))) is_open (λ was inputs taken. absurd taken)
 step_connects size m (Step.Asks t k first asked) numbered h c j g is_open = first_or_closed size m c j g (Step.Asks t k first asked) h (inl refl) is_open (ask_inputs size m c j g t k first asked)
-step_connects size m (Step.Controls k steering) numbered h c j g is_open = first_or_closed size m c j g (Step.Controls k steering) h (inl refl) is_open (λ was inputs taken. control_inputs size m c j g steering (alone_control g steering h.1) inputs taken.1)
+step_connects size m (Step.Controls k steering) numbered h c j g is_open = first_or_closed size m c j g (Step.Controls k steering) h (inl refl) is_open (λ was inputs taken. control_inputs size m c j g steering (alone_control m k g steering (subst (λ n. (m.links n g).is_open ≡ true) taken.0 was) h.1) inputs taken.1)
 step_connects size m (Step.HandsIn k) numbered h c j g is_open = first_or_closed size m c j g (Step.HandsIn k) h (front_link (without_first_output m k) k (m.bricks k).outputs j g) is_open (λ was inputs taken. absurd taken)
 step_connects size m (Step.Connects k h) numbered a c j g is_open = opens_first size m k h numbered c a j g is_open
 step_connects size m (Step.Cuts k h) numbered a c j g is_open =

@@ -1,37 +1,32 @@
 -- The numbers of changes that transactions name were drawn, over every list of steps.
 use Rattle.std.proofs.Common.{◌≡◌, ◌∙◌, ℕ, ◌+◌, ◌≤◌, ◌<◌, Bool, true, false, refl, sym, ap, subst, ◌⊎◌, inl, inr, arith, Option, Some, None}
-use Rattle.std.specs.Prelude.{if◌then◌else◌, List, [], ◌∷◌, ◌||◌, ◌&&◌, ◌==◌, ◌≢◌, not}
-use Rattle.std.proofs.lemmas.Bool.{cases_eq, cases_lt}
-use Rattle.fop_types.specs.declared.cells.Cell.{Cell}
+use Rattle.std.specs.Prelude.{if◌then◌else◌, List, [], ◌∷◌, ◌==◌}
+use Rattle.std.proofs.lemmas.Bool.{cases_lt}
 use Rattle.fop_types.specs.declared.jobs.Job.{Job}
 use Rattle.fop_types.specs.declared.jobs.Job.TheVariants as job
 use Rattle.afr_machine.specs.Replicas.{Size, Replicas, with_at}
-use Rattle.afr_machine.specs.Copies.{Fetched}
-use Rattle.afr_machine.specs.Requests.{Sender, Ask, Answer, Output}
-use Rattle.afr_machine.specs.Requests.Ask.{Lock, Unlock, Mark, Op, Post, Fetch, Replace, Clear, Settle, Index, Open, Release, OpenFirst}
-use Rattle.afr_machine.specs.Requests.Answer.{Rows, Content}
+use Rattle.afr_machine.specs.Requests.{Ask, Answer, Output}
 use Rattle.afr_machine.specs.Requests.Output.{Answered, Closed, Opened, Connected}
-use Rattle.afr_machine.specs.Changes.{Change, Verdict, is_unsettled, touches}
-use Rattle.afr_machine.specs.Changes.Verdict.{Undrawn, Adopted, Dropped}
-use Rattle.afr_machine.specs.Transactions.{Work, CopyRun, Stage, Txn, new_txn}
+use Rattle.afr_machine.specs.Changes.{Change, is_unsettled}
+use Rattle.afr_machine.specs.Changes.Verdict.{Undrawn}
+use Rattle.afr_machine.specs.Transactions.{Work, Stage, Txn}
 use Rattle.afr_machine.specs.Transactions.Work.{Own, Settles}
 use Rattle.afr_machine.specs.Transactions.Stage.{Over, Choosing, Locking, Locked, Marking, Applying, Posting, Settling, Bearing, Copying, Polling, Unlocking}
-use Rattle.afr_machine.specs.States.{State, start, is_current}
-use Rattle.afr_machine.specs.Answering.{is_wanted, passed, missing, granting, having, fetching, replacing, taking, hearing, landed, at_rest, awaits, applied_by, cleared_for, noting, noted, answered, opened_first, forgetting, replied, taken_in, without_first_output}
-use Rattle.afr_machine.specs.Turns.{Turn, MayLockFor, MayTurn, after_turn, locking_for, skipping, drawing, posting, settling, bearing, clearing, entering}
+use Rattle.afr_machine.specs.States.{State, is_current}
+use Rattle.afr_machine.specs.Answering.{passed, landed, at_rest, forgetting, replied, taken_in, without_first_output}
+use Rattle.afr_machine.specs.Turns.{Turn, MayLockFor, MayTurn, after_turn, locking_for, skipping, drawing, posting, settling, bearing, clearing}
 use Rattle.afr_machine.specs.Steps.{Step, Allowed, after, IsReached, take_in_front, unsettling, deciding, decided, decided_by}
-use Rattle.afr_machine.proofs.Tables.{at_same, at_other}
+use Rattle.afr_machine.proofs.Tables.{at_other}
 use Rattle.afr_machine.proofs.Keeping.{replied_beside}
 use Rattle.afr_laws.specs.Waiting.{IsCopying}
 use Rattle.afr_laws.specs.Drawn.{change_in, change_of, NamesDrawn, ChangesAreDrawn}
 use Rattle.afr_laws.proofs.Bools.{both_left}
 use Rattle.afr_laws.proofs.Carry.{at_case}
-use Rattle.afr_laws.proofs.Heard.{Heard, IsReplied, replied_txns}
+use Rattle.afr_laws.proofs.Heard.{Heard, replied_txns}
 use Rattle.afr_laws.proofs.Heard.Heard.{Took, Passed, OpenDone, OpenMissed}
 use Rattle.afr_laws.proofs.Stages.{StageGoes, hearing_stage}
 use Rattle.afr_laws.proofs.Stages.StageGoes.{StaysIn, PassesOn, CopiesOn}
-use Rattle.afr_laws.proofs.Waiting.{turn_others}
-use Rattle.afr_laws.proofs.Goes.{decided_txns}
+use Rattle.afr_laws.proofs.OwnChanges.Replies.{replied_table, hearing_task}
 
 -- ---- replies
 
@@ -58,34 +53,6 @@ goes_drawn drawn old new (StaysIn is) h = omega (arith, ap change_in is, h)
 goes_drawn drawn old new (PassesOn is) h = omega (arith, ap change_in is, passed_change old, h)
 goes_drawn drawn old new (CopiesOn c d) h = omega (arith, copying_none new d)
 
-fetching_work : (x : Txn) (stage : Stage) (cell : Cell) (found : Fetched) → (fetching x stage cell found).work ≡ x.work
-fetching_work x (Copying run) cell found = refl
-fetching_work x other cell found = refl
-
-having_work : (x : Txn) (cell : Cell) (answer : Answer) → (having x cell answer).work ≡ x.work
-having_work x cell (Content found) = fetching_work x x.stage cell found
-having_work x cell other = refl
-
-granting_work : (x : Txn) (k c : ℕ) (shared : Bool) (cells : List Cell) (answer : Answer) → (granting x k c shared cells answer).work ≡ x.work
-granting_work x k c shared cells (Rows rows) = refl
-granting_work x k c shared cells other = refl
-
-replacing_work : (x : Txn) (stage : Stage) (k : ℕ) (cell : Cell) → (replacing x stage k cell).work ≡ x.work
-replacing_work x (Copying run) k cell = refl
-replacing_work x other k cell = refl
-
-taking_work : (x : Txn) (k c : ℕ) (ask : Ask) (answer : Answer) → (taking x k c ask answer).work ≡ x.work
-taking_work x k c (Lock shared cells) answer = granting_work x k c shared cells answer
-taking_work x k c (Fetch cell) answer = having_work x cell answer
-taking_work x k c (Replace cell found) answer = replacing_work x x.stage k cell
-taking_work x k c other answer = refl
-
-hearing_work : (x : Txn) (k c : ℕ) (ask : Ask) (answer : Answer) → (hearing x k c ask answer).work ≡ x.work
-hearing_work x k c ask answer = by_case (is_wanted ask answer) where
-  by_case : (b : Bool) → (if b then taking x k c ask answer else missing x k).work ≡ x.work
-  by_case true = taking_work x k c ask answer
-  by_case false = refl
-
 same_names : (drawn : ℕ) (x y z : Txn) → y ≡ z → z.stage ≡ x.stage → z.work ≡ x.work → NamesDrawn drawn x → NamesDrawn drawn y
 same_names drawn x y z is stage work n = record {
   stage = omega (arith, ap (λ (w : Txn). change_in w.stage) is, ap change_in stage, n.stage);
@@ -95,50 +62,11 @@ same_names drawn x y z is stage work n = record {
 heard_drawn : (drawn : ℕ) (x y : Txn) (k c : ℕ) (ask : Ask) (answer : Answer) → Heard x y k c ask answer → NamesDrawn drawn x → NamesDrawn drawn y
 heard_drawn drawn x y k c ask answer (Took plain waits same is) n = record {
   stage = goes_drawn drawn x.stage y.stage (subst (λ (z : Txn). StageGoes x.stage z.stage) (sym is) (hearing_stage (at_rest x k) k c ask answer)) n.stage;
-  work = omega (arith, ap (λ (w : Txn). change_of w.work) is, ap change_of (hearing_work (at_rest x k) k c ask answer), n.work);
+  work = omega (arith, ap (λ (w : Txn). change_of w.work) is, ap change_of (hearing_task (at_rest x k) k c ask answer).work, n.work);
 }
 heard_drawn drawn x y k c ask answer (Passed plain passes is) n = same_names drawn x y (landed x k) is refl refl n
 heard_drawn drawn x y k c ask answer (OpenDone opens is) n = same_names drawn x y (landed x k) is refl refl n
 heard_drawn drawn x y k c ask answer (OpenMissed opens is) n = same_names drawn x y (record (landed x k) { waits = with_at x.waits k false; out = with_at x.out k true }) is refl refl n
-
--- a reply leaves every verdict
-applied_verdict : (m : State) (stage : Stage) (k u : ℕ) → ((applied_by m stage k).changes u).verdict ≡ (m.changes u).verdict
-applied_verdict m (Applying v) k u = at_case (λ n (c : Change). c.verdict ≡ (m.changes n).verdict) m.changes v (record (m.changes v) { done = with_at (m.changes v).done k true }) refl u (λ ne. refl)
-applied_verdict m other k u = refl
-
-cleared_verdict : (m : State) (x : Txn) (stage : Stage) (k u : ℕ) → ((cleared_for m x stage k).changes u).verdict ≡ (m.changes u).verdict
-cleared_verdict m x (Copying run) k u = refl
-cleared_verdict m x other k u = refl
-
-noting_verdict : (m : State) (x : Txn) (k : ℕ) (ask : Ask) (u : ℕ) → ((noting m x k ask).changes u).verdict ≡ (m.changes u).verdict
-noting_verdict m x k (Op change op) u = applied_verdict m x.stage k u
-noting_verdict m x k (Clear cells who) u = cleared_verdict m x x.stage k u
-noting_verdict m x k other u = refl
-
-answered_verdict : (m : State) (k : ℕ) (by : Sender) (ask : Ask) (answer : Answer) (u : ℕ) → ((answered m k by ask answer).changes u).verdict ≡ (m.changes u).verdict
-answered_verdict m k by ask answer u = by_case (awaits (m.txns by.txn) k) (is_wanted ask answer) refl where
-  wanted : (c : Bool) → ((if c then noting m (m.txns by.txn) k ask else m).changes u).verdict ≡ (m.changes u).verdict
-  wanted true = noting_verdict m (m.txns by.txn) k ask u
-  wanted false = refl
-
-  by_case : (b c : Bool) → awaits (m.txns by.txn) k ≡ b → ((answered m k by ask answer).changes u).verdict ≡ (m.changes u).verdict
-  by_case true c e = rw e (wanted (is_wanted ask answer))
-  by_case false c e = rw e refl
-
-replied_verdict : (m : State) (k : ℕ) (by : Sender) (ask : Ask) (answer : Answer) (u : ℕ) → ((replied m k by ask answer).changes u).verdict ≡ (m.changes u).verdict
-replied_verdict m k by OpenFirst answer u = refl
-replied_verdict m k by (Lock shared cells) answer u = answered_verdict m k by (Lock shared cells) answer u
-replied_verdict m k by Unlock answer u = answered_verdict m k by Unlock answer u
-replied_verdict m k by (Mark change cells) answer u = answered_verdict m k by (Mark change cells) answer u
-replied_verdict m k by (Op change op) answer u = answered_verdict m k by (Op change op) answer u
-replied_verdict m k by (Post change cells accused) answer u = answered_verdict m k by (Post change cells accused) answer u
-replied_verdict m k by (Fetch cell) answer u = answered_verdict m k by (Fetch cell) answer u
-replied_verdict m k by (Replace cell found) answer u = answered_verdict m k by (Replace cell found) answer u
-replied_verdict m k by (Clear cells who) answer u = answered_verdict m k by (Clear cells who) answer u
-replied_verdict m k by (Settle change cells accused) answer u = answered_verdict m k by (Settle change cells accused) answer u
-replied_verdict m k by Index answer u = answered_verdict m k by Index answer u
-replied_verdict m k by Open answer u = answered_verdict m k by Open answer u
-replied_verdict m k by Release answer u = answered_verdict m k by Release answer u
 
 -- ---- states where the numbers drawn are the same
 
@@ -155,7 +83,7 @@ module _ (m : State) (d : ChangesAreDrawn m) where
     reply = let p = replied_txns m k by ask answer in record {
       names = λ i. subst (λ n. NamesDrawn n ((replied m k by ask answer).txns i)) (sym (replied_beside m k by ask answer).drawn) (subst (λ (f : ℕ → Txn). NamesDrawn m.drawn (f i)) (sym p.is)
           (at_case (λ n y. NamesDrawn m.drawn y) m.txns by.txn p.after (heard_drawn m.drawn (m.txns by.txn) p.after k by.connection ask answer p.heard (d.names by.txn)) i (λ ne. d.names i)));
-      beyond = λ u far. replied_verdict m k by ask answer u ∙ d.beyond u (omega (arith, (replied_beside m k by ask answer).drawn));
+      beyond = λ u far. (replied_table m k by ask answer u).verdict ∙ d.beyond u (omega (arith, (replied_beside m k by ask answer).drawn));
     }
 
     by_case : (b : Bool) → ChangesAreDrawn (if b then replied m k by ask answer else m)
@@ -256,6 +184,7 @@ step_drawn size m (Step.HandsIn k) h d = front_drawn (without_first_output m k) 
 step_drawn size m (Step.Bails t k) h d = record { names = same_bound m d t _ (record { stage = omega (arith, passed_change (m.txns t).stage, (d.names t).stage); work = (d.names t).work }); beyond = d.beyond }
 step_drawn size m (Step.Misses t k) h d = record { names = same_bound m d t _ (record { stage = (d.names t).stage; work = (d.names t).work }); beyond = d.beyond }
 step_drawn size m (Step.Cuts k g) h d = record { names = forgotten m d (λ other. other == g) k; beyond = d.beyond }
+step_drawn size m (Step.Draws number) h d = record { names = λ t. record { stage = omega (arith, h, (d.names t).stage); work = omega (arith, h, (d.names t).work) }; beyond = λ u far. d.beyond u (omega (arith, h)) }
 step_drawn size m (Step.Unsettles t) h d = unsettled_names m d t (m.txns t).stage refl
 step_drawn size m (Step.Decides t) h d = decision_names m d (decided_by (m.txns t).stage)
 step_drawn size m other h d = record { names = d.names; beyond = d.beyond }

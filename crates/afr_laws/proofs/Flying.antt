@@ -152,6 +152,7 @@ step_flies size m (Step.Misses t k) numbered h f = misses_flies m f t k size
 step_flies size m (Step.Connects k g) numbered h f =
     controls_flies (with_link m k g (record { last = (m.links k g).last + 1; is_open = true })) (record { known = linked_knows m k g h.1 numbered f.known f.few; few = linked_few m k g h.1 numbered f.known f.few }) k (Control.Connect g)
 step_flies size m (Step.Cuts k g) numbered h f = controls_flies (without_links m k (λ other. other == g)) (unlinks_flies m f k (λ other. other == g)) k (Control.Disconnect g)
+step_flies size m (Step.Draws number) numbered h f = record { known = f.known; few = f.few }
 step_flies size m (Step.Unsettles t) numbered h f = unsettles_flies m f t (m.txns t).stage refl
 step_flies size m (Step.Decides t) numbered h f = let d = decided_by (m.txns t).stage in carries m f (decided m d) (decided_bricks m d) (decided_links m d) (same_txns m f (decided m d) (decided_txns m d))
 

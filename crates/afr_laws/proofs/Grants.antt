@@ -52,7 +52,7 @@ pub record Rests (size : Size) (m : State) : Type 0 where
   pub fit : EachWaitsFit size m
   pub grants : GrantsAreHeld m
 
-drops_unlock : (ask : Ask) (by : Sender) (lock : BrickLock) → drops ask by lock ≡ true → (ask ≡ Unlock) × (by.txn ≡ lock.by.txn)
+pub drops_unlock : (ask : Ask) (by : Sender) (lock : BrickLock) → drops ask by lock ≡ true → (ask ≡ Unlock) × (by.txn ≡ lock.by.txn)
 drops_unlock Unlock by lock h = (refl, sym (eqb-true lock.by.txn by.txn h))
 drops_unlock other by lock h = absurd cc
 
@@ -151,13 +151,13 @@ module _ (size : Size) (m : State) (r : Rests size m) (k : ℕ) where
       by_case (inr kept) = served_holds lock (record (m.bricks k) { line = rest }) held (m.bricks k).power by ask kept
       by_case (inl dropped) = late (drops_unlock ask by lock dropped) (is_or_not (is_current (m.links k by.graph) by.connection))
 
-    handed_stop : (t : ℕ) → is_unlocking (m.txns t).stage ≡ false → ask ≡ Unlock → by.txn ≡ t → is_current (m.links k by.graph) by.connection ≡ true → ⊥
+    pub handed_stop : (t : ℕ) → is_unlocking (m.txns t).stage ≡ false → ask ≡ Unlock → by.txn ≡ t → is_current (m.links k by.graph) by.connection ≡ true → ⊥
     handed_stop t ul is same cur =
         let c : is_current (m.links k (m.txns by.txn).graph) by.connection ≡ true = subst (λ g. is_current (m.links k g) by.connection ≡ true) (front_sender by ask rest front).graph cur in
         let s : is_unlocking (m.txns t).stage ≡ true = ap is_unlocking (ap (λ n. (m.txns n).stage) (sym same) ∙ unlock_stage is c) in
         absurd (let never : true ≡ false = sym s ∙ ul in cc)
 
-    coming_stop : (lock : BrickLock) → GrantedIn lock (m.bricks k).outputs → is_current (m.links k lock.by.graph) lock.by.connection ≡ true → ask ≡ Unlock → by.txn ≡ lock.by.txn → is_current (m.links k by.graph) by.connection ≡ true → ⊥
+    pub coming_stop : (lock : BrickLock) → GrantedIn lock (m.bricks k).outputs → is_current (m.links k lock.by.graph) lock.by.connection ≡ true → ask ≡ Unlock → by.txn ≡ lock.by.txn → is_current (m.links k by.graph) by.connection ≡ true → ⊥
     coming_stop lock i lock_cur is same cur =
         let mine = is_mine by.txn (m.links k (m.txns by.txn).graph) in
         let c : is_current (m.links k (m.txns by.txn).graph) by.connection ≡ true = subst (λ g. is_current (m.links k g) by.connection ≡ true) (front_sender by ask rest front).graph cur in
@@ -408,6 +408,7 @@ step_grants size m r (Step.Misses t k) h =
     (λ i. at_case (λ n y. GrantsTurn (m.txns n) y) m.txns t _ (KeepsGrants refl (λ u. u) (λ u. u)) i (λ ne. same_grants (m.txns i)))
 step_grants size m r (Step.Connects k g) h = connect_grants size m r k g
 step_grants size m r (Step.Cuts k g) h = cut_grants size m r k g
+step_grants size m r (Step.Draws number) h = record { handed = λ t k grant is. let s = r.grants.handed t k grant is in record { numbered = s.numbered; held = s.held }; coming = r.grants.coming; none = r.grants.none }
 step_grants size m r (Step.Unsettles t) h = unsettle_grants size m r t (m.txns t).stage refl
 step_grants size m r (Step.Decides t) h = let d = decided_by (m.txns t).stage in as_it_was size m r (decided m d) (decided_txns m d) (leaves_all size m r (decided m d) (decided_bricks m d) (decided_links m d))
 

@@ -16,7 +16,7 @@ use Rattle.afr_laws.specs.Grants.{IsAmong, has_closed, IsHeldBy, lock_granted, O
 
 -- ---- lists
 
-among_left : (lock : BrickLock) (xs ys : List BrickLock) → IsAmong lock xs → IsAmong lock (xs ++ ys)
+pub among_left : (lock : BrickLock) (xs ys : List BrickLock) → IsAmong lock xs → IsAmong lock (xs ++ ys)
 among_left lock [] ys h = absurd h
 among_left lock (x ∷ xs) ys (inl h) = inl h
 among_left lock (x ∷ xs) ys (inr h) = inr (among_left lock xs ys h)
@@ -25,7 +25,7 @@ pub among_last : (lock : BrickLock) (xs : List BrickLock) → IsAmong lock (xs +
 among_last lock [] = inl refl
 among_last lock (x ∷ xs) = inr (among_last lock xs)
 
-among_those : (passes : BrickLock → Bool) (lock : BrickLock) (xs : List BrickLock) → passes lock ≡ true → IsAmong lock xs → IsAmong lock (those passes xs)
+pub among_those : (passes : BrickLock → Bool) (lock : BrickLock) (xs : List BrickLock) → passes lock ≡ true → IsAmong lock xs → IsAmong lock (those passes xs)
 among_those passes lock [] p h = absurd h
 among_those passes lock (x ∷ xs) p (inl h) = subst (λ b. IsAmong lock (if b then x ∷ those passes xs else those passes xs)) (sym (ap passes (sym h) ∙ p)) (inl h)
 among_those passes lock (x ∷ xs) p (inr h) = by_case (passes x) (among_those passes lock xs p h) where
@@ -33,7 +33,7 @@ among_those passes lock (x ∷ xs) p (inr h) = by_case (passes x) (among_those p
   by_case true rest = inr rest
   by_case false rest = rest
 
-among_queue : (lock : BrickLock) (held still ws : List BrickLock) → IsAmong lock held → IsAmong lock (granted_in_order held still ws).held
+pub among_queue : (lock : BrickLock) (held still ws : List BrickLock) → IsAmong lock held → IsAmong lock (granted_in_order held still ws).held
 among_queue lock held still [] h = h
 among_queue lock held still (l ∷ ls) h = by_case (conflicts_among (held ++ still) l) (among_queue lock held (still ++ l ∷ []) ls h) (among_queue lock (held ++ l ∷ []) still ls (among_left lock held (l ∷ []) h)) where
   by_case : (b : Bool) → IsAmong lock (granted_in_order held (still ++ l ∷ []) ls).held → IsAmong lock (granted_in_order (held ++ l ∷ []) still ls).held →

@@ -23,6 +23,16 @@ pub mod Unlocks
 pub mod GrantTurns
 pub mod Grants
 pub mod GrantSteps
+pub mod Sharing
 pub mod Apart
+pub mod Covered
+pub mod Alone
 pub mod Drawn
+pub mod OwnChanges
+pub mod Newest
+pub mod Copies
+pub mod Asking
+pub mod Fresh
+pub mod Births
+pub mod Whole
 pub mod Guarded

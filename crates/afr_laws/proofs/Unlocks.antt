@@ -43,7 +43,7 @@ or_false : (a : Bool) → (a || false) ≡ a
 or_false true = refl
 or_false false = refl
 
-unlock_right : (xs ys : List Ask) → any_unlock ys ≡ true → any_unlock (xs ++ ys) ≡ true
+pub unlock_right : (xs ys : List Ask) → any_unlock ys ≡ true → any_unlock (xs ++ ys) ≡ true
 unlock_right [] ys e = e
 unlock_right (x ∷ xs) ys e = or_right_true (is_unlock x) (any_unlock (xs ++ ys)) (unlock_right xs ys e)
 
@@ -54,12 +54,12 @@ lock_left (x ∷ xs) ys e = by_case (is_lock x) (lock_left xs ys) e where
   by_case true rest h = refl
   by_case false rest h = rest h
 
-unlock_is : (ask : Ask) → is_unlock ask ≡ true → ask ≡ Unlock
+pub unlock_is : (ask : Ask) → is_unlock ask ≡ true → ask ≡ Unlock
 unlock_is Unlock e = refl
 unlock_is (Lock shared cells) e = absurd cc
 unlock_is other e = absurd cc
 
-fd_no_unlock : (ask : Ask) → carries_fd ask ≡ true → is_unlock ask ≡ false
+pub fd_no_unlock : (ask : Ask) → carries_fd ask ≡ true → is_unlock ask ≡ false
 fd_no_unlock Unlock e = absurd cc
 fd_no_unlock other e = refl
 

@@ -127,7 +127,7 @@ copies_fit Release old new k c d h = absurd h
 copies_fit OpenFirst old new k c d h = absurd h
 
 -- where two bricks may have an answer missing, no lock is asked
-passed_stays : (stage : Stage) (j k : ℕ) → j ≢ k → MayWait stage j → MayWait stage k → passed stage ≡ stage
+pub passed_stays : (stage : Stage) (j k : ℕ) → j ≢ k → MayWait stage j → MayWait stage k → passed stage ≡ stage
 passed_stays (Locking cells shared next) j k ne a b = absurd (ne (a ∙ sym b))
 passed_stays Over j k ne a b = refl
 passed_stays Choosing j k ne a b = refl
@@ -192,7 +192,7 @@ abbrev pub is_confirming : Turn → Bool
 is_confirming Turn.Confirms = true
 is_confirming other = false
 
-not_answered : (size : Size) (x : Txn) (k : ℕ) → IsAnswered size x → x.waits k ≡ true → WaitsFor size x k → ⊥
+pub not_answered : (size : Size) (x : Txn) (k : ℕ) → IsAnswered size x → x.waits k ≡ true → WaitsFor size x k → ⊥
 not_answered size x k a is w = absurd (let same : true ≡ false = sym is ∙ a.waits k w.replica in cc)
 
 not_choosing : (size : Size) (x : Txn) (k : ℕ) → x.stage ≡ Choosing → WaitsFor size x k → ⊥
@@ -203,7 +203,7 @@ locks_idle size m t Own k h w = not_choosing size (m.txns t) k h.turn w
 locks_idle size m t (Settles u) k h w = not_choosing size (m.txns t) k h.turn w
 
 -- no answer is missing where a transaction turns
-turn_idle : (size : Size) (m : State) (t : ℕ) (turn : Turn) (k : ℕ) → MayTurn size m t turn → is_beginning turn ≡ false → is_confirming turn ≡ false → (m.txns t).waits k ≡ true → WaitsFor size (m.txns t) k → ⊥
+pub turn_idle : (size : Size) (m : State) (t : ℕ) (turn : Turn) (k : ℕ) → MayTurn size m t turn → is_beginning turn ≡ false → is_confirming turn ≡ false → (m.txns t).waits k ≡ true → WaitsFor size (m.txns t) k → ⊥
 turn_idle size m t (Turn.Begins graph own) k h b c is w = absurd cc
 turn_idle size m t Turn.Confirms k h b c is w = absurd cc
 turn_idle size m t (Turn.LocksFor work) k h b c is w = locks_idle size m t work k h w

@@ -1,6 +1,5 @@
 -- The numbers of changes that transactions name were drawn. Ours.
 use Rattle.std.specs.Prelude.{◌≡◌, ◌≤◌, ◌<◌, ℕ}
-use Rattle.afr_machine.specs.Changes.{Verdict}
 use Rattle.afr_machine.specs.Changes.Verdict.{Undrawn}
 use Rattle.afr_machine.specs.Transactions.{Work, Stage, Txn}
 use Rattle.afr_machine.specs.Transactions.Work.{Own, Settles}

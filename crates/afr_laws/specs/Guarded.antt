@@ -9,6 +9,7 @@ use Rattle.afr_laws.specs.Connections.{ConnectsComeFirst}
 use Rattle.afr_laws.specs.Waiting.{EachWaitsFit}
 use Rattle.afr_laws.specs.Grants.{GrantsAreHeld}
 use Rattle.afr_laws.specs.Apart.{GrantsApart}
+use Rattle.afr_laws.specs.Asking.{EachAskIsOfItsPhase, EachAnswerComes}
 use Rattle.afr_laws.specs.Drawn.{ChangesAreDrawn}
 
 -- lines and locks: no majorities, no contents
@@ -19,6 +20,8 @@ pub record KeepsLines (size : Size) (m : State) : Type 0 where
   pub waits_fit : EachWaitsFit size m
   pub grants_held : GrantsAreHeld m
   pub grants_apart : GrantsApart m
+  pub asks_are : EachAskIsOfItsPhase size m
+  pub answers_come : EachAnswerComes m
 
 abbrev pub EveryStateKeepsLines : Type 0
 EveryStateKeepsLines = (size : Size) (m : State) → IsReached size m → KeepsLines size m

@@ -1,6 +1,7 @@
--- In reading order: rows by counts; what holds of every request at a brick; what steps leave of a transaction; numbers of
--- messages; requests on their way; held locks; connections; what is waited for; grants, and grants apart; numbers of
--- changes; all of it together.
+-- In reading order: rows by counts; what holds of every request at a brick; what steps leave of a transaction; numbers
+-- of messages; requests on their way; held locks; connections; what is waited for; grants, and grants apart; requests
+-- that need a lock, and who writes alone; numbers of changes; what exactly is asked; whose a change is; numbers that
+-- rise; copies; what their numbers tell; fresh cells; births; lines and locks together.
 pub mod Rows
 pub mod Senders
 pub mod Txns
@@ -11,5 +12,15 @@ pub mod Connections
 pub mod Waiting
 pub mod Grants
 pub mod Apart
+pub mod Covered
+pub mod Alone
 pub mod Drawn
+pub mod Asking
+pub mod OwnChanges
+pub mod Newest
+pub mod Copies
+pub mod Numbers
+pub mod Fresh
+pub mod OneBirth
+pub mod HeldWhole
 pub mod Guarded

@@ -5,7 +5,8 @@
 //! ```text
 //!   rows by counts        who accuses whom, soundness, quorums
 //!   lines and locks       what is on its way, held locks, connections, grants
-//!   numbers               what was drawn
+//!   numbers               what was drawn, whose it is, what copies and rows say of it
+//!   fresh cells           where no lock phase wrote, nobody is accused and nothing changed
 //! ```
 //!
 //! Each fact is about one brick, one transaction at a brick, or one connection, and has a proof for each
@@ -13,10 +14,16 @@
 //! its contract is a law.
 #![tactic(auto)]
 
+mod cells;
+mod numbers;
 mod rows;
 mod states;
 
+pub use cells::{every_cell_is_born_once, every_cell_is_fresh};
+pub use numbers::{every_state_keeps_numbers, steps_keep_whole};
 pub use rows::{
     accusers_follow, quorums_meet, rows_show_accusers, sound_has_few_accusers, soundness_is_counted,
 };
-pub use states::{every_change_is_drawn, every_state_keeps_lines};
+pub use states::{
+    every_change_is_drawn, every_holder_is_alone, every_state_covers_lines, every_state_keeps_lines,
+};

@@ -48,6 +48,13 @@ impl<C: Ord + Copy> Ledger<C> {
         self.drawn
     }
 
+    /// How many numbers were drawn.
+    pub fn drawn(&self) -> u64
+        ensures { result ≡ self.now.drawn }
+    {
+        self.drawn
+    }
+
     /// Makes a change unsettled. Its number was drawn and is no unsettled change's, and no unsettled change of its
     /// set touches its cells.
     ///

@@ -115,5 +115,6 @@ bricks_move size m (Step.Bails t k) h = λ j. BrickMove.Stays refl
 bricks_move size m (Step.Misses t k) h = λ j. BrickMove.Stays refl
 bricks_move size m (Step.Connects k g) h = takes m k (IsTaken m (Step.Connects k g)) (Steered (Control.Connect g) ∷ []) (refl, refl)
 bricks_move size m (Step.Cuts k g) h = takes m k (IsTaken m (Step.Cuts k g)) (Steered (Control.Disconnect g) ∷ []) (refl, refl)
+bricks_move size m (Step.Draws number) h = λ j. BrickMove.Stays refl
 bricks_move size m (Step.Unsettles t) h = still (IsTaken m (Step.Unsettles t)) m (unsettling m t (m.txns t).stage) (unsettling_bricks m t (m.txns t).stage)
 bricks_move size m (Step.Decides t) h = still (IsTaken m (Step.Decides t)) m (decided m (decided_by (m.txns t).stage)) (decided_bricks m (decided_by (m.txns t).stage))

@@ -1,7 +1,7 @@
 -- What the front of a brick's output line makes of the hub's side: a reply on the open connection goes to its
 -- transaction, a Closed ends every connection to the brick; a reply on another connection is late and changes nothing.
 -- Ours, after protocol/client.
-use Rattle.std.specs.Prelude.{ℕ, ◌+◌, ◌==◌, Bool, true, false, ◌&&◌, ◌||◌, List, [], ◌∷◌, Option, Some, None, if◌then◌else◌}
+use Rattle.std.specs.Prelude.{ℕ, ◌+◌, ◌==◌, Bool, true, false, ◌&&◌, ◌||◌, List, [], ◌∷◌, Option, Some, None, is_none, if◌then◌else◌}
 use Rattle.fop_types.specs.declared.cells.Cell.{Cell}
 use Rattle.afr_machine.specs.Replicas.{Replicas, with_at}
 use Rattle.afr_machine.specs.Touching.{has_cell}
@@ -99,9 +99,13 @@ with_fetched table cell found other = if has_cell (cell ∷ []) other then Some 
 abbrev pub with_replaced : (ℕ → Cell → Bool) → ℕ → Cell → ℕ → Cell → Bool
 with_replaced table k cell i other = (i == k && has_cell (cell ∷ []) other) || table i other
 
+-- the content that came first stays
+abbrev pub with_first : (Cell → Option Fetched) → Cell → Fetched → Cell → Option Fetched
+with_first table cell found other = if has_cell (cell ∷ []) other && is_none (table other) then Some found else table other
+
 -- a copy keeps the content for its sinks, a read for its reply
 abbrev pub fetching : Txn → Stage → Cell → Fetched → Txn
-fetching x (Copying run) cell found = record x { stage = Copying (record run { fetched = with_fetched run.fetched cell found }) }
+fetching x (Copying run) cell found = record x { stage = Copying (record run { fetched = with_first run.fetched cell found }) }
 fetching x other cell found = record x { shown = with_fetched x.shown cell found }
 
 abbrev pub having : Txn → Cell → Answer → Txn
@@ -136,7 +140,7 @@ taking x k connection OpenFirst answer = x
 abbrev pub hearing : Txn → ℕ → ℕ → Ask → Answer → Txn
 hearing x k connection ask answer = if is_wanted ask answer then taking x k connection ask answer else missing x k
 
--- ---- what else is noted: who applied a change, and who confirmed a clear
+-- ---- what else is noted: who applied a change, who confirmed a post or settle, and who a clear
 
 abbrev pub applied_by : State → Stage → ℕ → State
 applied_by m (Applying u) k = let change = m.changes u in with_change m u (record change { done = with_at change.done k true })
@@ -150,16 +154,19 @@ abbrev pub cleared_for : State → Txn → Stage → ℕ → State
 cleared_for m x (Copying run) k = let phase = m.phases x.phase in with_phase m x.phase (record phase { cleared = with_cleared phase.cleared run k })
 cleared_for m x other k = m
 
+abbrev pub confirmed_for : State → Txn → ℕ → State
+confirmed_for m x k = let phase = m.phases x.phase in with_phase m x.phase (record phase { confirmed = with_at phase.confirmed k true })
+
 abbrev pub noting : State → Txn → ℕ → Ask → State
 noting m x k (Lock shared cells) = m
 noting m x k Unlock = m
 noting m x k (Mark change cells) = m
 noting m x k (Op change op) = applied_by m x.stage k
-noting m x k (Post change cells accused) = m
+noting m x k (Post change cells accused) = confirmed_for m x k
 noting m x k (Fetch cell) = m
 noting m x k (Replace cell found) = m
 noting m x k (Clear cells who) = cleared_for m x x.stage k
-noting m x k (Settle change cells accused) = m
+noting m x k (Settle change cells accused) = confirmed_for m x k
 noting m x k Index = m
 noting m x k Open = m
 noting m x k Release = m

@@ -8,10 +8,17 @@ use Rattle.afr_machine.specs.Replicas.{Replicas, Size, nobody, count}
 use Rattle.afr_machine.specs.Touching.{has_cell}
 use Rattle.afr_machine.specs.Copies.{nothing_kept, row_of}
 
+-- What a lock phase decides: nothing so far; its own change, which it marked; or an unsettled one, which it settles as
+-- adopted or dropped, by this group.
+pub data Deciding : Type 0 where
+  NoChange : Deciding
+  ByPosts : (change : ℕ) → Deciding
+  BySettles : (change : ℕ) → (group : Replicas) → (adopts : Bool) → Deciding
+
 -- `reached` are the bricks whose lock was granted on a connection that was still open at the end; `untouched` says that
 -- no unsettled change touched the cells then. `cleared i cell` are the bricks that confirmed a clear which named the
--- sink i, whose replacement on the cell was confirmed. `accused` are the replicas that its posts and settles accuse.
--- `wrote` says that a mark, post, settle, replacement or clear was sent.
+-- sink i, whose replacement on the cell was confirmed. `accused` are the replicas that its posts and settles accuse, and
+-- `confirmed` the bricks that confirmed one of these. `wrote` says that a mark, post, settle, replacement or clear was sent.
 pub record Phase : Type 0 where
   pub by : ℕ
   pub cells : List Cell
@@ -20,6 +27,8 @@ pub record Phase : Type 0 where
   pub untouched : Bool
   pub cleared : ℕ → Cell → Replicas
   pub accused : Replicas
+  pub decides : Deciding
+  pub confirmed : Replicas
   pub wrote : Bool
 
 abbrev pub no_phase : Phase
@@ -31,6 +40,8 @@ no_phase = record {
   untouched = false;
   cleared = λ i cell. nobody;
   accused = nobody;
+  decides = NoChange;
+  confirmed = nobody;
   wrote = false;
 }
 

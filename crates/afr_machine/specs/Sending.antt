@@ -1,6 +1,8 @@
 -- What a transaction may send to which brick, and when: by what was handed in to it, and on the connection on which the
 -- brick granted its lock. One guard for each kind of request. After cluster/replicate; exact wording ours.
 use Rattle.std.specs.Prelude.{◌≡◌, ℕ, ◌<◌, ◌⊎◌, Bool, true, false, ◌&&◌, ◌||◌, List, [], ◌∷◌, ◌++◌, Some, None}
+use Rattle.fop_types.specs.StoreOps.{births}
+use Rattle.fop_types.specs.Jobs.{cells_of}
 use Rattle.fop_types.specs.declared.cells.Cell.{Cell}
 use Rattle.fop_types.specs.declared.cells.Gfid.{Gfid}
 use Rattle.fop_types.specs.declared.store_ops.StoreOp.{StoreOp}
@@ -11,11 +13,13 @@ use Rattle.afr_machine.specs.Copies.{Fetched}
 use Rattle.afr_machine.specs.Requests.{Sender, Ask, Input}
 use Rattle.afr_machine.specs.Requests.Ask.{Lock, Unlock, Mark, Op, Post, Fetch, Replace, Clear, Settle, Index, Open, Release, OpenFirst}
 use Rattle.afr_machine.specs.Requests.Input.{Asked}
+use Rattle.afr_machine.specs.Changes.{is_unsettled}
 use Rattle.afr_machine.specs.Phases.{Phase, IsSoundIn}
 use Rattle.afr_machine.specs.Transactions.{Grant, CopyRun, Txn}
 use Rattle.afr_machine.specs.Transactions.Work.{Own}
 use Rattle.afr_machine.specs.Transactions.Stage.{Locking, Locked, Marking, Applying, Posting, Settling, Bearing, Copying, Polling, Unlocking}
 use Rattle.afr_machine.specs.States.{State, is_current, with_txn, with_phase, with_inputs, phase_of, link_of}
+use Rattle.afr_machine.specs.Births.{AreLeftAlone}
 
 -- ---- who may be asked
 
@@ -62,11 +66,13 @@ pub record MayMark (size : Size) (m : State) (t k u : ℕ) (cells : List Cell) :
   pub turn : (m.txns t).stage ≡ Marking u
   pub cells_are : cells ≡ (m.changes u).cells
 
--- the op of a change that is unsettled
+-- the op of a change that is unsettled still; nobody else works on the cells to which it gives birth
 pub record MayApply (size : Size) (m : State) (t k u : ℕ) (op : StoreOp) : Type 0 where
   pub next : IsNext size m t k
   pub turn : (m.txns t).stage ≡ Applying u
   pub op_is : op ≡ (m.changes u).op
+  pub unsettled : is_unsettled (m.changes u).verdict ≡ true
+  pub births_apart : AreLeftAlone m t (cells_of (births op))
 
 -- the op of a birth has the number 0
 pub record MayBear (size : Size) (m : State) (t k u : ℕ) (op : StoreOp) : Type 0 where

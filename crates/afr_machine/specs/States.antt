@@ -25,7 +25,8 @@ is_current link connection = link.is_open && (connection == link.last)
 
 -- `links` go by brick and graph. Transactions, lock phases and changes are numbered from 1, as far as `begun`, `ended`
 -- and `drawn`. `adopted`: the content of each cell that was born, with the adopted changes in order. `firm`: the cells
--- that count as present, whose birth a quorum confirmed or which a change touched.
+-- that count as present, whose birth a quorum confirmed or which a change touched. `born`: the content that the first
+-- birth of each cell gave it, from when that birth was begun.
 pub record State : Type 0 where
   pub bricks : ℕ → Brick
   pub links : ℕ → ℕ → Link
@@ -37,6 +38,7 @@ pub record State : Type 0 where
   pub drawn : ℕ
   pub adopted : Contents
   pub firm : Cell → Bool
+  pub born : Contents
 
 -- every brick begins with the root alone; no graph is connected
 abbrev pub start : State
@@ -51,6 +53,7 @@ start = record {
   drawn = 0;
   adopted = contents_of root_alone;
   firm = has_cell (meta_cell root ∷ names_cell root ∷ []);
+  born = contents_of root_alone;
 }
 
 -- ---- a state with one part changed

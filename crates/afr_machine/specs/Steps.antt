@@ -1,9 +1,9 @@
 -- The steps of one set, each with its guard and with what it makes of the state. Eight kinds: a request is sent, is
 -- served, its reply or the Gone of a bailed wind is handed in, it is given up unserved; a connection is opened or ended,
--- by the hub or at the brick; a change becomes unsettled, is decided. Beside them stand the turns of transactions, which
--- move no message. Ours.
+-- by the hub or at the brick; a change becomes unsettled, is decided. Beside them stand the turns of transactions and the
+-- drawing of numbers for other sets, which move no message. Ours.
 use Rattle.std.specs.Prelude.{◌≡◌, ◌≢◌, ℕ, ◌+◌, ◌==◌, ◌<◌, ◌≤◌, ◌⊎◌, Bool, true, false, List, [], ◌∷◌, Option, Some, None}
-use Rattle.fop_types.specs.StoreOps.{contents_after}
+use Rattle.fop_types.specs.StoreOps.{births, contents_after}
 use Rattle.fop_types.specs.declared.cells.Cell.{Cell}
 use Rattle.afr_machine.specs.Replicas.{Size, count, with_at}
 use Rattle.afr_machine.specs.Touching.{share}
@@ -13,14 +13,17 @@ use Rattle.afr_machine.specs.Requests.Answer.{Done, Rows, Content, Gone, Fault, 
 use Rattle.afr_machine.specs.Bricks.{Brick, popped, serves, served_by, refused, answering, steered}
 use Rattle.afr_machine.specs.Changes.{Verdict, is_unsettled, any_touches}
 use Rattle.afr_machine.specs.Transactions.{Stage, cells_of_job, settles_first, is_over}
-use Rattle.afr_machine.specs.Transactions.Stage.{Marking, Applying, Posting, Settling, Polling}
+pub use Rattle.afr_machine.specs.Transactions.{decided_by}
+use Rattle.afr_machine.specs.Transactions.Stage.{Marking, Applying, Polling, Unlocking}
 use Rattle.afr_machine.specs.States.{State, start, is_current, with_brick, with_link, with_txn, with_change, with_inputs, with_firm, link_of}
+use Rattle.afr_machine.specs.Births.{AreAsFirst, with_births}
 use Rattle.afr_machine.specs.Sending.{MayAsk, carries_fd, after_asking}
 use Rattle.afr_machine.specs.Answering.{missing, taken_in, without_links, without_first_output}
 use Rattle.afr_machine.specs.Turns.{Turn, IsAnswered, entering, open_grants, MayTurn, after_turn}
 
 -- `first`: the request's descriptor is opened first. `Refuses` answers the front otherwise than by serving it, by a
--- fault or by its descriptor. `Steers` serves the control at the front.
+-- fault or by its descriptor. `Steers` serves the control at the front. `Draws`: the numbers up to this one are drawn by
+-- now, those between for changes of other sets.
 pub data Step : Type 0 where
   Turns : (t : ℕ) → (turn : Turn) → Step
   Asks : (t k : ℕ) → (first : Bool) → (asked : Ask) → Step
@@ -36,15 +39,17 @@ pub data Step : Type 0 where
   Cuts : (k g : ℕ) → Step
   Unsettles : (t : ℕ) → Step
   Decides : (t : ℕ) → Step
+  Draws : (number : ℕ) → Step
 
 -- ---- guards
 
--- only these two controls are sent by themselves; the other two go with a connection
-abbrev pub IsSentAlone : Control → Type 0
-IsSentAlone (Control.Down late) = Unit {0}
-IsSentAlone Control.Up = Unit {0}
-IsSentAlone (Control.Connect graph) = ⊥
-IsSentAlone (Control.Disconnect graph) = ⊥
+-- Controls that go by themselves. A Connect goes with the opening of a connection, a Disconnect with the ending of one, or
+-- alone where the graph has none open.
+abbrev pub IsSentAlone : State → ℕ → Control → Type 0
+IsSentAlone m k (Control.Down late) = Unit {0}
+IsSentAlone m k Control.Up = Unit {0}
+IsSentAlone m k (Control.Connect graph) = ⊥
+IsSentAlone m k (Control.Disconnect graph) = (m.links k graph).is_open ≡ false
 
 -- a request is at the front, and this is whether the brick would serve it
 pub record HasRequest (b : Brick) (would : Bool) : Type 0 where
@@ -101,11 +106,13 @@ pub record MayBail (m : State) (t k : ℕ) : Type 0 where
   pub waits : (m.txns t).waits k ≡ true
   pub ended : is_current (link_of m t k) ((m.txns t).asked_on k) ≡ false
 
--- a request of this phase cannot be sent: the brick is out, or the connection of its grant has ended, or none is open
+-- A request of this phase cannot be sent: the brick is out, or the connection of its grant has ended, or none is open. A
+-- lock is released also where the brick is out, while the connection of its grant is open.
 pub record MayMiss (m : State) (t k : ℕ) : Type 0 where
   pub is_left : (m.txns t).left k ≡ true
   pub answered : (m.txns t).waits k ≡ false
   pub lost : ((m.txns t).out k ≡ true) ⊎ ((open_grants m t k ≡ false) × (((m.txns t).stage ≡ Polling) → (link_of m t k).is_open ≡ false))
+  pub released : (m.txns t).stage ≡ Unlocking → open_grants m t k ≡ false
 
 -- no other read or change whose settling has ended has a cell in common
 abbrev pub KeepsApart : State → ℕ → List Cell → Type 0
@@ -113,8 +120,9 @@ KeepsApart m t cells =
     (other : ℕ) → other ≢ t → is_over (m.txns other).stage ≡ false → settles_first (m.txns other).job ≡ true → (m.txns other).settled ≡ true →
     share cells (cells_of_job (m.txns other).job) ≡ false
 
--- A change becomes unsettled once a quorum confirmed its mark: no other unsettled change touches its cells, and no other
--- read or change that has settled rests on them. The last condition is kept by whoever runs the transactions.
+-- A change becomes unsettled once a quorum confirmed its mark: no other unsettled change touches its cells, no other read
+-- or change that has settled rests on them, and its births are as all births of their cells. The last two are kept by
+-- whoever runs the transactions.
 pub record MayUnsettle (size : Size) (m : State) (t : ℕ) : Type 0 where
   pub change : ℕ
   pub turn : (m.txns t).stage ≡ Marking change
@@ -122,12 +130,7 @@ pub record MayUnsettle (size : Size) (m : State) (t : ℕ) : Type 0 where
   pub many : size.quorum ≤ count size.replicas (m.txns t).confirmed
   pub alone : any_touches m.changes m.drawn (m.changes change).cells ≡ false
   pub apart : KeepsApart m t (m.changes change).cells
-
--- what a quorum of confirmations decides, by the stage: posts adopt, settles go by their group
-abbrev pub decided_by : Stage → Option (ℕ × Bool)
-decided_by (Posting change) = Some (change, true)
-decided_by (Settling change group adopts) = Some (change, adopts)
-decided_by other = None
+  pub as_first : AreAsFirst m.born (births (m.changes change).op)
 
 pub record MayDecide (size : Size) (m : State) (t : ℕ) : Type 0 where
   pub change : ℕ
@@ -138,7 +141,7 @@ pub record MayDecide (size : Size) (m : State) (t : ℕ) : Type 0 where
 abbrev pub Allowed : Size → State → Step → Type 0
 Allowed size m (Turns t turn) = MayTurn size m t turn
 Allowed size m (Asks t k first asked) = MayAsk size m t k asked × (first ≡ true → carries_fd asked ≡ true)
-Allowed size m (Controls k steering) = (k < size.replicas) × IsSentAlone steering
+Allowed size m (Controls k steering) = (k < size.replicas) × IsSentAlone m k steering
 Allowed size m (Serves k) = HasRequest (m.bricks k) true
 Allowed size m (Refuses k answer) = MayRefuse (m.bricks k) answer
 Allowed size m (GivesUp k) = HasRequest (m.bricks k) false
@@ -150,6 +153,7 @@ Allowed size m (Connects k g) = (k < size.replicas) × ((m.links k g).is_open �
 Allowed size m (Cuts k g) = (m.links k g).is_open ≡ true
 Allowed size m (Unsettles t) = MayUnsettle size m t
 Allowed size m (Decides t) = MayDecide size m t
+Allowed size m (Draws number) = m.drawn ≤ number
 
 -- ---- what each makes of the state
 
@@ -184,10 +188,11 @@ connecting m k g = with_inputs (with_link m k g (record { last = (m.links k g).l
 abbrev pub unsettling : State → ℕ → Stage → State
 unsettling m t (Marking u) =
     let change = m.changes u in
-    with_firm
+    with_births
+    (with_firm
     (with_change
     (with_txn m t (entering (m.txns t) (Applying u) (m.txns t).confirmed))
-    u (record change { verdict = Verdict.Unsettled })) change.cells
+    u (record change { verdict = Verdict.Unsettled })) change.cells) change.op
 unsettling m t other = m
 
 -- a decision changes what is adopted only the first time, and only where it adopts
@@ -217,6 +222,7 @@ after size m (Connects k g) = connecting m k g
 after size m (Cuts k g) = with_inputs (without_links m k (λ other. other == g)) k (Steered (Control.Disconnect g) ∷ [])
 after size m (Unsettles t) = unsettling m t (m.txns t).stage
 after size m (Decides t) = decided m (decided_by (m.txns t).stage)
+after size m (Draws number) = record m { drawn = number }
 
 -- ---- runs
 

@@ -1,6 +1,6 @@
 -- A transaction of the set: what it does, how far it has come, and what was handed in to it. Ours, after
 -- cluster/replicate.
-use Rattle.std.specs.Prelude.{ℕ, Bool, true, false, List, [], ◌∷◌, Option, None}
+use Rattle.std.specs.Prelude.{ℕ, Bool, true, false, List, [], ◌∷◌, Option, Some, None}
 use Rattle.fop_types.specs.declared.cells.Cell.{Cell}
 use Rattle.fop_types.specs.declared.contents.Row.{Row}
 use Rattle.fop_types.specs.declared.jobs.Job.{Job}
@@ -118,6 +118,27 @@ is_over Bearing = false
 is_over (Copying run) = false
 is_over Polling = false
 is_over Unlocking = false
+
+-- the stages in which locks may be held
+abbrev pub may_hold : Stage → Bool
+may_hold Over = false
+may_hold Choosing = false
+may_hold (Locking cells shared next) = true
+may_hold Locked = true
+may_hold (Marking change) = true
+may_hold (Applying change) = true
+may_hold (Posting change) = true
+may_hold (Settling change group adopts) = true
+may_hold Bearing = true
+may_hold (Copying run) = true
+may_hold Polling = false
+may_hold Unlocking = false
+
+-- what a quorum of confirmations decides, by the stage: posts adopt, settles go by their group
+abbrev pub decided_by : Stage → Option (ℕ × Bool)
+decided_by (Posting change) = Some (change, true)
+decided_by (Settling change group adopts) = Some (change, adopts)
+decided_by other = None
 
 -- a transaction at its beginning
 abbrev pub new_txn : ℕ → Job → Txn

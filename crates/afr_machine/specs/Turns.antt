@@ -15,11 +15,14 @@ use Rattle.afr_machine.specs.Touching.{has_cell}
 use Rattle.afr_machine.specs.Copies.{nothing_kept, row_of}
 use Rattle.afr_machine.specs.Changes.{is_unsettled, touches, any_touches}
 use Rattle.afr_machine.specs.Changes.Verdict.{Drawn}
-use Rattle.afr_machine.specs.Phases.{Phase, IsSoundIn, IsSoundOn, IsReadyIn}
-use Rattle.afr_machine.specs.Transactions.{Work, Grant, CopyRun, Stage, Txn, cells_of_job, locks_shared, settles_first, needs_locks, new_txn}
+use Rattle.afr_machine.specs.Phases.{Phase, Deciding, IsSoundIn, IsSoundOn, IsReadyIn}
+use Rattle.afr_machine.specs.Phases.Deciding.{NoChange, ByPosts, BySettles}
+use Rattle.afr_machine.specs.Transactions.{Work, Grant, CopyRun, Stage, Txn, cells_of_job, locks_shared, settles_first, needs_locks, decided_by, new_txn}
+pub use Rattle.afr_machine.specs.Transactions.{may_hold}
 use Rattle.afr_machine.specs.Transactions.Work.{Own, Settles}
 use Rattle.afr_machine.specs.Transactions.Stage.{Over, Choosing, Locking, Locked, Marking, Applying, Posting, Settling, Bearing, Copying, Polling, Unlocking}
 use Rattle.afr_machine.specs.States.{State, is_current, with_txn, with_change, with_phase, with_firm, phase_of, link_of}
+use Rattle.afr_machine.specs.Births.{AreAsFirst, with_births}
 
 pub data Turn : Type 0 where
   Begins : (graph : ℕ) → (job : Job) → Turn
@@ -162,6 +165,7 @@ pub record MayBearNow (size : Size) (m : State) (t : ℕ) : Type 0 where
   pub turn : (m.txns t).stage ≡ Locked
   pub work_is : (m.txns t).work ≡ Own
   pub answered : IsAnswered size (m.txns t)
+  pub as_first : AreAsFirst m.born (births op)
 
 -- a birth counts once a quorum confirmed it
 pub record MayConfirm (size : Size) (m : State) (t : ℕ) : Type 0 where
@@ -172,6 +176,11 @@ pub record MayConfirm (size : Size) (m : State) (t : ℕ) : Type 0 where
   pub many : size.quorum ≤ count size.replicas (m.txns t).confirmed
 
 -- ---- copies
+
+-- the settling was confirmed by a quorum
+abbrev pub IsConfirmed : Size → Txn → Stage → Type 0
+IsConfirmed size x (Settling change group adopts) = size.quorum ≤ count size.replicas x.confirmed
+IsConfirmed size x other = Unit {0}
 
 -- the decided change whose settling came before, with this group
 abbrev pub FollowsSettling : State → Stage → Replicas → Type 0
@@ -205,6 +214,7 @@ IsSink size phase cells (Some group) i = group i ≡ false
 pub record MayCopyNow (size : Size) (m : State) (t : ℕ) (run : CopyRun) : Type 0 where
   pub answered : IsAnswered size (m.txns t)
   pub allowed : MayCopyAs m t (m.txns t).work run.group
+  pub many : IsConfirmed size (m.txns t) (m.txns t).stage
   pub within : (cell : Cell) → has_cell run.cells cell ≡ true → has_cell (phase_of m t).cells cell ≡ true
   pub sources_are : (i : ℕ) → run.sources i ≡ true → (i < size.replicas) × ((phase_of m t).reached i ≡ true) × IsSource size (phase_of m t) run.cells run.group i
   pub sinks_are : (i : ℕ) → run.sinks i ≡ true → (i < size.replicas) × (members m t i ≡ true) × IsSink size (phase_of m t) run.cells run.group i
@@ -225,25 +235,12 @@ pub record MayClearNow (size : Size) (m : State) (t : ℕ) : Type 0 where
 
 -- ---- the ends
 
--- the stages in which locks may be held
-abbrev pub may_hold : Stage → Bool
-may_hold Over = false
-may_hold Choosing = false
-may_hold (Locking cells shared next) = true
-may_hold Locked = true
-may_hold (Marking change) = true
-may_hold (Applying change) = true
-may_hold (Posting change) = true
-may_hold (Settling change group adopts) = true
-may_hold Bearing = true
-may_hold (Copying run) = true
-may_hold Polling = false
-may_hold Unlocking = false
-
--- a transaction may give up, or be done with its lock phase, at the end of any phase
+-- a transaction may give up, or be done with its lock phase, at the end of any phase; what a quorum confirmed is decided
+-- by then
 pub record MayUnlockNow (size : Size) (m : State) (t : ℕ) : Type 0 where
   pub turn : may_hold (m.txns t).stage ≡ true
   pub answered : IsAnswered size (m.txns t)
+  pub decided : (u : ℕ) (adopts : Bool) → decided_by (m.txns t).stage ≡ Some (u, adopts) → size.quorum ≤ count size.replicas (m.txns t).confirmed → is_unsettled (m.changes u).verdict ≡ false
 
 pub record MayRest (size : Size) (m : State) (t : ℕ) : Type 0 where
   pub turn : ((m.txns t).stage ≡ Unlocking) ⊎ ((m.txns t).stage ≡ Polling)
@@ -302,6 +299,8 @@ phase_reached m t = record {
   untouched = not (any_touches m.changes m.drawn (cells_locked (m.txns t).stage));
   cleared = λ i cell. nobody;
   accused = nobody;
+  decides = NoChange;
+  confirmed = nobody;
   wrote = false;
 }
 
@@ -311,12 +310,16 @@ reaching m t =
     let x = m.txns t in
     record (with_phase (with_txn m t (record x { stage = Locked; phase = m.ended + 1; out = λ k. x.out k || not (open_grants m t k) })) (m.ended + 1) (phase_reached m t)) { ended = m.ended + 1 }
 
+-- from now on this is what the phase decides
+abbrev pub deciding_now : State → ℕ → Deciding → State
+deciding_now m t decides = with_phase m (m.txns t).phase (record (phase_of m t) { decides = decides })
+
 -- the job's change, with the next number
 abbrev pub drawing : State → ℕ → Job → State
 drawing m t (job.Change cells fd op effect) =
     let u = m.drawn + 1 in
     record (with_change
-    (with_txn m t (record (entering (m.txns t) (Marking u) (members m t)) { own = u }))
+    (with_txn (deciding_now m t (ByPosts u)) t (record (entering (m.txns t) (Marking u) (members m t)) { own = u }))
     u (record { by = t; cells = cells; op = op; effect = effect; verdict = Drawn; done = nobody })) { drawn = u }
 drawing m t other = m
 
@@ -330,12 +333,13 @@ posting size m t other = m
 
 abbrev pub settling : Size → State → ℕ → Work → Replicas → Bool → State
 settling size m t Own group adopts = m
-settling size m t (Settles u) group adopts = with_txn (accusing_now m t (outside size group)) t (entering (m.txns t) (Settling u group adopts) (members m t))
+settling size m t (Settles u) group adopts =
+    with_txn (accusing_now (deciding_now m t (BySettles u group adopts)) t (outside size group)) t (entering (m.txns t) (Settling u group adopts) (members m t))
 
--- a cell is born when its birth is sent
+-- a cell is born when its birth is begun
 abbrev pub bearing : State → ℕ → Job → State
 bearing m t (job.Birth cells op) =
-    record (with_txn m t (entering (m.txns t) Bearing (members m t))) { adopted = after_births m.adopted (births op) }
+    record (with_births (with_txn m t (entering (m.txns t) Bearing (members m t))) op) { adopted = after_births m.adopted (births op) }
 bearing m t other = m
 
 abbrev pub clearing : State → ℕ → Stage → State

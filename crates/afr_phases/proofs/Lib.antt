@@ -1,4 +1,6 @@
 pub mod Bits
 pub mod LockSteps
+pub mod Reached
 pub mod Rows
 pub mod Sound
+pub mod Tracked

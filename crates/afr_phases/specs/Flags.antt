@@ -1,6 +1,6 @@
 -- One truth for each replica of a set, by rising replica, five in all; and the masks that name replicas, replica k by
 -- bit k.
-use Rattle.std.specs.Prelude.{◌≡◌, ℕ, ◌+◌, ◌*◌, Bool, true, false, ◌==◌, ◌&&◌, not, List, [], ◌∷◌, Option, Some, None, slice_index_or, if◌then◌else◌}
+use Rattle.std.specs.Prelude.{◌≡◌, ℕ, ◌+◌, ◌*◌, Bool, true, false, ◌==◌, nat_lt, ◌&&◌, not, List, [], ◌∷◌, Option, Some, None, slice_index_or, if◌then◌else◌}
 use Rattle.std.specs.Int.{bit_at}
 use Rattle.fop_types.specs.declared.contents.Mask.{Mask}
 
@@ -53,3 +53,7 @@ both flags others = flags_by (λ k. flag flags k && flag others k)
 -- of the first and not of the second
 abbrev pub but_for : List Bool → List Bool → List Bool
 but_for flags others = flags_by (λ k. flag flags k && not (flag others k))
+
+-- the replicas of a set of n that are not among these, reached or not
+abbrev pub outside : ℕ → List Bool → List Bool
+outside n flags = flags_by (λ k. nat_lt k n && not (flag flags k))

@@ -1,5 +1,5 @@
 -- In reading order: one truth for each replica; who is out; locks and the connections on which they were granted; who
--- was asked and has confirmed; the lock phase; what is sent, and what an answer carries.
+-- was asked and has confirmed; what was shown; the lock phase; what is sent, what an answer carries, and who is out by it.
 pub mod Flags
 pub mod Outs
 pub mod Locks
@@ -8,3 +8,6 @@ pub mod Shown
 pub mod Locking
 pub mod Sending
 pub mod Answers
+pub mod Hearing
+pub mod Tracked
+pub mod Reached

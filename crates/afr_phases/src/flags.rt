@@ -1,5 +1,5 @@
 ghost use Rattle.std.specs.Prelude.{◌≡◌, ℕ, ◌<◌, ◌≤◌};
-ghost use Rattle.afr_phases.specs.Flags.{flag, names, flags_of, mask_of, lowest, bit, both, but_for};
+ghost use Rattle.afr_phases.specs.Flags.{flag, names, flags_of, mask_of, lowest, bit, both, but_for, outside};
 
 use fop_types::Mask;
 
@@ -60,6 +60,20 @@ pub fn but_for(flags: Flags, others: Flags) -> Flags
     let [a, b, c, d, e] = flags;
     let [f, g, h, i, j] = others;
     [a && !f, b && !g, c && !h, d && !i, e && !j]
+}
+
+/// The replicas of a set of `n` that are not among these.
+pub fn outside(n: u8, flags: Flags) -> Flags
+    ensures { result ≡ outside n flags }
+{
+    let [a, b, c, d, e] = flags;
+    [
+        n > 0 && !a,
+        n > 1 && !b,
+        n > 2 && !c,
+        n > 3 && !d,
+        n > 4 && !e,
+    ]
 }
 
 /// The lowest replica of which the flag is true.

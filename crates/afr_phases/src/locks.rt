@@ -38,7 +38,7 @@ impl Locks {
         names(live, k) && number_at(last, k) == connection
     }
 
-    /// The replicas whose lock is still held.
+    /// The replicas whose lock is still held: to these an unlock goes.
     pub fn standing(&self, live: Mask, last: &[u32]) -> Flags
         ensures { result ≡ standing self.now live last.now }
     {

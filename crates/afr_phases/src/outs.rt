@@ -57,7 +57,7 @@ impl Outs {
         self.count() + q as usize > n as usize
     }
 
-    /// The replicas of `n` that are not out.
+    /// The replicas of `n` that are not out: after a lock phase these are asked, also one whose connection has ended.
     pub fn used(&self, n: u8) -> Flags
         ensures { result ≡ used self.now n }
     {

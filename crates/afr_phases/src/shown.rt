@@ -10,36 +10,27 @@ use std::alloc::{AllocError, Global};
 /// belong to the reached set; of the others the rows do not count.
 #[derive(Drop)]
 pub struct Shown {
-    pub rows: Seq<Option<Seq<Row>>>,
+    pub rows: [Option<Seq<Row>>; 5],
     pub reached: [bool; 5],
 }
 
 impl Shown {
     /// Nothing is shown yet.
-    ///
-    /// # Errors
-    /// Out of memory.
-    pub fn new(alloc: Global) -> Result<Shown, AllocError>
-        ensures { IfOk result (λ s. s ≡ nothing_shown) }
+    pub fn new() -> Shown
+        ensures { result ≡ nothing_shown }
     {
-        let mut rows = Vec::new(alloc);
-        rows.push(None)?;
-        rows.push(None)?;
-        rows.push(None)?;
-        rows.push(None)?;
-        rows.push(None)?;
-        Ok(Shown {
-            rows: Seq::from_vec(rows),
+        Shown {
+            rows: [None, None, None, None, None],
             reached: [false; 5],
-        })
+        }
     }
 
     /// A replica shows its rows.
     pub fn put(&mut self, k: u8, rows: Seq<Row>)
-        requires { k < length self.old.rows }
+        requires { k < 5 }
         ensures { self.new ≡ with_rows self.old k rows }
     {
-        self.rows.set(k as usize, Some(rows));
+        self.rows[k as usize] = Some(rows);
     }
 
     /// The reached set is these replicas.
@@ -57,9 +48,9 @@ impl Shown {
         if !self.reached[k as usize] {
             return None;
         }
-        match self.rows.as_slice().get(k as usize) {
-            Some(Some(rows)) => rows.as_slice().get(c).copied(),
-            _ => None,
+        match &self.rows[k as usize] {
+            Some(rows) => rows.as_slice().get(c).copied(),
+            None => None,
         }
     }
 

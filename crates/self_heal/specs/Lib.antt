@@ -1,0 +1,7 @@
+-- In reading order: the records of a copy; the copy, step by step; what was handed in and asked for; the work left; the
+-- laws.
+pub mod Records
+pub mod Runs
+pub mod Handed
+pub mod Work
+pub mod Laws
