@@ -1,6 +1,6 @@
-use brick_link::pair;
+use brick_link::{BrickEnd, HubEnd, pair};
 use bytes::Bytes;
-use rtrb::RingBuffer;
+use rtrb::{Consumer, Producer, RingBuffer};
 use std::alloc::{AllocError, Global};
 
 /// How many messages a ring has room for.
@@ -12,17 +12,28 @@ pub fn through_link(alloc: Global, bytes: &[u8], rounds: u32) -> Result<u64, All
     let (mut hub, mut brick) = pair(alloc, ROOM)?;
     let mut sum = 0u64;
     for _ in 0..rounds {
-        for _ in 0..ROOM {
-            hub.queue(alloc, Bytes::copy_from_slice(alloc, bytes)?)?;
-        }
-        hub.try_send();
-        for _ in 0..ROOM {
-            if let Some(message) = brick.try_recv() {
-                sum = sum.wrapping_add(message.len() as u64);
-            }
-        }
+        fill_link(alloc, &mut hub, bytes)?;
+        sum = sum.wrapping_add(drain_link(&mut brick));
     }
     Ok(sum)
+}
+
+fn fill_link(alloc: Global, hub: &mut HubEnd, bytes: &[u8]) -> Result<(), AllocError> {
+    for _ in 0..ROOM {
+        hub.queue(alloc, Bytes::copy_from_slice(alloc, bytes)?)?;
+    }
+    hub.try_send();
+    Ok(())
+}
+
+fn drain_link(brick: &mut BrickEnd) -> u64 {
+    let mut sum = 0u64;
+    for _ in 0..ROOM {
+        if let Some(message) = brick.try_recv() {
+            sum = sum.wrapping_add(message.len() as u64);
+        }
+    }
+    sum
 }
 
 /// The same through a plain ring.
@@ -30,14 +41,29 @@ pub fn through_ring(alloc: Global, bytes: &[u8], rounds: u32) -> Result<u64, All
     let (mut producer, mut consumer) = RingBuffer::new(alloc, ROOM)?;
     let mut sum = 0u64;
     for _ in 0..rounds {
-        for _ in 0..ROOM {
-            let _ = producer.push(Bytes::copy_from_slice(alloc, bytes)?);
-        }
-        for _ in 0..ROOM {
-            if let Ok(message) = consumer.pop() {
-                sum = sum.wrapping_add(message.len() as u64);
-            }
-        }
+        fill_ring(alloc, &mut producer, bytes)?;
+        sum = sum.wrapping_add(drain_ring(&mut consumer));
     }
     Ok(sum)
+}
+
+fn fill_ring(
+    alloc: Global,
+    producer: &mut Producer<Bytes>,
+    bytes: &[u8],
+) -> Result<(), AllocError> {
+    for _ in 0..ROOM {
+        let _ = producer.push(Bytes::copy_from_slice(alloc, bytes)?);
+    }
+    Ok(())
+}
+
+fn drain_ring(consumer: &mut Consumer<Bytes>) -> u64 {
+    let mut sum = 0u64;
+    for _ in 0..ROOM {
+        if let Ok(message) = consumer.pop() {
+            sum = sum.wrapping_add(message.len() as u64);
+        }
+    }
+    sum
 }

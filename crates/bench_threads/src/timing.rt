@@ -1,3 +1,4 @@
+use crate::posts::act_beside_readers;
 use crate::rings::{ROOM, through_link, through_ring};
 use crate::winds::{Act, Desk, THREADS, WINDS, act_on_each};
 use std::alloc::Global;
@@ -24,7 +25,10 @@ fn report_winds<R: Runtime + Threads + Sync>(
 ) -> io::Result<()> {
     let one = of_one(rt, alloc, act)?;
     let own = of_four(rt, alloc, act)?;
-    eprintln!(rt; "  {name}: {one} with one thread, {own} with four on words of their own")
+    let same = beside_readers(rt, alloc, act)?;
+    eprintln!(rt;
+        "  {name}: {one} with one thread, {own} with four on their own words, {same} on the same"
+    )
 }
 
 fn of_one<R: Runtime>(rt: &R, alloc: Global, act: Act) -> io::Result<u64> {
@@ -41,6 +45,13 @@ fn of_four<R: Runtime + Threads + Sync>(rt: &R, alloc: Global, act: Act) -> io::
     }
     let start = Instant::now(rt)?;
     act_on_each(rt, &mut desks, act);
+    Ok(thousands(u64::from(WINDS) * THREADS as u64, start.elapsed(rt)?))
+}
+
+fn beside_readers<R: Runtime + Threads + Sync>(rt: &R, alloc: Global, act: Act) -> io::Result<u64> {
+    let desk = Desk::prepared(alloc, act)?;
+    let start = Instant::now(rt)?;
+    act_beside_readers(rt, alloc, desk, act)?;
     Ok(thousands(u64::from(WINDS) * THREADS as u64, start.elapsed(rt)?))
 }
 

@@ -6,7 +6,7 @@ use std::alloc::{AllocError, Global};
 use std::thread;
 use std::thread::Threads;
 use wind_words::{WindPass, WindWords};
-use xlator_law::WindNo;
+use xlator_law::{Settled, WindNo};
 
 /// How many words there are, each with a wind at turn 0.
 pub const WINDS: u32 = 65536;
@@ -24,36 +24,48 @@ fn open_all(words: &WindWords, hub: &mut WindPass)
     }
 }
 
-// Settles the first wind of each slot.
-fn settle_all(words: &WindWords, pass: &mut WindPass)
+/// Settles the first wind of each slot, and gives how many it won.
+pub fn settle_all(words: &WindWords, pass: &mut WindPass) -> u32
     requires { pass.old.words ≡ words.now }
     ensures { IsSamePass pass.old pass.new }
 {
+    let mut won = 0;
     for slot in 0..words.count() {
-        words.settle(pass, WindNo { slot, turn: 0 });
+        if words.settle(pass, WindNo { slot, turn: 0 }) == Settled::Won {
+            won += 1;
+        }
     }
+    won
 }
 
-// Bails the first wind of each slot.
-fn bail_all(words: &WindWords, hub: &mut WindPass)
+// Bails the first wind of each slot, and gives how many it won.
+fn bail_all(words: &WindWords, hub: &mut WindPass) -> u32
     requires words { hub.old.words ≡ words.now }
     requires hub { hub.old.view.role ≡ Hub }
     ensures { IsSamePass hub.old hub.new }
 {
+    let mut won = 0;
     for slot in 0..words.count() {
-        words.bail(hub, WindNo { slot, turn: 0 });
+        if words.bail(hub, WindNo { slot, turn: 0 }) == Settled::Won {
+            won += 1;
+        }
     }
+    won
 }
 
-// Collects the first wind of each slot.
-fn collect_all(words: &WindWords, hub: &mut WindPass)
+// Collects the first wind of each slot, and gives how many there were to collect.
+fn collect_all(words: &WindWords, hub: &mut WindPass) -> u32
     requires words { hub.old.words ≡ words.now }
     requires hub { hub.old.view.role ≡ Hub }
     ensures { IsSamePass hub.old hub.new }
 {
+    let mut collected = 0;
     for slot in 0..words.count() {
-        words.collect(hub, WindNo { slot, turn: 0 });
+        if words.collect(hub, WindNo { slot, turn: 0 }) {
+            collected += 1;
+        }
     }
+    collected
 }
 
 /// What a thread does with all winds.
@@ -62,6 +74,19 @@ pub enum Act {
     Settle,
     Bail,
     Collect,
+}
+
+/// Does one thing with all winds, and gives for how many it came first.
+pub fn act_on_all(words: &WindWords, hub: &mut WindPass, act: Act) -> u32
+    requires words { hub.old.words ≡ words.now }
+    requires hub { hub.old.view.role ≡ Hub }
+    ensures { IsSamePass hub.old hub.new }
+{
+    match act {
+        Act::Settle => settle_all(words, hub),
+        Act::Bail => bail_all(words, hub),
+        Act::Collect => collect_all(words, hub),
+    }
 }
 
 /// Words with their hub's pass.
@@ -86,11 +111,15 @@ impl Desk {
 
     /// Does one thing with all winds.
     pub fn act(&mut self, act: Act) {
-        match act {
-            Act::Settle => settle_all(&self.words, &mut self.hub),
-            Act::Bail => bail_all(&self.words, &mut self.hub),
-            Act::Collect => collect_all(&self.words, &mut self.hub),
-        }
+        act_on_all(&self.words, &mut self.hub, act);
+    }
+
+    /// The words and the hub's pass.
+    pub fn into_parts(self) -> (WindWords, WindPass)
+        ensures { (result.1.words ≡ result.0) × (result.1.view.role ≡ Hub) }
+    {
+        let Desk { words, hub } = self;
+        (words, hub)
     }
 }
 

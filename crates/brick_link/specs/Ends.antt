@@ -7,20 +7,21 @@ use Rattle.rtrb.specs.declared.producer.Producer.{Producer}
 use Rattle.rtrb.specs.declared.consumer.Consumer.{Consumer}
 use Rattle.brick_link.specs.Messages.{taken_of}
 
--- which ring it is
+-- which ring it is, and for how many messages it has room
 pub record Ring : Type 0 where
   pub words : Ptr
   pub slots : Ptr
   pub names : ℕ × (ℕ × ℕ)
+  pub room : ℕ
 
 module _ {T A P : Type 0} where
   -- the ring that a producer pushes into
   abbrev pub ring_into : Producer T A P → Ring
-  ring_into p = record { words = p.end.words; slots = p.end.slots; names = p.end.names }
+  ring_into p = record { words = p.end.words; slots = p.end.slots; names = p.end.names; room = p.capacity }
 
   -- the ring that a consumer pops from
   abbrev pub ring_from : Consumer T A P → Ring
-  ring_from c = record { words = c.end.words; slots = c.end.slots; names = c.end.names }
+  ring_from c = record { words = c.end.words; slots = c.end.slots; names = c.end.names; room = c.capacity }
 
 pub record LinkEnd : Type 0 where
   pub outward : Ring  -- the ring it sends into
@@ -46,6 +47,7 @@ pub record IsNew (room : ℕ) (e : LinkEnd) : Type 0 where
   pub backlog : e.backlog ≡ []
   pub sent : e.sent ≡ []
   pub received : e.received ≡ []
+  pub places : e.outward.room ≡ room
   pub free : e.free ≡ room
   pub seen : e.seen ≡ []
 
@@ -76,3 +78,9 @@ pub record IsLooked (old new : LinkEnd) : Type 0 where
 abbrev pub IsHeldBack : ℕ → List (List ℕ) → Type 0
 IsHeldBack limit [] = Unit {0}
 IsHeldBack limit (message ∷ _) = limit < taken_of message
+
+-- What is in the ring from one end to the other is all that the first one sent and the other one did not receive,
+-- and each other place of it is known to be free: nothing is left to look for.
+pub record KnowsRing (sender receiver : LinkEnd) : Type 0 where
+  pub messages : receiver.received ++ receiver.seen ≡ sender.sent
+  pub places : sender.outward.room + length receiver.received ≤ sender.free + length sender.sent

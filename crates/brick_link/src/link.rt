@@ -1,5 +1,5 @@
-ghost use Rattle.std.specs.Prelude.{◌≡◌, ◌++◌, ◌≤◌, IfOk};
-ghost use Rattle.brick_link.specs.Ends.{IsPair, IsNew, IsLooked};
+ghost use Rattle.std.specs.Prelude.{◌≤◌, IfOk};
+ghost use Rattle.brick_link.specs.Ends.{IsPair, IsNew, IsLooked, KnowsRing};
 
 use crate::brick::BrickEnd;
 use crate::hub::HubEnd;
@@ -29,13 +29,14 @@ pub fn pair(alloc: Global, room: usize) -> Result<(HubEnd, BrickEnd), AllocError
 
 /// Looks at both rings of a link whose ends are in one thread. It sends and receives nothing. What each end
 /// received, and then what is in its ring, is what the other end sent: so what was received is a prefix of
-/// what was sent.
+/// what was sent. And each end knows which places of its ring are free, so the next `try_send` and `try_recv`
+/// move whatever can be moved.
 pub fn beside(hub: &mut HubEnd, brick: &mut BrickEnd)
     requires { IsPair hub.old brick.old }
     ensures hub { IsLooked hub.old hub.new }
     ensures brick { IsLooked brick.old brick.new }
-    ensures inputs { brick.new.received ++ brick.new.seen ≡ hub.new.sent }
-    ensures outputs { hub.new.received ++ hub.new.seen ≡ brick.new.sent }
+    ensures inputs { KnowsRing hub.new brick.new }
+    ensures outputs { KnowsRing brick.new hub.new }
 {
     brick.port.look_beside(&mut hub.port);
     hub.port.look_beside(&mut brick.port);

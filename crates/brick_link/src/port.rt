@@ -1,6 +1,6 @@
 ghost use Rattle.std.specs.Prelude.{◌≡◌, ◌-◌, ◌^◌, ◌≤◌, [], ◌++◌, IfSome, IfNone, OnOk, OnErr};
 ghost use Rattle.rtrb.specs.Ring.{sent, received, known_free, known_items, ConsumerLooked};
-ghost use Rattle.brick_link.specs.Ends.{ring_into, ring_from, queued, Sends, Receives, IsHeldBack, IsLooked};
+ghost use Rattle.brick_link.specs.Ends.{ring_into, ring_from, queued, Sends, Receives, IsHeldBack, IsLooked, KnowsRing};
 ghost use Rattle.brick_link.specs.Messages.{taken_of, IsFirstTaken};
 
 use byteorder::{BigEndian, ByteOrder};
@@ -115,13 +115,14 @@ impl Port {
         Some(self.consumer.pop_known())
     }
 
-    // Looks at the ring that comes from the other port; both of its ends are in this thread.
+    // Looks at the ring that comes from the other port, with both of its ends, which are in this thread.
     pub(crate) fn look_beside(&mut self, other: &mut Port)
         requires { self.old.inward ≡ other.old.outward }
         ensures here { IsLooked self.old self.new × (self.new.free ≡ self.old.free) }
         ensures other { IsLooked other.old other.new × (other.new.seen ≡ other.old.seen) }
-        ensures in_order { self.new.received ++ self.new.seen ≡ other.new.sent }
+        ensures ring { KnowsRing other.new self.new }
     {
+        other.producer.slots_beside(&mut self.consumer);
         self.consumer.slots_beside(&mut other.producer);
     }
 }

@@ -1,4 +1,5 @@
 pub mod Followed
+pub mod Knowing
 pub mod Left
 pub mod Orders
 pub mod Runs

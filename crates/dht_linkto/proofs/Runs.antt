@@ -66,7 +66,7 @@ length_others count hashed h =
     omega arith
 
 -- a link leads to one of the sets
-within_names : (names : List (List ℕ)) (target : List ℕ) (set : ℕ) → set_named names target ≡ Some set → set < length names
+pub within_names : (names : List (List ℕ)) (target : List ℕ) (set : ℕ) → set_named names target ≡ Some set → set < length names
 within_names names target set e = (position-Some (λ (name : List ℕ). pointwise nat_eq name target) names set [] e).0
 
 length_led_by : (count hashed set : ℕ) (b : Bool) → (set == hashed) ≡ b → hashed < count → set < count → length (if b then others count hashed else set ∷ without (others count hashed) (Some set)) ≡ length (others count hashed)

@@ -1,5 +1,5 @@
 -- What a search makes of what a set showed: whom it asks next or what it found, and what is left of it.
-use Rattle.std.specs.Prelude.{◌≡◌, ℕ, ◌==◌, true, List, [], ◌∷◌, Option, Some, None, Result, Ok, Err, if◌then◌else◌}
+use Rattle.std.specs.Prelude.{◌≡◌, ℕ, ◌<◌, ◌==◌, true, List, [], ◌∷◌, Option, Some, None, Result, Ok, Err, if◌then◌else◌}
 use Rattle.dht_linkto.specs.Search.{Search, set_named, led}
 use Rattle.dht_linkto.specs.declared.found.Found.TheVariants as found
 use Rattle.dht_linkto.specs.declared.found.Next.{Next}
@@ -51,3 +51,8 @@ after s set (Err error) = ended s
 abbrev pub WaitsFor : Next → Option ℕ → Type 0
 WaitsFor (Ask set) asked = asked ≡ Some set
 WaitsFor (Done result) asked = asked ≡ None
+
+-- the set that is asked is one of so many
+abbrev pub AsksOne : Next → ℕ → Type 0
+AsksOne (Ask set) count = set < count
+AsksOne (Done result) count = Unit {0}

@@ -17,10 +17,11 @@ pub enum Next {
     Done(Found),
 }
 
-/// What is left of a lookup: the name, the names of the sets, the set to which the name belongs, and whether that
-/// set showed a link of the name.
+/// What is left of a lookup: the directory, the name, the names of the sets, the set to which the name belongs, and
+/// whether that set showed a link of the name.
 #[derive(Drop)]
 pub struct Ended {
+    pub parent: Gfid,
     pub name: Seq<u8>,
     pub names: SetNames,
     pub hashed: u8,

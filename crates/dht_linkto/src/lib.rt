@@ -17,7 +17,11 @@
 //!
 //! [`Lookup`] says which set is read next, as a function of what the sets showed. [`names_job`] and [`names_in`] are
 //! the reading of a directory's names on one set: the job, and what its reply shows. The names are searched where
-//! they are, and never copied.
+//! they are, and never copied. A caller looks at whether the names show the directory removed before it hands them to
+//! the search.
+//!
+//! What a search knows is a fact about the replies so far (`specs/Known.antt`), so a caller that is handed one reply at a
+//! time needs no fixed contents.
 //!
 //! Called by the operations of distribute (`dht_fops`), and by whoever reads directories set by set.
 #![tactic(auto)]
@@ -30,11 +34,11 @@ mod set_names;
 mod sets;
 
 pub use found::{Ended, Found, Next};
-pub use laws::{finds_the_first, reads_each_once};
+pub use laws::{begins_knowing, finds_the_first, keeps_knowing, reads_each_once};
 pub use lookup::Lookup;
 pub use names::{DirNames, names_in, names_job};
 pub use set_names::SetNames;
-pub use sets::hashed_set;
+pub use sets::{hashed_set, is_link};
 
 #[cfg(test)]
 mod tests;

@@ -1,6 +1,6 @@
-ghost use Rattle.std.specs.Prelude.{◌≡◌, ◌≤◌, ◌<◌, true, false, length, Some, Ok, IfOk};
+ghost use Rattle.std.specs.Prelude.{◌≡◌, ◌≤◌, ◌<◌, true, false, length, Some, Ok, IfOk, IfSome};
 ghost use Rattle.dht_linkto.specs.Search.{search_of, hashed_set, set_named, led, is_set};
-ghost use Rattle.dht_linkto.specs.Steps.{next_of, reading, next, after, next_by, after_item, with_link, sets_after_link, WaitsFor};
+ghost use Rattle.dht_linkto.specs.Steps.{next_of, reading, next, after, next_by, after_item, with_link, sets_after_link, WaitsFor, AsksOne};
 
 use crate::found::{Ended, Found, Next};
 use crate::set_names::SetNames;
@@ -24,7 +24,7 @@ pub struct Lookup {
 }
 
 impl Model for Lookup {
-    ghost use Rattle.std.specs.Prelude.{◌≡◌, true, None, length};
+    ghost use Rattle.std.specs.Prelude.{◌≡◌, ◌<◌, true, None, length, IfSome};
     ghost use Rattle.dht_linkto.specs.Search.{Search, is_set};
     ghost use Rattle.dht_linkto.specs.Cursor.{left_from};
 
@@ -40,8 +40,12 @@ impl Model for Lookup {
       has_link = l.has_link;
     } };
 
-    // No link was followed while the hashed set is read.
-    ghost invariant = { λ l. is_set l.asked l.hashed ≡ true → l.linked ≡ None };
+    // The hashed set and the one that is asked are sets; no link was followed while the hashed set is read.
+    ghost invariant = { λ l. record {
+      hashed : l.hashed < length l.names;
+      asked : IfSome l.asked (λ set. set < length l.names);
+      unlinked : is_set l.asked l.hashed ≡ true → l.linked ≡ None;
+    } };
 }
 
 impl Lookup {
@@ -63,6 +67,7 @@ impl Lookup {
         requires places { length layout.now ≡ length names.now }
         ensures lookup { IfOk result (λ begun. begun.0 ≡ search_of parent name.now names.now (hashed_set layout.now name.now)) }
         ensures asked { IfOk result (λ begun. begun.1 ≡ hashed_set layout.now name.now) }
+        ensures within { IfOk result (λ begun. begun.1 < length names.now) }
     {
         let hashed = hashed_set(layout, name);
         let name = Seq::from_bytes(alloc, name)?;
@@ -70,9 +75,11 @@ impl Lookup {
         Ok((Lookup::over(parent, name, names, hashed), hashed))
     }
 
-    /// Begins the search for a name that belongs to the set `hashed`, which is asked first. It takes no memory.
+    /// Begins the search for a name that belongs to the set `hashed`, one of those that have these names, which is asked
+    /// first. It allocates nothing.
     #[tactic(auto, using(crate::proofs::Left::left_all))]
     pub fn over(parent: Gfid, name: Seq<u8>, names: SetNames, hashed: u8) -> Lookup
+        requires { hashed < length names }
         ensures { result ≡ search_of parent name names hashed }
     {
         Lookup {
@@ -96,18 +103,22 @@ impl Lookup {
 
     /// The set whose names are asked for; none once the lookup is done.
     pub fn asked(&self) -> Option<u8>
-        ensures { result ≡ self.now.asked }
+        ensures asked { result ≡ self.now.asked }
+        ensures within { IfSome result (λ set. set < length self.now.names) }
     {
         self.asked
     }
 
     /// Takes what a set shows of the directory's names, or the I/O error by which it could not be read. The set
-    /// is the one that was asked last. It takes no memory, in time of the number of names.
+    /// is the one that was asked last. Look first at whether the directory was removed. It allocates nothing, in time
+    /// of the number of names.
     pub fn answer(&mut self, set: u8, items: Result<Seq<Item>, IoError>) -> Result<Next, AllocError>
         requires { self.old.asked ≡ Some set }
         ensures next { result ≡ Ok (next self.old set items) }
         ensures state { self.new ≡ after self.old set items }
         ensures asked { IfOk result (λ next. WaitsFor next self.new.asked) }
+        ensures names { self.new.names ≡ self.old.names }
+        ensures within { IfOk result (λ next. AsksOne next (length self.new.names)) }
         ensures moved { is_set self.new.asked self.new.hashed ≡ false }
     {
         match items {
@@ -124,9 +135,11 @@ impl Lookup {
 
     /// What is left of the search.
     pub fn end(self) -> Ended
-        ensures { result ≡ record { name = self.name; names = self.names; hashed = self.hashed; has_link = self.has_link } }
+        ensures end { result ≡ record { parent = self.parent; name = self.name; names = self.names; hashed = self.hashed; has_link = self.has_link } }
+        ensures within { result.hashed < length result.names }
     {
         Ended {
+            parent: self.parent,
             name: self.name,
             names: self.names,
             hashed: self.hashed,
@@ -140,6 +153,8 @@ impl Lookup {
         ensures next { result ≡ next_by self.old set (Some item.now) }
         ensures state { self.new ≡ after_item self.old set (Some item.now) }
         ensures asked { WaitsFor result self.new.asked }
+        ensures names { self.new.names ≡ self.old.names }
+        ensures within { AsksOne result (length self.new.names) }
         ensures moved { is_set self.new.asked self.new.hashed ≡ false }
     {
         if is_link(item.kind) {
@@ -160,6 +175,8 @@ impl Lookup {
         ensures next { result ≡ next_of (sets_after_link self.old set target.now) }
         ensures state { self.new ≡ reading (with_link self.old set) (sets_after_link self.old set target.now) }
         ensures asked { WaitsFor result self.new.asked }
+        ensures names { self.new.names ≡ self.old.names }
+        ensures within { AsksOne result (length self.new.names) }
         ensures moved { is_set self.new.asked self.new.hashed ≡ false }
     {
         if set == self.hashed {
@@ -175,6 +192,8 @@ impl Lookup {
         ensures next { result ≡ next_of (led self.old.hashed self.old.rest (set_named self.old.names target.now)) }
         ensures state { self.new ≡ reading (record self.old { has_link = true }) (led self.old.hashed self.old.rest (set_named self.old.names target.now)) }
         ensures asked { WaitsFor result self.new.asked }
+        ensures names { self.new.names ≡ self.old.names }
+        ensures within { AsksOne result (length self.new.names) }
         ensures moved { is_set self.new.asked self.new.hashed ≡ false }
     {
         self.has_link = true;
@@ -193,6 +212,8 @@ impl Lookup {
         ensures next { result ≡ next_of self.old.rest }
         ensures state { self.new ≡ reading self.old self.old.rest }
         ensures asked { WaitsFor result self.new.asked }
+        ensures names { self.new.names ≡ self.old.names }
+        ensures within { AsksOne result (length self.new.names) }
         ensures moved { is_set self.new.asked self.new.hashed ≡ false }
     {
         let count = self.names.count();

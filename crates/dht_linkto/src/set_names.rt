@@ -53,7 +53,8 @@ impl SetNames {
 
     /// The set that has a name, in time of the number of sets.
     pub fn set_named(&self, target: &[u8]) -> Option<u8>
-        ensures { result ≡ set_named self.now target.now }
+        ensures set { result ≡ set_named self.now target.now }
+        ensures within { IfSome result (λ set. set < length self.now) }
     {
         set_named(self.names.as_slice(), target)
     }
@@ -61,7 +62,8 @@ impl SetNames {
 
 fn set_named(names: &[Seq<u8>], target: &[u8]) -> Option<u8>
     requires { length names.now ≤ 255 }
-    ensures { result ≡ set_named names.now target.now }
+    ensures set { result ≡ set_named names.now target.now }
+    ensures within { IfSome result (λ set. set < length names.now) }
 {
     for (set, name) in names.iter().enumerate() {
         if name.as_slice() == target {

@@ -20,7 +20,8 @@ pub fn hashed_set(layout: &[Option<Span>], name: &[u8]) -> u8
     }
 }
 
-pub(crate) fn is_link(kind: Kind) -> bool
+/// Whether an item of this kind is a link, which is no name of the file system.
+pub fn is_link(kind: Kind) -> bool
     ensures { result ≡ is_link kind }
 {
     match kind {
@@ -43,6 +44,7 @@ fn is_set(one: Option<u8>, set: u8) -> bool
 pub(crate) fn other_set(names: &SetNames, hashed: u8, target: &[u8]) -> Option<u8>
     ensures none { IfNone result ((sets : List ℕ) → led hashed sets (set_named names.now target.now) ≡ sets) }
     ensures some { IfSome result (λ set. (sets : List ℕ) → led hashed sets (set_named names.now target.now) ≡ set ∷ without sets (Some set)) }
+    ensures within { IfSome result (λ set. set < length names.now) }
     ensures other { IfSome result (λ set. is_set (Some set) hashed ≡ false) }
 {
     match names.set_named(target) {

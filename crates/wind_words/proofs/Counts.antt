@@ -1,10 +1,11 @@
--- How often a wind is in a list, and when a word has come to a number.
-use Rattle.std.proofs.Common.{◌≡◌, ◌≢◌, ℕ, ◌+◌, ◌-◌, ◌<◌, ◌≤◌, ◌⊎◌, inl, inr, ⊎_elim, min, List, [], ◌∷◌, ◌++◌, refl, arith}
+-- How often a wind is in a list, when a word has come to a number, and the greatest word seen.
+use Rattle.std.proofs.Common.{◌≡◌, ◌≢◌, ℕ, ◌+◌, ◌-◌, ◌<◌, ◌≤◌, ◌⊎◌, inl, inr, ⊎_elim, min, max, List, [], ◌∷◌, ◌++◌, refl, arith}
 use Rattle.std.proofs.lemmas.Bool.{cases_eq}
 use Rattle.std.proofs.lemmas.Bool.Decides.{nat_tests}
 use Rattle.xlator_law.specs.declared.winds.WindNo.{WindNo}
+use Rattle.wind_words.specs.declared.view.Loss.{Loss}
 use Rattle.wind_words.specs.Word.{once_from}
-use Rattle.wind_words.specs.Winds.{wind, one_of, times, turn_after}
+use Rattle.wind_words.specs.Winds.{wind, one_of, times, turn_after, highest_seen}
 
 pub once : (from word : ℕ) → once_from from word ≡ min 1 (word + 1 - from)
 unfolding once_from
@@ -50,3 +51,10 @@ turn_not_after slot bound (x ∷ xs) h =
       | inl s ↦ let here = h x.turn (omega (arith, one_here (wind slot x.turn) x s refl)) in grind (arith, nat_tests)
       | inr s ↦ grind (arith, nat_tests)
     ]
+
+pub highest_append : (slot : ℕ) (xs ys : List Loss) → highest_seen slot (xs ++ ys) ≡ max (highest_seen slot xs) (highest_seen slot ys)
+highest_append slot [] ys = omega arith
+highest_append slot (x ∷ xs) ys = let rest = highest_append slot xs ys in elim (cases_eq x.wind.slot slot) [
+  | inl s ↦ grind (arith, nat_tests)
+  | inr s ↦ grind (arith, nat_tests)
+]

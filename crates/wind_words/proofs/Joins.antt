@@ -10,13 +10,8 @@ use Rattle.wind_words.specs.Word.{word_of, replied_at}
 use Rattle.wind_words.specs.Rule.{WereSeen, IsOther, WordRule}
 use Rattle.wind_words.specs.Calls.{spent_view, joined}
 use Rattle.wind_words.proofs.Counts.{once, times_append}
-use Rattle.wind_words.proofs.Others.{seen_append, others_set, other_at, won_by_set, won_by_at}
+use Rattle.wind_words.proofs.Others.{seen_append, seen_by, others_set, other_at, won_by_set, won_by_at}
 use Rattle.wind_words.proofs.Keeping.{at_head, reader_of}
-
-seen_by : (words : List ℕ) (alone : Bool) (v : View) (r : Role) → r ≡ Reader → IsOther words alone v r → WereSeen words v.lost
-seen_by words alone v Hub e o = absurd o
-seen_by words alone v Reader e o = o.1
-seen_by words alone v Spent e o = absurd cc
 
 joined_other : (words : List ℕ) (alone : Bool) (v u : View) (r : Role) → r ≡ Reader → IsOther words alone v r → WereSeen words u.lost → IsOther words alone (joined v u) r
 joined_other words alone v u Hub e o s = o

@@ -12,7 +12,7 @@ use Rattle.wind_words.specs.Winds.{wind, times}
 use Rattle.wind_words.specs.Rule.{IsCounted, won_by, IsOther, AreOthers, Keeps, WordRule}
 use Rattle.wind_words.specs.Calls.{IsShown, first_hub, new_reader, with_opened, with_won, with_bailed, with_collected, with_lost, with_reader}
 use Rattle.wind_words.proofs.Counts.{once}
-use Rattle.wind_words.proofs.Others.{seen_append, others_set, others_push, others_shared, other_at, other_same, won_by_set, won_by_push, won_by_at}
+use Rattle.wind_words.proofs.Others.{seen_append, seen_none, seen_now, seen_by, others_set, others_push, others_shared, other_at, other_same, won_by_set, won_by_push, won_by_at}
 use Rattle.wind_words.proofs.Counted.{opened_on, opened_off, settled_on, settled_off, bailed_on, bailed_off, collected_on, collected_off}
 use Rattle.wind_words.proofs.Raised.{hub_raised, reader_settled}
 
@@ -48,7 +48,7 @@ starts count words e = subst (λ ws. Keeps count ws first_hub []) (sym e) record
     };
     won = omega (arith, once (replied_at w.turn) 0);
   };
-  seen = tt;
+  seen = seen_none (replicate count 0);
   others_keep = tt;
 }
 
@@ -98,7 +98,7 @@ module _ (count : ℕ) (words : List ℕ) (v : View) (w : WindNo) where
     sized = k.sized;
     is_hub = k.is_hub;
     counted = λ u. let c = k.counted u in record { hubs = record { opened = c.hubs.opened; collected = c.hubs.collected; bailed_late = c.hubs.bailed_late; bailed = c.hubs.bailed }; won = c.won };
-    seen = seen_append words h.lost (record { wind = w; word = n } ∷ []) k.seen (omega arith, tt);
+    seen = seen_append words h.lost (record { wind = w; word = n } ∷ []) k.seen (seen_now words w);
     others_keep = k.others_keep;
   }
   lost (h ∷ others) (suc i) k at live =
@@ -115,7 +115,7 @@ module _ (count : ℕ) (words : List ℕ) (v : View) (w : WindNo) where
     where
       lost_other : (r : Role) → r ≡ Reader → IsOther words h.alone v r → IsOther words h.alone (with_lost v w (word_of words w.slot)) r
       lost_other Hub e o = o
-      lost_other Reader e o = (o.0, seen_append words v.lost (record { wind = w; word = word_of words w.slot } ∷ []) o.1 (omega arith, tt))
+      lost_other Reader e o = (o.0, seen_append words v.lost (record { wind = w; word = word_of words w.slot } ∷ []) o.1 (seen_now words w))
       lost_other Spent e o = absurd cc
 
 -- what the word of a slot shows of the pass that looks
@@ -133,11 +133,13 @@ pub shown : (count : ℕ) (words : List ℕ) (views : List View) (id : ℕ) (v :
 shown count words [] id v w k at live = absurd k
 shown count words (h ∷ others) zero v w k at live = let c = k.counted w in at_head (λ u. IsShown u w (word_of words w.slot)) h v at record {
   won = omega (arith, c.won);
+  seen = k.seen w.slot;
   hubs = λ _. c.hubs;
   alone = λ _ a. omega (arith, c.won, alone_wins words w others (subst (λ (b : Bool). AreOthers words b others) a k.others_keep));
 }
 shown count words (h ∷ others) (suc i) v w k at live = let c = k.counted w in let o = other_at words h.alone others i v k.others_keep at in record {
   won = omega (arith, c.won, won_by_at w others i v at);
+  seen = seen_by words h.alone v v.role (reader_of words h.alone v v.role live o) o w.slot;
   hubs = λ hub. absurd (not_hub words h.alone v v.role hub o);
   alone = λ hub. absurd (not_hub words h.alone v v.role hub o);
 }
@@ -154,7 +156,7 @@ split count words (h ∷ others) zero v k at live = at_head (λ u. WordRule coun
     won = omega (arith, c.won, won_by_push u others new_reader);
   };
   seen = k.seen;
-  others_keep = others_push words false others new_reader (others_shared words h.alone others k.others_keep) (refl, tt);
+  others_keep = others_push words false others new_reader (others_shared words h.alone others k.others_keep) (refl, seen_none words);
 }
 split count words (h ∷ others) (suc i) v k at live =
     let o = other_at words h.alone others i v k.others_keep at in
@@ -166,7 +168,7 @@ split count words (h ∷ others) (suc i) v k at live =
         won = omega (arith, c.won, won_by_push u (set others i (with_reader v)) new_reader, won_by_set u others i v (with_reader v) at);
       };
       seen = k.seen;
-      others_keep = others_push words h.alone (set others i (with_reader v)) new_reader (others_set words h.alone others i (with_reader v) k.others_keep (other_same words h.alone v (with_reader v) v.role refl r o)) (was_shared v.role r o, tt);
+      others_keep = others_push words h.alone (set others i (with_reader v)) new_reader (others_set words h.alone others i (with_reader v) k.others_keep (other_same words h.alone v (with_reader v) v.role refl r o)) (was_shared v.role r o, seen_none words);
     }
   where
     was_shared : (r : Role) → r ≡ Reader → IsOther words h.alone v r → h.alone ≡ false

@@ -8,3 +8,4 @@ pub mod Allowed
 pub mod Asked
 pub mod Told
 pub mod Slots
+pub mod Known

@@ -3,6 +3,7 @@ use Rattle.std.proofs.Common.{◌≡◌, ◌≢◌, ℕ, zero, suc, ◌+◌, ◌
 use mathlib.Core.Option.{some, some-injective, some-ne-none}
 use lib.ListN.{get_elem?}
 use Rattle.std.proofs.lemmas.Bool.{cases_eq}
+use Rattle.std.proofs.lemmas.Bool.Decides.{nat_tests}
 use Rattle.std.proofs.lemmas.List.{get_or-set_same, get_or-set_other}
 use Rattle.xlator_law.specs.declared.winds.WindNo.{WindNo}
 use Rattle.wind_words.specs.declared.view.View.{View}
@@ -10,8 +11,9 @@ use Rattle.wind_words.specs.declared.view.Loss.{Loss}
 use Rattle.wind_words.specs.declared.view.Role.{Role}
 use Rattle.wind_words.specs.declared.view.Role.TheVariants.{Hub, Reader, Spent}
 use Rattle.wind_words.specs.Word.{word_of}
-use Rattle.wind_words.specs.Winds.{times}
+use Rattle.wind_words.specs.Winds.{times, highest_seen}
 use Rattle.wind_words.specs.Rule.{won_by, WereSeen, IsOther, AreOthers}
+use Rattle.wind_words.proofs.Counts.{highest_append}
 
 abbrev pub Rises : List ℕ → List ℕ → Type 0
 Rises words words' = (slot : ℕ) → word_of words slot ≤ word_of words' slot
@@ -32,12 +34,25 @@ set_cases words i n slot within = elim (cases_eq slot i) [
 ]
 
 pub seen_rises : (words words' : List ℕ) → Rises words words' → (losses : List Loss) → WereSeen words losses → WereSeen words' losses
-seen_rises words words' up [] s = tt
-seen_rises words words' up (x ∷ xs) s = (omega (arith, s.0, up x.wind.slot), seen_rises words words' up xs s.1)
+seen_rises words words' up losses s = λ slot. omega (arith, s slot, up slot)
 
 pub seen_append : (words : List ℕ) (xs ys : List Loss) → WereSeen words xs → WereSeen words ys → WereSeen words (xs ++ ys)
-seen_append words [] ys s t = t
-seen_append words (x ∷ xs) ys s t = (s.0, seen_append words xs ys s.1 t)
+seen_append words xs ys s t = λ slot. omega (arith, highest_append slot xs ys, s slot, t slot)
+
+pub seen_none : (words : List ℕ) → WereSeen words []
+seen_none words = λ slot. omega arith
+
+-- a loss that saw the word as it is
+pub seen_now : (words : List ℕ) (w : WindNo) → WereSeen words (record { wind = w; word = word_of words w.slot } ∷ [])
+seen_now words w = λ slot. elim (cases_eq w.slot slot) [
+  | inl s ↦ let same : word_of words w.slot ≡ word_of words slot = ap (word_of words) s in grind (arith, nat_tests)
+  | inr s ↦ grind (arith, nat_tests)
+]
+
+pub seen_by : (words : List ℕ) (alone : Bool) (v : View) (r : Role) → r ≡ Reader → IsOther words alone v r → WereSeen words v.lost
+seen_by words alone v Hub e o = absurd o
+seen_by words alone v Reader e o = o.1
+seen_by words alone v Spent e o = absurd cc
 
 pub other_rises : (words words' : List ℕ) → Rises words words' → (alone : Bool) (v : View) (r : Role) → IsOther words alone v r → IsOther words' alone v r
 other_rises words words' up alone v Hub o = o

@@ -7,7 +7,7 @@ use Rattle.xlator_law.specs.declared.winds.Settled.TheVariants.{Won, Lost}
 use Rattle.wind_words.specs.declared.view.View.{View}
 use Rattle.wind_words.specs.declared.view.Role.TheVariants.{Hub, Reader, Spent}
 use Rattle.wind_words.specs.Word.{once_from, pending_at, replied_at, bailed_at}
-use Rattle.wind_words.specs.Winds.{wind, times, turn_after}
+use Rattle.wind_words.specs.Winds.{wind, times, turn_after, highest_seen}
 use Rattle.wind_words.specs.Rule.{IsHubs}
 
 -- the words that a pass is of, and what it knows
@@ -56,9 +56,11 @@ pub record IsSamePass (old new : Pass) : Type 0 where
   pub words : new.words ≡ old.words
   pub role : new.view.role ≡ old.view.role
 
--- What a word that a pass sees shows of its own lists.
+-- What a word that a pass sees shows of its own lists. A word only rises, so it is no lower than the pass saw it
+-- before.
 pub record IsShown (v : View) (w : WindNo) (word : ℕ) : Type 0 where
   pub won : times w v.won ≤ once_from (replied_at w.turn) word
+  pub seen : highest_seen w.slot v.lost ≤ word
   pub hubs : v.role ≡ Hub → IsHubs v w word
   -- while there is no other pass, a wind that was settled was settled by the hub
   pub alone : v.role ≡ Hub → v.alone ≡ true → times w v.won ≡ once_from (replied_at w.turn) word
@@ -95,6 +97,17 @@ Collects old w true new = (word : ℕ) × ((word ≡ replied_at w.turn) ⊎ (wor
     × (new ≡ with_view old (with_collected old.view w))
 Collects old w false new = (word : ℕ) × ((word ≢ replied_at w.turn) × (word ≢ bailed_at w.turn)) × IsShown old.view w word
     × (new ≡ with_view old (with_lost old.view w word))
+
+-- The hub opened the wind, and did not collect it.
+pub record IsOpen (v : View) (w : WindNo) : Type 0 where
+  pub hub : v.role ≡ Hub
+  pub opened : times w v.opened ≡ 1
+  pub collected : times w v.collected ≡ 0
+
+-- The hub knows that an open wind has ended: it won it, or saw that its word had gone beyond pending.
+pub record KnowsEnd (v : View) (w : WindNo) : Type 0 where
+  pub is_open : IsOpen v w
+  pub ended : (times w v.won ≡ 1) ⊎ (pending_at w.turn < highest_seen w.slot v.lost)
 
 -- no wind was won by both passes, nor twice by one
 abbrev pub AreApart : View → View → Type 0

@@ -7,7 +7,7 @@ use Rattle.wind_words.specs.declared.view.Loss.{Loss}
 use Rattle.wind_words.specs.declared.view.Role.{Role}
 use Rattle.wind_words.specs.declared.view.Role.TheVariants.{Hub, Reader, Spent}
 use Rattle.wind_words.specs.Word.{word_of, once_from, free_at, pending_at, replied_at, bailed_at}
-use Rattle.wind_words.specs.Winds.{times}
+use Rattle.wind_words.specs.Winds.{times, highest_seen}
 
 -- What the hub's own lists hold of a wind where its slot has this word. A wind is opened when the word comes
 -- to be pending at its turn, and collected when the word comes to the next turn; the word is bailed exactly
@@ -28,10 +28,9 @@ pub record IsCounted (hub : View) (others : List View) (w : WindNo) (word : ℕ)
   pub hubs : IsHubs hub w word
   pub won : times w hub.won + won_by w others ≡ once_from (replied_at w.turn) word
 
--- the words have come at least as far as each lost wind's word that was seen
+-- each word has come at least as far as the losses of its slot saw it
 abbrev pub WereSeen : List ℕ → List Loss → Type 0
-WereSeen words [] = Unit {0}
-WereSeen words (loss ∷ losses) = (loss.word ≤ word_of words loss.wind.slot) × WereSeen words losses
+WereSeen words losses = (slot : ℕ) → highest_seen slot losses ≤ word_of words slot
 
 -- A view that is not the hub's: there is no reader while the hub is alone, and a spent view is empty.
 abbrev pub IsOther : List ℕ → Bool → View → Role → Type 0

@@ -1,10 +1,9 @@
-ghost use Rattle.std.specs.Prelude.{◌≡◌, ◌≤◌, ◌<◌, []};
+ghost use Rattle.std.specs.Prelude.{◌≡◌, ◌<◌, true};
 ghost use Rattle.wind_words.specs.declared.view.Role.TheVariants.{Hub};
-ghost use Rattle.wind_words.specs.Calls.{IsSamePass};
+ghost use Rattle.wind_words.specs.Calls.{IsOpen, IsSamePass};
 
 use super::*;
 use std::test::*;
-use std::thread;
 use xlator_law::{Settled, WindNo};
 
 #[derive(Clone, Copy)]
@@ -103,6 +102,18 @@ fn a_wind_ends_once(rt: HostRuntime) -> Result<(), Fail> {
     Ok(())
 }
 
+// Bails a wind and collects it. A reader may settle it before, or between the two, and it is collected all the
+// same.
+fn bail_and_collect(words: &WindWords, hub: &mut WindPass, w: WindNo) -> bool
+    requires words { hub.old.words ≡ words.now }
+    requires slot { w.slot < words.now.words }
+    requires wind { IsOpen hub.old.view w }
+    ensures { result ≡ true }
+{
+    words.bail(hub, w);
+    words.collect(hub, w)
+}
+
 // A slot comes again at its next turn, and what comes for the turn before finds another word.
 #[test]
 fn a_slot_comes_again(rt: HostRuntime) -> Result<(), Fail> {
@@ -117,93 +128,14 @@ fn a_slot_comes_again(rt: HostRuntime) -> Result<(), Fail> {
     Ok(())
 }
 
-const WINDS: u32 = 1000;
-
-// Opens the first wind of each slot.
-fn open_all(words: &WindWords, hub: &mut WindPass)
-    requires words { hub.old.words ≡ words.now }
-    requires hub { hub.old.view.role ≡ Hub }
-    requires new { (hub.old.view.opened ≡ []) × (hub.old.view.collected ≡ []) }
-    ensures { IsSamePass hub.old hub.new }
-{
-    for slot in 0..words.count() {
-        words.open(hub, slot);
-    }
-}
-
-// Settles the first wind of each slot, and gives how many it won.
-fn settle_all(words: &WindWords, pass: &mut WindPass) -> u32
-    requires { pass.old.words ≡ words.now }
-    ensures pass { IsSamePass pass.old pass.new }
-    ensures few { result ≤ words.now.words }
-{
-    let mut won = 0;
-    for slot in 0..words.count() {
-        if words.settle(pass, WindNo { slot, turn: 0 }) == Settled::Won {
-            won += 1;
-        }
-    }
-    won
-}
-
-// Bails the first wind of each slot, and gives how many it won.
-fn bail_all(words: &WindWords, hub: &mut WindPass) -> u32
-    requires words { hub.old.words ≡ words.now }
-    requires hub { hub.old.view.role ≡ Hub }
-    ensures hub { IsSamePass hub.old hub.new }
-    ensures few { result ≤ words.now.words }
-{
-    let mut won = 0;
-    for slot in 0..words.count() {
-        if words.bail(hub, WindNo { slot, turn: 0 }) == Settled::Won {
-            won += 1;
-        }
-    }
-    won
-}
-
-// Collects the first wind of each slot, and gives how many there were to collect.
-fn collect_all(words: &WindWords, hub: &mut WindPass) -> u32
-    requires words { hub.old.words ≡ words.now }
-    requires hub { hub.old.view.role ≡ Hub }
-    ensures { result ≤ words.now.words }
-{
-    let mut collected = 0;
-    for slot in 0..words.count() {
-        if words.collect(hub, WindNo { slot, turn: 0 }) {
-            collected += 1;
-        }
-    }
-    collected
-}
-
-// A thread settles and the hub bails the same winds: each is won by one of the two, and can be collected.
+// A reader settles, and its pass goes back into the hub's.
 #[test]
-fn a_reader_and_the_hub_on_threads(rt: HostRuntime) -> Result<(), Fail> {
-    let (words, mut hub) = WindWords::new(rt.alloc(), WINDS)?;
-    open_all(&words, &mut hub);
-    let reader = words.split(&mut hub);
-    let ((reader, settled), (mut hub, bailed)) = thread::join(
-        &rt,
-        || -> (WindPass, u32)
-            requires { reader.words ≡ words }
-            ensures { IsSamePass reader result.0 × (result.1 ≤ words.words) }
-        {
-            let mut pass = reader;
-            let won = settle_all(&words, &mut pass);
-            (pass, won)
-        },
-        || -> (WindPass, u32)
-            requires { (hub.words ≡ words) × (hub.view.role ≡ Hub) }
-            ensures { IsSamePass hub result.0 × (result.1 ≤ words.words) }
-        {
-            let mut pass = hub;
-            let won = bail_all(&words, &mut pass);
-            (pass, won)
-        },
-    );
-    assert!(rt; settled + bailed == WINDS);
+fn a_reader_settles_and_is_joined(rt: HostRuntime) -> Result<(), Fail> {
+    let (words, mut hub) = WindWords::new(rt.alloc(), 4)?;
+    let w = words.open(&mut hub, words.count() - 1);
+    let mut reader = words.split(&mut hub);
+    assert!(rt; words.settle(&mut reader, w) == Settled::Won);
     words.join(&mut hub, reader);
-    assert!(rt; collect_all(&words, &mut hub) == WINDS);
+    assert!(rt; bail_and_collect(&words, &mut hub, w));
     Ok(())
 }

@@ -1,7 +1,7 @@
-ghost use Rattle.std.specs.Prelude.{◌≡◌, ◌≢◌, ◌+◌, ◌*◌, ◌<◌, ◌≤◌, ◌^◌, IfOk};
+ghost use Rattle.std.specs.Prelude.{◌≡◌, ◌≢◌, ◌+◌, ◌*◌, ◌<◌, ◌≤◌, ◌^◌, true, IfOk};
 ghost use Rattle.xlator_law.specs.declared.winds.Settled.TheVariants.{Won, Lost};
 ghost use Rattle.wind_words.specs.declared.view.Role.TheVariants.{Hub, Reader};
-ghost use Rattle.wind_words.specs.Calls.{first_hub, new_reader, with_reader, joined, with_view, IsFree, Opens, Settles, Bails, Collects, AreApart};
+ghost use Rattle.wind_words.specs.Calls.{first_hub, new_reader, with_reader, joined, with_view, IsFree, IsOpen, KnowsEnd, Opens, Settles, Bails, Collects, AreApart};
 
 use crate::pass::WindPass;
 use crate::rule::{Bail, CollectBailed, CollectReplied, Look, Open, Reading, Rule, Settle};
@@ -89,23 +89,24 @@ impl WindWords {
         requires hub { hub.old.view.role ≡ Hub }
         requires slot { slot < self.now.words }
         requires free { IsFree hub.old.view slot }
-        ensures { Opens hub.old slot result hub.new }
+        ensures opens { Opens hub.old slot result hub.new }
+        ensures is_open { IsOpen hub.new.view result }
     {
-        let found = self
-            .table
-            .shared
-            .fetch_add::<Open>(&mut hub.seat, slot as usize, PENDING);
+        let table = &self.table.shared;
+        let found = table.fetch_add::<Open>(&mut hub.seat, slot as usize, PENDING);
         WindNo {
             slot,
             turn: (found / 4) as u32,
         }
     }
 
-    /// Settles a wind as replied, if its word is pending.
+    /// Settles a wind as replied, if its word is pending. Either way it has ended then, which the hub knows from
+    /// its own settle.
     pub fn settle(&self, pass: &mut WindPass, w: WindNo) -> Settled
         requires words { pass.old.words ≡ self.now }
         requires slot { w.slot < self.now.words }
-        ensures { Settles pass.old w result pass.new }
+        ensures settles { Settles pass.old w result pass.new }
+        ensures known { IsOpen pass.old.view w → KnowsEnd pass.new.view w }
     {
         let pending = word_at(w.turn, PENDING);
         let found = self.table.shared.compare_exchange::<Settle>(
@@ -117,12 +118,13 @@ impl WindWords {
         settled(found, pending)
     }
 
-    /// Ends a wind as bailed, if its word is pending.
+    /// Ends a wind as bailed, if its word is pending. Either way it has ended then.
     pub fn bail(&self, hub: &mut WindPass, w: WindNo) -> Settled
         requires words { hub.old.words ≡ self.now }
         requires hub { hub.old.view.role ≡ Hub }
         requires slot { w.slot < self.now.words }
-        ensures { Bails hub.old w result hub.new }
+        ensures bails { Bails hub.old w result hub.new }
+        ensures known { IsOpen hub.old.view w → KnowsEnd hub.new.view w }
     {
         let pending = word_at(w.turn, PENDING);
         let found = self.table.shared.compare_exchange::<Bail>(
@@ -135,12 +137,13 @@ impl WindWords {
     }
 
     /// Frees the slot of a wind that was replied or bailed, for its next turn. `false` comes exactly where
-    /// the word was neither for this wind's turn.
+    /// the word was neither for this wind's turn, and so never for a wind of which the pass knows that it ended.
     pub fn collect(&self, hub: &mut WindPass, w: WindNo) -> bool
         requires words { hub.old.words ≡ self.now }
         requires hub { hub.old.view.role ≡ Hub }
         requires slot { w.slot < self.now.words }
-        ensures { Collects hub.old w result hub.new }
+        ensures collects { Collects hub.old w result hub.new }
+        ensures known { KnowsEnd hub.old.view w → result ≡ true }
     {
         let replied = word_at(w.turn, REPLIED);
         let bailed = word_at(w.turn, BAILED);

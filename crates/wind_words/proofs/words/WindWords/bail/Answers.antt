@@ -4,6 +4,7 @@ use Rattle.wind_words.proofs.Allowed.{bail_asked}
 use Rattle.wind_words.specs.declared.view.Role.TheVariants.{Hub}
 use Rattle.wind_words.proofs.Asked.{same_words, in_words, role_is}
 use Rattle.wind_words.proofs.Told.{ended, ended_from, ended_stays, live_still}
+use Rattle.wind_words.proofs.Known.{bail_known}
 use Rattle.wind_words.proofs.words.WindWords.bail.Goals as goal
 
 pub compare_exchange-found-requires : goal.compare_exchange-found-requires
@@ -25,8 +26,8 @@ invariant_of-hub c =
     live_still m n (ended_stays with_bailed m n c.args.w old found (λ _ _. refl)
     (ended_from with_bailed m n c.args.w old found c.self.inside.table.shared.table_id.slots c.word_at.result c.compare_exchange-found.ensures.2 c.word_at-pending.ensures)) c.hub.invariant
 
-pub returns : goal.returns
-returns c =
+pub returns-clause-bails : goal.returns-clause-bails
+returns-clause-bails c =
     let m = c.hub.inside.seat.me in
     let n = c.compare_exchange-found.new.seat.me in
     let old = c.word_at-pending.result in
@@ -34,3 +35,6 @@ returns c =
     ended with_bailed m n c.args.w old found c.hub.inside.seat.table_id c.compare_exchange-found.new.seat.table_id c.args.hub.now c.settled.result
     c.hub.view_is c.compare_exchange-found.ensures.0 c.settled.ensures.won c.settled.ensures.lost
     (ended_from with_bailed m n c.args.w old found c.self.inside.table.shared.table_id.slots c.word_at.result c.compare_exchange-found.ensures.2 c.word_at-pending.ensures)
+
+pub returns-clause-known : goal.returns-clause-known
+returns-clause-known c = bail_known _ _ c.args.w c.settled.result (returns-clause-bails c)

@@ -4,6 +4,7 @@ use Rattle.wind_words.specs.Calls.{with_collected}
 use Rattle.wind_words.proofs.Allowed.{collect_asked, collect_bailed_asked}
 use Rattle.wind_words.proofs.Asked.{same_words, in_words, role_is}
 use Rattle.wind_words.proofs.Told.{looked, looked_from, looked_stays, bailed_once, collected_bailed, stays_by, live_still}
+use Rattle.wind_words.proofs.Known.{collect_known}
 use Rattle.wind_words.proofs.words.WindWords.collect.Goals as goal
 
 pub compare_exchange-found-requires : goal.compare_exchange-found-requires
@@ -25,8 +26,8 @@ invariant_of-hub c =
     live_still m n (looked_stays m n c.args.w old found
     (looked_from m n c.args.w old found c.self.inside.table.shared.table_id.slots c.word_at-next.result c.compare_exchange-found.ensures.2 c.word_at-replied.ensures)) c.hub.invariant
 
-pub returns-then-found-bailed : goal.returns-then-found-bailed
-returns-then-found-bailed c =
+pub returns-then-found-bailed-clause-collects : goal.returns-then-found-bailed-clause-collects
+returns-then-found-bailed-clause-collects c =
     let m = c.hub.inside.seat.me in
     let n = c.compare_exchange-found.new.seat.me in
     let old = c.word_at-replied.result in
@@ -62,8 +63,8 @@ invariant_of-hub-2 c =
     (live_still m n (looked_stays m n c.args.w old found
     (looked_from m n c.args.w old found c.self.inside.table.shared.table_id.slots c.word_at-next.result c.compare_exchange-found.ensures.2 c.word_at-replied.ensures)) c.hub.invariant)
 
-pub returns : goal.returns
-returns c =
+pub returns-clause-collects : goal.returns-clause-collects
+returns-clause-collects c =
     let m = c.hub.inside.seat.me in
     let n = c.compare_exchange-found.new.seat.me in
     let old = c.word_at-replied.result in
@@ -72,3 +73,6 @@ returns c =
     c.hub.view_is c.compare_exchange-found.ensures.0 c.compare_exchange.ensures.0 (c.if-found-bailed.false ∙ c.word_at-bailed.ensures)
     (looked_from m n c.args.w old found c.self.inside.table.shared.table_id.slots c.word_at-next.result c.compare_exchange-found.ensures.2 c.word_at-replied.ensures)
     (c.compare_exchange.ensures.2 c.args.w.turn c.word_at-bailed.ensures).1
+
+pub returns-then-found-bailed-clause-known : goal.returns-then-found-bailed-clause-known
+returns-then-found-bailed-clause-known c = collect_known _ _ c.args.w _ (returns-then-found-bailed-clause-collects c)

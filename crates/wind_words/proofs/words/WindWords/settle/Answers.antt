@@ -3,6 +3,7 @@ use Rattle.wind_words.specs.Calls.{with_won}
 use Rattle.wind_words.proofs.Allowed.{settle_asked}
 use Rattle.wind_words.proofs.Asked.{same_words, in_words}
 use Rattle.wind_words.proofs.Told.{ended, ended_from, ended_stays, live_still}
+use Rattle.wind_words.proofs.Known.{settle_known}
 use Rattle.wind_words.proofs.words.WindWords.settle.Goals as goal
 
 pub compare_exchange-found-requires : goal.compare_exchange-found-requires
@@ -24,8 +25,8 @@ invariant_of-pass c =
     live_still m n (ended_stays with_won m n c.args.w old found (λ _ _. refl)
     (ended_from with_won m n c.args.w old found c.self.inside.table.shared.table_id.slots c.word_at.result c.compare_exchange-found.ensures.2 c.word_at-pending.ensures)) c.pass.invariant
 
-pub returns : goal.returns
-returns c =
+pub returns-clause-settles : goal.returns-clause-settles
+returns-clause-settles c =
     let m = c.pass.inside.seat.me in
     let n = c.compare_exchange-found.new.seat.me in
     let old = c.word_at-pending.result in
@@ -33,3 +34,6 @@ returns c =
     ended with_won m n c.args.w old found c.pass.inside.seat.table_id c.compare_exchange-found.new.seat.table_id c.args.pass.now c.settled.result
     c.pass.view_is c.compare_exchange-found.ensures.0 c.settled.ensures.won c.settled.ensures.lost
     (ended_from with_won m n c.args.w old found c.self.inside.table.shared.table_id.slots c.word_at.result c.compare_exchange-found.ensures.2 c.word_at-pending.ensures)
+
+pub returns-clause-known : goal.returns-clause-known
+returns-clause-known c = settle_known _ _ c.args.w c.settled.result (returns-clause-settles c)

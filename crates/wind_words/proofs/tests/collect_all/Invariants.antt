@@ -1,6 +1,0 @@
-use Rattle.std.proofs.Common.{◌≤◌}
-use Rattle.wind_words.specs.Calls.{IsSamePass}
-use Rattle.wind_words.proofs.tests.collect_all.Given as goal
-
-abbrev pub invariant-loop-slot : goal.invariant-loop-slot
-invariant-loop-slot l = record { same : IsSamePass l.fn.hub l.hub; few : l.collected ≤ l.slot }
