@@ -1,92 +1,20 @@
 //! What a brick shows of its cells as text, for people and for tests.
-ghost use Rattle.std.specs.Prelude.{◌≡◌};
+ghost use Rattle.std.specs.Prelude.{◌≡◌, ◌++◌, None, OnOk, IfOk};
+ghost use Rattle.cell_store.specs.Cells.{contents_of};
+ghost use Rattle.cell_store.specs.Dump.{content_lines, object_lines, is_shown as is_shown_last, dumped, IsDumpOf};
 
 use crate::lookups::{data_cell, meta_cell, names_cell};
 use crate::store::Store;
-use afr_changelog::write12;
-use fop_types::{Content, Gfid, Item, Kind, Seq, Span};
+use crate::text::Text;
+use fop_types::{Cell, Gfid, Seq};
 use std::alloc::{AllocError, Global};
 
-const DIGITS: [u8; 16] = *b"0123456789abcdef";
-
-fn put_hex(out: &mut Vec<u8>, bytes: &[u8]) -> Result<(), AllocError> {
-    for byte in bytes {
-        out.push(DIGITS[(*byte / 16) as usize])?;
-        out.push(DIGITS[(*byte % 16) as usize])?;
-    }
-    Ok(())
-}
-
-fn put_gfid(out: &mut Vec<u8>, gfid: Gfid) -> Result<(), AllocError> {
-    put_hex(out, &gfid.hi.to_be_bytes())?;
-    put_hex(out, &gfid.lo.to_be_bytes())
-}
-
-// A line of an attribute: the gfid, the attribute's name and its value in hexadecimal.
-fn put_line(
-    out: &mut Vec<u8>,
-    gfid: Gfid,
-    prefix: &[u8],
-    name: &[u8],
-    value: &[u8],
-) -> Result<(), AllocError> {
-    put_gfid(out, gfid)?;
-    out.push(b' ')?;
-    out.extend_from_slice(prefix)?;
-    out.extend_from_slice(name)?;
-    out.push(b' ')?;
-    put_hex(out, value)?;
-    out.push(b'\n')?;
-    Ok(())
-}
-
-fn put_counters(
-    out: &mut Vec<u8>,
-    gfid: Gfid,
-    name: &[u8],
-    counters: [u32; 3],
-) -> Result<(), AllocError> {
-    if counters == [0; 3] {
-        return Ok(());
-    }
-    put_line(out, gfid, b"trusted.afr.", name, &write12(counters))
-}
-
-fn put_span(out: &mut Vec<u8>, gfid: Gfid, span: Option<Span>) -> Result<(), AllocError> {
-    let Some(span) = span else {
-        return Ok(());
-    };
-    let mut value = [0, 0, 0, 1, 0, 0, 0, 0, 0, 0, 0, 0, 0, 0, 0, 0];
-    value[8..12].copy_from_slice(&span.first.to_be_bytes());
-    value[12..].copy_from_slice(&span.last.to_be_bytes());
-    put_line(out, gfid, b"trusted.glusterfs.", b"dht", &value)
-}
-
-// A link as the file that GlusterFS keeps for it: empty, with mode 01000 and the name of the set that it points to.
-fn put_link(out: &mut Vec<u8>, parent: Gfid, item: &Item) -> Result<(), AllocError> {
-    match item.kind {
-        Kind::Link => {}
-        _ => return Ok(()),
-    }
-    put_gfid(out, parent)?;
-    out.push(b'/')?;
-    out.extend_from_slice(item.name.as_slice())?;
-    out.extend_from_slice(b" 01000 trusted.glusterfs.dht.linkto ")?;
-    out.extend_from_slice(item.target.as_slice())?;
-    out.push(b'\n')?;
-    Ok(())
-}
-
-fn put_content(out: &mut Vec<u8>, gfid: Gfid, content: Option<&Content>) -> Result<(), AllocError> {
-    match content {
-        Some(Content::Meta { span, .. }) => put_span(out, gfid, *span),
-        Some(Content::Names { items, .. }) => {
-            for item in items.as_slice() {
-                put_link(out, gfid, item)?;
-            }
-            Ok(())
-        }
-        _ => Ok(()),
+fn is_shown(last: Option<Gfid>, gfid: Gfid) -> bool
+    ensures { result ≡ is_shown_last last gfid }
+{
+    match last {
+        Some(last) => last.hi == gfid.hi && last.lo == gfid.lo,
+        None => false,
     }
 }
 
@@ -98,34 +26,38 @@ impl Store {
         self.names = names;
     }
 
-    fn put_replica(
-        &self,
-        alloc: Global,
-        out: &mut Vec<u8>,
-        gfid: Gfid,
-        replica: usize,
-        counters: [u32; 3],
-    ) -> Result<(), AllocError> {
-        match self.names.as_slice().get(replica) {
-            Some(name) => put_counters(out, gfid, name.as_slice(), counters),
-            None => {
-                let number = replica.to_string(alloc)?;
-                put_counters(out, gfid, number.as_bytes(), counters)
-            }
+    fn put_content(&self, text: &mut Text, gfid: Gfid, cell: &Cell) -> Result<(), AllocError>
+        ensures { OnOk result (text.new ≡ text.old ++ content_lines gfid (contents_of self.now cell.now)) }
+    {
+        match self.content(cell) {
+            Some(content) => text.content(gfid, content),
+            None => Ok(()),
         }
     }
 
-    fn put_object(&self, alloc: Global, out: &mut Vec<u8>, gfid: Gfid) -> Result<(), AllocError> {
-        let data = self.row(&data_cell(gfid));
-        let meta = self.row(&meta_cell(gfid));
-        let names = self.row(&names_cell(gfid));
-        put_counters(out, gfid, b"dirty", [data.dirty, meta.dirty, names.dirty])?;
-        for k in 0..5usize {
-            let counters = [data.pending[k], meta.pending[k], names.pending[k]];
-            self.put_replica(alloc, out, gfid, k, counters)?;
+    #[tactic(auto, unfolding(crate::specs::Dump::object_lines))]
+    fn put_object(&self, text: &mut Text, names: &[Seq<u8>], gfid: Gfid) -> Result<(), AllocError>
+        ensures { OnOk result (text.new ≡ text.old ++ object_lines names.now self.now gfid) }
+    {
+        let of_data = self.row(&data_cell(gfid));
+        let of_meta = self.row(&meta_cell(gfid));
+        let of_names = self.row(&names_cell(gfid));
+        text.rows(names, gfid, &of_data, &of_meta, &of_names)?;
+        self.put_content(text, gfid, &meta_cell(gfid))?;
+        self.put_content(text, gfid, &names_cell(gfid))
+    }
+
+    fn put_objects(&self, text: &mut Text, names: &[Seq<u8>]) -> Result<(), AllocError>
+        ensures { OnOk result (text.new ≡ text.old ++ dumped names.now self.now) }
+    {
+        let mut last: Option<Gfid> = None;
+        for (cell, _) in self.cells.iter() {
+            if !is_shown(last, cell.gfid) {
+                self.put_object(text, names, cell.gfid)?;
+                last = Some(cell.gfid);
+            }
         }
-        put_content(out, gfid, self.content(&meta_cell(gfid)))?;
-        put_content(out, gfid, self.content(&names_cell(gfid)))
+        Ok(())
     }
 
     /// The attributes that replicate and distribute keep on the store's objects, as text: by rising gfid, a line
@@ -138,15 +70,11 @@ impl Store {
     ///
     /// # Errors
     /// Out of memory.
-    pub fn dump(&self, alloc: Global) -> Result<Vec<u8>, AllocError> {
-        let mut out = Vec::new(alloc);
-        let mut shown: Option<Gfid> = None;
-        for (cell, _) in self.cells.iter() {
-            if shown != Some(cell.gfid) {
-                self.put_object(alloc, &mut out, cell.gfid)?;
-                shown = Some(cell.gfid);
-            }
-        }
-        Ok(out)
+    pub fn dump(&self, alloc: Global) -> Result<Vec<u8>, AllocError>
+        ensures { IfOk result (λ text. IsDumpOf self.now text.items) }
+    {
+        let mut text = Text::new(alloc);
+        self.put_objects(&mut text, self.names.as_slice())?;
+        Ok(text.into_bytes())
     }
 }

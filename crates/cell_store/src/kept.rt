@@ -6,7 +6,7 @@ ghost use Rattle.cell_store.specs.code.Steps.{counted, stepped, with_row as kept
 use crate::counters;
 use crate::steps::{Count, Step};
 use afr_changelog::{lower, raise};
-use contents::{Edit, edit_content};
+use contents::{Edit, OrderedContent};
 use fop_types::{Content, Mask, Row};
 use std::alloc::{AllocError, Global};
 
@@ -15,7 +15,7 @@ use std::alloc::{AllocError, Global};
 /// the last change in the copy, 0 where there is none.
 #[derive(Drop)]
 pub struct Kept {
-    pub content: Option<Content>,
+    pub content: Option<OrderedContent>,
     pub dirty: u32,
     pub pending: [u32; 5],
     pub last: u64,
@@ -82,7 +82,7 @@ impl Kept {
         ensures { self.new ≡ birth_of self.old content change }
     {
         if self.content.is_none() {
-            self.content = Some(content);
+            self.content = Some(OrderedContent::new(content));
             self.last = change;
         }
     }
@@ -105,7 +105,7 @@ impl Kept {
         ensures copy { self.new ≡ copied_in content last self.old }
         ensures counts { (self.new.dirty ≡ self.old.dirty) × (self.new.pending ≡ self.old.pending) }
     {
-        self.content = Some(content);
+        self.content = Some(OrderedContent::new(content));
         self.last = last;
     }
 
@@ -133,7 +133,7 @@ impl Kept {
     {
         match &mut self.content {
             Some(content) => {
-                edit_content(alloc, content, by)?;
+                content.edit(alloc, by)?;
                 self.last = change;
                 Ok(())
             }

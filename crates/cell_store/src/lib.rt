@@ -29,9 +29,11 @@ mod dump;
 mod fitting;
 mod kept;
 mod laws;
+mod lines;
 mod lookups;
 mod steps;
 mod store;
+mod text;
 
 pub use cell_laws::counts_change_the_listed;
 pub use kept::Kept;

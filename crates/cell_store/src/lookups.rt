@@ -7,8 +7,7 @@ ghost use Rattle.fop_types.specs.StoreOps.{holds, item_in, items_of, attrs_of, i
 ghost use Rattle.cell_store.specs.Cells.{contents_of};
 
 use crate::store::Store;
-use contents::find_attr;
-use fop_types::{Aspect, Attr, Cell, Content, Gfid, Item, Kind, find_item};
+use fop_types::{Aspect, Cell, Content, Gfid, Item, Kind};
 
 /// The cell of a file's bytes.
 pub(crate) fn data_cell(gfid: Gfid) -> Cell
@@ -45,15 +44,6 @@ fn items_in(content: Option<&Content>) -> &[Item]
 {
     match content {
         Some(Content::Names { items, .. }) => items.as_slice(),
-        _ => &[],
-    }
-}
-
-fn attrs_in(content: Option<&Content>) -> &[Attr]
-    ensures { result.now ≡ attrs_of (option_copied content.entry) }
-{
-    match content {
-        Some(Content::Meta { attrs, .. }) => attrs.as_slice(),
         _ => &[],
     }
 }
@@ -115,7 +105,10 @@ impl Store {
     pub(crate) fn item(&self, parent: Gfid, name: &[u8]) -> Option<&Item>
         ensures { option_copied result ≡ item_in (contents_of self.now) parent name.now }
     {
-        find_item(items_in(self.content(&names_cell(parent))), name)
+        match self.ordered(&names_cell(parent)) {
+            Some(content) => content.item(name),
+            None => None,
+        }
     }
 
     /// Whether a directory is marked as removed.
@@ -139,6 +132,9 @@ impl Store {
     pub(crate) fn has_attr(&self, gfid: Gfid, name: &[u8]) -> bool
         ensures { result ≡ is_some (attr_named (attrs_of (contents_of self.now (meta_of gfid))) name.now) }
     {
-        find_attr(attrs_in(self.content(&meta_cell(gfid))), name).is_some()
+        match self.ordered(&meta_cell(gfid)) {
+            Some(content) => content.attr(name).is_some(),
+            None => false,
+        }
     }
 }

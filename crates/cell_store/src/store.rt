@@ -8,7 +8,7 @@ ghost use Rattle.cell_store.specs.code.Steps.{with_step, with_earlier, with_edit
 
 use crate::kept::Kept;
 use crate::steps::Step;
-use contents::Edit;
+use contents::{Edit, OrderedContent};
 use fop_types::{Aspect, Cell, Content, Gfid, Row, Seq};
 use std::alloc::{AllocError, Global};
 use std::collections::BTreeMap;
@@ -40,7 +40,7 @@ fn present(content: Content) -> Kept
     ensures { result ≡ record nothing_kept { content = Some content } }
 {
     Kept {
-        content: Some(content),
+        content: Some(OrderedContent::new(content)),
         dirty: 0,
         pending: [0; 5],
         last: 0,
@@ -80,6 +80,19 @@ impl Store {
     {
         match self.cells.get(cell) {
             Some(kept) => match &kept.content {
+                Some(content) => Some(content.content()),
+                None => None,
+            },
+            None => None,
+        }
+    }
+
+    /// The same, to find names in it.
+    pub(crate) fn ordered(&self, cell: &Cell) -> Option<&OrderedContent>
+        ensures { option_copied result ≡ contents_of self.now cell.now }
+    {
+        match self.cells.get(cell) {
+            Some(kept) => match &kept.content {
                 Some(content) => Some(content),
                 None => None,
             },
@@ -93,7 +106,7 @@ impl Store {
     {
         match self.cells.get(cell) {
             Some(kept) => match &kept.content {
-                Some(content) => Some((content, kept.last)),
+                Some(content) => Some((content.content(), kept.last)),
                 None => None,
             },
             None => None,
@@ -110,7 +123,7 @@ impl Store {
         match self.cells.get(cell) {
             Some(kept) => match &kept.content {
                 Some(content) => {
-                    let content = content.copy(alloc)?;
+                    let content = content.content().copy(alloc)?;
                     Ok(Some((content, kept.last)))
                 }
                 None => Ok(None),

@@ -1,13 +1,16 @@
 ghost use Rattle.std.specs.Prelude.{◌≡◌, ◌+◌, ◌≤◌, true, length, IsOk, OnOk, OnErr};
-ghost use Rattle.fop_types.specs.FileBytes.{file_limit};
+ghost use Rattle.fop_types.specs.FileBytes.{file_limit, written};
 ghost use Rattle.fop_types.specs.StoreOps.{edited};
 ghost use Rattle.fop_types.specs.StoreOps.Edit.{PutBytes, Resize, PutMode, PutAttr, DropAttr, PutItem, DropItem, MarkRemoved};
 ghost use Rattle.contents.specs.Edits.{Fits, edited_by, is_sure};
+ghost use Rattle.contents.specs.Rising.{IsRising};
+ghost use Rattle.contents.specs.declared.halves.Search.TheVariants.{Halves};
 
-use crate::attrs::{insert_attr, remove_attr};
+use crate::attrs::{insert_attr_by, remove_attr_by};
 use crate::file_bytes;
-use crate::names::{remove_item, rename_item};
-use fop_types::{Attr, Content, Item, Seq, insert_item};
+use crate::halves::Search;
+use crate::names::{insert_item_by, remove_item_by, rename_item_by};
+use fop_types::{Attr, Content, Item, Seq};
 use std::alloc::{AllocError, Global};
 use std::mem;
 
@@ -27,23 +30,39 @@ pub enum Edit {
     Rename { name: Seq<u8>, item: Item },
 }
 
+// Bytes that cover the file take its place, and are not copied.
+fn write_over(
+    alloc: Global,
+    bytes: &mut Seq<u8>,
+    offset: u32,
+    new: Seq<u8>,
+) -> Result<(), AllocError>
+    requires { offset + length new ≤ file_limit }
+    ensures ok { OnOk result (bytes.new ≡ written bytes.old offset new) }
+    ensures err { OnErr result (bytes.new ≡ bytes.old) }
+{
+    if offset == 0 && bytes.len() <= new.len() {
+        *bytes = new;
+        return Ok(());
+    }
+    let mut held = mem::replace(bytes, Seq::new(alloc)).into_vec();
+    let done = file_bytes::write_at(&mut held, offset as usize, new.as_slice());
+    *bytes = Seq::from_vec(held);
+    done
+}
+
 fn write_bytes(
     alloc: Global,
     content: &mut Content,
     offset: u32,
-    new: &[u8],
+    new: Seq<u8>,
 ) -> Result<(), AllocError>
-    requires { offset + length new.now ≤ file_limit }
-    ensures ok { OnOk result (content.new ≡ edited (PutBytes offset new.now) content.old) }
+    requires { offset + length new ≤ file_limit }
+    ensures ok { OnOk result (content.new ≡ edited (PutBytes offset new) content.old) }
     ensures err { OnErr result (content.new ≡ content.old) }
 {
     match content {
-        Content::Bytes(bytes) => {
-            let mut held = mem::replace(bytes, Seq::new(alloc)).into_vec();
-            let done = file_bytes::write_at(&mut held, offset as usize, new);
-            *bytes = Seq::from_vec(held);
-            done
-        }
+        Content::Bytes(bytes) => write_over(alloc, bytes, offset, new),
         Content::Meta { .. } => Ok(()),
         Content::Names { .. } => Ok(()),
     }
@@ -75,45 +94,49 @@ fn set_mode(content: &mut Content, new: u16)
     }
 }
 
-fn put_attr(content: &mut Content, attr: Attr) -> Result<(), AllocError>
+fn put_attr(content: &mut Content, attr: Attr, search: Search) -> Result<(), AllocError>
+    requires { search ≡ Halves → IsRising content.old }
     ensures ok { OnOk result (content.new ≡ edited (PutAttr attr) content.old) }
     ensures err { OnErr result (content.new ≡ content.old) }
 {
     match content {
         Content::Bytes(_) => Ok(()),
-        Content::Meta { attrs, .. } => insert_attr(attrs, attr),
+        Content::Meta { attrs, .. } => insert_attr_by(attrs, attr, search),
         Content::Names { .. } => Ok(()),
     }
 }
 
-fn drop_attr(content: &mut Content, name: &[u8])
+fn drop_attr(content: &mut Content, name: &[u8], search: Search)
+    requires { search ≡ Halves → IsRising content.old }
     ensures { content.new ≡ edited (DropAttr name.now) content.old }
 {
     match content {
         Content::Bytes(_) => {}
-        Content::Meta { attrs, .. } => remove_attr(attrs, name),
+        Content::Meta { attrs, .. } => remove_attr_by(attrs, name, search),
         Content::Names { .. } => {}
     }
 }
 
-fn put_item(content: &mut Content, item: Item) -> Result<(), AllocError>
+fn put_item(content: &mut Content, item: Item, search: Search) -> Result<(), AllocError>
+    requires { search ≡ Halves → IsRising content.old }
     ensures ok { OnOk result (content.new ≡ edited (PutItem item) content.old) }
     ensures err { OnErr result (content.new ≡ content.old) }
 {
     match content {
         Content::Bytes(_) => Ok(()),
         Content::Meta { .. } => Ok(()),
-        Content::Names { items, .. } => insert_item(items, item),
+        Content::Names { items, .. } => insert_item_by(items, item, search),
     }
 }
 
-fn drop_item(content: &mut Content, name: &[u8])
+fn drop_item(content: &mut Content, name: &[u8], search: Search)
+    requires { search ≡ Halves → IsRising content.old }
     ensures { content.new ≡ edited (DropItem name.now) content.old }
 {
     match content {
         Content::Bytes(_) => {}
         Content::Meta { .. } => {}
-        Content::Names { items, .. } => remove_item(items, name),
+        Content::Names { items, .. } => remove_item_by(items, name, search),
     }
 }
 
@@ -127,14 +150,21 @@ fn mark_removed(content: &mut Content)
     }
 }
 
-fn rename(alloc: Global, content: &mut Content, name: &[u8], item: Item) -> Result<(), AllocError>
+fn rename(
+    alloc: Global,
+    content: &mut Content,
+    name: &[u8],
+    item: Item,
+    search: Search,
+) -> Result<(), AllocError>
+    requires { search ≡ Halves → IsRising content.old }
     ensures ok { OnOk result (content.new ≡ edited_by (Edit.Rename name.now item) content.old) }
     ensures err { OnErr result (content.new ≡ content.old) }
 {
     match content {
         Content::Bytes(_) => Ok(()),
         Content::Meta { .. } => Ok(()),
-        Content::Names { items, .. } => rename_item(alloc, items, name, item),
+        Content::Names { items, .. } => rename_item_by(alloc, items, name, item, search),
     }
 }
 
@@ -150,27 +180,43 @@ pub fn edit_content(alloc: Global, content: &mut Content, edit: Edit) -> Result<
     ensures err { OnErr result (content.new ≡ content.old) }
     ensures sure { is_sure edit ≡ true → IsOk result }
 {
+    edit_by(alloc, content, edit, Search::InTurn)
+}
+
+/// The same, with a search of names that the caller chooses.
+pub(crate) fn edit_by(
+    alloc: Global,
+    content: &mut Content,
+    edit: Edit,
+    search: Search,
+) -> Result<(), AllocError>
+    requires fits { Fits edit }
+    requires rises { search ≡ Halves → IsRising content.old }
+    ensures ok { OnOk result (content.new ≡ edited_by edit content.old) }
+    ensures err { OnErr result (content.new ≡ content.old) }
+    ensures sure { is_sure edit ≡ true → IsOk result }
+{
     match edit {
-        Edit::Write { offset, bytes } => write_bytes(alloc, content, offset, bytes.as_slice()),
+        Edit::Write { offset, bytes } => write_bytes(alloc, content, offset, bytes),
         Edit::Resize(size) => resize_bytes(alloc, content, size),
         Edit::SetMode(mode) => {
             set_mode(content, mode);
             Ok(())
         }
-        Edit::PutAttr(attr) => put_attr(content, attr),
+        Edit::PutAttr(attr) => put_attr(content, attr, search),
         Edit::DropAttr(name) => {
-            drop_attr(content, name.as_slice());
+            drop_attr(content, name.as_slice(), search);
             Ok(())
         }
-        Edit::PutItem(item) => put_item(content, item),
+        Edit::PutItem(item) => put_item(content, item, search),
         Edit::DropItem(name) => {
-            drop_item(content, name.as_slice());
+            drop_item(content, name.as_slice(), search);
             Ok(())
         }
         Edit::MarkRemoved => {
             mark_removed(content);
             Ok(())
         }
-        Edit::Rename { name, item } => rename(alloc, content, name.as_slice(), item),
+        Edit::Rename { name, item } => rename(alloc, content, name.as_slice(), item, search),
     }
 }

@@ -1,6 +1,8 @@
 //! What a cell holds, edited in its place: a file's bytes, an object's mode and attributes, a directory's names.
 //!
 //! ```text
+//!   OrderedContent   new, item, attr, edit      a content that is kept, whose names are found by halves
+//!      |
 //!   Content      edit_content      what a store op makes of one cell
 //!      |
 //!   bytes        write_at, resize, read
@@ -15,9 +17,12 @@
 mod attrs;
 mod edits;
 mod file_bytes;
+mod halves;
 mod names;
+mod ordered;
 
 pub use attrs::{find_attr, insert_attr, remove_attr};
 pub use edits::{Edit, edit_content};
 pub use file_bytes::{read, resize, write_at};
 pub use names::{remove_item, rename_item};
+pub use ordered::OrderedContent;

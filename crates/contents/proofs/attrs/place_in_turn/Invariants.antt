@@ -1,6 +1,6 @@
 use Rattle.std.proofs.Common.{◌≡◌, ◌++◌, take, drop}
 use Rattle.fop_types.specs.Names.{without_attr}
-use Rattle.contents.proofs.attrs.place_named.Given as goal
+use Rattle.contents.proofs.attrs.place_in_turn.Given as goal
 
 abbrev pub invariant-loop-attr : goal.invariant-loop-attr
 invariant-loop-attr l =

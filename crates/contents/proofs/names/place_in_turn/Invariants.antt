@@ -1,6 +1,6 @@
 use Rattle.std.proofs.Common.{◌≡◌, ◌++◌, take, drop}
 use Rattle.fop_types.specs.Names.{without_item}
-use Rattle.contents.proofs.names.place_named.Given as goal
+use Rattle.contents.proofs.names.place_in_turn.Given as goal
 
 abbrev pub invariant-loop-item : goal.invariant-loop-item
 invariant-loop-item l =
