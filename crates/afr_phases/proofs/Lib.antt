@@ -1,6 +1,11 @@
+pub mod Asked
 pub mod Bits
+pub mod Encoded
+pub mod Grants
 pub mod LockSteps
 pub mod Reached
 pub mod Rows
 pub mod Sound
+pub mod Stays
 pub mod Tracked
+pub mod Truths

@@ -1,5 +1,5 @@
 -- One replica of a lock phase.
-use Rattle.std.proofs.Common.{◌≡◌, ℕ, suc, ◌+◌, ◌-◌, ◌<◌, Bool, true, false, List, Option, Some, refl, sym, arith, slice_index}
+use Rattle.std.proofs.Common.{◌≡◌, ℕ, suc, ◌+◌, ◌-◌, ◌<◌, true, false, List, Option, Some, refl, arith, slice_index}
 use Rattle.fop_types.specs.declared.contents.Mask.{Mask}
 use Rattle.afr_phases.specs.declared.outs.Outs.{Outs}
 use Rattle.afr_phases.specs.Flags.{names}

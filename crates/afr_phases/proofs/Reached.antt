@@ -1,7 +1,7 @@
 -- Who is used after a lock phase holds its lock.
-use Rattle.std.proofs.Common.{◌≡◌, ◌∙◌, ℕ, zero, suc, ◌+◌, ◌-◌, ◌<◌, ◌⊎◌, inl, inr, Bool, true, false, ◌&&◌, cond, not, nat_lt, List, Option, Some, None, is_some, length, slice_index, refl, sym, ap, subst, arith}
+use Rattle.std.proofs.Common.{◌≡◌, ◌∙◌, ℕ, zero, suc, ◌+◌, ◌-◌, ◌<◌, ◌⊎◌, inl, inr, Bool, true, false, ◌&&◌, cond, not, nat_lt, List, Option, Some, None, length, slice_index, refl, sym, ap, subst, arith}
 use Rattle.std.specs.Prelude.{◌≢◌}
-use Rattle.std.proofs.lemmas.Bool.{and_parts, cases_eq}
+use Rattle.std.proofs.lemmas.Bool.{cases_eq}
 use Rattle.fop_types.specs.declared.contents.Mask.{Mask}
 use Rattle.afr_phases.specs.declared.outs.Outs.{Outs}
 use Rattle.afr_phases.specs.declared.locks.Locks.{Locks}
@@ -10,7 +10,7 @@ use Rattle.afr_phases.specs.declared.locking.LockStep.TheVariants as step
 use Rattle.afr_phases.specs.Flags.{flag, names}
 use Rattle.afr_phases.specs.Outs.{is_out, is_short, left, used}
 use Rattle.afr_phases.specs.Locks.{stands, standing}
-use Rattle.afr_phases.specs.Locking.{next_to_lock, lost, kept_only, ended, asked_or_ended, next_lock}
+use Rattle.afr_phases.specs.Locking.{next_to_lock, lost, kept_only, asked_or_ended, next_lock}
 use Rattle.afr_phases.proofs.Tracked.{flag_by, used_is, left_same, left_other, left_places}
 
 -- ---- the places stay
@@ -19,7 +19,7 @@ pair_if : (b : Bool) (x y : Outs × Option ℕ) → length x.0.at ≡ 5 → leng
 pair_if true x y p q = p
 pair_if false x y p q = q
 
-next_places : (count : ℕ) (outs : Outs) (n q k : ℕ) (live : Mask) (last : List ℕ) → length outs.at ≡ 5 → length (next_to_lock count outs n q k live last).0.at ≡ 5
+pub next_places : (count : ℕ) (outs : Outs) (n q k : ℕ) (live : Mask) (last : List ℕ) → length outs.at ≡ 5 → length (next_to_lock count outs n q k live last).0.at ≡ 5
 next_places zero outs n q k live last h = h
 next_places (suc count) outs n q k live last h =
     pair_if (is_short outs n q) _ _ h
@@ -82,6 +82,9 @@ module _ (outs : Outs) (kept : List Bool) (n : ℕ) (last : List ℕ) (places : 
 
   from_a : (k : ℕ) → is_out a k ≡ true → is_out (kept_only outs kept n last) k ≡ true
   from_a k o = from_b k (stays_out a (nat_lt 1 n && not (flag kept 1)) 1 k last at_a (omega arith) o)
+
+  pub kept_places : length (kept_only outs kept n last).at ≡ 5
+  kept_places = lost_places d (nat_lt 4 n && not (flag kept 4)) 4 last at_d
 
   pub are_out : (k : ℕ) → k < 5 → (nat_lt k n && not (flag kept k)) ≡ true → is_out (kept_only outs kept n last) k ≡ true
   are_out zero low h = from_a 0 (goes_out outs (nat_lt 0 n && not (flag kept 0)) 0 last places low h)

@@ -1,5 +1,5 @@
 -- A phase that was sent to all replicas that are not out.
-use Rattle.std.proofs.Common.{◌≡◌, ◌∙◌, ℕ, zero, suc, ◌<◌, ◌⊎◌, inl, inr, Bool, true, false, ◌&&◌, ◌||◌, cond, not, nat_lt, List, Option, Some, None, is_some, length, refl, sym, ap, subst, arith}
+use Rattle.std.proofs.Common.{◌≡◌, ◌∙◌, ℕ, zero, suc, ◌<◌, ◌⊎◌, inl, inr, Bool, true, false, ◌&&◌, ◌||◌, cond, not, nat_lt, Option, Some, None, is_some, length, refl, sym, ap, subst, arith}
 use Rattle.std.specs.Prelude.{◌≢◌}
 use Rattle.std.proofs.lemmas.Bool.{cases_eq}
 use Rattle.std.proofs.lemmas.List.{get_or-set_same, get_or-set_other, length-set}
@@ -13,6 +13,7 @@ use Rattle.afr_phases.specs.Hearing.{heard}
 use Rattle.afr_phases.specs.Outs.{is_out, left, used}
 use Rattle.afr_phases.specs.Tracked.{IsTracked}
 use Rattle.afr_phases.specs.Waves.{is_asked, is_over, sent_to, taken}
+use Rattle.afr_phases.proofs.Asked.{none_asked}
 use Rattle.afr_phases.proofs.Bits.{named}
 
 pub flag_by : (p : ℕ → Bool) (k : ℕ) → k < 5 → flag (flags_by p) k ≡ p k
@@ -156,40 +157,8 @@ heard_one n k mark rep outs wave low waits t = either n k mark (is_fault rep) ou
 
 -- ---- the end
 
-first_none : (a b : Bool) → not (a || b) ≡ true → a ≡ false
-first_none false b h = refl
-first_none true b h = absurd cc
-
-rest_none : (a b : Bool) → not (a || b) ≡ true → not b ≡ true
-rest_none false b h = h
-rest_none true b h = absurd cc
-
-is_none : (b : Bool) → not b ≡ true → b ≡ false
-is_none false h = refl
-is_none true h = absurd cc
-
-five_none : (a b c d e : Bool) → not (a || (b || (c || (d || e)))) ≡ true → (a ≡ false) × ((b ≡ false) × ((c ≡ false) × ((d ≡ false) × (e ≡ false))))
-five_none a b c d e h =
-    let p = rest_none a (b || (c || (d || e))) h in
-    let q = rest_none b (c || (d || e)) p in
-    let r = rest_none c (d || e) q in
-    (first_none a (b || (c || (d || e))) h, (first_none b (c || (d || e)) p, (first_none c (d || e) q, (first_none d e r, is_none e (rest_none d e r)))))
-
-none_asked : (wave : Wave) → is_over wave ≡ true → (k : ℕ) → k < 5 → is_asked wave k ≡ false
-none_asked wave over k h = by_place k h where
-  all : (is_asked wave 0 ≡ false) × ((is_asked wave 1 ≡ false) × ((is_asked wave 2 ≡ false) × ((is_asked wave 3 ≡ false) × (is_asked wave 4 ≡ false))))
-  all = five_none (is_asked wave 0) (is_asked wave 1) (is_asked wave 2) (is_asked wave 3) (is_asked wave 4) over
-
-  by_place : (k : ℕ) → k < 5 → is_asked wave k ≡ false
-  by_place zero h = all.0
-  by_place (suc zero) h = all.1.0
-  by_place (suc (suc zero)) h = all.1.1.0
-  by_place (suc (suc (suc zero))) h = all.1.1.1.0
-  by_place (suc (suc (suc (suc zero)))) h = all.1.1.1.1
-  by_place (suc (suc (suc (suc (suc k))))) h = absurd (omega arith)
-
 pub confirmed_are : (n : ℕ) (outs : Outs) (wave : Wave) → IsTracked n outs wave → is_over wave ≡ true → (k : ℕ) → k < 5 → flag (used outs n) k ≡ flag wave.confirmed k
-confirmed_are n outs wave t over k h = t.used_are k h ∙ ap (λ (b : Bool). b || flag wave.confirmed k) (none_asked wave over k h)
+confirmed_are n outs wave t over k h = t.used_are k h ∙ ap (λ (b : Bool). b || flag wave.confirmed k) (none_asked wave k h over)
 
 pub outsiders : (n : ℕ) (outs : Outs) (wave : Wave) → IsTracked n outs wave → is_over wave ≡ true → (k : ℕ) → k < 5 → names (mask_of (outside n (used outs n))) k ≡ (nat_lt k n && not (flag wave.confirmed k))
 outsiders n outs wave t over k h =

@@ -1,6 +1,6 @@
 -- One truth for each replica of a set, by rising replica, five in all; and the masks that name replicas, replica k by
 -- bit k.
-use Rattle.std.specs.Prelude.{◌≡◌, ℕ, ◌+◌, ◌*◌, Bool, true, false, ◌==◌, nat_lt, ◌&&◌, not, List, [], ◌∷◌, Option, Some, None, slice_index_or, if◌then◌else◌}
+use Rattle.std.specs.Prelude.{ℕ, ◌+◌, ◌*◌, Bool, true, false, ◌==◌, nat_lt, ◌&&◌, not, List, [], ◌∷◌, Option, Some, None, slice_index_or, if◌then◌else◌}
 use Rattle.std.specs.Int.{bit_at}
 use Rattle.fop_types.specs.declared.contents.Mask.{Mask}
 

@@ -2,7 +2,7 @@
 -- has no open connection when it would be asked is out. Whether too many are out is looked at after each replica, also
 -- after the last: then the phase is short. Else, at its end, a replica whose lock is not held any more is out, and those
 -- that are left are the reached set, where they are a quorum.
-use Rattle.std.specs.Prelude.{ℕ, zero, suc, ◌+◌, ◌-◌, Bool, true, false, ◌&&◌, not, nat_lt, List, Option, Some, None, slice_index, if◌then◌else◌}
+use Rattle.std.specs.Prelude.{ℕ, zero, suc, ◌+◌, ◌-◌, Bool, false, ◌&&◌, not, nat_lt, List, Option, Some, None, slice_index, if◌then◌else◌}
 use Rattle.fop_types.specs.declared.contents.Mask.{Mask}
 use Rattle.afr_phases.specs.declared.outs.Outs.{Outs}
 use Rattle.afr_phases.specs.declared.locks.Locks.{Locks}

@@ -1,5 +1,5 @@
 -- Who is used after a lock phase: each replica that is not out holds its lock, on the connection that is open.
-use Rattle.std.specs.Prelude.{◌≡◌, ℕ, ◌<◌, Bool, true, List, length}
+use Rattle.std.specs.Prelude.{◌≡◌, ℕ, ◌<◌, true, List, length}
 use Rattle.fop_types.specs.declared.contents.Mask.{Mask}
 use Rattle.afr_phases.specs.declared.outs.Outs.{Outs}
 use Rattle.afr_phases.specs.declared.locks.Locks.{Locks}

@@ -1,5 +1,5 @@
 -- What the replicas showed with their locks, and which of the reached ones are sound by it.
-use Rattle.std.specs.Prelude.{ℕ, ◌+◌, ◌-◌, ◌==◌, nat_lt, Bool, true, false, ◌&&◌, List, [], ◌∷◌, ◌++◌, Option, Some, None, take, slice_get, slice_index, slice_index_or, if◌then◌else◌}
+use Rattle.std.specs.Prelude.{ℕ, ◌+◌, ◌-◌, ◌==◌, nat_lt, Bool, false, ◌&&◌, List, [], ◌∷◌, ◌++◌, Option, Some, None, take, slice_get, slice_index, slice_index_or, if◌then◌else◌}
 use Rattle.std.specs.List.{slice_set}
 use Rattle.fop_types.specs.declared.answers.SplitRow.{SplitRow}
 use Rattle.fop_types.specs.declared.cells.Cell.{Cell}

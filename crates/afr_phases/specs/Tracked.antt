@@ -1,6 +1,6 @@
 -- What is known of a phase that was sent to all replicas that are not out: who is not out was asked and has not answered,
 -- or has confirmed. So once each has answered, those who are not out are exactly those who have confirmed.
-use Rattle.std.specs.Prelude.{◌≡◌, ℕ, ◌<◌, Bool, true, false, ◌&&◌, ◌||◌, not, nat_lt, length}
+use Rattle.std.specs.Prelude.{◌≡◌, ℕ, ◌<◌, true, false, ◌&&◌, ◌||◌, not, nat_lt, length}
 use Rattle.fop_types.specs.declared.messages.BrickRep.{BrickRep}
 use Rattle.afr_phases.specs.declared.outs.Outs.{Outs}
 use Rattle.afr_phases.specs.declared.wave.Wave.{Wave}

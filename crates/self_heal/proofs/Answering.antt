@@ -1,5 +1,5 @@
 -- The latest request to a replica, and what its answers say.
-use Rattle.std.proofs.Common.{◌≡◌, ◌≢◌, ℕ, zero, suc, ◌<◌, Bool, true, false, not, ◌||◌, ◌⊎◌, inl, inr, ◌==◌, List, [], ◌∷◌, ◌++◌, Option, Some, None, refl, sym, ap, subst, ◌∙◌, arith, if◌then◌else◌, slice_set}
+use Rattle.std.proofs.Common.{◌≡◌, ◌≢◌, ℕ, zero, suc, ◌<◌, Bool, true, false, ◌⊎◌, inl, inr, ◌==◌, List, [], ◌∷◌, ◌++◌, Option, Some, None, refl, sym, ap, subst, ◌∙◌, arith, if◌then◌else◌, slice_set}
 use Rattle.std.proofs.lemmas.Bool.{eq-eqb, true≢false}
 use Rattle.std.proofs.lemmas.List.{get_or-set_other}
 use Rattle.fop_types.specs.Bounds.{content_kind}
@@ -15,6 +15,8 @@ use Rattle.afr_phases.specs.Answers.{is_plain_done, content_in}
 use Rattle.afr_phases.specs.Flags.{flag}
 use Rattle.afr_phases.specs.Sending.{sends, sends_among}
 use Rattle.afr_phases.specs.Waves.{is_over}
+use Rattle.afr_phases.proofs.Asked.{none_asked as none_are}
+pub use Rattle.afr_phases.proofs.Asked.{asked_before}
 use Rattle.self_heal.specs.Runs.{only}
 use Rattle.self_heal.specs.Handed.{request_to}
 use Rattle.self_heal.proofs.Truths.{flags_have}
@@ -59,42 +61,11 @@ only_self k low = flags_have (λ j. k == j) k low (eq-eqb k k refl)
 
 -- ---- who is asked
 
-pub asked_before : (xs : List Bool) (k j : ℕ) → flag (slice_set xs k false) j ≡ true → flag xs j ≡ true
-asked_before [] k j h = h
-asked_before (x ∷ xs) zero zero h = absurd (true≢false (sym h))
-asked_before (x ∷ xs) zero (suc j) h = h
-asked_before (x ∷ xs) (suc k) zero h = h
-asked_before (x ∷ xs) (suc k) (suc j) h = asked_before xs k j h
-
 pub asked_still : (xs : List Bool) (k j : ℕ) → j ≢ k → flag xs j ≡ true → flag (slice_set xs k false) j ≡ true
 asked_still xs k j other h = get_or-set_other xs k j false false other ∙ h
 
-not_or : (a b : Bool) → not (a || b) ≡ true → (a ≡ false) × (not b ≡ true)
-not_or true b h = absurd (true≢false (sym h))
-not_or false b h = (refl, h)
-
-last_not : (a : Bool) → not a ≡ true → a ≡ false
-last_not true h = absurd (true≢false (sym h))
-last_not false h = refl
-
-none_at : (w : Wave) (j : ℕ) → j < 5 → is_over w ≡ true → flag w.asked j ≡ false
-none_at w j low over =
-    let a = not_or (flag w.asked 0) _ over in
-    let b = not_or (flag w.asked 1) _ a.1 in
-    let c = not_or (flag w.asked 2) _ b.1 in
-    let d = not_or (flag w.asked 3) (flag w.asked 4) c.1 in
-    at j low a.0 b.0 c.0 d.0 (last_not (flag w.asked 4) d.1)
-  where
-    at : (j : ℕ) → j < 5 → flag w.asked 0 ≡ false → flag w.asked 1 ≡ false → flag w.asked 2 ≡ false → flag w.asked 3 ≡ false → flag w.asked 4 ≡ false → flag w.asked j ≡ false
-    at zero l a b c d e = a
-    at (suc zero) l a b c d e = b
-    at (suc (suc zero)) l a b c d e = c
-    at (suc (suc (suc zero))) l a b c d e = d
-    at (suc (suc (suc (suc zero)))) l a b c d e = e
-    at (suc (suc (suc (suc (suc j))))) l a b c d e = absurd (omega arith)
-
 pub none_asked : (w : Wave) (j : ℕ) → j < 5 → is_over w ≡ true → flag w.asked j ≡ true → ⊥
-none_asked w j low over h = true≢false (sym h ∙ none_at w j low over)
+none_asked w j low over h = true≢false (sym h ∙ none_are w j low over)
 
 -- ---- what answers say
 

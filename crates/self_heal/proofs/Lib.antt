@@ -2,9 +2,11 @@ pub mod Answering
 pub mod Backing
 pub mod Branches
 pub mod Copied
+pub mod Encoded
 pub mod JobRequests
 pub mod Kept
 pub mod Lasting
 pub mod Leaving
 pub mod Pieces
 pub mod Truths
+pub mod Turning

@@ -19,8 +19,8 @@ mod stage;
 
 pub use fop_types::{CopyDone, CopyJob, CopyRecord, Out};
 pub use laws::{
-    clears_follow_replacements, current_have_every_cell, each_answer_leaves_less,
-    requests_go_to_the_job, waits_are_open,
+    clears_follow_replacements, copies_are_encoded, copies_go_on, current_have_every_cell,
+    each_answer_leaves_less, requests_go_to_the_job, waits_are_open,
 };
 pub use run::CopyRun;
 pub use stage::{CopyNeed, Origin, Stage};

@@ -1,4 +1,4 @@
-use Rattle.std.proofs.Common.{◌≡◌, take, List, [], ◌∷◌, ℕ}
+use Rattle.std.proofs.Common.{◌≡◌, take, [], ◌∷◌}
 use Rattle.afr_phases.specs.Sending.{sends_among}
 use Rattle.afr_phases.proofs.sending.sends.Given as goal
 

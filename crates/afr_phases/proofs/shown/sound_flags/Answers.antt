@@ -1,4 +1,4 @@
-use Rattle.std.proofs.Common.{◌≡◌, ℕ, ◌∙◌, Bool, List, [], ◌∷◌, refl}
+use Rattle.std.proofs.Common.{◌≡◌, ℕ, ◌∙◌, Bool, List, [], ◌∷◌}
 use Rattle.afr_phases.specs.Flags.{names}
 use Rattle.afr_phases.specs.Shown.{is_sound}
 use Rattle.afr_phases.proofs.Sound.{named_is}
