@@ -1,18 +1,25 @@
 -- What a frame's winds leave as it was, and which slots the frame awaits after them.
-use Rattle.std.proofs.Common.{◌≡◌, refl, sym, ap, subst, ◌∙◌}
+use Rattle.std.proofs.Common.{◌≡◌, refl, sym, ap, subst, ◌∙◌, arith}
 use Rattle.std.proofs.lemmas.Bool.{eqb-true, eqb-false, eq-eqb, ne_eqb}
-use Rattle.std.proofs.lemmas.List.{append-nil}
-use Rattle.std.specs.Prelude.{ℕ, ◌≢◌, ◌==◌, ◌||◌, ◌&&◌, Bool, true, false, List, [], ◌∷◌, ◌++◌, Option, Some, None, IsSome}
-use Rattle.xlator_law.specs.Law.{Slots, is_wound}
-use Rattle.frame_stack.specs.Stack.{Stack, frame_at, awaits}
-use Rattle.frame_stack.specs.Following.{MayOpen}
+use Rattle.std.specs.Prelude.{ℕ, ◌≢◌, ◌==◌, ◌||◌, ◌&&◌, Bool, true, false, List, [], ◌∷◌, ◌++◌, Option, Some, count_by}
+use Rattle.xlator_law.specs.declared.winds.Place.{Place}
+use Rattle.xlator_law.specs.declared.winds.WindNo.{WindNo}
+use Rattle.xlator_law.specs.Law.{Slots, is_wound, AreFresh}
+use Rattle.frame_stack.proofs.Lists.{count_push}
+use Rattle.frame_stack.specs.Stack.{Stack, awaits}
 use Rattle.frame_driver.specs.declared.board.Board.{Board}
+use Rattle.frame_driver.specs.declared.items.Task.{Task}
+use Rattle.frame_driver.specs.declared.items.Task.TheVariants.{Enter}
+use Rattle.frame_driver.specs.declared.wiring.Child.{Child}
+use Rattle.frame_driver.specs.declared.wiring.Child.TheVariants.{Node, Outside, Nothing}
 use Rattle.frame_driver.specs.declared.wiring.Wiring.{Wiring}
 use Rattle.frame_driver.specs.Machine.{IsWoundDown, AreWoundDown, handed_to, MayWind}
 use Rattle.frame_driver.specs.Machine.AreWoundDown.{NoWind, OneMore}
+use Rattle.frame_driver.specs.Tasks.{one}
+use Rattle.frame_driver.specs.Wiring.{below}
 
 -- `==` looks at both sides alike
-flip : (a b : ℕ) → (a == b) ≡ (b == a)
+pub flip : (a b : ℕ) → (a == b) ≡ (b == a)
 flip a b = by_case (a == b) refl where
   by_case : (t : Bool) → (a == b) ≡ t → t ≡ (b == a)
   by_case true e = sym (eq-eqb b a (sym (eqb-true a b e)))
@@ -27,75 +34,121 @@ or_assoc true b c = refl
 or_assoc false b c = refl
 
 module _ {F R L : Type 0} where
-  handed_stack : (b : Board F R L) (to : Option ℕ) (node child : ℕ) (w : _) (fop : F) → (handed_to b to node child w fop).stack ≡ b.stack
-  handed_stack b None node child w fop = refl
-  handed_stack b (Some to) node child w fop = refl
+  -- where a fop goes changes no frame and no wind
+  pub handed_stack : (b : Board F R L) (to : Child) (place : Place) (child : ℕ) (w : WindNo) (fop : F) → (handed_to b to place child w fop).stack ≡ b.stack
+  handed_stack b (Node to) place child w fop = refl
+  handed_stack b Outside place child w fop = refl
+  handed_stack b Nothing place child w fop = refl
+
+  pub handed_graph : (b : Board F R L) (to : Child) (place : Place) (child : ℕ) (w : WindNo) (fop : F) → (handed_to b to place child w fop).graph ≡ b.graph
+  handed_graph b (Node to) place child w fop = refl
+  handed_graph b Outside place child w fop = refl
+  handed_graph b Nothing place child w fop = refl
+
+  handed_frames : (b : Board F R L) (to : Child) (place : Place) (child : ℕ) (w : WindNo) (fop : F) → (handed_to b to place child w fop).frames ≡ b.frames
+  handed_frames b (Node to) place child w fop = refl
+  handed_frames b Outside place child w fop = refl
+  handed_frames b Nothing place child w fop = refl
+
+  handed_waiting : (b : Board F R L) (to : Child) (place : Place) (child : ℕ) (w : WindNo) (fop : F) → (handed_to b to place child w fop).waiting ≡ b.waiting
+  handed_waiting b (Node to) place child w fop = refl
+  handed_waiting b Outside place child w fop = refl
+  handed_waiting b Nothing place child w fop = refl
 
 module _ {F : Type 0} where
   wound_push : (xs : List (ℕ × ℕ × F)) (x : ℕ × ℕ × F) (n : ℕ) → is_wound (xs ++ x ∷ []) n ≡ (is_wound xs n || (n == x.1))
   wound_push [] x n = or_false (n == x.1)
   wound_push (y ∷ ys) x n = ap (λ b. (n == y.1) || b) (wound_push ys x n) ∙ sym (or_assoc (n == y.1) (is_wound ys n) (n == x.1))
 
-module _ {F R L : Type 0} (wiring : Wiring) (node key : ℕ) (old : Board F R L) where
-  -- the frames are as they were
-  pub frames_kept : (xs : List (ℕ × ℕ × F)) (new : Board F R L) → AreWoundDown wiring node key old xs new → new.stack.frames ≡ old.stack.frames
-  frames_kept _ _ NoWind = refl
-  frames_kept _ _ (OneMore xs x mid new before is) = ap (λ (s : Stack L). s.frames) is.wound.made ∙ frames_kept xs mid before
+module _ {F R L : Type 0} (wiring : Wiring) (place : Place) (key : ℕ) where
+  pub wound_stack : (old new : Board F R L) (x : ℕ × ℕ × F) → (is : IsWoundDown wiring place key old new x) → new.stack ≡ is.mid.stack
+  wound_stack old new x is = ap (λ (b : Board F R L). b.stack) is.handed ∙ handed_stack is.mid (below wiring place.node x.0) place x.0 is.wind x.2
 
-  -- the frame awaits the slots of its winds besides
-  pub awaits_more : (xs : List (ℕ × ℕ × F)) (new : Board F R L) → AreWoundDown wiring node key old xs new → (n : ℕ) → awaits new.stack key n ≡ (awaits old.stack key n || is_wound xs n)
-  awaits_more _ _ NoWind n = sym (or_false (awaits old.stack key n))
-  awaits_more _ _ (OneMore xs x mid new before is) n =
-      is.awaits key n
-      ∙ ap (λ b. awaits mid.stack key n || (b && (x.1 == n))) (eq-eqb key key refl)
-      ∙ ap (λ b. b || (x.1 == n)) (awaits_more xs mid before n)
-      ∙ or_assoc (awaits old.stack key n) (is_wound xs n) (x.1 == n)
-      ∙ ap (λ b. awaits old.stack key n || (is_wound xs n || b)) (flip x.1 n)
-      ∙ ap (λ b. awaits old.stack key n || b) (sym (wound_push xs x n))
+  module _ (old : Board F R L) where
+    -- the frames are as they were
+    pub frames_kept : (xs : List (ℕ × ℕ × F)) (new : Board F R L) → AreWoundDown wiring place key old xs new → new.stack.frames ≡ old.stack.frames
+    frames_kept _ _ NoWind = refl
+    frames_kept _ _ (OneMore xs x mid new before is) = ap (λ (s : Stack L). s.frames) (wound_stack mid new x is) ∙ ap (λ (s : Stack L). s.frames) is.opened.wound.made ∙ frames_kept xs mid before
 
-  -- other frames await what they awaited
-  pub others_await : (xs : List (ℕ × ℕ × F)) (new : Board F R L) → AreWoundDown wiring node key old xs new → (k n : ℕ) → k ≢ key → awaits new.stack k n ≡ awaits old.stack k n
-  others_await _ _ NoWind k n differs = refl
-  others_await _ _ (OneMore xs x mid new before is) k n differs =
-      is.awaits k n
-      ∙ ap (λ b. awaits mid.stack k n || (b && (x.1 == n))) (ne_eqb key k (λ same. differs (sym same)))
-      ∙ or_false (awaits mid.stack k n)
-      ∙ others_await xs mid before k n differs
+    -- so is what the board counts and notes
+    pub graph_kept : (xs : List (ℕ × ℕ × F)) (new : Board F R L) → AreWoundDown wiring place key old xs new → new.graph ≡ old.graph
+    graph_kept _ _ NoWind = refl
+    graph_kept _ _ (OneMore xs x mid new before is) = ap (λ (b : Board F R L). b.graph) is.handed ∙ handed_graph is.mid (below wiring place.node x.0) place x.0 is.wind x.2 ∙ ap (λ (b : Board F R L). b.graph) is.opened.rest ∙ graph_kept xs mid before
 
--- the winds of `done` were opened, and `rest` may be
-pub record Winding {F R L : Type 0} (wiring : Wiring) (node key : ℕ) (old now : Board F R L) (all rest : List (ℕ × ℕ × F)) : Type 0 where
-  pub done : List (ℕ × ℕ × F)
-  pub split : done ++ rest ≡ all
-  pub wound : AreWoundDown wiring node key old done now
-  pub may : MayWind now.stack key rest
-  pub there : IsSome (frame_at now.stack key)
+    pub count_kept : (xs : List (ℕ × ℕ × F)) (new : Board F R L) → AreWoundDown wiring place key old xs new → new.frames ≡ old.frames
+    count_kept _ _ NoWind = refl
+    count_kept _ _ (OneMore xs x mid new before is) = ap (λ (b : Board F R L). b.frames) is.handed ∙ handed_frames is.mid (below wiring place.node x.0) place x.0 is.wind x.2 ∙ ap (λ (b : Board F R L). b.frames) is.opened.rest ∙ count_kept xs mid before
 
-module _ {F R L : Type 0} (wiring : Wiring) (node key : ℕ) (old : Board F R L) where
-  pub winding_first : (all : List (ℕ × ℕ × F)) → MayWind old.stack key all → IsSome (frame_at old.stack key) → Winding wiring node key old old all all
-  winding_first all may there = record { done = []; split = refl; wound = NoWind; may = may; there = there }
+    pub waiting_kept : (xs : List (ℕ × ℕ × F)) (new : Board F R L) → AreWoundDown wiring place key old xs new → new.waiting ≡ old.waiting
+    waiting_kept _ _ NoWind = refl
+    waiting_kept _ _ (OneMore xs x mid new before is) = ap (λ (b : Board F R L). b.waiting) is.handed ∙ handed_waiting is.mid (below wiring place.node x.0) place x.0 is.wind x.2 ∙ ap (λ (b : Board F R L). b.waiting) is.opened.rest ∙ waiting_kept xs mid before
 
-  append_one : (xs : List (ℕ × ℕ × F)) (x : ℕ × ℕ × F) (ys : List (ℕ × ℕ × F)) → (xs ++ x ∷ []) ++ ys ≡ xs ++ x ∷ ys
-  append_one [] x ys = refl
-  append_one (z ∷ zs) x ys = ap (λ l. z ∷ l) (append_one zs x ys)
+    -- the frame awaits the slots of its winds besides
+    pub awaits_more : (xs : List (ℕ × ℕ × F)) (new : Board F R L) → AreWoundDown wiring place key old xs new → (n : ℕ) → awaits new.stack key n ≡ (awaits old.stack key n || is_wound xs n)
+    awaits_more _ _ NoWind n = sym (or_false (awaits old.stack key n))
+    awaits_more _ _ (OneMore xs x mid new before is) n =
+        ap (λ (s : Stack L). awaits s key n) (wound_stack mid new x is)
+        ∙ is.opened.awaits key n
+        ∙ ap (λ b. awaits mid.stack key n || (b && (x.1 == n))) (eq-eqb key key refl)
+        ∙ ap (λ b. b || (x.1 == n)) (awaits_more xs mid before n)
+        ∙ or_assoc (awaits old.stack key n) (is_wound xs n) (x.1 == n)
+        ∙ ap (λ b. awaits old.stack key n || (is_wound xs n || b)) (flip x.1 n)
+        ∙ ap (λ b. awaits old.stack key n || b) (sym (wound_push xs x n))
 
-  pub winding_next : (now next : Board F R L) (all rest : List (ℕ × ℕ × F)) (x : ℕ × ℕ × F) → Winding wiring node key old now all (x ∷ rest) → IsWoundDown wiring node key now next x → Winding wiring node key old next all rest
-  winding_next now next all rest x w is = record {
-    done = w.done ++ x ∷ [];
-    split = append_one w.done x rest ∙ w.split;
-    wound = OneMore w.done x now next w.wound is;
-    may = w.may.1 next.stack is.awaits;
-    there = subst (λ c. IsSome c) (sym (ap (λ (s : Stack L). frame_at s key) is.wound.made)) w.there;
-  }
+    -- other frames await what they awaited
+    pub others_await : (xs : List (ℕ × ℕ × F)) (new : Board F R L) → AreWoundDown wiring place key old xs new → (k n : ℕ) → k ≢ key → awaits new.stack k n ≡ awaits old.stack k n
+    others_await _ _ NoWind k n differs = refl
+    others_await _ _ (OneMore xs x mid new before is) k n differs =
+        ap (λ (s : Stack L). awaits s k n) (wound_stack mid new x is)
+        ∙ is.opened.awaits k n
+        ∙ ap (λ b. awaits mid.stack k n || (b && (x.1 == n))) (ne_eqb key k (λ same. differs (sym same)))
+        ∙ or_false (awaits mid.stack k n)
+        ∙ others_await xs mid before k n differs
 
-  pub winding_last : (now : Board F R L) (all : List (ℕ × ℕ × F)) → Winding wiring node key old now all [] → AreWoundDown wiring node key old all now
-  winding_last now all w = subst (λ xs. AreWoundDown wiring node key old xs now) (sym (append-nil w.done) ∙ w.split) w.wound
+  -- the tasks that are no entering fops are as they were
+  module _ (p : Task F R → Bool) (none : (node call : ℕ) (parent : Option WindNo) (fop : F) → p (Enter node call parent fop) ≡ false) where
+    handed_count : (b : Board F R L) (to : Child) (child : ℕ) (w : WindNo) (fop : F) → count_by p (handed_to b to place child w fop).queue ≡ count_by p b.queue
+    handed_count b (Node to) child w fop =
+        let c = count_push p b.queue (Enter to place.call (Some w) fop) in
+        let z : one (p (Enter to place.call (Some w) fop)) ≡ 0 = ap one (none to place.call (Some w) fop) in
+        omega (arith, c, z)
+    handed_count b Outside child w fop = refl
+    handed_count b Nothing child w fop = refl
 
--- winds that may be opened by the law may be opened
-pub may_wind : {F L : Type 0} (now : Slots) (s : Stack L) (key : ℕ) (xs : List (ℕ × ℕ × F)) → MayOpen now s key xs → MayWind s key xs
-may_wind now s key [] may = tt
-may_wind now s key (x ∷ xs) may = (may.0, λ t more. may_wind now t key xs (may.1 t more))
+    pub tasks_kept : (old : Board F R L) (xs : List (ℕ × ℕ × F)) (new : Board F R L) → AreWoundDown wiring place key old xs new → count_by p new.queue ≡ count_by p old.queue
+    tasks_kept old _ _ NoWind = refl
+    tasks_kept old _ _ (OneMore xs x mid new before is) = ap (λ (b : Board F R L). count_by p b.queue) is.handed ∙ handed_count is.mid (below wiring place.node x.0) x.0 is.wind x.2 ∙ ap (λ (b : Board F R L). count_by p b.queue) is.opened.rest ∙ tasks_kept old xs mid before
 
--- what may be opened depends on what is awaited alone
-pub may_as : {F L : Type 0} (s t : Stack L) (key : ℕ) (xs : List (ℕ × ℕ × F)) → ((k n : ℕ) → awaits t k n ≡ awaits s k n) → MayWind s key xs → MayWind t key xs
-may_as s t key [] same may = tt
-may_as s t key (x ∷ xs) same may = (same key x.1 ∙ may.0, λ u more. may.1 u (λ k n. more k n ∙ ap (λ b. b || ((key == k) && (x.1 == n))) (same k n)))
+-- The winds of a step by the law find their slots free, where the frame awaits no slot that is not unanswered
+-- before the step.
+pub may_wind : {F L : Type 0} (s : Stack L) (key : ℕ) (before : Slots) (xs : List (ℕ × ℕ × F)) → ((n : ℕ) → before n ≡ false → awaits s key n ≡ false) → AreFresh before xs → MayWind s key xs
+may_wind s key before [] few fresh = tt
+may_wind {F = F} {L = L} s key before (x ∷ xs) few fresh = (
+  few x.1 fresh.0,
+  λ t more. may_wind t key (λ n. before n || (n == x.1)) xs
+      (λ n none. more key n ∙ ap (λ b. awaits s key n || (b && (x.1 == n))) (eq-eqb key key refl) ∙ both_none (awaits s key n) (x.1 == n) (few n (first_none (before n) (n == x.1) none)) (flip x.1 n ∙ last_none (before n) (n == x.1) none))
+      (still xs fresh.1 fresh.2),
+) where
+  first_none : (a b : Bool) → (a || b) ≡ false → a ≡ false
+  first_none true b h = absurd cc
+  first_none false b h = refl
+
+  last_none : (a b : Bool) → (a || b) ≡ false → b ≡ false
+  last_none true b h = absurd cc
+  last_none false b h = h
+
+  both_none : (a b : Bool) → a ≡ false → b ≡ false → (a || b) ≡ false
+  both_none true b h i = absurd cc
+  both_none false b h i = i
+
+  still : (ys : List (ℕ × ℕ × F)) → is_wound ys x.1 ≡ false → AreFresh before ys → AreFresh (λ n. before n || (n == x.1)) ys
+  still [] apart h = tt
+  still (y ∷ ys) apart h = (both_none (before y.1) (y.1 == x.1) h.0 (flip y.1 x.1 ∙ first_none (x.1 == y.1) (is_wound ys x.1) apart), h.1, still ys (last_none (x.1 == y.1) (is_wound ys x.1) apart) h.2)
+
+-- a fresh wind's slot was not unanswered before
+pub fresh_out : {F : Type 0} (before : Slots) (xs : List (ℕ × ℕ × F)) (n : ℕ) → AreFresh before xs → is_wound xs n ≡ true → before n ≡ false
+fresh_out before [] n fresh is = absurd cc
+fresh_out before (x ∷ xs) n fresh is = by_case (n == x.1) refl (fresh_out before xs n fresh.2) is where
+  by_case : (b : Bool) → (n == x.1) ≡ b → (is_wound xs n ≡ true → before n ≡ false) → (b || is_wound xs n) ≡ true → before n ≡ false
+  by_case true e rest h = subst (λ i. before i ≡ false) (sym (eqb-true n x.1 e)) fresh.0
+  by_case false e rest h = rest h

@@ -1,4 +1,5 @@
 pub mod Wiring
+pub mod Tasks
 pub mod Follows
 pub mod Machine
 pub mod Total
@@ -9,3 +10,6 @@ pub mod Leading
 pub mod Waits
 pub mod Account
 pub mod Sound
+pub mod Roots
+pub mod Breadth
+pub mod Laws

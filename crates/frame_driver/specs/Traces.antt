@@ -9,7 +9,7 @@ use Rattle.xlator_law.specs.Frames.{Event, IsTrace}
 use Rattle.frame_stack.specs.declared.frame.Frame.{Frame}
 use Rattle.frame_stack.specs.Stack.{frame_at}
 use Rattle.frame_driver.specs.declared.board.Board.{Board}
-use Rattle.frame_driver.specs.Follows.{promise_at}
+use Rattle.frame_driver.specs.Follows.{promise_of}
 
 -- the local that a step leaves
 abbrev pub Leaves : {F R L : Type 0} → Step F R L → L → Type 0
@@ -38,9 +38,9 @@ module _ {X C F R L : Type 0} (promise : X → Promise F L) (makes : X → C →
   TracedBy p key call None = Unit {0}
   TracedBy p key call (Some local) = Trace p key call local
 
-  abbrev pub IsTraced : List (Promise F L) → ℕ → Option (Frame L) → Type 0
+  abbrev pub IsTraced : (ℕ → List (Promise F L)) → ℕ → Option (Frame L) → Type 0
   IsTraced ps key None = Unit {0}
-  IsTraced ps key (Some f) = TracedBy (promise_at ps f.place.node) key f.place.call f.local
+  IsTraced ps key (Some f) = TracedBy (promise_of ps f.place) key f.place.call f.local
 
-  abbrev pub AreTraced : List (Promise F L) → Board F R L → Type 0
+  abbrev pub AreTraced : (ℕ → List (Promise F L)) → Board F R L → Type 0
   AreTraced ps b = (key : ℕ) → IsTraced ps key (frame_at b.stack key)

@@ -1,20 +1,34 @@
-ghost use Rattle.std.specs.Prelude.{List, ◌≡◌, ◌∷◌, ◌++◌, [], false, None, Some, IsSome, IsSomeAnd, IfOk, OnOk, IsErrOf, length};
-ghost use Rattle.frame_stack.specs.Stack.{empty_stack, HasParent, frame_at, awaits};
+ghost use Rattle.std.specs.Prelude.{ℕ, List, ◌≡◌, ◌<◌, ◌≤◌, ◌+◌, ◌*◌, ◌==◌, ◌↔◌, None, true, cond, IsTrue, length, IsSomeAnd, OnOk, OnErr, count_by};
 ghost use Rattle.xlator_law.specs.Law.{Promise};
+ghost use Rattle.xlator_law.specs.declared.winds.WindNo.{WindNo};
+ghost use Rattle.frame_stack.specs.Stack.{frame_at};
+ghost use Rattle.frame_driver.specs.declared.items.Task.TheVariants.{Enter, Go};
+ghost use Rattle.frame_driver.specs.Account.{account};
+ghost use Rattle.frame_driver.specs.Breadth.{Nests};
+ghost use Rattle.frame_driver.specs.Follows.{promise_at, waits_in};
+ghost use Rattle.frame_driver.specs.Machine.{empty_board, with_task};
+ghost use Rattle.frame_driver.specs.Parts.{IsParted};
+ghost use Rattle.frame_driver.specs.Roots.{AreRooted};
 ghost use Rattle.frame_driver.specs.Sound.{Sound};
-ghost use Rattle.frame_driver.specs.Machine.{IsWoundDown, AreWoundDown, answered_to, IsOpened, IsCarried, IsEnded, out_of, MayWind, MayCarry};
+ghost use Rattle.frame_driver.specs.Tasks.{one, is_going, IsWindOurs};
+ghost use Rattle.frame_driver.specs.Total.{total};
+ghost use Rattle.frame_driver.specs.Waits.{AreHeld};
 
 use crate::items::{Answered, Sent, Task};
 use crate::queue::Queue;
-use crate::wiring::Wiring;
 use frame_stack::FrameStack;
 use std::alloc::{AllocError, Global};
-use xlator_law::{Parent, Place, Settled, Step, Stop, WindNo};
+use std::mem;
+use xlator_law::WindNo;
 
-/// The frames of a mount, what is still to be done for them, and what came out of the graph: winds that
-/// were sent, calls that were answered, and frames that began to wait for something that is no wind.
+/// What a graph has to do for its frames, and what came out of it: winds that were sent, calls that were
+/// answered, and frames that began to wait for something that is no wind. `graph` is the graph's number,
+/// `frames` counts its open frames. All graphs of a mount share one stack, which a graph's board has while
+/// a call of the graph runs: [`Board::swap_stack`] lends it.
 #[derive(Drop)]
 pub struct Board<F, R, L> {
+    pub graph: u32,
+    pub frames: u32,
     pub stack: FrameStack<L>,
     pub queue: Queue<Task<F, R>>,
     pub sent: Queue<Sent<F>>,
@@ -23,16 +37,17 @@ pub struct Board<F, R, L> {
 }
 
 impl<F: Drop, R: Drop, L: Drop> Board<F, R, L> {
-    /// No frames, and nothing to do, which takes no memory.
-    pub fn new(alloc: Global) -> Board<F, R, L>
-        ensures sound { (ps : List (Promise F L)) → Sound ps result }
-        ensures stack { result.stack ≡ empty_stack }
-        ensures queue { result.queue ≡ [] }
-        ensures sent { result.sent ≡ [] }
-        ensures answers { result.answers ≡ [] }
-        ensures waiting { result.waiting ≡ [] }
+    /// The board of a graph without frames, with nothing to do, which takes no memory.
+    #[tactic(auto, using(crate::proofs::Sharing::empty_sound, crate::proofs::Sharing::empty_nests, crate::proofs::Rooting::empty_rooted))]
+    pub fn new(alloc: Global, graph: u32) -> Board<F, R, L>
+        ensures board { result ≡ empty_board graph }
+        ensures sound { (ps : ℕ → List (Promise F L)) → Sound ps result }
+        ensures nests { (ps : ℕ → List (Promise F L)) → Nests ps result }
+        ensures rooted { (root : ℕ) → AreRooted root result }
     {
         Board {
+            graph,
+            frames: 0,
             stack: FrameStack::new(alloc),
             queue: Queue::new(alloc),
             sent: Queue::new(alloc),
@@ -41,163 +56,74 @@ impl<F: Drop, R: Drop, L: Drop> Board<F, R, L> {
         }
     }
 
-    // Opens a wind of a frame of this node, and hands its fop down.
-    fn wind_down(
-        &mut self,
-        alloc: Global,
-        wiring: &Wiring,
-        node: u16,
-        frame: u32,
-        wound: (u16, u8, F),
-    ) -> Result<(), Stop>
-        requires open { IsSome (frame_at self.old.stack frame) }
-        requires slot { awaits self.old.stack frame wound.1 ≡ false }
-        ensures wound { OnOk result (IsWoundDown wiring.now node frame self.old self.new wound) }
-        ensures winds { IsErrOf result Stop.Winds → self.new.stack.opened ≡ 4294967295 }
+    /// Gives the board this stack, and hands its own one over, which takes no memory.
+    pub fn swap_stack(&mut self, stack: &mut FrameStack<L>)
+        ensures board { self.new ≡ record self.old { stack = stack.old } }
+        ensures stack { stack.new ≡ self.old.stack }
     {
-        let (child, slot, fop) = wound;
-        if !self.stack.has_room() {
-            return Err(Stop::Mem);
-        }
-        let wind = self.stack.wind(alloc, frame, slot)?;
-        match wiring.below(node, child) {
-            Some(to) => {
-                self.queue.push(Task::Enter {
-                    node: to,
-                    wind,
-                    fop,
-                })?;
-                Ok(())
-            }
-            None => {
-                self.sent.push(Sent {
-                    wind,
-                    node,
-                    child,
-                    fop,
-                })?;
-                Ok(())
-            }
+        mem::swap(&mut self.stack, stack);
+    }
+
+    /// Whether a wind is one of this graph. A wind that is not open is of every graph.
+    pub fn owns(&self, wind: WindNo) -> bool
+        ensures { IsTrue result ↔ IsWindOurs self.now.stack self.now.graph wind }
+    {
+        match self.stack.opener(wind) {
+            Some(opener) => opener.graph == self.graph,
+            None => true,
         }
     }
 
-    // Opens the winds of a step, in order.
-    #[tactic(auto, using(crate::proofs::Winding::winding_first, crate::proofs::Winding::winding_next, crate::proofs::Winding::winding_last))]
-    fn wind_all(
-        &mut self,
-        alloc: Global,
-        wiring: &Wiring,
-        node: u16,
-        frame: u32,
-        winds: Vec<(u16, u8, F)>,
-    ) -> Result<(), Stop>
-        requires open { IsSome (frame_at self.old.stack frame) }
-        requires may { MayWind self.old.stack frame winds.items }
-        ensures wound { OnOk result (AreWoundDown wiring.now node frame self.old winds.items self.new) }
-        ensures winds { IsErrOf result Stop.Winds → self.new.stack.opened ≡ 4294967295 }
+    /// Whether a frame of this number is open in this graph.
+    pub fn has_frame(&self, frame: u32) -> bool
+        ensures { IsTrue result ↔ IsSomeAnd (frame_at self.now.stack frame) (λ f. f.place.graph ≡ self.now.graph) }
     {
-        let mut rest = Queue::from_vec(winds);
-        while let Some(wound) = rest.pop() {
-            self.wind_down(alloc, wiring, node, frame, wound)?;
+        match self.stack.place(frame) {
+            Some(place) => place.graph == self.graph,
+            None => false,
         }
+    }
+
+    /// A call's own fop is to enter a node, as a new frame, by the next run.
+    ///
+    /// # Errors
+    /// Out of memory, and nothing changed.
+    pub fn submit(&mut self, _alloc: Global, call: u32, node: u16, fop: F) -> Result<(), AllocError>
+        ensures submitted { OnOk result (self.new ≡ with_task self.old (Enter node call None fop)) }
+        ensures sound { OnOk result ((ps : ℕ → List (Promise F L)) → node < length (ps self.old.graph) → Sound ps self.old → Sound ps self.new) }
+        ensures parted { OnOk result ((outer : WindNo → ℕ) → IsParted outer self.old → IsParted outer self.new) }
+        ensures nests { OnOk result ((ps : ℕ → List (Promise F L)) → Nests ps self.old → Nests ps self.new) }
+        ensures held { OnOk result ((ps : ℕ → List (Promise F L)) (outer : ℕ → ℕ) → AreHeld ps outer self.old → AreHeld ps outer self.new) }
+        ensures rooted { OnOk result (AreRooted node self.old → AreRooted node self.new) }
+        ensures work { OnOk result ((ps : ℕ → List (Promise F L)) → total ps self.new ≡ total ps self.old + 2 + 3 * (promise_at (ps self.old.graph) node).cost fop) }
+        ensures paid { OnOk result ((ps : ℕ → List (Promise F L)) (c : ℕ) → account ps c self.new ≡ account ps c self.old + cond (call == c) ((promise_at (ps self.old.graph) node).cost fop) 0) }
+        ensures err { OnErr result (self.new ≡ self.old) }
+    {
+        self.queue.push(Task::Enter {
+            node,
+            call,
+            parent: None,
+            fop,
+        })?;
         Ok(())
     }
 
-    // Hands an answer to the wind that opened the frame, or out.
-    fn answer(
-        &mut self,
-        parent: Option<WindNo>,
-        graph: u32,
-        call: u32,
-        reply: R,
-    ) -> Result<(), AllocError>
-        ensures { OnOk result (self.new ≡ answered_to self.old parent graph call reply) }
+    /// A frame that waits for something that is no wind is to go on by the next run: it has come.
+    ///
+    /// # Errors
+    /// Out of memory, and nothing changed.
+    pub fn go_on(&mut self, _alloc: Global, frame: u32) -> Result<(), AllocError>
+        ensures going { OnOk result (self.new ≡ with_task self.old (Go frame)) }
+        ensures sound { OnOk result ((ps : ℕ → List (Promise F L)) → IsSomeAnd (frame_at self.old.stack frame) (λ f. f.place.graph ≡ self.old.graph) → count_by (is_going frame) self.old.queue + 1 ≤ one (waits_in ps (frame_at self.old.stack frame)) → Sound ps self.old → Sound ps self.new) }
+        ensures parted { OnOk result ((outer : WindNo → ℕ) → IsParted outer self.old → IsParted outer self.new) }
+        ensures nests { OnOk result ((ps : ℕ → List (Promise F L)) → Nests ps self.old → Nests ps self.new) }
+        ensures held { OnOk result ((ps : ℕ → List (Promise F L)) (outer : ℕ → ℕ) → AreHeld ps (λ k. outer k + one (k == frame)) self.old → AreHeld ps outer self.new) }
+        ensures rooted { OnOk result ((root : ℕ) → AreRooted root self.old → AreRooted root self.new) }
+        ensures work { OnOk result ((ps : ℕ → List (Promise F L)) → total ps self.new ≡ total ps self.old + 1) }
+        ensures paid { OnOk result ((ps : ℕ → List (Promise F L)) (c : ℕ) → account ps c self.new ≡ account ps c self.old) }
+        ensures err { OnErr result (self.new ≡ self.old) }
     {
-        match parent {
-            Some(wind) => self.queue.push(Task::Reply { wind, reply }),
-            None => self.answers.push(Answered { graph, call, reply }),
-        }
-    }
-
-    // Opens a frame at this place, whose local is still to come.
-    pub(crate) fn begin(&mut self, alloc: Global, place: Place) -> Result<u32, AllocError>
-        requires parent { HasParent self.old.stack place.graph place.call place.parent }
-        ensures { IfOk result (λ key. IsOpened place key self.old self.new) }
-    {
-        if !self.stack.has_room() {
-            return Err(AllocError);
-        }
-        let frame = self
-            .stack
-            .begin(alloc, place.graph, place.call, place.node, place.parent)?;
-        Ok(frame)
-    }
-
-    // Carries out a step of an open frame whose local is out.
-    pub(crate) fn carry(
-        &mut self,
-        alloc: Global,
-        wiring: &Wiring,
-        frame: u32,
-        place: Place,
-        step: Step<F, R, L>,
-    ) -> Result<(), Stop>
-        requires out { IsSomeAnd (frame_at self.old.stack frame) (λ f. f.local ≡ None) }
-        requires may { MayCarry self.old.stack frame step }
-        ensures carried { OnOk result (IsCarried wiring.now frame place self.old step self.new) }
-        ensures winds { IsErrOf result Stop.Winds → self.new.stack.opened ≡ 4294967295 }
-    {
-        match step {
-            Step::Wind(winds, local) => {
-                self.wind_all(alloc, wiring, place.node, frame, winds)?;
-                self.stack.put(frame, local);
-                Ok(())
-            }
-            Step::Wait(local) => {
-                self.stack.put(frame, local);
-                self.waiting.push(frame)?;
-                Ok(())
-            }
-            Step::Unwind(reply) => {
-                self.stack.free(frame);
-                self.answer(place.parent, place.graph, place.call, reply)?;
-                Ok(())
-            }
-        }
-    }
-
-    // Takes the local of a frame that keeps one out, and says where the frame is.
-    #[tactic(auto, using(crate::proofs::Ready::stood_at, crate::proofs::Ready::place_there, crate::proofs::Ready::local_there))]
-    pub(crate) fn take_out(&mut self, frame: u32) -> (Place, L)
-        requires kept { IsSomeAnd (frame_at self.old.stack frame) (λ f. IsSome f.local) }
-        ensures stood { frame_at self.old.stack frame ≡ Some (record { place = result.0; local = Some result.1 }) }
-        ensures out { self.new ≡ out_of self.old frame }
-    {
-        let Some(place) = self.stack.place(frame) else {
-            unreachable!()
-        };
-        let Some(local) = self.stack.take(frame) else {
-            unreachable!()
-        };
-        (place, local)
-    }
-
-    // Ends a wind that is pending, and gives the frame and slot that opened it. `None` comes exactly where
-    // it is not pending, and then nothing changed: the reply is late.
-    #[tactic(auto, using(crate::proofs::Ends::ended_won, crate::proofs::Ends::ended_lost))]
-    pub(crate) fn end_wind(
-        &mut self,
-        alloc: Global,
-        wind: WindNo,
-    ) -> Result<Option<Parent>, AllocError>
-        ensures { IfOk result (λ parent. IsEnded wind self.old parent self.new) }
-    {
-        match self.stack.settle(wind) {
-            Settled::Won => {
-                let parent = self.stack.resume(alloc, wind)?;
-                Ok(parent)
-            }
-            Settled::Lost(_) => Ok(None),
-        }
+        self.queue.push(Task::Go { frame })?;
+        Ok(())
     }
 }

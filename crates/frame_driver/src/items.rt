@@ -3,13 +3,27 @@ use xlator_law::WindNo;
 /// What a run has still to do.
 #[derive(Drop)]
 pub enum Task<F, R> {
-    /// A fop enters a node by a wind, as a new frame.
-    Enter { node: u16, wind: WindNo, fop: F },
-    /// The wind is answered, which resumes the frame that opened it.
-    Reply { wind: WindNo, reply: R },
+    /// A fop of a call enters a node as a new frame: by this wind, or as the call's own fop where there is
+    /// none.
+    Enter {
+        node: u16,
+        call: u32,
+        parent: Option<WindNo>,
+        fop: F,
+    },
+    /// A frame's wind in this slot was answered and has ended, which resumes the frame.
+    Resume {
+        frame: u32,
+        slot: u8,
+        reply: R,
+    },
+    /// What a frame waited for, which is no wind, has come.
+    Go {
+        frame: u32,
+    },
 }
 
-/// A wind to a child that is no node: it leaves the graph at this child of the node.
+/// A wind to a child that is outside of the graph.
 #[derive(Drop)]
 pub struct Sent<F> {
     pub wind: WindNo,
@@ -21,7 +35,6 @@ pub struct Sent<F> {
 /// The answer of a call's own fop.
 #[derive(Drop)]
 pub struct Answered<R> {
-    pub graph: u32,
     pub call: u32,
     pub reply: R,
 }

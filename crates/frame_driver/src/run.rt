@@ -1,15 +1,18 @@
-ghost use Rattle.std.specs.Prelude.{ℕ, ◌≡◌, ◌<◌, ◌≤◌, ◌+◌, ◌*◌, true, [], List, length, map, count_by, None, IsSomeAnd, OnOk, IsErrOf};
+ghost use Rattle.std.specs.Prelude.{ℕ, ◌≡◌, ◌<◌, ◌≤◌, ◌+◌, false, [], ◌∷◌, List, length, map, Some, None, OnOk, IsErrOf};
 ghost use Rattle.frame_stack.specs.Stack.{frame_at, HasParent};
-ghost use Rattle.frame_driver.specs.Follows.{promise_at, Fits};
-ghost use Rattle.frame_driver.specs.Machine.{root, IsEntered, IsReplied, GoesOn, IsDone, IsRun};
-ghost use Rattle.frame_driver.specs.Total.{total, IsInRange};
-ghost use Rattle.frame_driver.specs.Sound.{Sound};
-ghost use Rattle.frame_driver.specs.Traces.{AreTraced};
-ghost use Rattle.frame_driver.specs.Parts.{IsParted, opened, all_but};
+ghost use Rattle.frame_driver.specs.declared.items.Task.TheVariants.{Enter, Resume, Go};
 ghost use Rattle.frame_driver.specs.Account.{account};
-ghost use Rattle.frame_driver.specs.Leading.{LeadsOn};
-ghost use Rattle.frame_driver.specs.Waits.{AreHeld, times, all_frames_but};
-ghost use Rattle.frame_stack.specs.Moves.{is_wind};
+ghost use Rattle.frame_driver.specs.Breadth.{Nests};
+ghost use Rattle.frame_driver.specs.Follows.{Fits};
+ghost use Rattle.frame_driver.specs.Leading.{Leads};
+ghost use Rattle.frame_driver.specs.Machine.{before_task, is_lost, place_for, IsCarried, IsCut, IsEntered, IsResumed, GoesOn, IsDone, IsDoneSo, IsRun, IsCutShort};
+ghost use Rattle.frame_driver.specs.Parts.{IsParted};
+ghost use Rattle.frame_driver.specs.Roots.{AreRooted};
+ghost use Rattle.frame_driver.specs.Sound.{Sound, SoundWith};
+ghost use Rattle.frame_driver.specs.Total.{total};
+ghost use Rattle.frame_driver.specs.Traces.{AreTraced};
+ghost use Rattle.frame_driver.specs.Waits.{AreHeld};
+ghost use Rattle.xlator_law.specs.Law.{Promise};
 ghost use Rattle.xlator_law.specs.declared.winds.WindNo.{WindNo};
 
 use crate::board::Board;
@@ -20,126 +23,65 @@ use std::alloc::Global;
 use xlator_law::{Entry, Place, Stop, WindNo, Xlator};
 
 impl<F: Drop, R: Drop, L: Drop> Board<F, R, L> {
-    /// A call's own fop enters a node of a graph, as a new frame.
-    ///
-    /// # Errors
-    /// `Winds` where a further wind was needed and 4,294,967,295 were opened; else `Mem`: out of memory, or a
-    /// further frame or wind was needed with 4,294,967,295 frames or 2,147,483,648 winds open. The board is
-    /// spent.
-    pub fn submit<C, X: Xlator<F, R, C, Local = L>>(
-        &mut self,
-        alloc: Global,
-        nodes: &mut Vec<X>,
-        cx: &mut C,
-        wiring: &Wiring,
-        graph: u32,
-        call: u32,
-        node: u16,
-        fop: F,
-    ) -> Result<(), Stop>
-        requires at { node < length (map X.promise nodes.old.items) }
-        requires fits { Fits (map X.promise nodes.old.items) wiring.now }
-        requires sound { Sound (map X.promise nodes.old.items) self.old }
-        requires traced { AreTraced X.promise X.makes (map X.promise nodes.old.items) self.old }
-        ensures sound { OnOk result (Sound (map X.promise nodes.old.items) self.new) }
-        ensures traced { OnOk result (AreTraced X.promise X.makes (map X.promise nodes.old.items) self.new) }
-        ensures parted { OnOk result ((outer : List WindNo) → IsParted outer self.old → IsParted outer self.new) }
-        ensures work { OnOk result (total (map X.promise nodes.old.items) self.new ≤ total (map X.promise nodes.old.items) self.old + 1 + 3 * (promise_at (map X.promise nodes.old.items) node).cost fop) }
-        ensures paid { OnOk result (account (map X.promise nodes.old.items) self.new ≤ account (map X.promise nodes.old.items) self.old + (promise_at (map X.promise nodes.old.items) node).cost fop) }
-        ensures held { OnOk result ((outer : List ℕ) → AreHeld (map X.promise nodes.old.items) outer self.old → AreHeld (map X.promise nodes.old.items) outer self.new) }
-        ensures leads { OnOk result (LeadsOn self.old.stack self.new.stack) }
-        ensures entered { OnOk result (IsEntered X.makes (map X.promise nodes.old.items) wiring.now (root graph call node) fop (record { nodes = nodes.old.items; cx = cx.old; board = self.old }) (record { nodes = nodes.new.items; cx = cx.new; board = self.new })) }
-        ensures winds { IsErrOf result Stop.Winds → self.new.stack.opened ≡ 4294967295 }
-        ensures same { map X.promise nodes.new.items ≡ map X.promise nodes.old.items }
-    {
-        let place = Place {
-            graph,
-            call,
-            node,
-            parent: None,
-        };
-        self.enter(alloc, nodes, cx, wiring, place, fop)?;
-        Ok(())
-    }
-
-    // A fop enters the node of this place, as a new frame. The wind that opens it, if there is one, is open,
-    // in the same graph and of the same call.
+    // A fop enters a node, as a new frame. The wind that is to open it, if there is one, is open.
     fn enter<C, X: Xlator<F, R, C, Local = L>>(
         &mut self,
         alloc: Global,
         nodes: &mut Vec<X>,
         cx: &mut C,
         wiring: &Wiring,
-        place: Place,
+        node: u16,
+        call: u32,
+        parent: Option<WindNo>,
         fop: F,
     ) -> Result<(), Stop>
-        requires at { place.node < length (map X.promise nodes.old.items) }
-        requires parent { HasParent self.old.stack place.graph place.call place.parent }
         requires fits { Fits (map X.promise nodes.old.items) wiring.now }
-        requires sound { Sound (map X.promise nodes.old.items) self.old }
-        requires traced { AreTraced X.promise X.makes (map X.promise nodes.old.items) self.old }
-        ensures sound { OnOk result (Sound (map X.promise nodes.old.items) self.new) }
-        ensures traced { OnOk result (AreTraced X.promise X.makes (map X.promise nodes.old.items) self.new) }
-        ensures work { OnOk result (total (map X.promise nodes.old.items) self.new ≤ total (map X.promise nodes.old.items) self.old + 1 + 3 * (promise_at (map X.promise nodes.old.items) place.node).cost fop) }
-        ensures paid { OnOk result (account (map X.promise nodes.old.items) self.new ≤ account (map X.promise nodes.old.items) self.old + (promise_at (map X.promise nodes.old.items) place.node).cost fop) }
-        ensures held { OnOk result ((outer : List ℕ) → AreHeld (map X.promise nodes.old.items) outer self.old → AreHeld (map X.promise nodes.old.items) outer self.new) }
-        ensures leads { OnOk result (LeadsOn self.old.stack self.new.stack) }
-        ensures entered { OnOk result (IsEntered X.makes (map X.promise nodes.old.items) wiring.now place fop (record { nodes = nodes.old.items; cx = cx.old; board = self.old }) (record { nodes = nodes.new.items; cx = cx.new; board = self.new })) }
-        ensures winds { IsErrOf result Stop.Winds → self.new.stack.opened ≡ 4294967295 }
+        requires sound { SoundWith (map X.promise nodes.old.items) (before_task self.old (Enter node call parent fop)) }
+        requires live { is_lost self.old.stack parent ≡ false }
+        ensures entered { OnOk result (IsEntered X.makes (map X.promise nodes.old.items) (IsCarried wiring.now) (place_for self.old node call parent) fop (record { nodes = nodes.old.items; cx = cx.old; board = self.old }) (record { nodes = nodes.new.items; cx = cx.new; board = self.new })) }
+        ensures winds { IsErrOf result Stop.Winds → IsEntered X.makes (map X.promise nodes.old.items) (IsCut wiring.now) (place_for self.old node call parent) fop (record { nodes = nodes.old.items; cx = cx.old; board = self.old }) (record { nodes = nodes.new.items; cx = cx.new; board = self.new }) }
+        ensures leads { Leads self.old self.new }
         ensures same { map X.promise nodes.new.items ≡ map X.promise nodes.old.items }
     {
-        let frame = self.begin(alloc, place)?;
-        let entry = Entry {
-            frame,
-            call: place.call,
+        let place = Place {
+            graph: self.graph,
+            call,
+            node,
+            parent,
         };
-        let step = enter_at(alloc, nodes, cx, place.node, entry, fop)?;
+        let frame = self.begin(alloc, place)?;
+        let entry = Entry { frame, call };
+        let step = enter_at(alloc, nodes, cx, node, entry, fop)?;
         self.carry(alloc, wiring, frame, place, step)?;
         Ok(())
     }
 
-    /// Takes the reply of a wind: it resumes the frame that opened the wind, and a reply to a wind that is
-    /// not pending is late and changes nothing.
-    ///
-    /// # Errors
-    /// As for [`Board::submit`].
-    pub fn reply<C, X: Xlator<F, R, C, Local = L>>(
+    // A frame takes the answer of a slot.
+    fn resume<C, X: Xlator<F, R, C, Local = L>>(
         &mut self,
         alloc: Global,
         nodes: &mut Vec<X>,
         cx: &mut C,
         wiring: &Wiring,
-        wind: WindNo,
+        frame: u32,
+        slot: u8,
         reply: R,
     ) -> Result<(), Stop>
         requires fits { Fits (map X.promise nodes.old.items) wiring.now }
-        requires sound { Sound (map X.promise nodes.old.items) self.old }
-        requires traced { AreTraced X.promise X.makes (map X.promise nodes.old.items) self.old }
-        ensures sound { OnOk result (Sound (map X.promise nodes.old.items) self.new) }
-        ensures traced { OnOk result (AreTraced X.promise X.makes (map X.promise nodes.old.items) self.new) }
-        ensures work { OnOk result (total (map X.promise nodes.old.items) self.new ≤ total (map X.promise nodes.old.items) self.old) }
-        ensures parted { OnOk result ((outer : List WindNo) → IsParted outer self.old → count_by (is_wind wind) outer ≡ opened self.old.stack wind → IsParted (all_but wind outer) self.new) }
-        ensures paid { OnOk result (account (map X.promise nodes.old.items) self.new ≤ account (map X.promise nodes.old.items) self.old) }
-        ensures held { OnOk result ((outer : List ℕ) → AreHeld (map X.promise nodes.old.items) outer self.old → AreHeld (map X.promise nodes.old.items) outer self.new) }
-        ensures leads { OnOk result (LeadsOn self.old.stack self.new.stack) }
-        ensures replied { OnOk result (IsReplied X.makes (map X.promise nodes.old.items) wiring.now wind reply (record { nodes = nodes.old.items; cx = cx.old; board = self.old }) (record { nodes = nodes.new.items; cx = cx.new; board = self.new })) }
-        ensures winds { IsErrOf result Stop.Winds → self.new.stack.opened ≡ 4294967295 }
+        requires sound { SoundWith (map X.promise nodes.old.items) (before_task self.old (Resume frame slot reply)) }
+        ensures resumed { OnOk result (IsResumed X.makes (map X.promise nodes.old.items) (IsCarried wiring.now) frame slot reply (record { nodes = nodes.old.items; cx = cx.old; board = self.old }) (record { nodes = nodes.new.items; cx = cx.new; board = self.new })) }
+        ensures winds { IsErrOf result Stop.Winds → IsResumed X.makes (map X.promise nodes.old.items) (IsCut wiring.now) frame slot reply (record { nodes = nodes.old.items; cx = cx.old; board = self.old }) (record { nodes = nodes.new.items; cx = cx.new; board = self.new }) }
+        ensures leads { Leads self.old self.new }
         ensures same { map X.promise nodes.new.items ≡ map X.promise nodes.old.items }
     {
-        let Some(parent) = self.end_wind(alloc, wind)? else {
-            return Ok(());
-        };
-        let (place, local) = self.take_out(parent.frame);
-        let step = resume_at(alloc, nodes, cx, place.node, local, parent.slot, reply)?;
-        self.carry(alloc, wiring, parent.frame, place, step)?;
+        let (place, local) = self.take_out(frame);
+        let step = resume_at(alloc, nodes, cx, place.node, local, slot, reply)?;
+        self.carry(alloc, wiring, frame, place, step)?;
         Ok(())
     }
 
-    /// Goes on with a frame that waits for something that is no wind, which has come.
-    ///
-    /// # Errors
-    /// As for [`Board::submit`].
-    pub fn go_on<C, X: Xlator<F, R, C, Local = L>>(
+    // A frame goes on that waited for something that is no wind.
+    fn go<C, X: Xlator<F, R, C, Local = L>>(
         &mut self,
         alloc: Global,
         nodes: &mut Vec<X>,
@@ -148,24 +90,29 @@ impl<F: Drop, R: Drop, L: Drop> Board<F, R, L> {
         frame: u32,
     ) -> Result<(), Stop>
         requires fits { Fits (map X.promise nodes.old.items) wiring.now }
-        requires sound { Sound (map X.promise nodes.old.items) self.old }
-        requires traced { AreTraced X.promise X.makes (map X.promise nodes.old.items) self.old }
-        requires waits { IsSomeAnd (frame_at self.old.stack frame) (λ f. IsSomeAnd f.local (λ l. (promise_at (map X.promise nodes.old.items) f.place.node).waits l ≡ true)) }
-        ensures sound { OnOk result (Sound (map X.promise nodes.old.items) self.new) }
-        ensures traced { OnOk result (AreTraced X.promise X.makes (map X.promise nodes.old.items) self.new) }
-        ensures work { OnOk result (total (map X.promise nodes.old.items) self.new ≤ total (map X.promise nodes.old.items) self.old) }
-        ensures parted { OnOk result ((outer : List WindNo) → IsParted outer self.old → IsParted outer self.new) }
-        ensures paid { OnOk result (account (map X.promise nodes.old.items) self.new ≤ account (map X.promise nodes.old.items) self.old) }
-        ensures held { OnOk result ((outer : List ℕ) → AreHeld (map X.promise nodes.old.items) outer self.old → times frame outer ≡ 1 → AreHeld (map X.promise nodes.old.items) (all_frames_but frame outer) self.new) }
-        ensures leads { OnOk result (LeadsOn self.old.stack self.new.stack) }
-        ensures went { OnOk result (GoesOn X.makes (map X.promise nodes.old.items) wiring.now frame (record { nodes = nodes.old.items; cx = cx.old; board = self.old }) (record { nodes = nodes.new.items; cx = cx.new; board = self.new })) }
-        ensures winds { IsErrOf result Stop.Winds → self.new.stack.opened ≡ 4294967295 }
+        requires sound { SoundWith (map X.promise nodes.old.items) (before_task self.old (Go frame)) }
+        ensures went { OnOk result (GoesOn X.makes (map X.promise nodes.old.items) (IsCarried wiring.now) frame (record { nodes = nodes.old.items; cx = cx.old; board = self.old }) (record { nodes = nodes.new.items; cx = cx.new; board = self.new })) }
+        ensures winds { IsErrOf result Stop.Winds → GoesOn X.makes (map X.promise nodes.old.items) (IsCut wiring.now) frame (record { nodes = nodes.old.items; cx = cx.old; board = self.old }) (record { nodes = nodes.new.items; cx = cx.new; board = self.new }) }
+        ensures leads { Leads self.old self.new }
         ensures same { map X.promise nodes.new.items ≡ map X.promise nodes.old.items }
     {
         let (place, local) = self.take_out(frame);
         let step = go_on_at(alloc, nodes, cx, place.node, local)?;
         self.carry(alloc, wiring, frame, place, step)?;
         Ok(())
+    }
+
+    // Whether the wind has ended that a fop was to enter by.
+    fn is_lost(&self, parent: Option<WindNo>) -> bool
+        ensures { result ≡ is_lost self.now.stack parent }
+    {
+        let Some(wind) = parent else {
+            return false;
+        };
+        match self.stack.opener(wind) {
+            Some(_) => false,
+            None => true,
+        }
     }
 
     // Does a task that was taken from the queue.
@@ -177,40 +124,44 @@ impl<F: Drop, R: Drop, L: Drop> Board<F, R, L> {
         wiring: &Wiring,
         task: Task<F, R>,
     ) -> Result<(), Stop>
-        requires range { IsInRange (length (map X.promise nodes.old.items)) task }
         requires fits { Fits (map X.promise nodes.old.items) wiring.now }
-        requires sound { Sound (map X.promise nodes.old.items) self.old }
-        requires traced { AreTraced X.promise X.makes (map X.promise nodes.old.items) self.old }
+        requires sound { SoundWith (map X.promise nodes.old.items) (before_task self.old task) }
         ensures done { OnOk result (IsDone X.makes (map X.promise nodes.old.items) wiring.now task (record { nodes = nodes.old.items; cx = cx.old; board = self.old }) (record { nodes = nodes.new.items; cx = cx.new; board = self.new })) }
-        ensures winds { IsErrOf result Stop.Winds → self.new.stack.opened ≡ 4294967295 }
+        ensures winds { IsErrOf result Stop.Winds → IsDoneSo X.makes (map X.promise nodes.old.items) (IsCut wiring.now) task (record { nodes = nodes.old.items; cx = cx.old; board = self.old }) (record { nodes = nodes.new.items; cx = cx.new; board = self.new }) }
+        ensures leads { Leads self.old self.new }
         ensures same { map X.promise nodes.new.items ≡ map X.promise nodes.old.items }
     {
         match task {
-            Task::Enter { node, wind, fop } => {
-                let Some(opener) = self.stack.opener(wind) else {
+            Task::Enter {
+                node,
+                call,
+                parent,
+                fop,
+            } => {
+                if self.is_lost(parent) {
                     return Ok(());
-                };
-                let place = Place {
-                    graph: opener.graph,
-                    call: opener.call,
-                    node,
-                    parent: Some(wind),
-                };
-                self.enter(alloc, nodes, cx, wiring, place, fop)?;
+                }
+                self.enter(alloc, nodes, cx, wiring, node, call, parent, fop)?;
                 Ok(())
             }
-            Task::Reply { wind, reply } => {
-                self.reply(alloc, nodes, cx, wiring, wind, reply)?;
+            Task::Resume { frame, slot, reply } => {
+                self.resume(alloc, nodes, cx, wiring, frame, slot, reply)?;
+                Ok(())
+            }
+            Task::Go { frame } => {
+                self.go(alloc, nodes, cx, wiring, frame)?;
                 Ok(())
             }
         }
     }
 
-    /// Does all tasks, first come, first served, until none is left.
+    /// Does all tasks, first come, first served, until none is left. The nodes are those of this board's
+    /// graph.
     ///
     /// # Errors
-    /// As for [`Board::submit`].
-    #[tactic(auto, using(crate::proofs::Running::running_range))]
+    /// `Winds` where a further wind was needed and 4,294,967,295 were opened; else `Mem`: out of memory, or a
+    /// further frame or wind was needed with 4,294,967,295 frames or 2,147,483,648 winds open. The board is
+    /// spent.
     pub fn run<C, X: Xlator<F, R, C, Local = L>>(
         &mut self,
         alloc: Global,
@@ -219,18 +170,19 @@ impl<F: Drop, R: Drop, L: Drop> Board<F, R, L> {
         wiring: &Wiring,
     ) -> Result<(), Stop>
         requires fits { Fits (map X.promise nodes.old.items) wiring.now }
-        requires sound { Sound (map X.promise nodes.old.items) self.old }
-        requires traced { AreTraced X.promise X.makes (map X.promise nodes.old.items) self.old }
-        ensures parted { OnOk result ((outer : List WindNo) → IsParted outer self.old → IsParted outer self.new) }
-        ensures paid { OnOk result (account (map X.promise nodes.old.items) self.new ≤ account (map X.promise nodes.old.items) self.old) }
-        ensures held { OnOk result ((outer : List ℕ) → AreHeld (map X.promise nodes.old.items) outer self.old → AreHeld (map X.promise nodes.old.items) outer self.new) }
-        ensures leads { OnOk result (LeadsOn self.old.stack self.new.stack) }
+        requires sound { SoundWith (map X.promise nodes.old.items) self.old }
         ensures ran { OnOk result (IsRun X.makes (map X.promise nodes.old.items) wiring.now (record { nodes = nodes.old.items; cx = cx.old; board = self.old }) (record { nodes = nodes.new.items; cx = cx.new; board = self.new })) }
-        ensures winds { IsErrOf result Stop.Winds → self.new.stack.opened ≡ 4294967295 }
         ensures empty { OnOk result (self.new.queue ≡ []) }
-        ensures sound { OnOk result (Sound (map X.promise nodes.old.items) self.new) }
-        ensures traced { OnOk result (AreTraced X.promise X.makes (map X.promise nodes.old.items) self.new) }
-        ensures work { OnOk result (total (map X.promise nodes.old.items) self.new ≤ total (map X.promise nodes.old.items) self.old) }
+        ensures sound { OnOk result ((ps : ℕ → List (Promise F L)) → ps self.old.graph ≡ map X.promise nodes.old.items → Sound ps self.old → Sound ps self.new) }
+        ensures traced { OnOk result ((ps : ℕ → List (Promise F L)) → ps self.old.graph ≡ map X.promise nodes.old.items → Sound ps self.old → AreTraced X.promise X.makes ps self.old → AreTraced X.promise X.makes ps self.new) }
+        ensures parted { OnOk result ((outer : WindNo → ℕ) → IsParted outer self.old → IsParted outer self.new) }
+        ensures nests { OnOk result ((ps : ℕ → List (Promise F L)) → ps self.old.graph ≡ map X.promise nodes.old.items → Sound ps self.old → Nests ps self.old → Nests ps self.new) }
+        ensures held { OnOk result ((ps : ℕ → List (Promise F L)) (outer : ℕ → ℕ) → ps self.old.graph ≡ map X.promise nodes.old.items → Sound ps self.old → AreHeld ps outer self.old → AreHeld ps outer self.new) }
+        ensures rooted { OnOk result ((root : ℕ) → AreRooted root self.old → AreRooted root self.new) }
+        ensures work { OnOk result ((ps : ℕ → List (Promise F L)) → ps self.old.graph ≡ map X.promise nodes.old.items → Sound ps self.old → total ps self.new ≤ total ps self.old) }
+        ensures paid { OnOk result ((ps : ℕ → List (Promise F L)) (call : ℕ) → ps self.old.graph ≡ map X.promise nodes.old.items → Sound ps self.old → account ps call self.new ≤ account ps call self.old) }
+        ensures winds { IsErrOf result Stop.Winds → IsCutShort X.makes (map X.promise nodes.old.items) wiring.now (record { nodes = nodes.old.items; cx = cx.old; board = self.old }) (record { nodes = nodes.new.items; cx = cx.new; board = self.new }) }
+        ensures leads { Leads self.old self.new }
         ensures same { map X.promise nodes.new.items ≡ map X.promise nodes.old.items }
     {
         while let Some(task) = self.queue.pop() {

@@ -1,42 +1,49 @@
-use Rattle.std.proofs.Common.{refl}
-use Rattle.std.specs.Prelude.{map}
-use Rattle.xlator_law.specs.Law.{no_slots}
-use Rattle.frame_driver.specs.Follows.{promise_at}
-use Rattle.frame_driver.proofs.Leading.{entered_leads}
-use Rattle.frame_driver.proofs.Traces.{entered_traced}
-use Rattle.frame_driver.proofs.Keeping.{entered_sound, entered_total}
-use Rattle.frame_driver.proofs.Standing.{may_carry, opened_idle}
-use Rattle.frame_driver.proofs.Waits.{entered_held}
-use Rattle.frame_driver.proofs.Account.{entered_account}
+use Rattle.std.proofs.Common.{sym}
+use Rattle.frame_driver.proofs.Entering.{enter_parent, enter_few, enter_at, enter_out, enter_may}
+use Rattle.frame_driver.proofs.Leading.{leads_then}
+use Rattle.frame_driver.proofs.Looping.{handed_on}
 use Rattle.frame_driver.proofs.board.Board.enter.Goals as goal
 
+pub begin-requires-clause-parent : goal.begin-requires-clause-parent
+begin-requires-clause-parent g c = enter_parent _ c.args.wiring.now c.requires.fits c.args.self.now c.args.node c.args.call c.args.parent c.args.fop c.requires.sound c.requires.live
+
+pub begin-requires-clause-few : goal.begin-requires-clause-few
+begin-requires-clause-few g c = enter_few _ c.args.wiring.now c.requires.fits c.args.self.now c.args.node c.args.call c.args.parent c.args.fop c.requires.sound c.requires.live
+
+pub enter_at-requires : goal.enter_at-requires
+enter_at-requires g c = record { at = enter_at _ c.args.wiring.now c.requires.fits c.args.self.now c.args.node c.args.call c.args.parent c.args.fop c.requires.sound c.requires.live }
+
+pub carry-requires-clause-out : goal.carry-requires-clause-out
+carry-requires-clause-out g c = enter_out _ c.args.wiring.now c.requires.fits c.args.self.now c.args.node c.args.call c.args.parent c.args.fop c.requires.sound c.requires.live _ _ c.in_ok-frame.ensures.opened c.begin.ensures.leads
+
 pub carry-requires-clause-may : goal.carry-requires-clause-may
-carry-requires-clause-may g c = may_carry (map g.X.Xlator.promise c.args.nodes.now.items) c.begin.new.self.stack c.in_ok-frame.frame (promise_at (map g.X.Xlator.promise c.args.nodes.now.items) c.args.place.node) no_slots ((promise_at (map g.X.Xlator.promise c.args.nodes.now.items) c.args.place.node).cost c.args.fop) c.in_ok-step.step (opened_idle (map g.X.Xlator.promise c.args.nodes.now.items) c.args.place c.in_ok-frame.frame c.args.self.now c.begin.new.self c.in_ok-frame.ensures c.requires.sound.follows) c.in_ok-step.ensures.step
+carry-requires-clause-may g c = enter_may _ c.args.wiring.now c.requires.fits c.args.self.now c.args.node c.args.call c.args.parent c.args.fop c.requires.sound c.requires.live _ _ c.in_ok-frame.ensures.opened c.begin.ensures.leads c.in_ok-step.step c.in_ok-step.ensures.step
 
 pub returns-clause-entered : goal.returns-clause-entered
 returns-clause-entered g c = record {
   key = c.in_ok-frame.frame;
   mid = c.begin.new.self;
-  opened = c.in_ok-frame.ensures;
+  opened = c.in_ok-frame.ensures.opened;
   step = c.in_ok-step.step;
   steps = record { lawful = c.in_ok-step.ensures.step; made = c.in_ok-step.ensures.made };
   carried = c.in_ok-carry.ensures.carried;
 }
 
-pub returns-clause-sound : goal.returns-clause-sound
-returns-clause-sound g c = entered_sound _ _ c.args.wiring.now c.requires.fits _ _ c.requires.sound c.args.place c.args.fop (returns-clause-entered g c)
-
-pub returns-clause-work : goal.returns-clause-work
-returns-clause-work g c = entered_total _ _ c.args.wiring.now _ _ c.args.place c.args.fop (returns-clause-entered g c) c.requires.fits
-
-pub returns-clause-traced : goal.returns-clause-traced
-returns-clause-traced g c = entered_traced _ _ _ c.args.wiring.now _ _ refl c.args.place c.args.fop c.requires.traced (returns-clause-entered g c)
+pub carry-requires-clause-home : goal.carry-requires-clause-home
+carry-requires-clause-home g c = sym c.begin.ensures.leads.same
 
 pub returns-clause-leads : goal.returns-clause-leads
-returns-clause-leads g c = entered_leads _ _ c.args.wiring.now _ _ c.requires.sound.follows c.args.place c.args.fop c.requires.parent (returns-clause-entered g c)
+returns-clause-leads g c = leads_then c.args.self.now c.begin.new.self c.carry.new.self c.begin.ensures.leads c.carry.ensures.leads
 
-pub returns-clause-held : goal.returns-clause-held
-returns-clause-held g c = λ outer held. entered_held _ _ c.args.wiring.now outer _ _ c.args.place c.args.fop held (returns-clause-entered g c)
+pub returns-in_err-carry-clause-leads : goal.returns-in_err-carry-clause-leads
+returns-in_err-carry-clause-leads g c = leads_then c.args.self.now c.begin.new.self c.carry.new.self c.begin.ensures.leads c.carry.ensures.leads
 
-pub returns-clause-paid : goal.returns-clause-paid
-returns-clause-paid g c = entered_account _ _ c.args.wiring.now c.requires.fits _ _ c.args.place c.args.fop (returns-clause-entered g c)
+pub returns-in_err-carry-clause-winds : goal.returns-in_err-carry-clause-winds
+returns-in_err-carry-clause-winds g c = λ e. record {
+  key = c.in_ok-frame.frame;
+  mid = c.begin.new.self;
+  opened = c.in_ok-frame.ensures.opened;
+  step = c.in_ok-step.step;
+  steps = record { lawful = c.in_ok-step.ensures.step; made = c.in_ok-step.ensures.made };
+  carried = c.in_err-carry.ensures.winds (handed_on c.from_residual-in_err-carry.result c.in_err-carry.field-0.0 _ c.from_residual-in_err-carry.ensures.1 e);
+}
