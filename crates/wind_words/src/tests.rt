@@ -4,6 +4,7 @@ ghost use Rattle.wind_words.specs.Calls.{IsOpen, IsSamePass};
 
 use super::*;
 use std::test::*;
+use std::thread;
 use xlator_law::{Settled, WindNo};
 
 #[derive(Clone, Copy)]
@@ -137,5 +138,46 @@ fn a_reader_settles_and_is_joined(rt: HostRuntime) -> Result<(), Fail> {
     assert!(rt; words.settle(&mut reader, w) == Settled::Won);
     words.join(&mut hub, reader);
     assert!(rt; bail_and_collect(&words, &mut hub, w));
+    Ok(())
+}
+
+fn bail_in_thread(words: &WindWords, hub: WindPass, w: WindNo) -> (WindPass, bool)
+    requires words { hub.words ≡ words.now }
+    requires hub { hub.view.role ≡ Hub }
+    requires slot { w.slot < words.now.words }
+    ensures { IsSamePass hub result.0 }
+{
+    let mut hub = hub;
+    let won = words.bail(&mut hub, w) == Settled::Won;
+    (hub, won)
+}
+
+fn settle_in_thread(words: &WindWords, reader: WindPass, w: WindNo) -> bool
+    requires words { reader.words ≡ words.now }
+    requires slot { w.slot < words.now.words }
+{
+    let mut reader = reader;
+    words.settle(&mut reader, w) == Settled::Won
+}
+
+// A reader settles a wind in a thread of its own while the hub bails it: one of the two wins, whichever comes
+// first, and the hub collects it.
+#[test]
+fn one_of_two_threads_wins(rt: HostRuntime) -> Result<(), Fail> {
+    for _ in 0..64u32 {
+        let (words, mut hub) = WindWords::new(rt.alloc(), 1)?;
+        let w = words.open(&mut hub, 0);
+        let reader = words.split(&mut hub);
+        let ((mut hub, bailed), settled) = thread::join(
+            &rt,
+            || -> (WindPass, bool)
+                requires { (hub.words ≡ words) × (hub.view.role ≡ Hub) × (w.slot < words.words) }
+                ensures { IsSamePass hub result.0 }
+            { bail_in_thread(&words, hub, w) },
+            || settle_in_thread(&words, reader, w),
+        );
+        assert!(rt; bailed != settled);
+        assert!(rt; words.collect(&mut hub, w));
+    }
     Ok(())
 }
