@@ -3,4 +3,5 @@
 pub mod Kept
 pub mod Granted
 pub mod Sent
+pub mod Asked
 pub mod Lines

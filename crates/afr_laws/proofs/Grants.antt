@@ -56,7 +56,7 @@ pub drops_unlock : (ask : Ask) (by : Sender) (lock : BrickLock) → drops ask by
 drops_unlock Unlock by lock h = (refl, sym (eqb-true lock.by.txn by.txn h))
 drops_unlock other by lock h = absurd cc
 
-refusal_grants_none : (by : Sender) (ask : Ask) (answer : Answer) → IsRefusal answer → lock_granted by ask answer ≡ None
+pub refusal_grants_none : (by : Sender) (ask : Ask) (answer : Answer) → IsRefusal answer → lock_granted by ask answer ≡ None
 refusal_grants_none by ask Done h = absurd h
 refusal_grants_none by ask (Rows rows) h = absurd h
 refusal_grants_none by ask (Content found) h = absurd h

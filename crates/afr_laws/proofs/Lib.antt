@@ -33,6 +33,14 @@ pub mod Newest
 pub mod Copies
 pub mod Asking
 pub mod Fresh
+pub mod Work
+pub mod Standing
+pub mod Overtaken
+pub mod Seen
+pub mod EachTxn
+pub mod LastPhase
+pub mod Ready
+pub mod OwnPhases
 pub mod Births
 pub mod Whole
 pub mod Guarded

@@ -47,7 +47,7 @@ pub unlock_right : (xs ys : List Ask) → any_unlock ys ≡ true → any_unlock 
 unlock_right [] ys e = e
 unlock_right (x ∷ xs) ys e = or_right_true (is_unlock x) (any_unlock (xs ++ ys)) (unlock_right xs ys e)
 
-lock_left : (xs ys : List Ask) → any_lock xs ≡ true → any_lock (xs ++ ys) ≡ true
+pub lock_left : (xs ys : List Ask) → any_lock xs ≡ true → any_lock (xs ++ ys) ≡ true
 lock_left [] ys e = absurd cc
 lock_left (x ∷ xs) ys e = by_case (is_lock x) (lock_left xs ys) e where
   by_case : (b : Bool) → (any_lock xs ≡ true → any_lock (xs ++ ys) ≡ true) → (b || any_lock xs) ≡ true → (b || any_lock (xs ++ ys)) ≡ true

@@ -1,5 +1,8 @@
 -- Requests in the line of a brick that need a lock: the brick holds it. Ours.
 use Rattle.std.specs.Prelude.{◌≡◌, ◌≢◌, ℕ, Bool, true, false, List, [], ◌∷◌}
+use Rattle.fop_types.specs.StoreOps.{needs}
+use Rattle.fop_types.specs.declared.cells.Cell.{Cell}
+use Rattle.afr_machine.specs.Touching.{has_cell}
 use Rattle.afr_machine.specs.Requests.{Sender, Ask, Input}
 use Rattle.afr_machine.specs.Requests.Ask.{Lock, Unlock, Mark, Op, Post, Fetch, Replace, Clear, Settle, Index, Open, Release, OpenFirst}
 use Rattle.afr_machine.specs.Requests.Input.{Asked, Steered}
@@ -48,8 +51,46 @@ pub record HasLock (held : List BrickLock) (by : Sender) : Type 0 where
   pub among : IsAmong lock held
   pub owner : lock.by ≡ by
 
+-- the cells on which a request works; births are not among them
+abbrev pub cells_asked : Ask → List Cell
+cells_asked (Lock shared cells) = []
+cells_asked Unlock = []
+cells_asked (Mark change cells) = cells
+cells_asked (Op change op) = needs op
+cells_asked (Post change cells accused) = cells
+cells_asked (Fetch cell) = cell ∷ []
+cells_asked (Replace cell found) = cell ∷ []
+cells_asked (Clear cells who) = cells
+cells_asked (Settle change cells accused) = cells
+cells_asked Index = []
+cells_asked Open = []
+cells_asked Release = []
+cells_asked OpenFirst = []
+
+-- the requests that change copies or counters
+abbrev pub alters : Ask → Bool
+alters (Lock shared cells) = false
+alters Unlock = false
+alters (Mark change cells) = true
+alters (Op change op) = true
+alters (Post change cells accused) = true
+alters (Fetch cell) = false
+alters (Replace cell found) = true
+alters (Clear cells who) = true
+alters (Settle change cells accused) = true
+alters Index = false
+alters Open = false
+alters Release = false
+alters OpenFirst = false
+
+-- the sender's lock has the cells on which the request works, and is exclusive where it alters them
+pub record IsWithin (held : List BrickLock) (by : Sender) (ask : Ask) : Type 0 where
+  pub own : HasLock held by
+  pub within : (cell : Cell) → has_cell (cells_asked ask) cell ≡ true → has_cell own.lock.cells cell ≡ true
+  pub exclusive : alters ask ≡ true → own.lock.shared ≡ false
+
 abbrev pub IsCovered : Brick → Sender → Ask → Type 0
-IsCovered b by ask = needs_lock ask ≡ true → b.connected by.graph ≡ true → HasLock b.held by
+IsCovered b by ask = needs_lock ask ≡ true → b.connected by.graph ≡ true → IsWithin b.held by ask
 
 -- the request needs no lock, or is of another transaction, of another graph
 abbrev pub IsOfOtherTxn : ℕ → Sender → Ask → Type 0

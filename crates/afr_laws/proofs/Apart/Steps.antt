@@ -42,7 +42,7 @@ use Rattle.afr_laws.proofs.Apart.Outputs.{Adds, adds_back, answering_adds, serve
 use Rattle.afr_laws.proofs.Apart.Back.{GrantsBack, back_apart, LinksBack, came, turned_back, emptied_back, heard_back}
 
 -- a connection that is as it was, or closed, was open before where it is now
-open_before : (old new : Link) → IsSameOrClosed old new → (c : ℕ) → is_current new c ≡ true → is_current old c ≡ true
+pub open_before : (old new : Link) → IsSameOrClosed old new → (c : ℕ) → is_current new c ≡ true → is_current old c ≡ true
 open_before old new (inl same) c current = subst (λ (l : Link). is_current l c ≡ true) same current
 open_before old new (inr shut) c current = absurd (let no : true ≡ false = sym (both_left _ _ current) ∙ shut in cc)
 

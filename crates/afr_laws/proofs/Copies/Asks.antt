@@ -24,7 +24,7 @@ pub sent_is : (v : Verdict) → is_unsettled v ≡ true → was_unsettled v ≡ 
 sent_is Verdict.Unsettled h = refl
 sent_is other h = absurd cc
 
-birth_needs : (o : StoreOp) → IsBirth o → needs o ≡ []
+pub birth_needs : (o : StoreOp) → IsBirth o → needs o ≡ []
 birth_needs (op.MakeCopy gfid span) h = refl
 birth_needs other h = absurd h
 

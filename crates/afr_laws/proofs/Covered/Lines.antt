@@ -3,13 +3,15 @@ use Rattle.std.proofs.Common.{◌≡◌, ◌∙◌, ℕ, Bool, true, false, refl
 use Rattle.std.specs.Prelude.{List, [], ◌∷◌, ◌++◌, ◌==◌}
 use Rattle.std.proofs.lemmas.Bool.{eqb-true, ne_eqb}
 use Rattle.afr_machine.specs.Replicas.{Size}
+use Rattle.afr_machine.specs.Touching.{has_cell}
 use Rattle.afr_machine.specs.Requests.{Sender, Ask, Control, Input}
 use Rattle.afr_machine.specs.Requests.Ask.{Unlock, OpenFirst}
 use Rattle.afr_machine.specs.Requests.Input.{Asked, Steered}
 use Rattle.afr_machine.specs.Locks.{BrickLock}
 use Rattle.afr_machine.specs.Bricks.{Brick, served_by, steered}
 use Rattle.afr_machine.specs.States.{State}
-use Rattle.afr_machine.specs.Sending.{MayAsk, carries_fd, asks_of, inputs_of, sender_of}
+use Rattle.afr_machine.specs.Births.{cells_of_work}
+use Rattle.afr_machine.specs.Sending.{HasGrant, MayAsk, carries_fd, asks_of, inputs_of, sender_of}
 use Rattle.afr_machine.specs.Steps.{Step, Allowed, after, IsReached}
 use Rattle.afr_machine.specs.Moves.{IsTaken, BrickMove}
 use Rattle.afr_machine.specs.Moves.BrickMove.{Stays, Takes, Hands, Serves, Refuses, GivesUp, Steers}
@@ -20,7 +22,10 @@ use Rattle.afr_laws.specs.Connections.{is_control_of, has_control, ConnectsComeF
 use Rattle.afr_laws.specs.Grants.{lock_of}
 use Rattle.afr_laws.specs.Apart.{Holds}
 use Rattle.afr_laws.specs.Apart.IsGranted.{HandedIn}
-use Rattle.afr_laws.specs.Covered.{Stands, GrantsStand, needs_lock, HasLock, IsCovered, IsOfOtherTxn, IsOfOtherGraph, IsInTurn, LineIsCovered, LinesAreCovered}
+use Rattle.afr_laws.specs.OwnChanges.{ChangesAreOwn}
+use Rattle.afr_laws.specs.Fresh.{EachKnowsPhase}
+use Rattle.afr_laws.specs.Work.{shares_of, IsOfWork, EachKnowsWork}
+use Rattle.afr_laws.specs.Covered.{Stands, GrantsStand, needs_lock, HasLock, IsWithin, IsCovered, IsOfOtherTxn, IsOfOtherGraph, IsInTurn, LineIsCovered, LinesAreCovered}
 use Rattle.afr_laws.proofs.Bools.{both_left, both_right, neither_left, neither_right, is_or_not, apart_bools}
 use Rattle.afr_laws.proofs.Senders.{inputs_append}
 use Rattle.afr_laws.proofs.Connecting.{served_line, steered_line}
@@ -30,11 +35,15 @@ use Rattle.afr_laws.proofs.Holding.{drops}
 use Rattle.afr_laws.proofs.Unlocks.{is_unlock, unlock_is}
 use Rattle.afr_laws.proofs.Covered.Kept.{served_among, served_connected, steered_among, steered_connected}
 use Rattle.afr_laws.proofs.Covered.Granted.{grants_stand}
+use Rattle.afr_laws.proofs.OwnChanges.Steps.{changes_are_own}
+use Rattle.afr_laws.proofs.Fresh.Known.{phases_are_known}
+use Rattle.afr_laws.proofs.Work.Known.{works_are_known}
+use Rattle.afr_laws.proofs.Covered.Asked.{IsOnWork, sent_on}
 use Rattle.afr_laws.proofs.Covered.Sent.{IsSentUnder, sent_under, fd_needs, IsOtherUnlock, no_unlocks}
 
 -- ---- lists
 
-zip : (P Q R : Sender → Ask → Type 0) → ((by : Sender) (ask : Ask) → P by ask → Q by ask → R by ask) → (is : List Input) → EachInput P is → EachInput Q is → EachInput R is
+pub zip : (P Q R : Sender → Ask → Type 0) → ((by : Sender) (ask : Ask) → P by ask → Q by ask → R by ask) → (is : List Input) → EachInput P is → EachInput Q is → EachInput R is
 zip P Q R f [] p q = tt
 zip P Q R f (Asked by ask ∷ is) p q = (f by ask p.0 q.0, zip P Q R f is p.1 q.1)
 zip P Q R f (Steered control ∷ is) p q = zip P Q R f is p q
@@ -42,6 +51,11 @@ zip P Q R f (Steered control ∷ is) p q = zip P Q R f is p q
 all_of : (P : Sender → Ask → Type 0) (by : Sender) (asks : List Ask) → ((ask : Ask) → P by ask) → EachInput P (inputs_of by asks)
 all_of P by [] f = tt
 all_of P by (ask ∷ asks) f = (f ask, all_of P by asks f)
+
+-- the open before a request, and the request
+asks_each : (P : Sender → Ask → Type 0) (by : Sender) (first : Bool) (ask : Ask) → (first ≡ true → P by OpenFirst) → P by ask → EachInput P (inputs_of by (asks_of first ask))
+asks_each P by true ask opens p = (opens refl, (p, tt))
+asks_each P by false ask opens p = (p, tt)
 
 pub everywhere : (P : Sender → Ask → Type 0) → ((by : Sender) (ask : Ask) → P by ask) → (is : List Input) → EachInput P is
 everywhere P f [] = tt
@@ -103,8 +117,8 @@ module _ (may : List Input → Type 0) (old new : Brick) (c : LineIsCovered old)
     where
       kept : (other : Sender) (asked : Ask) → IsCovered old other asked → IsSpared by ask other asked → IsCovered (served_by old.power by ask (record old { line = rest })) other asked
       kept other asked covers spares needs connected =
-          let h : HasLock old.held other = covers needs (sym (ap (λ (f : ℕ → Bool). f other.graph) (served_connected (record old { line = rest }) old.power by ask)) ∙ connected) in
-          record { lock = h.lock; among = served_among h.lock (record old { line = rest }) h.among old.power by ask (spares needs h.lock h.owner); owner = h.owner }
+          let h : IsWithin old.held other asked = covers needs (sym (ap (λ (f : ℕ → Bool). f other.graph) (served_connected (record old { line = rest }) old.power by ask)) ∙ connected) in
+          record { own = record { lock = h.own.lock; among = served_among h.own.lock (record old { line = rest }) h.own.among old.power by ask (spares needs h.own.lock h.own.owner); owner = h.own.owner }; within = h.within; exclusive = h.exclusive }
 
   steers : (control : Control) (rest : List Input) → old.line ≡ Steered control ∷ rest → LineIsCovered (steered control (record old { line = rest }))
   steers control rest front =
@@ -119,12 +133,16 @@ module _ (may : List Input → Type 0) (old new : Brick) (c : LineIsCovered old)
     where
       kept : (other : Sender) (asked : Ask) → IsCovered old other asked → IsOfOtherGraph (λ g. is_control_of g control) other asked → IsCovered (steered control (record old { line = rest })) other asked
       kept other asked covers apart needs connected =
-          let h : HasLock old.held other = covers needs (steered_connected (record old { line = rest }) other.graph control (apart needs) connected) in
-          let graph : h.lock.by.graph ≡ other.graph = ap (λ (s : Sender). s.graph) h.owner in
+          let h : IsWithin old.held other asked = covers needs (steered_connected (record old { line = rest }) other.graph control (apart needs) connected) in
+          let graph : h.own.lock.by.graph ≡ other.graph = ap (λ (s : Sender). s.graph) h.own.owner in
           record {
-            lock = h.lock;
-            among = steered_among h.lock (record old { line = rest }) h.among control (ap (λ g. is_control_of g control) graph ∙ apart needs) (ap (λ g. (steered control (record old { line = rest })).connected g) graph ∙ connected);
-            owner = h.owner;
+            own = record {
+              lock = h.own.lock;
+              among = steered_among h.own.lock (record old { line = rest }) h.own.among control (ap (λ g. is_control_of g control) graph ∙ apart needs) (ap (λ g. (steered control (record old { line = rest })).connected g) graph ∙ connected);
+              owner = h.own.owner;
+            };
+            within = h.within;
+            exclusive = h.exclusive;
           }
 
   popped : (by : Sender) (ask : Ask) (rest : List Input) → old.line ≡ Asked by ask ∷ rest → EachInput (IsCovered old) rest × IsInTurn rest
@@ -142,7 +160,7 @@ module _ (may : List Input → Type 0) (old new : Brick) (c : LineIsCovered old)
 
 -- ---- what a brick takes
 
-module _ (size : Size) (m : State) (way : AreOnTheirWay m) (first : ConnectsComeFirst m) (stands : GrantsStand m) (c : LinesAreCovered m) (k : ℕ) where
+module _ (size : Size) (m : State) (way : AreOnTheirWay m) (first : ConnectsComeFirst m) (stands : GrantsStand m) (works : EachKnowsWork m) (phases : EachKnowsPhase m) (changes : ChangesAreOwn m) (c : LinesAreCovered m) (k : ℕ) where
   Taken : List Input → Type 0
   Taken inputs = EachInput (IsCovered (m.bricks k)) inputs × IsInTurn ((m.bricks k).line ++ inputs)
 
@@ -151,15 +169,17 @@ module _ (size : Size) (m : State) (way : AreOnTheirWay m) (first : ConnectsCome
       subst (λ l. EachInput (IsCovered (m.bricks k)) l × IsInTurn ((m.bricks k).line ++ l)) (sym is)
       (tt, free_in_turn (m.bricks k).line (Steered control ∷ []) (λ t. tt) (λ own. tt) (tt, tt) (c k).in_turn)
 
-  under_taken : (t : ℕ) (before : Bool) (ask : Ask) → IsSentUnder m t k → EachInput (IsCovered (m.bricks k)) (inputs_of (sender_of m t k) (asks_of before ask)) × IsInTurn ((m.bricks k).line ++ inputs_of (sender_of m t k) (asks_of before ask))
-  under_taken t before ask s = (
-    all_of (IsCovered (m.bricks k)) (sender_of m t k) (asks_of before ask) (λ a needs connected. record { lock = lock; among = stand.held connected; owner = owner }),
+  under_taken : (t : ℕ) (before : Bool) (ask : Ask) → IsSentUnder m t k → IsOnWork m t ask → EachInput (IsCovered (m.bricks k)) (inputs_of (sender_of m t k) (asks_of before ask)) × IsInTurn ((m.bricks k).line ++ inputs_of (sender_of m t k) (asks_of before ask))
+  under_taken t before ask s on = (
+    asks_each (IsCovered (m.bricks k)) (sender_of m t k) before ask
+        (λ opens needs connected. record { own = own connected; within = λ cell none. absurd cc; exclusive = λ alter. absurd cc })
+        (λ needs connected. record { own = own connected; within = λ cell asked. ap (λ cs. has_cell cs cell) (of_work s.grant).over ∙ on.over cell asked; exclusive = λ alter. (of_work s.grant).kind ∙ on.alone alter }),
     sent_in_turn (sender_of m t k) (asks_of before ask) (m.bricks k).line
         (no_unlocks m k t way (first k (m.txns t).graph (both_left _ _ s.grant.still_open)).line stand.behind s.answered) stand.behind (asks_in_turn (sender_of m t k) before ask) (c k).in_turn,
   )
     where
-      lock : BrickLock
-      lock = lock_of t (m.txns t).graph s.grant.grant
+      of_work : (g : HasGrant m t k) → IsOfWork (cells_of_work m.changes (m.txns t) (m.txns t).work) (shares_of (m.txns t).job (m.txns t).work) g.grant
+      of_work g = (works t).grants k g.grant g.granted
 
       holds : Holds m t k s.grant.grant
       holds = record { granted = s.grant.granted; still_open = s.grant.still_open; holding = s.holding }
@@ -169,6 +189,9 @@ module _ (size : Size) (m : State) (way : AreOnTheirWay m) (first : ConnectsCome
 
       owner : (lock_of t (m.txns t).graph s.grant.grant).by ≡ sender_of m t k
       owner = ap (λ n. record { txn = t; graph = (m.txns t).graph; connection = n }) (eqb-true s.grant.grant.connection (m.links k (m.txns t).graph).last (both_right (m.links k (m.txns t).graph).is_open (s.grant.grant.connection == (m.links k (m.txns t).graph).last) s.grant.still_open))
+
+      own : (m.bricks k).connected (m.txns t).graph ≡ true → HasLock (m.bricks k).held (sender_of m t k)
+      own connected = record { lock = lock_of t (m.txns t).graph s.grant.grant; among = stand.held connected; owner = owner }
 
   asks_taken : (t : ℕ) (before : Bool) (ask : Ask) → MayAsk size m t k ask → (before ≡ true → carries_fd ask ≡ true) → EachInput (IsCovered (m.bricks k)) (inputs_of (sender_of m t k) (asks_of before ask)) × IsInTurn ((m.bricks k).line ++ inputs_of (sender_of m t k) (asks_of before ask))
   asks_taken t before ask may fd = by_case (is_or_not (needs_lock ask)) where
@@ -180,7 +203,7 @@ module _ (size : Size) (m : State) (way : AreOnTheirWay m) (first : ConnectsCome
     )
 
     by_case : (needs_lock ask ≡ true) ⊎ (needs_lock ask ≡ false) → EachInput (IsCovered (m.bricks k)) (inputs_of (sender_of m t k) (asks_of before ask)) × IsInTurn ((m.bricks k).line ++ inputs_of (sender_of m t k) (asks_of before ask))
-    by_case (inl needs) = under_taken t before ask (sent_under size m t k ask may needs)
+    by_case (inl needs) = under_taken t before ask (sent_under size m t k ask may needs) (sent_on size m t k works phases changes ask may)
     by_case (inr lacks) = free before fd lacks
 
   taken_covers : (step : Step) → Allowed size m step → (inputs : List Input) → IsTaken m step k inputs → EachInput (IsCovered (m.bricks k)) inputs × IsInTurn ((m.bricks k).line ++ inputs)
@@ -200,5 +223,5 @@ lines_are_covered size m IsReached.Start = λ k. record { covered = tt; in_turn 
 lines_are_covered size m (IsReached.Further old step reached allowed) = λ k.
     let c = lines_are_covered size old reached in
     move_covers (IsTaken old step k) (old.bricks k) ((after size old step).bricks k) (c k)
-    (taken_covers size old (on_their_way size old reached) (connects_come_first size old reached) (grants_stand size old reached) c k step allowed)
+    (taken_covers size old (on_their_way size old reached) (connects_come_first size old reached) (grants_stand size old reached) (works_are_known size old reached) (phases_are_known size old reached) (changes_are_own size old reached) c k step allowed)
     (bricks_move size old step allowed k)

@@ -16,18 +16,27 @@ use Rattle.afr_laws.specs.Fresh.{is_behind, IsWorkOf, AsksFor, HasWritten, Knows
 use Rattle.afr_laws.proofs.Stages.{StageGoes}
 use Rattle.afr_laws.proofs.Stages.StageGoes.{StaysIn, PassesOn, CopiesOn}
 
--- phases that have ended keep their cells, and what was written stays written
+abbrev pub ClearedGoes : Phase → Phase → Type 0
+ClearedGoes old new = (i : ℕ) (cell : Cell) (k : ℕ) → old.cleared i cell k ≡ true → new.cleared i cell k ≡ true
+
+-- phases that have ended keep their transaction, their cells, whom they reached and what they saw; who is accused, which clears were
+-- confirmed and what was written stays so
 pub record PhasesGo (ended : ℕ) (old new : ℕ → Phase) : Type 0 where
+  pub by : (p : ℕ) → p ≤ ended → (new p).by ≡ (old p).by
   pub cells : (p : ℕ) → p ≤ ended → (new p).cells ≡ (old p).cells
+  pub reached : (p : ℕ) → p ≤ ended → (new p).reached ≡ (old p).reached
+  pub rows : (p : ℕ) → p ≤ ended → (new p).rows ≡ (old p).rows
+  pub accused : (p : ℕ) → p ≤ ended → (i : ℕ) → (old p).accused i ≡ true → (new p).accused i ≡ true
+  pub cleared : (p : ℕ) → p ≤ ended → ClearedGoes (old p) (new p)
   pub wrote : (p : ℕ) → p ≤ ended → (old p).wrote ≡ true → (new p).wrote ≡ true
 
 pub same_phases : (ended : ℕ) (phases : ℕ → Phase) → PhasesGo ended phases phases
-same_phases ended phases = record { cells = λ p low. refl; wrote = λ p low h. h }
+same_phases ended phases = record { by = λ p low. refl; cells = λ p low. refl; reached = λ p low. refl; rows = λ p low. refl; accused = λ p low i h. h; cleared = λ p low i cell k h. h; wrote = λ p low h. h }
 
 pub written_goes : (ended now : ℕ) (old new : ℕ → Phase) → ended ≤ now → PhasesGo ended old new → (cell : Cell) → IsWritten old ended cell → IsWritten new now cell
 written_goes ended now old new le g cell w = record { phase = w.phase; low = omega (arith, le, w.low); wrote = g.wrote w.phase w.low w.wrote; covers = ap (λ cs. has_cell cs cell) (g.cells w.phase w.low) ∙ w.covers }
 
-work_cells : (old new : ℕ → Change) (x : Txn) (work : Work) → ((u : ℕ) → change_of work ≡ u → (new u).cells ≡ (old u).cells) → cells_of_work new x work ≡ cells_of_work old x work
+pub work_cells : (old new : ℕ → Change) (x : Txn) (work : Work) → ((u : ℕ) → change_of work ≡ u → (new u).cells ≡ (old u).cells) → cells_of_work new x work ≡ cells_of_work old x work
 work_cells old new x Own same = refl
 work_cells old new x (Settles u) same = same u refl
 
@@ -103,7 +112,7 @@ goes_asks old new cells (StaysIn is) h = subst (λ s. AsksFor s cells) (sym is) 
 goes_asks old new cells (PassesOn is) h = subst (λ s. AsksFor s cells) (sym is) (passed_asks old cells h)
 goes_asks old new cells (CopiesOn c d) h = copying_asks new cells d
 
-passed_behind : (stage : Stage) → is_behind (passed stage) ≡ is_behind stage
+pub passed_behind : (stage : Stage) → is_behind (passed stage) ≡ is_behind stage
 passed_behind (Locking cells shared next) = refl
 passed_behind other = refl
 

@@ -81,15 +81,15 @@ turn_ended size m t Turn.Clears = cleared (m.txns t).stage where
   cleared other = omega arith
 turn_ended size m t other = omega arith
 
-front_ended : (m : State) (k : ℕ) (os : List Output) → (take_in_front m k os).ended ≡ m.ended
+pub front_ended : (m : State) (k : ℕ) (os : List Output) → (take_in_front m k os).ended ≡ m.ended
 front_ended m k [] = refl
 front_ended m k (o ∷ os) = (taken_in_beside m k o).ended
 
-unsettling_ended : (m : State) (t : ℕ) (stage : Stage) → (unsettling m t stage).ended ≡ m.ended
+pub unsettling_ended : (m : State) (t : ℕ) (stage : Stage) → (unsettling m t stage).ended ≡ m.ended
 unsettling_ended m t (Marking u) = refl
 unsettling_ended m t other = refl
 
-decided_ended : (m : State) (d : Option (ℕ × Bool)) → (decided m d).ended ≡ m.ended
+pub decided_ended : (m : State) (d : Option (ℕ × Bool)) → (decided m d).ended ≡ m.ended
 decided_ended m None = refl
 decided_ended m (Some d) = by_case d.1 _ where
   by_case : (adopts first : Bool) → (deciding m d.0 adopts first).ended ≡ m.ended
@@ -98,14 +98,14 @@ decided_ended m (Some d) = by_case d.1 _ where
   by_case false true = refl
 
 module _ (size : Size) (m : State) where
-  ended_goes : (step : Step) → m.ended ≤ (after size m step).ended
+  pub ended_goes : (step : Step) → m.ended ≤ (after size m step).ended
   ended_goes (Step.Turns t turn) = turn_ended size m t turn
   ended_goes (Step.HandsIn k) = at_least m.ended _ (front_ended (without_first_output m k) k (m.bricks k).outputs)
   ended_goes (Step.Unsettles t) = at_least m.ended _ (unsettling_ended m t (m.txns t).stage)
   ended_goes (Step.Decides t) = at_least m.ended _ (decided_ended m (decided_by (m.txns t).stage))
   ended_goes other = omega arith
 
-  step_phases : (step : Step) → PhasesGo m.ended m.phases (after size m step).phases
+  pub step_phases : (step : Step) → PhasesGo m.ended m.phases (after size m step).phases
   step_phases (Step.Turns t turn) = turn_phases m size t turn
   step_phases (Step.Asks t k first asked) = asked_phases m t k first asked
   step_phases (Step.HandsIn k) = front_phases (without_first_output m k) k (m.bricks k).outputs

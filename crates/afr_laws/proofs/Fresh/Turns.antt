@@ -22,7 +22,7 @@ use Rattle.afr_laws.proofs.Waiting.{turn_idle}
 use Rattle.afr_laws.proofs.Fresh.Phased.{PhasesGo, phase_carry, SamePhase, restaged}
 use Rattle.afr_laws.proofs.Fresh.Phases.{turn_phases}
 
-copied_behind : (stage : Stage) → IsCopied stage → is_behind stage ≡ true
+pub copied_behind : (stage : Stage) → IsCopied stage → is_behind stage ≡ true
 copied_behind Locked h = refl
 copied_behind (Copying run) h = refl
 copied_behind other h = absurd h
@@ -32,7 +32,7 @@ follows_behind m (Settling u group adopts) sources h = refl
 follows_behind m (Copying run) sources h = refl
 follows_behind m other sources h = absurd h
 
-copies_behind : (m : State) (t : ℕ) (work : Work) (group : Option Replicas) → MayCopyAs m t work group → is_behind (m.txns t).stage ≡ true
+pub copies_behind : (m : State) (t : ℕ) (work : Work) (group : Option Replicas) → MayCopyAs m t work group → is_behind (m.txns t).stage ≡ true
 copies_behind m t Own None h = copied_behind (m.txns t).stage h.0
 copies_behind m t Own (Some sources) h = absurd h
 copies_behind m t (Settles u) None h = absurd h

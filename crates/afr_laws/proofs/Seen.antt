@@ -1,0 +1,3 @@
+-- What a lock phase saw, over every list of steps.
+pub mod Applied
+pub mod Steps
