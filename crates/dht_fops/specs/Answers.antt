@@ -1,5 +1,5 @@
--- What a fop answers is what the flat file system answers, and what it changes is what the flat file system accepts, if
--- what was handed in still is what the sets show.
+-- Up to its first change with an effect, what a fop answers is what the flat file system answers, and that change is one
+-- that the flat file system accepts, if what was handed in still is what the sets show.
 use Rattle.std.specs.Prelude.{◌≡◌, ℕ, ◌≤◌, List, [], length, Option, Some, None}
 use Rattle.dht_fops.specs.Fops.{fop_course}
 use Rattle.dht_fops.specs.Founded.{NamesSets}

@@ -26,14 +26,14 @@ pub record SawFile (handed : Handed) (dir : Gfid) (name : List ℕ) (set : ℕ) 
   pub gfid : Gfid
   pub saw : SawName handed dir name set gfid kind.File
 
--- a directory of the name, and under the extended hold no name in it
+-- a directory of the name, the hold extended by it, and no name in it on any set; in what order is not said here
 pub record SawEmptied (count : ℕ) (handed : Handed) (parent : Gfid) (name : List ℕ) (gfid : Gfid) : Type 0 where
   pub set : ℕ
   pub saw : SawName handed parent name set gfid kind.Dir
   pub held : WasHeld handed gfid
   pub empty : (other : ℕ) → other < count → SawEmpty handed gfid other
 
--- the file's own name was dropped on a set that showed it
+-- a drop of the name was asked for, whatever its reply and on whatever set
 abbrev pub IsDropOf : Event → Gfid → List ℕ → Type 0
 IsDropOf (Held held) dir name = ⊥
 IsDropOf (Replied set (job.Read cells fd d) reply) dir name = ⊥
@@ -47,7 +47,7 @@ abbrev pub WasDropped : Handed → Gfid → List ℕ → Type 0
 WasDropped [] dir name = ⊥
 WasDropped (event ∷ handed) dir name = IsDropOf event dir name ⊎ WasDropped handed dir name
 
--- a new name that is free: nowhere, a file's on the file's own set, which the move replaces, or dropped before
+-- a new name that is free: seen nowhere, or as a file's on the file's own set, which the move replaces; or its drop was asked for before
 abbrev pub IsFree : ℕ → Handed → Gfid → List ℕ → ℕ → Type 0
 IsFree count handed dir name set = SawNowhere count handed dir name ⊎ (SawFile handed dir name set ⊎ WasDropped handed dir name)
 

@@ -1,4 +1,4 @@
--- What the states of the code stand for.
+-- What the states of the code mean.
 pub mod Begins
 pub mod Ended
 pub mod Fops

@@ -74,7 +74,7 @@ impl DhtFop {
     /// Takes the reply of the set that was asked for a job.
     ///
     /// # Errors
-    /// Out of memory. The fop is then done without an answer.
+    /// Out of memory. The fop is then spent: what further calls give is no answer to it.
     pub fn answer(&mut self, alloc: Global, set: u8, reply: SetReply) -> Result<DhtNext, AllocError>
         requires { self.old.asked ≡ Some set }
         ensures course { IfOk result (λ next. course_on self.new next ≡ goes_on_with self.old reply) }
@@ -92,10 +92,11 @@ impl DhtFop {
         Ok(next)
     }
 
-    /// The call's hold was extended by the directory that was asked for.
+    /// The call's hold was extended by the directory that was asked for. A fop that waits for no hold is spent by this
+    /// call, and what it gives is no answer to it.
     ///
     /// # Errors
-    /// Out of memory. The fop is then done without an answer.
+    /// Out of memory. The fop is then spent: what further calls give is no answer to it.
     pub fn held(&mut self, alloc: Global) -> Result<DhtNext, AllocError>
         ensures course { IfOk result (λ next. course_on self.new next ≡ goes_held_with self.old) }
         ensures learnt { IfOk result (λ next. self.new.learnt ≡ self.old.learnt) }

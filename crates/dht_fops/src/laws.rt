@@ -5,8 +5,8 @@ ghost use Rattle.dht_fops.specs.Founded.{FopsAskWell};
 /// What a fop knows before it asks: each job is on a set of the volume, and is one that a set takes, if the replies so far
 /// answered their jobs; a name that is added was seen on no set; a name that is dropped was seen as a file's on that set; a
 /// directory is removed after its name was seen, the hold was extended by it, and every set showed it empty; a name that is
-/// moved was seen on that set, and the new one on none, on that set as a file's, or dropped before. These are facts about
-/// the replies so far alone. The call does nothing: its contract exports this.
+/// moved was seen on that set, and the new one on none, on that set as a file's, or its drop was asked for before. These
+/// are facts about the replies so far alone. The call does nothing: its contract exports this.
 pub fn fops_ask_well()
     ensures { FopsAskWell }
 {}
