@@ -5,3 +5,4 @@ pub mod Fops
 pub mod Purposes
 pub mod Turns
 pub mod Waits
+pub mod Within

@@ -45,6 +45,9 @@ mod step;
 mod volume;
 
 pub use dht_fop::DhtFop;
-pub use laws::{fops_answer_as_flat, fops_ask_few, fops_ask_well};
+pub use laws::{
+    fops_add_on_sets, fops_answer_as_flat, fops_ask_few, fops_ask_well, fops_change_links,
+    fops_keep_bounds, fops_place_answers,
+};
 pub use layouts::Layout;
 pub use step::DhtNext;
