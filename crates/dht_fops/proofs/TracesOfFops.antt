@@ -323,7 +323,7 @@ adds_of g handed (Asks set job next) t = (job_adds g handed set job t.0, λ repl
 adds_of g handed (Extends dir next) t = (tt, adds_of g (Held dir ∷ handed) next t.1)
 adds_of g handed (Ends answer place) t = tt
 
-given : Volume → List (List ℕ) → Kept → Fop → Given
+abbrev given : Volume → List (List ℕ) → Kept → Fop → Given
 given v names kept f = record { volume = v; names = names; kept = kept; fop = f }
 
 pub fops_place : FopsPlaceAnswers
