@@ -57,18 +57,18 @@ pub on_name_asks : (v : Volume) (names : List (List ℕ)) (kept : Kept) (parent 
     → ((hashed : ℕ) (handed : Handed) → hashed < v.sets → IsItemName name → EndsWell v.sets handed parent.gfid name (ending hashed)) → AsksWell v.sets [] (on_name v names kept parent name ending)
 on_name_asks v names kept parent name ending some within e g c ends =
     named_asks v.sets [] parent name None _ c
-    (λ short. finds_asks v.sets (length names) parent.gfid (known_set v kept parent.gfid name) _ _ [] e (λ answered. g) (known_below v kept parent.gfid name some within)
-    (λ set i. looks_in_asks v.sets parent.gfid name names 0 ending set [] e i (λ answered. g) (ends set [] i short))
-    (λ whole later w l. looks_in_asks v.sets parent.gfid name names 0 ending (hashed_set whole name) later e (hashed_below v.sets whole name w (omega arith)) (λ answered. g)
+    (λ short. finds_asks v.sets (length names) parent.gfid (known_set v kept parent.gfid name) _ _ [] e (λ bounds. g) (known_below v kept parent.gfid name some within)
+    (λ set i. looks_in_asks v.sets parent.gfid name names 0 ending set [] e i (λ bounds. g) (ends set [] i short))
+    (λ whole later w l. looks_in_asks v.sets parent.gfid name names 0 ending (hashed_set whole name) later e (hashed_below v.sets whole name w (omega arith)) (λ bounds. g)
     (ends _ later (hashed_below v.sets whole name w (omega arith)) short)))
 
 pub lookup_ends : (n : ℕ) (handed : Handed) (dir : Gfid) (name : List ℕ) → EndsWell n handed dir name lookup_found
-lookup_ends n handed dir name = λ result seen later l f. by_found later result seen
+lookup_ends n handed dir name = λ result seen later l f. by_found later result seen f
   where
-    by_found : (later : Handed) (result : Found) (seen : Seen) → AsksWell n later (lookup_found result seen)
-    by_found later (found.Item set gfid kind) seen = tt
-    by_found later found.Absent seen = tt
-    by_found later (found.Io error) seen = tt
+    by_found : (later : Handed) (result : Found) (seen : Seen) → IsFoundIn n later dir name result → AsksWell n later (lookup_found result seen)
+    by_found later (found.Item set gfid kind) seen f = (f.0, saw_known later dir name set gfid kind f.1)
+    by_found later found.Absent seen f = tt
+    by_found later (found.Io error) seen f = tt
 
 -- ---- mkdir and create
 
@@ -83,10 +83,10 @@ births_asks : (v : Volume) (parent : Gfid) (name : List ℕ) (mode : ℕ) (drawn
     → SawNowhere v.sets handed parent name → AsksWell v.sets handed (births_from v parent name mode drawn sets)
 births_asks v parent name mode drawn [] handed new some b free =
     change_asks v.sets handed 0 _ 0 (op.AddName parent (item_of name drawn kind.Dir) mode (Some (even_span v.sets 0))) _ _ some free
-    (λ answered. (one_few (names_cell parent) new.parent_is, omega arith, (new.parent_is, (new.name_is, new.drawn_is, refl), new.mode_is, even_within v.sets 0 some), refl))
-    (λ reply number. tt)
+    (λ bounds. (one_few (names_cell parent) new.parent_is, omega arith, (new.parent_is, (new.name_is, new.drawn_is, refl), new.mode_is, even_within v.sets 0 some), refl))
+    (λ reply number done. tt)
 births_asks v parent name mode drawn (set ∷ sets) handed new some b free =
-    birth_asks v.sets handed set _ _ _ b.0 (λ answered. birth_is_job drawn (Some (even_span v.sets set)) new.drawn_is (even_within v.sets set b.0))
+    birth_asks v.sets handed set _ _ _ b.0 (λ bounds. birth_is_job drawn (Some (even_span v.sets set)) new.drawn_is (even_within v.sets set b.0))
     (λ later number l. births_asks v parent name mode drawn sets later new some b.1 (nowhere_later v.sets handed later parent name l free))
 
 pub mkdir_ends : (v : Volume) (handed : Handed) (parent : Gfid) (name : List ℕ) (mode : ℕ) (drawn : Gfid) → IsNew parent name mode drawn → 1 ≤ v.sets → EndsWell v.sets handed parent name (mkdir_found v parent name mode drawn)
@@ -103,7 +103,7 @@ create_ends v handed parent name mode drawn hashed new h = λ result seen later 
     by_found : (later : Handed) (result : Found) (seen : Seen) → IsFoundIn v.sets later parent name result → AsksWell v.sets later (create_found v parent name mode drawn hashed result seen)
     by_found later (found.Item set gfid kind) seen f = tt
     by_found later found.Absent seen f = change_asks v.sets later hashed _ 0 (op.AddName parent (item_of name drawn kind.File) mode None) _ _ h f
-        (λ answered. (one_few (names_cell parent) new.parent_is, omega arith, (new.parent_is, (new.name_is, new.drawn_is, refl), new.mode_is, tt), refl)) (λ reply number. tt)
+        (λ bounds. (one_few (names_cell parent) new.parent_is, omega arith, (new.parent_is, (new.name_is, new.drawn_is, refl), new.mode_is, tt), refl)) (λ reply number done. (h, λ bounds. new.drawn_is))
     by_found later (found.Io error) seen f = tt
 
 -- ---- unlink and rmdir
@@ -115,7 +115,7 @@ unlink_ends v handed parent name hashed g short h = λ result seen later l f. by
     by_found later (found.Item set gfid kind) seen f =
         if_asks v.sets later _ _ (is_directory kind) (λ dir. tt)
         (λ file. change_asks v.sets later set _ 0 (op.DropName parent name) _ _ f.0 (file_by later parent name set gfid kind f.1 file)
-        (λ answered. (one_few (names_cell parent) g, omega arith, (g, short), refl)) (λ reply number. drops_link_asks v.sets _ parent name hashed number seen.has_link g short h))
+        (λ bounds. (one_few (names_cell parent) g, omega arith, (g, short), refl)) (λ reply number done. drops_link_asks v.sets _ parent name hashed number seen.has_link g short h))
     by_found later found.Absent seen f = tt
     by_found later (found.Io error) seen f = tt
 
@@ -143,7 +143,7 @@ empties_asks : (v : Volume) (parent : Gfid) (name : List ℕ) (gfid : Gfid) (set
     → AsksWell v.sets handed (empties v parent name gfid sets)
 empties_asks v parent name gfid [] handed g short some b saw empty =
     change_asks v.sets handed 0 _ 0 (op.DropDir parent name gfid) _ _ some (record { set = saw.set; saw = saw.saw; held = saw.held; empty = λ other i. empty other i refl })
-    (λ answered. (both_few parent gfid g (dir_known handed parent name gfid saw answered), omega arith, (g, short, dir_known handed parent name gfid saw answered), refl)) (λ reply number. tt)
+    (λ bounds. (both_few parent gfid g (dir_known handed parent name gfid saw bounds), omega arith, (g, short, dir_known handed parent name gfid saw bounds), refl)) (λ reply number done. tt)
 empties_asks v parent name gfid (set ∷ sets) handed g short some b saw empty =
     names_asks v.sets handed set gfid _ b.0 (dir_known handed parent name gfid saw)
     (λ later shown l seen. if_asks v.sets later _ _ (has_real_name shown.items) (λ full. tt)
@@ -169,9 +169,12 @@ rmdir_ends v handed parent name g short some = λ result seen later l f. by_foun
     by_found : (later : Handed) (result : Found) (seen : Seen) → IsFoundIn v.sets later parent name result → AsksWell v.sets later (rmdir_found v parent name result seen)
     by_found later (found.Item set gfid k) seen f =
         if_asks v.sets later _ _ (is_directory k)
-        (λ dir. empties_asks v parent name gfid (sets_from v 0) (Held gfid ∷ later) g short some (below_from v.sets 0)
-        (record { set = set; saw = name_later later (Held gfid ∷ later) parent name set gfid kind.Dir (later_push (Held gfid) later) (dir_by later parent name set gfid k f.1 dir); held = inl refl })
-        (λ other i t. absurd (all_left v.sets other i t)))
+        (λ dir. (
+          saw_known later parent name set gfid k f.1,
+          empties_asks v parent name gfid (sets_from v 0) (Held gfid ∷ later) g short some (below_from v.sets 0)
+              (record { set = set; saw = name_later later (Held gfid ∷ later) parent name set gfid kind.Dir (later_push (Held gfid) later) (dir_by later parent name set gfid k f.1 dir); held = inl refl })
+              (λ other i t. absurd (all_left v.sets other i t)),
+        ))
         (λ file. tt)
     by_found later found.Absent seen f = tt
     by_found later (found.Io error) seen f = tt
@@ -181,4 +184,4 @@ rmdir_ends v handed parent name g short some = λ result seen later l f. by_foun
 pub lists_asks : (n : ℕ) (dir : Gfid) (sets : List ℕ) (names : List Item) (place : Option ℕ) (handed : Handed) → IsGfid dir → Below n sets → AsksWell n handed (lists_from dir sets names place)
 lists_asks n dir [] names place handed g b = tt
 lists_asks n dir (set ∷ sets) names place handed g b =
-    names_asks n handed set dir _ b.0 (λ answered. g) (λ later shown l saw. kept_asks n later shown _ (λ kept. lists_asks n dir sets (merged names (real_items shown.items)) (Some shown.place) later g b.1))
+    names_asks n handed set dir _ b.0 (λ bounds. g) (λ later shown l saw. kept_asks n later shown _ (λ kept. lists_asks n dir sets (merged names (real_items shown.items)) (Some shown.place) later g b.1))

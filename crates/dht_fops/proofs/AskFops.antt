@@ -13,7 +13,7 @@ use Rattle.dht_fops.proofs.Known.{hashed_below, known_below}
 use Rattle.dht_fops.specs.Courses.{number_in}
 use Rattle.dht_fops.specs.Fops.{lists, renames, fop_course}
 use Rattle.dht_fops.specs.Founded.{AsksWell, NamesSets, IsFounded}
-use Rattle.dht_fops.specs.Handed.{Handed, AreAnswered}
+use Rattle.dht_fops.specs.Handed.{Handed, HasBounds, HaveBounds}
 use Rattle.dht_fops.specs.Handed.Event.{Replied}
 use Rattle.dht_fops.specs.Internal.{opens_again, heals, indexes, cells_in}
 use Rattle.dht_fops.specs.Objects.{home, changes_cell, opens, stats, gets_attr, reads_bytes, truncates, dels_attr, writes, writes_some, drops_attr, attr_value}
@@ -23,12 +23,13 @@ use Rattle.dht_fops.specs.declared.volume.Volume.{Volume}
 use Rattle.fop_types.specs.Bounds.{Each, IsGfid, IsCell, IsOpenFd, IsOpened, IsAttrName, IsComponent, IsVolumeName, IsFop}
 use Rattle.fop_types.specs.Cells.{data_cell, meta_cell}
 use Rattle.fop_types.specs.FileBytes.{file_limit}
-use Rattle.fop_types.specs.Jobs.{IsJob, IsAnsweredBy}
+use Rattle.fop_types.specs.Jobs.{IsJob}
 use Rattle.fop_types.specs.Limits.{max_data}
 use Rattle.fop_types.specs.Names.{is_directory, attr_named}
 use Rattle.fop_types.specs.Orders.{gfid_cmp}
 use Rattle.fop_types.specs.StoreOps.{attrs_of}
-use Rattle.fop_types.specs.declared.answers.FopAnswer.{FopAnswer}
+use Rattle.fop_types.specs.declared.answers.Answer.{Answer}
+use Rattle.fop_types.specs.declared.answers.FopAnswer.TheVariants.{Call}
 use Rattle.fop_types.specs.declared.cells.Cell.{Cell}
 use Rattle.fop_types.specs.declared.cells.Gfid.{Gfid}
 use Rattle.fop_types.specs.declared.contents.Attr.{Attr}
@@ -53,22 +54,22 @@ home_below n object some h = by_kind (is_directory object.kind)
     by_kind true = some
     by_kind false = h
 
-cell_asks : (v : Volume) (set : ℕ) (cell : Cell) (fd : ℕ) (op : StoreOp) (answer : FopAnswer) (handed : Handed) → set < v.sets → IsFounded v.sets handed set op → IsJob (job.Change (cell ∷ []) fd op (Some (entry v 1)))
-    → AsksWell v.sets handed (changes_cell v set cell fd op answer)
-cell_asks v set cell fd op answer handed h f j = change_asks v.sets handed set _ fd op _ _ h f (λ answered. j) (λ reply number. tt)
+cell_asks : (v : Volume) (set : ℕ) (cell : Cell) (fd : ℕ) (op : StoreOp) (answer : Answer) (handed : Handed) → set < v.sets → IsFounded v.sets handed set op → IsJob (job.Change (cell ∷ []) fd op (Some (entry v 1)))
+    → AsksWell v.sets handed (changes_cell v set cell fd op (Call answer))
+cell_asks v set cell fd op answer handed h f j = change_asks v.sets handed set _ fd op _ _ h f (λ bounds. j) (λ reply number done. tt)
 
 opens_asks : (n : ℕ) (object : Object) (fd : ℕ) → object.set < n → IsOpenFd fd → IsGfid object.gfid → AsksWell n [] (opens object fd)
 opens_asks n object fd h d g =
-    if_asks n [] _ _ (is_directory object.kind) (λ dir. tt) (λ file. (record { within = h; founded = tt; whole = λ answered. (d, g) }, λ reply. number_leads n _ _ (number_in reply) (λ number. tt)))
+    if_asks n [] _ _ (is_directory object.kind) (λ dir. tt) (λ file. (record { within = h; founded = tt; whole = λ bounds. (d, g) }, λ reply. number_leads n _ _ (number_in reply) (λ number e. tt)))
 
 stats_asks : (n : ℕ) (object : Object) → 1 ≤ n → object.set < n → IsGfid object.gfid → AsksWell n [] (stats object)
 stats_asks n object some h g =
-    if_asks n [] _ _ (is_directory object.kind) (λ dir. read_asks n [] 0 _ 0 _ _ some (λ answered. meta_is_job object g) (λ later contents place l. tt))
-    (λ file. read_asks n [] object.set _ 0 _ _ h (λ answered. both_is_job object.gfid g) (λ later contents place l. tt))
+    if_asks n [] _ _ (is_directory object.kind) (λ dir. read_asks n [] 0 _ 0 _ _ some (λ bounds. meta_is_job object g) (λ later contents place l. tt))
+    (λ file. read_asks n [] object.set _ 0 _ _ h (λ bounds. both_is_job object.gfid g) (λ later contents place l. tt))
 
 gets_asks : (n : ℕ) (object : Object) (name : List ℕ) → 1 ≤ n → object.set < n → IsGfid object.gfid → AsksWell n [] (gets_attr object name)
 gets_asks n object name some h g =
-    read_asks n [] (home object) _ 0 _ _ (home_below n object some h) (λ answered. meta_is_job object g)
+    read_asks n [] (home object) _ 0 _ _ (home_below n object some h) (λ bounds. meta_is_job object g)
     (λ later contents place l. by_attr later (attr_named (attrs_of (first_content contents)) name) place)
   where
     by_attr : (later : Handed) (attr : Option Attr) (place : ℕ) → AsksWell n later (attr_value attr place)
@@ -77,7 +78,7 @@ gets_asks n object name some h g =
 
 dels_asks : (v : Volume) (object : Object) (name : List ℕ) → 1 ≤ v.sets → object.set < v.sets → IsGfid object.gfid → IsAttrName name → AsksWell v.sets [] (dels_attr v object name)
 dels_asks v object name some h g named =
-    read_asks v.sets [] (home object) _ 0 _ _ (home_below v.sets object some h) (λ answered. meta_is_job object g)
+    read_asks v.sets [] (home object) _ 0 _ _ (home_below v.sets object some h) (λ bounds. meta_is_job object g)
     (λ later contents place l. by_attr later (attr_named (attrs_of (first_content contents)) name) place)
   where
     by_attr : (later : Handed) (attr : Option Attr) (place : ℕ) → AsksWell v.sets later (drops_attr v object name attr place)
@@ -87,7 +88,7 @@ dels_asks v object name some h g named =
 
 reads_asks : (n : ℕ) (object : Object) (fd offset count : ℕ) → object.set < n → IsOpenFd fd → IsGfid object.gfid → AsksWell n [] (reads_bytes object fd offset count)
 reads_asks n object fd offset count h d g =
-    if_asks n [] _ _ (is_directory object.kind) (λ dir. tt) (λ file. read_asks n [] object.set _ fd _ _ h (λ answered. data_is_job object.gfid fd g d.1) (λ later contents place l. tt))
+    if_asks n [] _ _ (is_directory object.kind) (λ dir. tt) (λ file. read_asks n [] object.set _ fd _ _ h (λ bounds. data_is_job object.gfid fd g d.1) (λ later contents place l. tt))
 
 truncates_asks : (v : Volume) (object : Object) (size : ℕ) → object.set < v.sets → IsGfid object.gfid → AsksWell v.sets [] (truncates v object size)
 truncates_asks v object size h g =
@@ -109,29 +110,29 @@ writes_asks v object fd offset bytes h d g o few =
 
 opens_again_asks : (n : ℕ) (fds : List OpenFd) (handed : Handed) → Each (λ (open_fd : OpenFd). open_fd.set < n) fds → Each IsOpened fds → AsksWell n handed (opens_again fds)
 opens_again_asks n [] handed b o = tt
-opens_again_asks n (one ∷ fds) handed b o = (record { within = b.0; founded = tt; whole = λ answered. o.0 }, λ reply. opens_again_asks n fds _ b.1 o.1)
+opens_again_asks n (one ∷ fds) handed b o = (record { within = b.0; founded = tt; whole = λ bounds. o.0 }, λ reply. opens_again_asks n fds _ b.1 o.1)
 
 -- a cell that a set of the volume listed
 pub record IsListed (n : ℕ) (handed : Handed) (one : ℕ × Cell) : Type 0 where
   pub below : one.0 < n
-  pub cell : AreAnswered handed → IsCell one.1
+  pub cell : HaveBounds handed → IsCell one.1
 
 abbrev AreListed : ℕ → Handed → List (ℕ × Cell) → Type 0
 AreListed n handed cells = Each (λ (one : ℕ × Cell). IsListed n handed one) cells
 
 listed_later : (n : ℕ) (a b : Handed) (cells : List (ℕ × Cell)) → Later a b → AreListed n a cells → AreListed n b cells
 listed_later n a b [] l c = tt
-listed_later n a b (one ∷ cells) l c = (record { below = c.0.below; cell = λ answered. c.0.cell (l.answered answered) }, listed_later n a b cells l c.1)
+listed_later n a b (one ∷ cells) l c = (record { below = c.0.below; cell = λ bounds. c.0.cell (l.bounded bounds) }, listed_later n a b cells l c.1)
 
 heals_asks : (n : ℕ) (cells : List (ℕ × Cell)) (handed : Handed) → AreListed n handed cells → AsksWell n handed (heals cells)
 heals_asks n [] handed c = tt
 heals_asks n (one ∷ cells) handed c =
     (record { within = c.0.below; founded = tt; whole = c.0.cell }, λ reply. heals_asks n cells _ (listed_later n handed _ cells (later_push (Replied one.0 (job.Heal one.1) reply) handed) c.1))
 
-with_listed : (n set : ℕ) (handed : Handed) (so_far : List (ℕ × Cell)) (cells : List Cell) → set < n → AreListed n handed so_far → (AreAnswered handed → Each IsCell cells)
+with_listed : (n set : ℕ) (handed : Handed) (so_far : List (ℕ × Cell)) (cells : List Cell) → set < n → AreListed n handed so_far → (HaveBounds handed → Each IsCell cells)
     → AreListed n handed (so_far ++ map (λ cell. (set, cell)) cells)
 with_listed n set handed [] [] h b c = tt
-with_listed n set handed [] (cell ∷ cells) h b c = (record { below = h; cell = λ answered. (c answered).0 }, with_listed n set handed [] cells h tt (λ answered. (c answered).1))
+with_listed n set handed [] (cell ∷ cells) h b c = (record { below = h; cell = λ bounds. (c bounds).0 }, with_listed n set handed [] cells h tt (λ bounds. (c bounds).1))
 with_listed n set handed (one ∷ so_far) cells h b c = (b.0, with_listed n set handed so_far cells h b.1 c)
 
 each_taken : (count : ℕ) (cells : List Cell) → Each IsCell cells → Each IsCell (take count cells)
@@ -139,22 +140,22 @@ each_taken zero cells e = tt
 each_taken (suc count) [] e = tt
 each_taken (suc count) (cell ∷ cells) e = (e.0, each_taken count cells e.1)
 
-index_cells : (set q : ℕ) (r : SetReply) → IsAnsweredBy set q job.Index r → Each IsCell (cells_in r)
-index_cells set q (reply.Contents contents place) a = absurd a
-index_cells set q (reply.Decided number) a = absurd a
-index_cells set q reply.Opened a = absurd a
-index_cells set q (reply.Listed cells answered short) a = a.0
-index_cells set q (reply.Healed records) a = absurd a
-index_cells set q (reply.Skipped cause) a = absurd a
-index_cells set q (reply.Io error) a = absurd a
+index_cells : (r : SetReply) → HasBounds r → Each IsCell (cells_in r)
+index_cells (reply.Contents contents place) b = tt
+index_cells (reply.Decided number) b = tt
+index_cells reply.Opened b = tt
+index_cells (reply.Listed cells group short) b = b
+index_cells (reply.Healed records) b = tt
+index_cells (reply.Skipped cause) b = tt
+index_cells (reply.Io error) b = tt
 
 indexes_asks : (n count : ℕ) (sets : List ℕ) (cells : List (ℕ × Cell)) (handed : Handed) → Below n sets → AreListed n handed cells → AsksWell n handed (indexes count sets cells)
 indexes_asks n count [] cells handed b c = heals_asks n cells handed c
 indexes_asks n count (set ∷ sets) cells handed b c = (
-  record { within = b.0; founded = tt; whole = λ answered. tt },
+  record { within = b.0; founded = tt; whole = λ bounds. tt },
   λ reply. indexes_asks n count sets _ (Replied set job.Index reply ∷ handed) b.1
       (with_listed n set (Replied set job.Index reply ∷ handed) cells (take (2 * count + 2) (cells_in reply)) b.0 (listed_later n handed _ cells (later_push (Replied set job.Index reply) handed) c)
-      (λ answered. each_taken (2 * count + 2) (cells_in reply) (index_cells set answered.0.quorum reply answered.0.answered))),
+      (λ bounds. each_taken (2 * count + 2) (cells_in reply) (index_cells reply bounds.0))),
 )
 
 -- ---- rename
@@ -170,10 +171,10 @@ renames_asks : (v : Volume) (names : List (List ℕ)) (kept : Kept) (parent : Ob
     → IsGfid parent.gfid → IsComponent name → IsGfid target.gfid → IsComponent new_name → AsksWell v.sets [] (renames v names kept parent name target new_name)
 renames_asks v names kept parent name target new_name some within named g c t d =
     named_asks v.sets [] parent name None _ c
-    (λ short. finds_asks v.sets (length names) parent.gfid (known_set v kept parent.gfid name) _ _ [] named.count (λ answered. g) (known_below v kept parent.gfid name some within)
-    (λ set i. looks_in_asks v.sets parent.gfid name names 0 (source_found v parent.gfid name names target new_name (known_set v kept target.gfid new_name)) set [] named.count i (λ answered. g)
+    (λ short. finds_asks v.sets (length names) parent.gfid (known_set v kept parent.gfid name) _ _ [] named.count (λ bounds. g) (known_below v kept parent.gfid name some within)
+    (λ set i. looks_in_asks v.sets parent.gfid name names 0 (source_found v parent.gfid name names target new_name (known_set v kept target.gfid new_name)) set [] named.count i (λ bounds. g)
     (source_ends v.sets v [] parent.gfid name names target new_name (known_set v kept target.gfid new_name) set named i (known_below v kept target.gfid new_name some within) g short t d))
-    (λ whole later w l. looks_in_asks v.sets parent.gfid name names 0 (source_found v parent.gfid name names target new_name (second_set parent.gfid target.gfid new_name (known_set v kept target.gfid new_name) whole)) (hashed_set whole name) later named.count (hashed_below v.sets whole name w (omega arith)) (λ answered. g)
+    (λ whole later w l. looks_in_asks v.sets parent.gfid name names 0 (source_found v parent.gfid name names target new_name (second_set parent.gfid target.gfid new_name (known_set v kept target.gfid new_name) whole)) (hashed_set whole name) later named.count (hashed_below v.sets whole name w (omega arith)) (λ bounds. g)
     (source_ends v.sets v later parent.gfid name names target new_name (second_set parent.gfid target.gfid new_name (known_set v kept target.gfid new_name) whole) (hashed_set whole name) named (hashed_below v.sets whole name w (omega arith))
     (second_below v.sets parent.gfid target.gfid new_name (known_set v kept target.gfid new_name) whole (omega arith) w (known_below v kept target.gfid new_name some within)) g short t d)))
 

@@ -39,7 +39,7 @@ file_by handed dir name set gfid kind.Link s e = absurd (let wrong : true ≡ fa
 pub drops_link_asks : (n : ℕ) (handed : Handed) (parent : Gfid) (name : List ℕ) (hashed : ℕ) (number : Option ℕ) (has_link : Bool) → IsGfid parent → IsItemName name → hashed < n
     → AsksWell n handed (drops_link parent name hashed has_link number)
 drops_link_asks n handed parent name hashed number true g short h =
-    (record { within = h; founded = tt; whole = λ answered. (one_few (names_cell parent) g, omega arith, (g, short), refl) }, λ reply. tt)
+    (record { within = h; founded = tt; whole = λ bounds. (one_few (names_cell parent) g, omega arith, (g, short), refl) }, λ reply. tt)
 drops_link_asks n handed parent name hashed number false g short h = tt
 
 -- the file that is renamed, its old name and the set to which that belongs
@@ -73,7 +73,7 @@ adds_link_by n handed r number false e a known =
       record {
         within = a.hashed;
         founded = tt;
-        whole = λ answered. (one_few (names_cell r.target) a.target_is, omega arith, (a.target_is, (a.name_is, known answered, a.set_name_is), omega arith, tt), refl);
+        whole = λ bounds. (one_few (names_cell r.target) a.target_is, omega arith, (a.target_is, (a.name_is, known bounds, a.set_name_is), omega arith, tt), refl);
       },
       λ reply. drops_link_asks n _ r.source.parent r.source.name r.source.hashed number r.source.has_link a.source.parent_is a.source.name_is a.source.old,
     )
@@ -84,8 +84,8 @@ moves_asks : (n : ℕ) (v : Volume) (handed : Handed) (r : Renaming) → AreOn n
     → AsksWell n handed (moves v r)
 moves_asks n v handed r a from to =
     change_asks n handed r.source.set _ 0 (op.Move r.source.parent r.source.name r.target r.new_name) _ (adds_link r) a.source.file (record { from = from.file; to = to })
-    (λ answered. (both_few r.source.parent r.target a.source.parent_is a.target_is, omega arith, (a.source.parent_is, a.source.name_is, a.target_is, a.name_is), refl))
-    (λ reply number. adds_link_by n _ r number (r.hashed == r.source.set) refl a (λ answered. from.known answered.1))
+    (λ bounds. (both_few r.source.parent r.target a.source.parent_is a.target_is, omega arith, (a.source.parent_is, a.source.name_is, a.target_is, a.name_is), refl))
+    (λ reply number done. adds_link_by n _ r number (r.hashed == r.source.set) refl a (λ bounds. from.known bounds.1))
 
 free_later : (n : ℕ) (a b : Handed) (dir : Gfid) (name : List ℕ) (set : ℕ) → Later a b → IsFree n a dir name set → IsFree n b dir name set
 free_later n a b dir name set l (inl nowhere) = inl (nowhere_later n a b dir name l nowhere)
@@ -96,7 +96,7 @@ bears_asks : (n : ℕ) (v : Volume) (handed : Handed) (r : Renaming) (copy : Boo
     → AsksWell n handed (bears v r copy)
 bears_asks n v handed r true a from to = moves_asks n v handed r a from to
 bears_asks n v handed r false a from to =
-    birth_asks n handed r.source.set _ _ _ a.source.file (λ answered. birth_is_job r.target None a.target_is tt)
+    birth_asks n handed r.source.set _ _ _ a.source.file (λ bounds. birth_is_job r.target None a.target_is tt)
     (λ later number l. moves_asks n v later r a (source_later handed later r.source l from) (free_later n handed later r.target r.new_name r.source.set l to))
 
 -- what is known of the new name, by the other set on which a file of it is replaced
@@ -113,14 +113,14 @@ replaces_asks : (n : ℕ) (v : Volume) (handed : Handed) (r : Renaming) (replace
 replaces_asks n v handed r None copy a from to = bears_asks n v handed r copy a from to
 replaces_asks n v handed r (Some set) copy a from to =
     change_asks n handed set _ 0 (op.DropName r.target r.new_name) _ (λ number. bears v r copy) to.0 to.1
-    (λ answered. (one_few (names_cell r.target) a.target_is, omega arith, (a.target_is, a.name_is), refl))
-    (λ reply number. bears_asks n v _ r copy a (source_later handed _ r.source (later_push _ handed) from) (inr (inr (inl refl))))
+    (λ bounds. (one_few (names_cell r.target) a.target_is, omega arith, (a.target_is, a.name_is), refl))
+    (λ reply number done. bears_asks n v _ r copy a (source_later handed _ r.source (later_push _ handed) from) (inr (inr (inl (refl, done)))))
 
 changes_asks : (n : ℕ) (v : Volume) (handed : Handed) (r : Renaming) (replaced : Option ℕ) (copy : Option Bool) → AreOn n r → SawSource handed r.source → IsReplaced n handed r replaced
     → AsksWell n handed (changes_names v r replaced copy)
 changes_asks n v handed r replaced (Some copy) a from to = replaces_asks n v handed r replaced copy a from to
 changes_asks n v handed r replaced None a from to =
-    names_asks n handed r.source.set r.target _ a.source.file (λ answered. a.target_is)
+    names_asks n handed r.source.set r.target _ a.source.file (λ bounds. a.target_is)
     (λ later shown l saw. replaces_asks n v later r replaced shown.has_copy a (source_later handed later r.source l from) (replaced_later n handed later r replaced l to))
 
 -- ---- the look at the new name
@@ -157,10 +157,10 @@ target_ends n v handed source target new_name names hashed h named g short a fro
 looks_for_target_asks : (n : ℕ) (v : Volume) (handed : Handed) (source : Source) (target : Gfid) (new_name : List ℕ) (names : List (List ℕ)) (second : Option ℕ) → AreNamed n names → 1 ≤ n → IfSome second (λ set. set < n)
     → IsGfid target → IsItemName new_name → SourceIsOn n source → SawSource handed source → AsksWell n handed (looks_for_target v source target new_name names second)
 looks_for_target_asks n v handed source target new_name names second named some known g short a from =
-    finds_asks n (length names) target second _ _ handed named.count (λ answered. g) known
-    (λ set i. looks_in_asks n target new_name names source.set (target_ending v source target new_name names) set handed named.count i (λ answered. g)
+    finds_asks n (length names) target second _ _ handed named.count (λ bounds. g) known
+    (λ set i. looks_in_asks n target new_name names source.set (target_ending v source target new_name names) set handed named.count i (λ bounds. g)
     (target_ends n v handed source target new_name names set i named g short a from))
-    (λ whole later w l. looks_in_asks n target new_name names source.set (target_ending v source target new_name names) _ later named.count (hashed_below n whole new_name w some) (λ answered. g)
+    (λ whole later w l. looks_in_asks n target new_name names source.set (target_ending v source target new_name names) _ later named.count (hashed_below n whole new_name w some) (λ bounds. g)
     (target_ends n v later source target new_name names _ (hashed_below n whole new_name w some) named g short a (source_later handed later source l from)))
 
 -- ---- the look at the first name

@@ -11,7 +11,7 @@ use Rattle.dht_fops.specs.Answers.{AnswersAsFlat, FitsFlat, Accepts, change_of, 
 use Rattle.dht_fops.specs.Courses.{Course, on_names, after_names, after_read, on_number, after_change, number_in, changes}
 use Rattle.dht_fops.specs.Courses.Course.{Asks, Extends, Ends}
 use Rattle.dht_fops.specs.Fops.{on_name}
-use Rattle.dht_fops.specs.Handed.{Handed, Always, Saw}
+use Rattle.dht_fops.specs.Handed.{Handed, Always, Saw, AnyHold}
 use Rattle.dht_fops.specs.Handed.Event.{Replied, Held}
 use Rattle.dht_fops.specs.Looks.{Ending, where_named}
 use Rattle.dht_fops.specs.Standing.{Volumes, AreSound, IsMade, StillShown, HaveNoEffect}
@@ -44,7 +44,7 @@ use Rattle.fop_types.specs.declared.store_ops.StoreOp.{StoreOp}
 
 -- the fop goes on with answers of the flat file system
 abbrev pub GoesFlat : ℕ → Fop → Handed → Course → Type 0
-GoesFlat n f handed course = Always (FitsFlat n f) (AnswersAsFlat n f) handed course
+GoesFlat n f handed course = Always (FitsFlat n f) AnyHold (AnswersAsFlat n f) handed course
 
 -- ---- answers
 
@@ -67,7 +67,7 @@ no_more n f handed set (job.Heal cell) never = tt
 
 pub says_no_more : (n : ℕ) (f : Fop) (handed : Handed) (c : Course) → (HaveNoEffect handed → (s : Volumes) → StillShown s.contents handed → ⊥) → GoesFlat n f handed c
 says_no_more n f handed (Asks set j next) never = (no_more n f handed set j never, λ reply. says_no_more n f (Replied set j reply ∷ handed) (next reply) (λ none s still. never none.1 s still.1))
-says_no_more n f handed (Extends dir next) never = says_no_more n f (Held dir ∷ handed) next (λ none s still. never none.1 s still.1)
+says_no_more n f handed (Extends dir next) never = (tt, says_no_more n f (Held dir ∷ handed) next (λ none s still. never none.1 s still.1))
 says_no_more n f handed (Ends a place) never = λ none s sound made still. absurd (never none s still)
 
 -- ---- jobs
@@ -134,7 +134,7 @@ pub found_says : (f : Fop) (op : FlatOp) (files : Files) (set : ℕ) (gfid : Gfi
 found_says f op files set gfid kind e h = rw e h
 
 pub looks_flat : (n : ℕ) (f : Fop) (parent : Object) (name : List ℕ) (handed : Handed) → IsOnName f parent name → is_directory parent.kind ≡ true → nat_lt max_item_name (length name) ≡ false
-    → Reading (FitsFlat n f) (AnswersAsFlat n f) n handed parent.gfid
+    → Reading (FitsFlat n f) AnyHold (AnswersAsFlat n f) n handed parent.gfid
 looks_flat n f parent name handed on dir short = record {
   names = λ later set l i. tt;
   spans = λ later set l i. tt;
@@ -155,11 +155,11 @@ named_flat n f parent name next on k =
 
 pub on_name_flat : (v : Volume) (f : Fop) (names : List (List ℕ)) (kept : Kept) (parent : Object) (name : List ℕ) (ending : ℕ → Ending) → 1 ≤ v.root_sets → v.root_sets ≤ v.sets → length names ≡ v.sets
     → IsOnName f parent name
-    → (is_directory parent.kind ≡ true → nat_lt max_item_name (length name) ≡ false → (hashed : ℕ) (handed : Handed) → hashed < v.sets → EndsRight (FitsFlat v.sets f) (AnswersAsFlat v.sets f) v.sets handed parent.gfid name (ending hashed))
+    → (is_directory parent.kind ≡ true → nat_lt max_item_name (length name) ≡ false → (hashed : ℕ) (handed : Handed) → hashed < v.sets → EndsRight (FitsFlat v.sets f) AnyHold (AnswersAsFlat v.sets f) v.sets handed parent.gfid name (ending hashed))
     → GoesFlat v.sets f [] (on_name v names kept parent name ending)
 on_name_flat v f names kept parent name ending some within e on ends =
     named_flat v.sets f parent name _ on
-    (λ dir short. finds_go (FitsFlat v.sets f) (AnswersAsFlat v.sets f) v.sets (length names) parent.gfid (known_set v kept parent.gfid name) _ _ [] e (looks_flat v.sets f parent name [] on dir short) (known_below v kept parent.gfid name some within)
-    (λ set i. looks_in_goes (FitsFlat v.sets f) (AnswersAsFlat v.sets f) v.sets parent.gfid name names 0 ending set [] e i (looks_flat v.sets f parent name [] on dir short) (ends dir short set [] i))
-    (λ whole later w l. looks_in_goes (FitsFlat v.sets f) (AnswersAsFlat v.sets f) v.sets parent.gfid name names 0 ending (hashed_set whole name) later e (hashed_below v.sets whole name w (omega arith)) (looks_flat v.sets f parent name later on dir short)
+    (λ dir short. finds_go (FitsFlat v.sets f) AnyHold (AnswersAsFlat v.sets f) v.sets (length names) parent.gfid (known_set v kept parent.gfid name) _ _ [] e (looks_flat v.sets f parent name [] on dir short) (known_below v kept parent.gfid name some within)
+    (λ set i. looks_in_goes (FitsFlat v.sets f) AnyHold (AnswersAsFlat v.sets f) v.sets parent.gfid name names 0 ending set [] e i (looks_flat v.sets f parent name [] on dir short) (ends dir short set [] i))
+    (λ whole later w l. looks_in_goes (FitsFlat v.sets f) AnyHold (AnswersAsFlat v.sets f) v.sets parent.gfid name names 0 ending (hashed_set whole name) later e (hashed_below v.sets whole name w (omega arith)) (looks_flat v.sets f parent name later on dir short)
     (ends dir short _ later (hashed_below v.sets whole name w (omega arith)))))

@@ -9,7 +9,7 @@ use Rattle.dht_fops.proofs.Looking.{EndsRight, IsFoundIn}
 use Rattle.dht_fops.specs.Answers.{AnswersAsFlat, FitsFlat, AreMade, IsAccepted}
 use Rattle.dht_fops.specs.Courses.{Course}
 use Rattle.dht_fops.specs.Entries.{lookup_found, births_from, mkdir_found, create_found, unlink_found}
-use Rattle.dht_fops.specs.Handed.{Handed, SawName, SawNowhere}
+use Rattle.dht_fops.specs.Handed.{Handed, SawName, SawNowhere, AnyHold}
 use Rattle.dht_fops.specs.Standing.{Volumes, AreSound, StillShown}
 use Rattle.dht_fops.specs.Volumes.{sets_from}
 use Rattle.dht_fops.specs.declared.look.Seen.{Seen}
@@ -80,7 +80,7 @@ absent_app n f parent name later error i dir short some saw refuses none s a m s
 -- ---- lookup
 
 abbrev pub EndsFlat : ℕ → Fop → Handed → Gfid → List ℕ → (Found → Seen → Course) → Type 0
-EndsFlat n f handed dir name ending = EndsRight (FitsFlat n f) (AnswersAsFlat n f) n handed dir name ending
+EndsFlat n f handed dir name ending = EndsRight (FitsFlat n f) AnyHold (AnswersAsFlat n f) n handed dir name ending
 
 lookup_item : (item : Item) (gfid : Gfid) (k : Kind) → item.gfid ≡ gfid → item.kind ≡ k → lookup_outcome (Some item) ≡ Answers (flat_answer.Found gfid k)
 lookup_item item gfid k e d = rw (e, d) refl

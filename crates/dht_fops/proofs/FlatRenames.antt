@@ -19,7 +19,7 @@ use Rattle.dht_fops.proofs.Looking.{Reading, IsFoundIn, looks_in_goes, finds_go}
 use Rattle.dht_fops.proofs.ShownNames.{equal_by, same_name}
 use Rattle.dht_fops.specs.Answers.{AnswersAsFlat, FitsFlat}
 use Rattle.dht_fops.specs.Fops.{renames}
-use Rattle.dht_fops.specs.Handed.{Handed}
+use Rattle.dht_fops.specs.Handed.{Handed, AnyHold}
 use Rattle.dht_fops.specs.Renames.{other_set, target_found, target_ending, renames_file, source_found, second_set}
 use Rattle.dht_fops.specs.Volumes.{Kept, known_set}
 use Rattle.dht_fops.specs.declared.look.Seen.{Seen}
@@ -47,7 +47,7 @@ use Rattle.fop_types.specs.declared.fops.Object.{Object}
 
 -- ---- the look at the new name
 
-target_reads : (n : ℕ) (r : Names n) (handed : Handed) → SawOld n r handed → is_directory r.target.kind ≡ true → nat_lt 255 (length r.new_name) ≡ false → Reading (FitsFlat n (the_fop n r)) (AnswersAsFlat n (the_fop n r)) n handed r.target.gfid
+target_reads : (n : ℕ) (r : Names n) (handed : Handed) → SawOld n r handed → is_directory r.target.kind ≡ true → nat_lt 255 (length r.new_name) ≡ false → Reading (FitsFlat n (the_fop n r)) AnyHold (AnswersAsFlat n (the_fop n r)) n handed r.target.gfid
 target_reads n r handed o dir short = record {
   names = λ later set l i. tt;
   spans = λ later set l i. tt;
@@ -114,10 +114,10 @@ renames_file_flat n v r handed old names second place e some known o =
     (λ long. target_app n r handed Enametoolong o (λ s a m still outcome is item. name_long s n r.target.gfid r.new_name (outcome item) (made_directory s n r.target a m dir) long))
     (λ short. if_flat n (the_fop n r) handed _ _ (is_same_name r.parent.gfid r.name r.target.gfid r.new_name)
     (λ same. same_done n r handed o dir short same)
-    (λ other. finds_go (FitsFlat n (the_fop n r)) (AnswersAsFlat n (the_fop n r)) n (length names) r.target.gfid second _ _ handed e (target_reads n r handed o dir short) known
-    (λ set i. looks_in_goes (FitsFlat n (the_fop n r)) (AnswersAsFlat n (the_fop n r)) n r.target.gfid r.new_name names old.set (target_ending v (source_of n r old) r.target.gfid r.new_name names) set handed e i (target_reads n r handed o dir short)
+    (λ other. finds_go (FitsFlat n (the_fop n r)) AnyHold (AnswersAsFlat n (the_fop n r)) n (length names) r.target.gfid second _ _ handed e (target_reads n r handed o dir short) known
+    (λ set i. looks_in_goes (FitsFlat n (the_fop n r)) AnyHold (AnswersAsFlat n (the_fop n r)) n r.target.gfid r.new_name names old.set (target_ending v (source_of n r old) r.target.gfid r.new_name names) set handed e i (target_reads n r handed o dir short)
     (target_ends n v r handed old names set o dir short other some))
-    (λ whole later w l. looks_in_goes (FitsFlat n (the_fop n r)) (AnswersAsFlat n (the_fop n r)) n r.target.gfid r.new_name names old.set (target_ending v (source_of n r old) r.target.gfid r.new_name names) (hashed_set whole r.new_name) later e
+    (λ whole later w l. looks_in_goes (FitsFlat n (the_fop n r)) AnyHold (AnswersAsFlat n (the_fop n r)) n r.target.gfid r.new_name names old.set (target_ending v (source_of n r old) r.target.gfid r.new_name names) (hashed_set whole r.new_name) later e
     (hashed_below n whole r.new_name w some) (target_reads n r later (old_later n r handed later l o) dir short) (target_ends n v r later old names (hashed_set whole r.new_name) (old_later n r handed later l o) dir short other some)))))
     (λ file. target_app n r handed Enotdir o (λ s a m still outcome is item. name_in_file s r.target.gfid r.new_name (outcome item) (made_file s n r.target a m file)))
 
@@ -139,17 +139,17 @@ pub renames_flat : (v : Volume) (names : List (List ℕ)) (kept : Kept) (parent 
     → GoesFlat v.sets (fop.Rename parent name target new_name) [] (renames v names kept parent name target new_name)
 renames_flat v names kept parent name target new_name some within e =
     named_flat v.sets (fop.Rename parent name target new_name) parent name _ on
-    (λ dir short. finds_go (FitsFlat v.sets (fop.Rename parent name target new_name)) (AnswersAsFlat v.sets (fop.Rename parent name target new_name)) v.sets (length names) parent.gfid (known_set v kept parent.gfid name) _ _ [] e (reads dir short []) (known_below v kept parent.gfid name some within)
-    (λ set i. looks_in_goes (FitsFlat v.sets (fop.Rename parent name target new_name)) (AnswersAsFlat v.sets (fop.Rename parent name target new_name)) v.sets parent.gfid name names 0 (source_found v parent.gfid name names target new_name (known_set v kept target.gfid new_name)) set [] e i (reads dir short [])
+    (λ dir short. finds_go (FitsFlat v.sets (fop.Rename parent name target new_name)) AnyHold (AnswersAsFlat v.sets (fop.Rename parent name target new_name)) v.sets (length names) parent.gfid (known_set v kept parent.gfid name) _ _ [] e (reads dir short []) (known_below v kept parent.gfid name some within)
+    (λ set i. looks_in_goes (FitsFlat v.sets (fop.Rename parent name target new_name)) AnyHold (AnswersAsFlat v.sets (fop.Rename parent name target new_name)) v.sets parent.gfid name names 0 (source_found v parent.gfid name names target new_name (known_set v kept target.gfid new_name)) set [] e i (reads dir short [])
     (source_flat v.sets v (all dir short) [] names (known_set v kept target.gfid new_name) set e (omega arith) (known_below v kept target.gfid new_name some within)))
-    (λ whole later w l. looks_in_goes (FitsFlat v.sets (fop.Rename parent name target new_name)) (AnswersAsFlat v.sets (fop.Rename parent name target new_name)) v.sets parent.gfid name names 0 (source_found v parent.gfid name names target new_name (second_set parent.gfid target.gfid new_name (known_set v kept target.gfid new_name) whole)) (hashed_set whole name) later e (hashed_below v.sets whole name w (omega arith)) (reads dir short later)
+    (λ whole later w l. looks_in_goes (FitsFlat v.sets (fop.Rename parent name target new_name)) AnyHold (AnswersAsFlat v.sets (fop.Rename parent name target new_name)) v.sets parent.gfid name names 0 (source_found v parent.gfid name names target new_name (second_set parent.gfid target.gfid new_name (known_set v kept target.gfid new_name) whole)) (hashed_set whole name) later e (hashed_below v.sets whole name w (omega arith)) (reads dir short later)
     (source_flat v.sets v (all dir short) later names (second_set parent.gfid target.gfid new_name (known_set v kept target.gfid new_name) whole) (hashed_set whole name) e (omega arith)
     (second_below v.sets parent.gfid target.gfid new_name (known_set v kept target.gfid new_name) whole (omega arith) w (known_below v kept target.gfid new_name some within)))))
   where
     on : IsOnName (fop.Rename parent name target new_name) parent name
     on = (rename_on parent name target new_name).on
 
-    reads : is_directory parent.kind ≡ true → nat_lt max_item_name (length name) ≡ false → (handed : Handed) → Reading (FitsFlat v.sets (fop.Rename parent name target new_name)) (AnswersAsFlat v.sets (fop.Rename parent name target new_name)) v.sets handed parent.gfid
+    reads : is_directory parent.kind ≡ true → nat_lt max_item_name (length name) ≡ false → (handed : Handed) → Reading (FitsFlat v.sets (fop.Rename parent name target new_name)) AnyHold (AnswersAsFlat v.sets (fop.Rename parent name target new_name)) v.sets handed parent.gfid
     reads dir short handed = looks_flat v.sets (fop.Rename parent name target new_name) parent name handed on dir short
 
     all : is_directory parent.kind ≡ true → nat_lt max_item_name (length name) ≡ false → Names v.sets

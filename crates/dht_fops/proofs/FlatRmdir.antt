@@ -187,8 +187,11 @@ rmdir_flat v parent name handed some dir short = λ result seen later l f. by_fo
     by_found : (later : Handed) (result : Found) (seen : Seen) → IsFoundIn v.sets later parent.gfid name result → GoesFlat v.sets (fop.Rmdir parent name) later (rmdir_found v parent.gfid name result seen)
     by_found later (found.Item set gfid k) seen f =
         if_flat v.sets (fop.Rmdir parent name) later _ _ (is_directory k)
-        (λ d. empties_flat v parent name set gfid (v.sets - 0) 0 (Held gfid ∷ later) dir short f.0 (omega arith)
-        (name_later later (Held gfid ∷ later) parent.gfid name set gfid kind.Dir (later_push (Held gfid) later) (as_directory later parent.gfid name set gfid k d f.1)) (λ other i. absurd (omega arith)))
+        (λ d. (
+          tt,
+          empties_flat v parent name set gfid (v.sets - 0) 0 (Held gfid ∷ later) dir short f.0 (omega arith)
+              (name_later later (Held gfid ∷ later) parent.gfid name set gfid kind.Dir (later_push (Held gfid) later) (as_directory later parent.gfid name set gfid k d f.1)) (λ other i. absurd (omega arith)),
+        ))
         (λ file. found_app v.sets (fop.Rmdir parent name) parent name later set gfid k Enotdir (rmdir_on parent name) dir short f.0 f.1 (λ files item e. no_directory files parent.gfid name item k file e))
     by_found later found.Absent seen f = absent_app v.sets (fop.Rmdir parent name) parent name later Enoent (rmdir_on parent name) dir short some f (λ files. refl)
     by_found later (found.Io error) seen f = io_goes v.sets (fop.Rmdir parent name) later error

@@ -3,10 +3,11 @@ use Rattle.std.proofs.Common.{◌≡◌, ℕ, ◌<◌, inl, inr, Bool, true, fal
 use Rattle.dht_linkto.specs.DirNames.{names_job, names_in}
 use Rattle.dht_linkto.specs.declared.names.DirNames.{DirNames}
 use Rattle.dht_fops.proofs.JobBounds.{names_is_job}
+use Rattle.dht_fops.specs.Additions.{SawSpan}
 use Rattle.dht_fops.specs.Courses.{Course, refuses, on_contents, after_read, contents_in, on_names, after_names, on_number, after_change, number_in, changes}
 use Rattle.dht_fops.specs.Courses.Course.{Asks}
-use Rattle.dht_fops.specs.Founded.{AsksWell, WasDropped, SawFile, IsFounded}
-use Rattle.dht_fops.specs.Handed.{Handed, Event, AreAnswered, Saw, WasHeld, SawName, SawNone, SawNowhere, SawEmpty}
+use Rattle.dht_fops.specs.Founded.{AsksWell, IsNoError, WasDropped, SawFile, IsFounded}
+use Rattle.dht_fops.specs.Handed.{Handed, Event, HaveBounds, Saw, WasHeld, SawName, SawNone, SawNowhere, SawEmpty}
 use Rattle.dht_fops.specs.Handed.Event.{Replied}
 use Rattle.dht_fops.specs.Looks.{where_kept}
 use Rattle.dht_fops.specs.Shown.{SetContents}
@@ -19,41 +20,45 @@ use Rattle.fop_types.specs.declared.cells.Cell.{Cell}
 use Rattle.fop_types.specs.declared.cells.Gfid.{Gfid}
 use Rattle.fop_types.specs.declared.cells.Kind.{Kind}
 use Rattle.fop_types.specs.declared.contents.Content.{Content}
+use Rattle.fop_types.specs.declared.contents.Span.{Span}
 use Rattle.fop_types.specs.declared.history.Entry.{Entry}
 use Rattle.fop_types.specs.declared.jobs.Job.TheVariants as job
 use Rattle.fop_types.specs.declared.jobs.SetReply.{SetReply}
+use Rattle.fop_types.specs.declared.jobs.SetReply.TheVariants as reply
 use Rattle.fop_types.specs.declared.store_ops.StoreOp.{StoreOp}
 
 -- ---- what stays
 
 pub record Later (before after : Handed) : Type 0 where
   pub saw : (dir : Gfid) (set : ℕ) (shown : DirNames) → Saw before dir set shown → Saw after dir set shown
+  pub spans : (dir : Gfid) (set : ℕ) (span : Option Span) → SawSpan before dir set span → SawSpan after dir set span
   pub held : (dir : Gfid) → WasHeld before dir → WasHeld after dir
   pub dropped : (dir : Gfid) (name : List ℕ) → WasDropped before dir name → WasDropped after dir name
-  pub answered : AreAnswered after → AreAnswered before
+  pub bounded : HaveBounds after → HaveBounds before
   pub still : (contents : SetContents) → StillShown contents after → StillShown contents before
 
 pub later_same : (handed : Handed) → Later handed handed
-later_same handed = record { saw = λ dir set shown s. s; held = λ dir h. h; dropped = λ dir name d. d; answered = λ a. a; still = λ contents s. s }
+later_same handed = record { saw = λ dir set shown s. s; spans = λ dir set span s. s; held = λ dir h. h; dropped = λ dir name d. d; bounded = λ a. a; still = λ contents s. s }
 
 pub later_push : (event : Event) (handed : Handed) → Later handed (event ∷ handed)
-later_push event handed = record { saw = λ dir set shown s. inr s; held = λ dir h. inr h; dropped = λ dir name d. inr d; answered = λ a. a.1; still = λ contents s. s.1 }
+later_push event handed = record { saw = λ dir set shown s. inr s; spans = λ dir set span s. inr s; held = λ dir h. inr h; dropped = λ dir name d. inr d; bounded = λ a. a.1; still = λ contents s. s.1 }
 
 pub later_then : (a b c : Handed) → Later a b → Later b c → Later a c
 later_then a b c l m = record {
   saw = λ dir set shown s. m.saw dir set shown (l.saw dir set shown s);
+  spans = λ dir set span s. m.spans dir set span (l.spans dir set span s);
   held = λ dir h. m.held dir (l.held dir h);
   dropped = λ dir name d. m.dropped dir name (l.dropped dir name d);
-  answered = λ a. l.answered (m.answered a);
+  bounded = λ a. l.bounded (m.bounded a);
   still = λ contents s. l.still contents (m.still contents s);
 }
 
--- a gfid within its bounds, if the replies so far answered their jobs
+-- a gfid within its bounds, if the replies so far are
 abbrev pub IsKnown : Handed → Gfid → Type 0
-IsKnown handed gfid = AreAnswered handed → IsGfid gfid
+IsKnown handed gfid = HaveBounds handed → IsGfid gfid
 
 pub known_later : (a b : Handed) (gfid : Gfid) → Later a b → IsKnown a gfid → IsKnown b gfid
-known_later a b gfid l k answered = k (l.answered answered)
+known_later a b gfid l k bounds = k (l.bounded bounds)
 
 pub name_later : (a b : Handed) (dir : Gfid) (name : List ℕ) (set : ℕ) (gfid : Gfid) (kind : Kind) → Later a b → SawName a dir name set gfid kind → SawName b dir name set gfid kind
 name_later a b dir name set gfid kind l s =
@@ -84,14 +89,23 @@ names_lead n handed next (Ok shown) k = k shown refl
 names_lead n handed next (Err error) k = tt
 
 pub number_leads : (n : ℕ) (handed : Handed) (next : Option ℕ → Course) (read : Result (Option ℕ) IoError)
-    → ((number : Option ℕ) → AsksWell n handed (next number)) → AsksWell n handed (on_number next read)
-number_leads n handed next (Ok number) k = k number
+    → ((number : Option ℕ) → read ≡ Ok number → AsksWell n handed (next number)) → AsksWell n handed (on_number next read)
+number_leads n handed next (Ok number) k = k number refl
 number_leads n handed next (Err error) k = tt
+
+pub no_error : (r : SetReply) (number : Option ℕ) → number_in r ≡ Ok number → IsNoError r
+no_error (reply.Contents contents place) number e = tt
+no_error (reply.Decided decided) number e = tt
+no_error reply.Opened number e = tt
+no_error (reply.Listed cells group short) number e = tt
+no_error (reply.Healed records) number e = tt
+no_error (reply.Skipped cause) number e = tt
+no_error (reply.Io error) number e = absurd (let wrong : ◌≡◌ {A = Result (Option ℕ) IoError} (Err error) (Ok number) = e in cc)
 
 -- ---- jobs
 
 -- a read of other cells than names
-pub read_asks : (n : ℕ) (handed : Handed) (set : ℕ) (cells : List Cell) (fd : ℕ) (dir : Bool) (next : List (Option Content) → ℕ → Course) → set < n → (AreAnswered handed → IsJob (job.Read cells fd dir))
+pub read_asks : (n : ℕ) (handed : Handed) (set : ℕ) (cells : List Cell) (fd : ℕ) (dir : Bool) (next : List (Option Content) → ℕ → Course) → set < n → (HaveBounds handed → IsJob (job.Read cells fd dir))
     → ((later : Handed) (contents : List (Option Content)) (place : ℕ) → Later handed later → AsksWell n later (next contents place))
     → AsksWell n handed (Asks set (job.Read cells fd dir) (after_read next))
 read_asks n handed set cells fd dir next h j k = (
@@ -104,25 +118,25 @@ pub names_asks : (n : ℕ) (handed : Handed) (set : ℕ) (dir : Gfid) (next : Di
     → ((later : Handed) (shown : DirNames) → Later handed later → Saw later dir set shown → AsksWell n later (next shown))
     → AsksWell n handed (Asks set (names_job dir) (after_names next))
 names_asks n handed set dir next h g k = (
-  record { within = h; founded = tt; whole = λ answered. names_is_job dir (g answered) },
+  record { within = h; founded = tt; whole = λ bounds. names_is_job dir (g bounds) },
   λ reply. names_lead n (Replied set (names_job dir) reply ∷ handed) next (names_in reply)
       (λ shown e. k (Replied set (names_job dir) reply ∷ handed) shown (later_push (Replied set (names_job dir) reply) handed) (inl (refl, refl, e))),
 )
 
 pub change_asks : (n : ℕ) (handed : Handed) (set : ℕ) (cells : List Cell) (fd : ℕ) (op : StoreOp) (entry : Entry) (next : Option ℕ → Course) → set < n → IsFounded n handed set op
-    → (AreAnswered handed → IsJob (job.Change cells fd op (Some entry)))
-    → ((reply : SetReply) (number : Option ℕ) → AsksWell n (Replied set (job.Change cells fd op (Some entry)) reply ∷ handed) (next number))
+    → (HaveBounds handed → IsJob (job.Change cells fd op (Some entry)))
+    → ((reply : SetReply) (number : Option ℕ) → IsNoError reply → AsksWell n (Replied set (job.Change cells fd op (Some entry)) reply ∷ handed) (next number))
     → AsksWell n handed (changes set cells fd op (Some entry) next)
 change_asks n handed set cells fd op entry next h f j k =
-    (record { within = h; founded = f; whole = j }, λ reply. number_leads n (Replied set (job.Change cells fd op (Some entry)) reply ∷ handed) next (number_in reply) (k reply))
+    (record { within = h; founded = f; whole = j }, λ reply. number_leads n (Replied set (job.Change cells fd op (Some entry)) reply ∷ handed) next (number_in reply) (λ number e. k reply number (no_error reply number e)))
 
-pub birth_asks : (n : ℕ) (handed : Handed) (set : ℕ) (cells : List Cell) (op : StoreOp) (next : Option ℕ → Course) → set < n → (AreAnswered handed → IsJob (job.Birth cells op))
+pub birth_asks : (n : ℕ) (handed : Handed) (set : ℕ) (cells : List Cell) (op : StoreOp) (next : Option ℕ → Course) → set < n → (HaveBounds handed → IsJob (job.Birth cells op))
     → ((later : Handed) (number : Option ℕ) → Later handed later → AsksWell n later (next number))
     → AsksWell n handed (Asks set (job.Birth cells op) (after_change next))
 birth_asks n handed set cells op next h j k = (
   record { within = h; founded = tt; whole = j },
   λ reply. number_leads n (Replied set (job.Birth cells op) reply ∷ handed) next (number_in reply)
-      (λ number. k (Replied set (job.Birth cells op) reply ∷ handed) number (later_push (Replied set (job.Birth cells op) reply) handed)),
+      (λ number e. k (Replied set (job.Birth cells op) reply ∷ handed) number (later_push (Replied set (job.Birth cells op) reply) handed)),
 )
 
 -- ---- tests

@@ -5,6 +5,7 @@ pub mod AskRenames
 pub mod Costs
 pub mod CostsOfFops
 pub mod Begun
+pub mod Bounds
 pub mod FlatFiles
 pub mod FlatFops
 pub mod FlatGoing
@@ -23,5 +24,7 @@ pub mod Merging
 pub mod Rests
 pub mod Sets
 pub mod ShownNames
+pub mod Traces
+pub mod TracesOfFops
 pub mod Turns
 pub mod Writing

@@ -36,56 +36,56 @@ use Rattle.fop_types.specs.declared.contents.Span.{Span}
 
 -- what a walk over the sets needs: its reads may be asked, and it may end by an I/O error, or where a set shows that the
 -- directory was removed
-pub record Reading (P : Handed → ℕ → Job → Type 0) (Q : Handed → FopAnswer → Option ℕ → Type 0) (n : ℕ) (handed : Handed) (dir : Gfid) : Type 0 where
+pub record Reading (P : Handed → ℕ → Job → Type 0) (H : Handed → Gfid → Type 0) (Q : Handed → FopAnswer → Option ℕ → Type 0) (n : ℕ) (handed : Handed) (dir : Gfid) : Type 0 where
   pub names : (later : Handed) (set : ℕ) → Later handed later → set < n → P later set (names_job dir)
   pub spans : (later : Handed) (set : ℕ) → Later handed later → set < n → P later set (span_job dir)
   pub fails : (later : Handed) (error : IoError) → Q later (Call (answer.Io error)) None
   pub removed : (later : Handed) (set : ℕ) (shown : DirNames) → Later handed later → set < n → Saw later dir set shown → shown.removed ≡ true → Q later (Call (answer.App Enoent)) (Some shown.place)
 
-reading_later : (P : Handed → ℕ → Job → Type 0) (Q : Handed → FopAnswer → Option ℕ → Type 0) (n : ℕ) (a b : Handed) (dir : Gfid) → Later a b → Reading P Q n a dir → Reading P Q n b dir
-reading_later P Q n a b dir l r = record {
+reading_later : (P : Handed → ℕ → Job → Type 0) (H : Handed → Gfid → Type 0) (Q : Handed → FopAnswer → Option ℕ → Type 0) (n : ℕ) (a b : Handed) (dir : Gfid) → Later a b → Reading P H Q n a dir → Reading P H Q n b dir
+reading_later P H Q n a b dir l r = record {
   names = λ later set m i. r.names later set (later_then a b later l m) i;
   spans = λ later set m i. r.spans later set (later_then a b later l m) i;
   fails = r.fails;
   removed = λ later set shown m i saw e. r.removed later set shown (later_then a b later l m) i saw e;
 }
 
-names_lead : (P : Handed → ℕ → Job → Type 0) (Q : Handed → FopAnswer → Option ℕ → Type 0) (handed : Handed) (next : DirNames → Course) (read : Result DirNames IoError) → ((error : IoError) → Q handed (Call (answer.Io error)) None)
-    → ((shown : DirNames) → read ≡ Ok shown → Always P Q handed (next shown)) → Always P Q handed (on_names next read)
-names_lead P Q handed next (Ok shown) f k = k shown refl
-names_lead P Q handed next (Err error) f k = f error
+names_lead : (P : Handed → ℕ → Job → Type 0) (H : Handed → Gfid → Type 0) (Q : Handed → FopAnswer → Option ℕ → Type 0) (handed : Handed) (next : DirNames → Course) (read : Result DirNames IoError) → ((error : IoError) → Q handed (Call (answer.Io error)) None)
+    → ((shown : DirNames) → read ≡ Ok shown → Always P H Q handed (next shown)) → Always P H Q handed (on_names next read)
+names_lead P H Q handed next (Ok shown) f k = k shown refl
+names_lead P H Q handed next (Err error) f k = f error
 
-names_go : (P : Handed → ℕ → Job → Type 0) (Q : Handed → FopAnswer → Option ℕ → Type 0) (n : ℕ) (handed : Handed) (set : ℕ) (dir : Gfid) (next : DirNames → Course) → set < n → Reading P Q n handed dir
-    → ((later : Handed) (shown : DirNames) → Later handed later → Saw later dir set shown → Always P Q later (next shown))
-    → Always P Q handed (Asks set (names_job dir) (after_names next))
-names_go P Q n handed set dir next h r k = (
+names_go : (P : Handed → ℕ → Job → Type 0) (H : Handed → Gfid → Type 0) (Q : Handed → FopAnswer → Option ℕ → Type 0) (n : ℕ) (handed : Handed) (set : ℕ) (dir : Gfid) (next : DirNames → Course) → set < n → Reading P H Q n handed dir
+    → ((later : Handed) (shown : DirNames) → Later handed later → Saw later dir set shown → Always P H Q later (next shown))
+    → Always P H Q handed (Asks set (names_job dir) (after_names next))
+names_go P H Q n handed set dir next h r k = (
   r.names handed set (later_same handed) h,
-  λ reply. names_lead P Q (Replied set (names_job dir) reply ∷ handed) next (names_in reply) (r.fails (Replied set (names_job dir) reply ∷ handed))
+  λ reply. names_lead P H Q (Replied set (names_job dir) reply ∷ handed) next (names_in reply) (r.fails (Replied set (names_job dir) reply ∷ handed))
       (λ shown e. k (Replied set (names_job dir) reply ∷ handed) shown (later_push (Replied set (names_job dir) reply) handed) (inl (refl, refl, e))),
 )
 
-contents_lead : (P : Handed → ℕ → Job → Type 0) (Q : Handed → FopAnswer → Option ℕ → Type 0) (handed : Handed) (next : List (Option Content) → ℕ → Course) (read : Result (List (Option Content) × ℕ) IoError) → ((error : IoError) → Q handed (Call (answer.Io error)) None)
-    → ((contents : List (Option Content)) (place : ℕ) → Always P Q handed (next contents place)) → Always P Q handed (on_contents next read)
-contents_lead P Q handed next (Ok read) f k = k read.0 read.1
-contents_lead P Q handed next (Err error) f k = f error
+contents_lead : (P : Handed → ℕ → Job → Type 0) (H : Handed → Gfid → Type 0) (Q : Handed → FopAnswer → Option ℕ → Type 0) (handed : Handed) (next : List (Option Content) → ℕ → Course) (read : Result (List (Option Content) × ℕ) IoError) → ((error : IoError) → Q handed (Call (answer.Io error)) None)
+    → ((contents : List (Option Content)) (place : ℕ) → Always P H Q handed (next contents place)) → Always P H Q handed (on_contents next read)
+contents_lead P H Q handed next (Ok read) f k = k read.0 read.1
+contents_lead P H Q handed next (Err error) f k = f error
 
-spans_read : (P : Handed → ℕ → Job → Type 0) (Q : Handed → FopAnswer → Option ℕ → Type 0) (n : ℕ) (handed : Handed) (set : ℕ) (dir : Gfid) (next : List (Option Content) → ℕ → Course) → set < n → Reading P Q n handed dir
-    → ((later : Handed) (contents : List (Option Content)) (place : ℕ) → Later handed later → Always P Q later (next contents place))
-    → Always P Q handed (Asks set (span_job dir) (after_read next))
-spans_read P Q n handed set dir next h r k = (
+spans_read : (P : Handed → ℕ → Job → Type 0) (H : Handed → Gfid → Type 0) (Q : Handed → FopAnswer → Option ℕ → Type 0) (n : ℕ) (handed : Handed) (set : ℕ) (dir : Gfid) (next : List (Option Content) → ℕ → Course) → set < n → Reading P H Q n handed dir
+    → ((later : Handed) (contents : List (Option Content)) (place : ℕ) → Later handed later → Always P H Q later (next contents place))
+    → Always P H Q handed (Asks set (span_job dir) (after_read next))
+spans_read P H Q n handed set dir next h r k = (
   r.spans handed set (later_same handed) h,
-  λ reply. contents_lead P Q (Replied set (span_job dir) reply ∷ handed) next (contents_in reply) (r.fails (Replied set (span_job dir) reply ∷ handed))
+  λ reply. contents_lead P H Q (Replied set (span_job dir) reply ∷ handed) next (contents_in reply) (r.fails (Replied set (span_job dir) reply ∷ handed))
       (λ contents place. k (Replied set (span_job dir) reply ∷ handed) contents place (later_push (Replied set (span_job dir) reply) handed)),
 )
 
-kept_by : (P : Handed → ℕ → Job → Type 0) (Q : Handed → FopAnswer → Option ℕ → Type 0) (handed : Handed) (place : ℕ) (next : Course) (b : Bool) → (b ≡ true → Q handed (Call (answer.App Enoent)) (Some place)) → (b ≡ false → Always P Q handed next)
-    → Always P Q handed (if b then refuses Enoent (Some place) else next)
-kept_by P Q handed place next true y k = y refl
-kept_by P Q handed place next false y k = k refl
+kept_by : (P : Handed → ℕ → Job → Type 0) (H : Handed → Gfid → Type 0) (Q : Handed → FopAnswer → Option ℕ → Type 0) (handed : Handed) (place : ℕ) (next : Course) (b : Bool) → (b ≡ true → Q handed (Call (answer.App Enoent)) (Some place)) → (b ≡ false → Always P H Q handed next)
+    → Always P H Q handed (if b then refuses Enoent (Some place) else next)
+kept_by P H Q handed place next true y k = y refl
+kept_by P H Q handed place next false y k = k refl
 
-kept_goes : (P : Handed → ℕ → Job → Type 0) (Q : Handed → FopAnswer → Option ℕ → Type 0) (n : ℕ) (handed : Handed) (dir : Gfid) (set : ℕ) (shown : DirNames) (next : Course) → set < n → Reading P Q n handed dir → Saw handed dir set shown
-    → (shown.removed ≡ false → Always P Q handed next) → Always P Q handed (where_kept shown next)
-kept_goes P Q n handed dir set shown next h r saw k = kept_by P Q handed shown.place next shown.removed (λ gone. r.removed handed set shown (later_same handed) h saw gone) k
+kept_goes : (P : Handed → ℕ → Job → Type 0) (H : Handed → Gfid → Type 0) (Q : Handed → FopAnswer → Option ℕ → Type 0) (n : ℕ) (handed : Handed) (dir : Gfid) (set : ℕ) (shown : DirNames) (next : Course) → set < n → Reading P H Q n handed dir → Saw handed dir set shown
+    → (shown.removed ≡ false → Always P H Q handed next) → Always P H Q handed (where_kept shown next)
+kept_goes P H Q n handed dir set shown next h r saw k = kept_by P H Q handed shown.place next shown.removed (λ gone. r.removed handed set shown (later_same handed) h saw gone) k
 
 -- ---- what a look finds
 
@@ -95,11 +95,11 @@ IsFoundIn n handed dir name found.Absent = SawNowhere n handed dir name
 IsFoundIn n handed dir name (found.Io error) = Unit {0}
 
 -- wherever a look leads, its ending goes well, by what it found
-abbrev pub EndsRight : (Handed → ℕ → Job → Type 0) → (Handed → FopAnswer → Option ℕ → Type 0) → ℕ → Handed → Gfid → List ℕ → Ending → Type 0
-EndsRight P Q n handed dir name ending = (result : Found) (seen : Seen) (later : Handed) → Later handed later → IsFoundIn n later dir name result → Always P Q later (ending result seen)
+abbrev pub EndsRight : (Handed → ℕ → Job → Type 0) → (Handed → Gfid → Type 0) → (Handed → FopAnswer → Option ℕ → Type 0) → ℕ → Handed → Gfid → List ℕ → Ending → Type 0
+EndsRight P H Q n handed dir name ending = (result : Found) (seen : Seen) (later : Handed) → Later handed later → IsFoundIn n later dir name result → Always P H Q later (ending result seen)
 
-ends_later : (P : Handed → ℕ → Job → Type 0) (Q : Handed → FopAnswer → Option ℕ → Type 0) (n : ℕ) (a b : Handed) (dir : Gfid) (name : List ℕ) (ending : Ending) → Later a b → EndsRight P Q n a dir name ending → EndsRight P Q n b dir name ending
-ends_later P Q n a b dir name ending l ends = λ result seen later m f. ends result seen later (later_then a b later l m) f
+ends_later : (P : Handed → ℕ → Job → Type 0) (H : Handed → Gfid → Type 0) (Q : Handed → FopAnswer → Option ℕ → Type 0) (n : ℕ) (a b : Handed) (dir : Gfid) (name : List ℕ) (ending : Ending) → Later a b → EndsRight P H Q n a dir name ending → EndsRight P H Q n b dir name ending
+ends_later P H Q n a b dir name ending l ends = λ result seen later m f. ends result seen later (later_then a b later l m) f
 
 -- every set but those in the list showed none
 abbrev NoneBut : ℕ → Handed → Gfid → List ℕ → List ℕ → Type 0
@@ -115,83 +115,83 @@ none_push n a b dir name set sets l s before other i t = none_push_by n a b dir 
 
 -- ---- along the sets
 
-link_goes : (P : Handed → ℕ → Job → Type 0) (Q : Handed → FopAnswer → Option ℕ → Type 0) (n : ℕ) (handed : Handed) (dir : Gfid) (name : List ℕ) (set : ℕ) (shown : DirNames) (item : Item) (seen : Seen) (ending : Ending) (rest : Course) (b : Bool) → is_link item.kind ≡ b
-    → item_named shown.items name ≡ Some item → Saw handed dir set shown → set < n → EndsRight P Q n handed dir name ending → (is_no_object (item_named shown.items name) ≡ true → Always P Q handed rest)
-    → Always P Q handed (if b then rest else ending (found.Item set item.gfid item.kind) seen)
-link_goes P Q n handed dir name set shown item seen ending rest true e named saw i ends k = k (rw (named, e) refl)
-link_goes P Q n handed dir name set shown item seen ending rest false e named saw i ends k =
+link_goes : (P : Handed → ℕ → Job → Type 0) (H : Handed → Gfid → Type 0) (Q : Handed → FopAnswer → Option ℕ → Type 0) (n : ℕ) (handed : Handed) (dir : Gfid) (name : List ℕ) (set : ℕ) (shown : DirNames) (item : Item) (seen : Seen) (ending : Ending) (rest : Course) (b : Bool) → is_link item.kind ≡ b
+    → item_named shown.items name ≡ Some item → Saw handed dir set shown → set < n → EndsRight P H Q n handed dir name ending → (is_no_object (item_named shown.items name) ≡ true → Always P H Q handed rest)
+    → Always P H Q handed (if b then rest else ending (found.Item set item.gfid item.kind) seen)
+link_goes P H Q n handed dir name set shown item seen ending rest true e named saw i ends k = k (rw (named, e) refl)
+link_goes P H Q n handed dir name set shown item seen ending rest false e named saw i ends k =
     ends (found.Item set item.gfid item.kind) seen handed (later_same handed)
     (i, record { shown = shown; saw = saw; item = item; named = named; is_object = e; gfid_is = refl; kind_is = refl })
 
-item_goes : (P : Handed → ℕ → Job → Type 0) (Q : Handed → FopAnswer → Option ℕ → Type 0) (n : ℕ) (handed : Handed) (dir : Gfid) (name : List ℕ) (set : ℕ) (shown : DirNames) (item : Option Item) (seen : Seen) (ending : Ending) (rest : Course)
-    → item_named shown.items name ≡ item → Saw handed dir set shown → set < n → EndsRight P Q n handed dir name ending → (is_no_object (item_named shown.items name) ≡ true → Always P Q handed rest)
-    → Always P Q handed (by_item set seen ending rest item)
-item_goes P Q n handed dir name set shown None seen ending rest named saw i ends k = k (rw named refl)
-item_goes P Q n handed dir name set shown (Some item) seen ending rest named saw i ends k =
-    link_goes P Q n handed dir name set shown item seen ending rest (is_link item.kind) refl named saw i ends k
+item_goes : (P : Handed → ℕ → Job → Type 0) (H : Handed → Gfid → Type 0) (Q : Handed → FopAnswer → Option ℕ → Type 0) (n : ℕ) (handed : Handed) (dir : Gfid) (name : List ℕ) (set : ℕ) (shown : DirNames) (item : Option Item) (seen : Seen) (ending : Ending) (rest : Course)
+    → item_named shown.items name ≡ item → Saw handed dir set shown → set < n → EndsRight P H Q n handed dir name ending → (is_no_object (item_named shown.items name) ≡ true → Always P H Q handed rest)
+    → Always P H Q handed (by_item set seen ending rest item)
+item_goes P H Q n handed dir name set shown None seen ending rest named saw i ends k = k (rw named refl)
+item_goes P H Q n handed dir name set shown (Some item) seen ending rest named saw i ends k =
+    link_goes P H Q n handed dir name set shown item seen ending rest (is_link item.kind) refl named saw i ends k
 
-pub along_goes : (P : Handed → ℕ → Job → Type 0) (Q : Handed → FopAnswer → Option ℕ → Type 0) (n : ℕ) (dir : Gfid) (name : List ℕ) (watched : ℕ) (sets : List ℕ) (seen : Seen) (ending : Ending) (handed : Handed) → Below n sets → Reading P Q n handed dir → NoneBut n handed dir name sets
-    → EndsRight P Q n handed dir name ending → Always P Q handed (looks_along dir name watched sets seen ending)
-along_goes P Q n dir name watched [] seen ending handed b g none ends = ends found.Absent seen handed (later_same handed) (λ set i. none set i refl)
-along_goes P Q n dir name watched (set ∷ sets) seen ending handed b g none ends =
-    names_go P Q n handed set dir _ b.0 g
-    (λ later shown l saw. kept_goes P Q n later dir set shown _ b.0 (reading_later P Q n handed later dir l g) saw
-    (λ kept. item_goes P Q n later dir name set shown (item_named shown.items name) (seen_on watched set seen shown) ending _ refl saw b.0 (ends_later P Q n handed later dir name ending l ends)
-    (λ no_name. along_goes P Q n dir name watched sets (seen_on watched set seen shown) ending later b.1 (reading_later P Q n handed later dir l g)
+pub along_goes : (P : Handed → ℕ → Job → Type 0) (H : Handed → Gfid → Type 0) (Q : Handed → FopAnswer → Option ℕ → Type 0) (n : ℕ) (dir : Gfid) (name : List ℕ) (watched : ℕ) (sets : List ℕ) (seen : Seen) (ending : Ending) (handed : Handed) → Below n sets → Reading P H Q n handed dir → NoneBut n handed dir name sets
+    → EndsRight P H Q n handed dir name ending → Always P H Q handed (looks_along dir name watched sets seen ending)
+along_goes P H Q n dir name watched [] seen ending handed b g none ends = ends found.Absent seen handed (later_same handed) (λ set i. none set i refl)
+along_goes P H Q n dir name watched (set ∷ sets) seen ending handed b g none ends =
+    names_go P H Q n handed set dir _ b.0 g
+    (λ later shown l saw. kept_goes P H Q n later dir set shown _ b.0 (reading_later P H Q n handed later dir l g) saw
+    (λ kept. item_goes P H Q n later dir name set shown (item_named shown.items name) (seen_on watched set seen shown) ending _ refl saw b.0 (ends_later P H Q n handed later dir name ending l ends)
+    (λ no_name. along_goes P H Q n dir name watched sets (seen_on watched set seen shown) ending later b.1 (reading_later P H Q n handed later dir l g)
     (none_push n handed later dir name set sets l (record { shown = shown; saw = saw; kept = kept; none = no_name }) none)
-    (ends_later P Q n handed later dir name ending l ends))))
+    (ends_later P H Q n handed later dir name ending l ends))))
 
 -- ---- the hashed set
 
 -- a link on the hashed set leads to a set of the volume
-followed_goes : (P : Handed → ℕ → Job → Type 0) (Q : Handed → FopAnswer → Option ℕ → Type 0) (n : ℕ) (s : Search) (watched : ℕ) (seen : Seen) (ending : Ending) (handed : Handed) (target : List ℕ) → length s.names ≡ n → Below n s.rest → Reading P Q n handed s.parent → NoneBut n handed s.parent s.name s.rest
-    → EndsRight P Q n handed s.parent s.name ending → Always P Q handed (looks_along s.parent s.name watched (led s.hashed s.rest (set_named s.names target)) seen ending)
-followed_goes P Q n s watched seen ending handed target e b g none ends =
-    along_goes P Q n s.parent s.name watched (led s.hashed s.rest (set_named s.names target)) seen ending handed
+followed_goes : (P : Handed → ℕ → Job → Type 0) (H : Handed → Gfid → Type 0) (Q : Handed → FopAnswer → Option ℕ → Type 0) (n : ℕ) (s : Search) (watched : ℕ) (seen : Seen) (ending : Ending) (handed : Handed) (target : List ℕ) → length s.names ≡ n → Below n s.rest → Reading P H Q n handed s.parent → NoneBut n handed s.parent s.name s.rest
+    → EndsRight P H Q n handed s.parent s.name ending → Always P H Q handed (looks_along s.parent s.name watched (led s.hashed s.rest (set_named s.names target)) seen ending)
+followed_goes P H Q n s watched seen ending handed target e b g none ends =
+    along_goes P H Q n s.parent s.name watched (led s.hashed s.rest (set_named s.names target)) seen ending handed
     (below_led n s.hashed s.rest (set_named s.names target) (λ set m. let w = within_names s.names target set m in omega arith) b) g
     (λ other i t. none other i (zero_led other s.hashed s.rest (set_named s.names target) t)) ends
 
-on_goes : (P : Handed → ℕ → Job → Type 0) (Q : Handed → FopAnswer → Option ℕ → Type 0) (n : ℕ) (s : Search) (watched : ℕ) (seen : Seen) (ending : Ending) (handed : Handed) (shown : DirNames) (item : Option Item) → length s.names ≡ n → s.hashed < n → Below n s.rest → Reading P Q n handed s.parent
-    → item_named shown.items s.name ≡ item → Saw handed s.parent s.hashed shown → EndsRight P Q n handed s.parent s.name ending
-    → (is_no_object (item_named shown.items s.name) ≡ true → NoneBut n handed s.parent s.name s.rest) → Always P Q handed (looks_on s watched seen ending item)
-on_goes P Q n s watched seen ending handed shown None e i b g named saw ends none =
-    along_goes P Q n s.parent s.name watched s.rest seen ending handed b g (none (rw named refl)) ends
-on_goes P Q n s watched seen ending handed shown (Some item) e i b g named saw ends none =
-    link_goes P Q n handed s.parent s.name s.hashed shown item seen ending _ (is_link item.kind) refl named saw i ends
-    (λ no_name. followed_goes P Q n s watched (record seen { has_link = true }) ending handed item.target e b g (none no_name) ends)
+on_goes : (P : Handed → ℕ → Job → Type 0) (H : Handed → Gfid → Type 0) (Q : Handed → FopAnswer → Option ℕ → Type 0) (n : ℕ) (s : Search) (watched : ℕ) (seen : Seen) (ending : Ending) (handed : Handed) (shown : DirNames) (item : Option Item) → length s.names ≡ n → s.hashed < n → Below n s.rest → Reading P H Q n handed s.parent
+    → item_named shown.items s.name ≡ item → Saw handed s.parent s.hashed shown → EndsRight P H Q n handed s.parent s.name ending
+    → (is_no_object (item_named shown.items s.name) ≡ true → NoneBut n handed s.parent s.name s.rest) → Always P H Q handed (looks_on s watched seen ending item)
+on_goes P H Q n s watched seen ending handed shown None e i b g named saw ends none =
+    along_goes P H Q n s.parent s.name watched s.rest seen ending handed b g (none (rw named refl)) ends
+on_goes P H Q n s watched seen ending handed shown (Some item) e i b g named saw ends none =
+    link_goes P H Q n handed s.parent s.name s.hashed shown item seen ending _ (is_link item.kind) refl named saw i ends
+    (λ no_name. followed_goes P H Q n s watched (record seen { has_link = true }) ending handed item.target e b g (none no_name) ends)
 
-pub looks_goes : (P : Handed → ℕ → Job → Type 0) (Q : Handed → FopAnswer → Option ℕ → Type 0) (n : ℕ) (s : Search) (watched : ℕ) (ending : Ending) (handed : Handed) → length s.names ≡ n → s.hashed < n → Below n s.rest → Reading P Q n handed s.parent → NoneBut n handed s.parent s.name (s.hashed ∷ s.rest)
-    → EndsRight P Q n handed s.parent s.name ending → Always P Q handed (looks s watched ending)
-looks_goes P Q n s watched ending handed e i b g none ends =
-    names_go P Q n handed s.hashed s.parent _ i g
-    (λ later shown l saw. kept_goes P Q n later s.parent s.hashed shown _ i (reading_later P Q n handed later s.parent l g) saw
-    (λ kept. on_goes P Q n s watched (seen_on watched s.hashed unseen shown) ending later shown (item_named shown.items s.name) e i b (reading_later P Q n handed later s.parent l g) refl saw (ends_later P Q n handed later s.parent s.name ending l ends)
+pub looks_goes : (P : Handed → ℕ → Job → Type 0) (H : Handed → Gfid → Type 0) (Q : Handed → FopAnswer → Option ℕ → Type 0) (n : ℕ) (s : Search) (watched : ℕ) (ending : Ending) (handed : Handed) → length s.names ≡ n → s.hashed < n → Below n s.rest → Reading P H Q n handed s.parent → NoneBut n handed s.parent s.name (s.hashed ∷ s.rest)
+    → EndsRight P H Q n handed s.parent s.name ending → Always P H Q handed (looks s watched ending)
+looks_goes P H Q n s watched ending handed e i b g none ends =
+    names_go P H Q n handed s.hashed s.parent _ i g
+    (λ later shown l saw. kept_goes P H Q n later s.parent s.hashed shown _ i (reading_later P H Q n handed later s.parent l g) saw
+    (λ kept. on_goes P H Q n s watched (seen_on watched s.hashed unseen shown) ending later shown (item_named shown.items s.name) e i b (reading_later P H Q n handed later s.parent l g) refl saw (ends_later P H Q n handed later s.parent s.name ending l ends)
     (λ no_name. none_push n handed later s.parent s.name s.hashed s.rest l (record { shown = shown; saw = saw; kept = kept; none = no_name }) none)))
 
-pub looks_in_goes : (P : Handed → ℕ → Job → Type 0) (Q : Handed → FopAnswer → Option ℕ → Type 0) (n : ℕ) (dir : Gfid) (name : List ℕ) (names : List (List ℕ)) (watched : ℕ) (ending : ℕ → Ending) (hashed : ℕ) (handed : Handed) → length names ≡ n → hashed < n → Reading P Q n handed dir
-    → EndsRight P Q n handed dir name (ending hashed) → Always P Q handed (looks_in dir name names watched ending hashed)
-looks_in_goes P Q n dir name names watched ending hashed handed e i g ends =
-    looks_goes P Q n (search_of dir name names hashed) watched (ending hashed) handed e i
+pub looks_in_goes : (P : Handed → ℕ → Job → Type 0) (H : Handed → Gfid → Type 0) (Q : Handed → FopAnswer → Option ℕ → Type 0) (n : ℕ) (dir : Gfid) (name : List ℕ) (names : List (List ℕ)) (watched : ℕ) (ending : ℕ → Ending) (hashed : ℕ) (handed : Handed) → length names ≡ n → hashed < n → Reading P H Q n handed dir
+    → EndsRight P H Q n handed dir name (ending hashed) → Always P H Q handed (looks_in dir name names watched ending hashed)
+looks_in_goes P H Q n dir name names watched ending hashed handed e i g ends =
+    looks_goes P H Q n (search_of dir name names hashed) watched (ending hashed) handed e i
     (below_without n (range_with_len 0 (length names)) (Some hashed) (below_range n 0 (length names) (omega arith))) g
     (λ other j t. absurd (both_times (length names) hashed other (omega arith) (omega arith) t))
     ends
 
 -- ---- the layout
 
-pub spans_go : (P : Handed → ℕ → Job → Type 0) (Q : Handed → FopAnswer → Option ℕ → Type 0) (n : ℕ) (dir : Gfid) (sets : List ℕ) (spans : List (Option Span)) (next : List (Option Span) → Course) (handed : Handed) → Below n sets → Reading P Q n handed dir
-    → ((whole : List (Option Span)) (later : Handed) → length whole ≡ length spans + length sets → Later handed later → Always P Q later (next whole))
-    → Always P Q handed (reads_spans dir sets spans next)
-spans_go P Q n dir [] spans next handed b g k = k spans handed (omega arith) (later_same handed)
-spans_go P Q n dir (set ∷ sets) spans next handed b g k =
-    spans_read P Q n handed set dir _ b.0 g
-    (λ later contents place l. spans_go P Q n dir sets _ next later b.1 (reading_later P Q n handed later dir l g)
+pub spans_go : (P : Handed → ℕ → Job → Type 0) (H : Handed → Gfid → Type 0) (Q : Handed → FopAnswer → Option ℕ → Type 0) (n : ℕ) (dir : Gfid) (sets : List ℕ) (spans : List (Option Span)) (next : List (Option Span) → Course) (handed : Handed) → Below n sets → Reading P H Q n handed dir
+    → ((whole : List (Option Span)) (later : Handed) → length whole ≡ length spans + length sets → Later handed later → Always P H Q later (next whole))
+    → Always P H Q handed (reads_spans dir sets spans next)
+spans_go P H Q n dir [] spans next handed b g k = k spans handed (omega arith) (later_same handed)
+spans_go P H Q n dir (set ∷ sets) spans next handed b g k =
+    spans_read P H Q n handed set dir _ b.0 g
+    (λ later contents place l. spans_go P H Q n dir sets _ next later b.1 (reading_later P H Q n handed later dir l g)
     (λ whole last e m. k whole last (omega (arith, e, length-append spans (span_of (first_content contents) ∷ []))) (later_then handed later last l m)))
 
-pub finds_go : (P : Handed → ℕ → Job → Type 0) (Q : Handed → FopAnswer → Option ℕ → Type 0) (n count : ℕ) (dir : Gfid) (known : Option ℕ) (next : ℕ → Course) (after : List (Option Span) → Course) (handed : Handed) → count ≡ n → Reading P Q n handed dir → IfSome known (λ set. set < n)
-    → ((set : ℕ) → set < n → Always P Q handed (next set))
-    → ((whole : List (Option Span)) (later : Handed) → length whole ≡ n → Later handed later → Always P Q later (after whole))
-    → Always P Q handed (finds count dir known next after)
-finds_go P Q n count dir (Some set) next after handed e g known k m = k set known
-finds_go P Q n count dir None next after handed e g known k m =
-    spans_go P Q n dir (range_with_len 0 count) [] after handed (below_range n 0 count (omega arith)) g
+pub finds_go : (P : Handed → ℕ → Job → Type 0) (H : Handed → Gfid → Type 0) (Q : Handed → FopAnswer → Option ℕ → Type 0) (n count : ℕ) (dir : Gfid) (known : Option ℕ) (next : ℕ → Course) (after : List (Option Span) → Course) (handed : Handed) → count ≡ n → Reading P H Q n handed dir → IfSome known (λ set. set < n)
+    → ((set : ℕ) → set < n → Always P H Q handed (next set))
+    → ((whole : List (Option Span)) (later : Handed) → length whole ≡ n → Later handed later → Always P H Q later (after whole))
+    → Always P H Q handed (finds count dir known next after)
+finds_go P H Q n count dir (Some set) next after handed e g known k m = k set known
+finds_go P H Q n count dir None next after handed e g known k m =
+    spans_go P H Q n dir (range_with_len 0 count) [] after handed (below_range n 0 count (omega arith)) g
     (λ whole later w l. m whole later (omega (arith, w, length-range_with_len 0 count)) l)

@@ -1,9 +1,9 @@
--- What a fop answers is what the flat file system answers, and what it changes is what the flat file system accepts, if
--- what was handed in still is what the sets show.
+-- Up to its first change with an effect, what a fop answers is what the flat file system answers, and that change is one
+-- that the flat file system accepts, if what was handed in still is what the sets show.
 use Rattle.std.specs.Prelude.{◌≡◌, ℕ, ◌≤◌, List, [], length, Option, Some, None}
 use Rattle.dht_fops.specs.Fops.{fop_course}
 use Rattle.dht_fops.specs.Founded.{NamesSets}
-use Rattle.dht_fops.specs.Handed.{Handed, Always}
+use Rattle.dht_fops.specs.Handed.{Handed, Always, AnyHold}
 use Rattle.dht_fops.specs.Standing.{Volumes, AreSound, IsMade, StillShown, HaveNoEffect}
 use Rattle.dht_fops.specs.Volumes.{Kept}
 use Rattle.dht_fops.specs.declared.volume.Volume.{Volume}
@@ -140,4 +140,4 @@ FitsFlat count f handed set (job.Heal cell) = Unit {0}
 
 abbrev pub FopsAnswerAsFlat : Type 0
 FopsAnswerAsFlat = (v : Volume) (names : List (List ℕ)) (kept : Kept) (f : Fop) → 1 ≤ v.root_sets → v.root_sets ≤ v.sets → length names ≡ v.sets → NamesSets v.sets f
-    → Always (FitsFlat v.sets f) (AnswersAsFlat v.sets f) [] (fop_course v names kept f)
+    → Always (FitsFlat v.sets f) AnyHold (AnswersAsFlat v.sets f) [] (fop_course v names kept f)

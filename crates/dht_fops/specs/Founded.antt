@@ -2,13 +2,14 @@
 use Rattle.std.specs.Prelude.{◌≡◌, ◌⊎◌, ℕ, ◌<◌, ◌≤◌, List, [], ◌∷◌, length, Option, Some, None}
 use Rattle.dht_fops.specs.Courses.{Course}
 use Rattle.dht_fops.specs.Fops.{fop_course}
-use Rattle.dht_fops.specs.Handed.{Handed, Event, Always, AreAnswered, WasHeld, SawName, SawNowhere, SawEmpty}
+use Rattle.dht_fops.specs.Handed.{Handed, Event, Always, HaveBounds, WasHeld, SawName, SawNowhere, SawEmpty}
 use Rattle.dht_fops.specs.Handed.Event.{Replied, Held}
 use Rattle.dht_fops.specs.Volumes.{Kept}
 use Rattle.dht_fops.specs.declared.volume.Volume.{Volume}
-use Rattle.fop_types.specs.Bounds.{Each, IsFop, IsVolumeName}
+use Rattle.fop_types.specs.Bounds.{Each, IsGfid, IsFop, IsVolumeName}
 use Rattle.fop_types.specs.Jobs.{IsJob}
 use Rattle.fop_types.specs.declared.answers.FopAnswer.{FopAnswer}
+use Rattle.fop_types.specs.declared.answers.FopAnswer.TheVariants as fop_answer
 use Rattle.fop_types.specs.declared.cells.Gfid.{Gfid}
 use Rattle.fop_types.specs.declared.cells.Kind.TheVariants as kind
 use Rattle.fop_types.specs.declared.fops.Fop.{Fop}
@@ -16,6 +17,8 @@ use Rattle.fop_types.specs.declared.fops.Fop.TheVariants as fop
 use Rattle.fop_types.specs.declared.fops.OpenFd.{OpenFd}
 use Rattle.fop_types.specs.declared.jobs.Job.{Job}
 use Rattle.fop_types.specs.declared.jobs.Job.TheVariants as job
+use Rattle.fop_types.specs.declared.jobs.SetReply.{SetReply}
+use Rattle.fop_types.specs.declared.jobs.SetReply.TheVariants as reply
 use Rattle.fop_types.specs.declared.store_ops.StoreOp.{StoreOp}
 use Rattle.fop_types.specs.declared.store_ops.StoreOp.TheVariants as op
 
@@ -26,18 +29,30 @@ pub record SawFile (handed : Handed) (dir : Gfid) (name : List ℕ) (set : ℕ) 
   pub gfid : Gfid
   pub saw : SawName handed dir name set gfid kind.File
 
--- a directory of the name, and under the extended hold no name in it
+-- a directory of the name, the hold extended by it, and no name in it on any set; in what order is not said here
 pub record SawEmptied (count : ℕ) (handed : Handed) (parent : Gfid) (name : List ℕ) (gfid : Gfid) : Type 0 where
   pub set : ℕ
   pub saw : SawName handed parent name set gfid kind.Dir
   pub held : WasHeld handed gfid
   pub empty : (other : ℕ) → other < count → SawEmpty handed gfid other
 
--- the file's own name was dropped on a set that showed it
+-- whatever a reply is but an I/O error
+abbrev pub IsNoError : SetReply → Type 0
+IsNoError (reply.Contents contents place) = Unit {0}
+IsNoError (reply.Decided number) = Unit {0}
+IsNoError reply.Opened = Unit {0}
+IsNoError (reply.Listed cells answered short) = Unit {0}
+IsNoError (reply.Healed records) = Unit {0}
+IsNoError (reply.Skipped cause) = Unit {0}
+IsNoError (reply.Io error) = ⊥
+
+-- a drop of the name with an effect was asked for, and its reply was no I/O error; as each such drop it was asked of a set
+-- that showed a file of the name
 abbrev pub IsDropOf : Event → Gfid → List ℕ → Type 0
 IsDropOf (Held held) dir name = ⊥
 IsDropOf (Replied set (job.Read cells fd d) reply) dir name = ⊥
-IsDropOf (Replied set (job.Change cells fd o effect) reply) dir name = o ≡ op.DropName dir name
+IsDropOf (Replied set (job.Change cells fd o (Some entry)) reply) dir name = (o ≡ op.DropName dir name) × IsNoError reply
+IsDropOf (Replied set (job.Change cells fd o None) reply) dir name = ⊥
 IsDropOf (Replied set (job.Birth cells o) reply) dir name = ⊥
 IsDropOf (Replied set (job.Open fd gfid) reply) dir name = ⊥
 IsDropOf (Replied set job.Index reply) dir name = ⊥
@@ -47,7 +62,7 @@ abbrev pub WasDropped : Handed → Gfid → List ℕ → Type 0
 WasDropped [] dir name = ⊥
 WasDropped (event ∷ handed) dir name = IsDropOf event dir name ⊎ WasDropped handed dir name
 
--- a new name that is free: nowhere, a file's on the file's own set, which the move replaces, or dropped before
+-- a new name that is free: seen nowhere, or as a file's on the file's own set, which the move replaces; or dropped before
 abbrev pub IsFree : ℕ → Handed → Gfid → List ℕ → ℕ → Type 0
 IsFree count handed dir name set = SawNowhere count handed dir name ⊎ (SawFile handed dir name set ⊎ WasDropped handed dir name)
 
@@ -100,17 +115,23 @@ NamesSets count (fop.Write fd object offset bytes) = object.set < count
 NamesSets count (fop.Migrate fds) = Each (λ (open_fd : OpenFd). open_fd.set < count) fds
 NamesSets count (fop.Heal n) = Unit {0}
 
--- a job meets what a set asks of it, if the replies so far answered their jobs
+-- a job meets what a set asks of it, if the replies so far are within their bounds
 pub record IsWellAsked (count : ℕ) (handed : Handed) (set : ℕ) (job : Job) : Type 0 where
   pub within : set < count
   pub founded : HasFound count handed set job
-  pub whole : AreAnswered handed → IsJob job
+  pub whole : HaveBounds handed → IsJob job
 
-abbrev pub AnyAnswer : Handed → FopAnswer → Option ℕ → Type 0
-AnyAnswer handed answer place = Unit {0}
+-- a hold is extended by a gfid within its bounds, if those are
+abbrev pub IsWellHeld : Handed → Gfid → Type 0
+IsWellHeld handed dir = HaveBounds handed → IsGfid dir
+
+-- an object that is found is on a set of the volume, and its gfid is within its bounds, if those are
+abbrev pub IsWellFound : ℕ → Handed → FopAnswer → Option ℕ → Type 0
+IsWellFound count handed (fop_answer.Found set gfid kind) place = (set < count) × (HaveBounds handed → IsGfid gfid)
+IsWellFound count handed (fop_answer.Call answer) place = Unit {0}
 
 abbrev pub AsksWell : ℕ → Handed → Course → Type 0
-AsksWell count handed course = Always (IsWellAsked count) AnyAnswer handed course
+AsksWell count handed course = Always (IsWellAsked count) IsWellHeld (IsWellFound count) handed course
 
 -- Every job of a fop is on a set of the volume and is a job that a set takes, and every change with an effect comes after
 -- what it rests on was seen. The fop's values are within their bounds, and the sets' names are names of volumes.

@@ -1,19 +1,21 @@
 -- What a fop was handed in on its way: the replies to its jobs, and the extension of its hold. A fact about a fop before a
 -- job is a fact about these alone, whatever the replies are.
-use Rattle.std.specs.Prelude.{◌≡◌, ◌⊎◌, ℕ, ◌<◌, true, false, List, [], ◌∷◌, Option, Some, Ok}
+use Rattle.std.specs.Prelude.{◌≡◌, ◌⊎◌, ℕ, ◌<◌, true, false, List, [], ◌∷◌, Option, Some, Ok, IfSome}
 use Rattle.dht_fops.specs.Courses.{Course}
 use Rattle.dht_fops.specs.Courses.Course.{Asks, Extends, Ends}
 use Rattle.dht_linkto.specs.DirNames.{names_job, names_in}
 use Rattle.dht_linkto.specs.Known.{is_no_object}
 use Rattle.dht_linkto.specs.declared.names.DirNames.{DirNames}
-use Rattle.fop_types.specs.Jobs.{IsAnsweredBy}
+use Rattle.fop_types.specs.Bounds.{Each, IsCell, IsContent}
 use Rattle.fop_types.specs.Names.{item_named, is_link, has_real_name}
 use Rattle.fop_types.specs.declared.answers.FopAnswer.{FopAnswer}
 use Rattle.fop_types.specs.declared.cells.Gfid.{Gfid}
 use Rattle.fop_types.specs.declared.cells.Kind.{Kind}
+use Rattle.fop_types.specs.declared.contents.Content.{Content}
 use Rattle.fop_types.specs.declared.contents.Item.{Item}
 use Rattle.fop_types.specs.declared.jobs.Job.{Job}
 use Rattle.fop_types.specs.declared.jobs.SetReply.{SetReply}
+use Rattle.fop_types.specs.declared.jobs.SetReply.TheVariants as reply
 
 pub data Event : Type 0 where
   Replied : (set : ℕ) → (job : Job) → (reply : SetReply) → Event
@@ -23,26 +25,42 @@ pub data Event : Type 0 where
 abbrev pub Handed : Type 0
 Handed = List Event
 
--- Wherever the replies lead a course, each job that it asks has this fact of what was handed in before it, and each answer
--- that.
-abbrev pub Always : (Handed → ℕ → Job → Type 0) → (Handed → FopAnswer → Option ℕ → Type 0) → Handed → Course → Type 0
-Always P Q handed (Asks set job next) = P handed set job × ((reply : SetReply) → Always P Q (Replied set job reply ∷ handed) (next reply))
-Always P Q handed (Extends dir next) = Always P Q (Held dir ∷ handed) next
-Always P Q handed (Ends answer place) = Q handed answer place
+-- Wherever the replies lead a course, each job that it asks has a fact of what was handed in before it, and so has each
+-- extension of the hold, and each answer.
+abbrev pub Always : (Handed → ℕ → Job → Type 0) → (Handed → Gfid → Type 0) → (Handed → FopAnswer → Option ℕ → Type 0) → Handed → Course → Type 0
+Always P H Q handed (Asks set job next) = P handed set job × ((reply : SetReply) → Always P H Q (Replied set job reply ∷ handed) (next reply))
+Always P H Q handed (Extends dir next) = H handed dir × Always P H Q (Held dir ∷ handed) next
+Always P H Q handed (Ends answer place) = Q handed answer place
 
--- ---- replies that answer their jobs
+-- where nothing is said of jobs, of extensions or of answers
+abbrev pub AnyJob : Handed → ℕ → Job → Type 0
+AnyJob handed set job = Unit {0}
 
-pub record IsAnswered (set : ℕ) (job : Job) (reply : SetReply) : Type 0 where
-  pub quorum : ℕ
-  pub answered : IsAnsweredBy set quorum job reply
+abbrev pub AnyHold : Handed → Gfid → Type 0
+AnyHold handed dir = Unit {0}
 
-abbrev pub IsFitting : Event → Type 0
-IsFitting (Replied set job reply) = IsAnswered set job reply
-IsFitting (Held dir) = Unit {0}
+abbrev pub AnyAnswer : Handed → FopAnswer → Option ℕ → Type 0
+AnyAnswer handed answer place = Unit {0}
 
-abbrev pub AreAnswered : Handed → Type 0
-AreAnswered [] = Unit {0}
-AreAnswered (event ∷ handed) = IsFitting event × AreAnswered handed
+-- ---- replies within their bounds
+
+-- each content that a reply shows, and each cell that it lists, is within its bounds; whatever it answers
+abbrev pub HasBounds : SetReply → Type 0
+HasBounds (reply.Contents contents place) = Each (λ (content : Option Content). IfSome content (IsContent true)) contents
+HasBounds (reply.Decided number) = Unit {0}
+HasBounds reply.Opened = Unit {0}
+HasBounds (reply.Listed cells answered short) = Each IsCell cells
+HasBounds (reply.Healed records) = Unit {0}
+HasBounds (reply.Skipped cause) = Unit {0}
+HasBounds (reply.Io error) = Unit {0}
+
+abbrev pub IsBounded : Event → Type 0
+IsBounded (Replied set job reply) = HasBounds reply
+IsBounded (Held dir) = Unit {0}
+
+abbrev pub HaveBounds : Handed → Type 0
+HaveBounds [] = Unit {0}
+HaveBounds (event ∷ handed) = IsBounded event × HaveBounds handed
 
 -- ---- what was seen of a directory's names
 

@@ -1,4 +1,6 @@
+pub mod Additions
 pub mod Answers
+pub mod Bounds
 pub mod Costs
 pub mod Courses
 pub mod Entries
@@ -6,9 +8,11 @@ pub mod Fops
 pub mod Founded
 pub mod Handed
 pub mod Internal
+pub mod Links
 pub mod Looks
 pub mod Merges
 pub mod Objects
+pub mod Places
 pub mod Renames
 pub mod Shown
 pub mod Standing

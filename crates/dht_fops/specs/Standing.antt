@@ -28,13 +28,13 @@ pub record Volumes : Type 0 where
   pub kinds : Gfid → Option Kind
   pub files : Files
 
--- a list in which no name stands twice
+-- a list that has no name twice
 abbrev pub AreOnce : List Item → Type 0
 AreOnce [] = Unit {0}
 AreOnce (item ∷ items) = (item_named items item.name ≡ None) × AreOnce items
 
 -- The contents are those of a file system: a directory that was made has metadata on the first set, and a file its cells at
--- its home; no name stands twice on a set, no file or directory of a name on two sets, and none in a removed directory;
+-- its home; no name is twice on a set, no file or directory of a name on two sets, and none in a removed directory;
 -- the first set alone says whether it was removed; a name is of an object that was made; a file has at most 65,536 bytes.
 pub record AreSound (s : Volumes) (count : ℕ) : Type 0 where
   pub shows : Shows s.contents s.homes s.kinds count s.files

@@ -6,7 +6,7 @@ ghost use Rattle.dht_fops.specs.code.Begins.{begins};
 ghost use Rattle.dht_fops.specs.code.Purposes.{IsSecondSet};
 ghost use Rattle.dht_fops.specs.declared.volume.Volume.{Volume};
 
-use crate::cells::is_directory;
+use crate::cells::{NAME_LIMIT, is_directory};
 use crate::changes::{del_attr, set_attr, set_mode, truncate, write};
 use crate::internal::{index_from, open_from};
 use crate::layouts::known_set;
@@ -20,9 +20,6 @@ use dht_linkto::SetNames;
 use fop_types::{AppError, Fop, Gfid, Object, Seq, Span};
 use std::alloc::{AllocError, Global};
 use std::collections::BTreeMap;
-
-/// The greatest length of a name in bytes.
-const NAME_LIMIT: usize = 255;
 
 // A name of a directory is looked for, by the set to which it belongs, where that is known.
 #[tactic(auto, using(crate::proofs::Sets::some_same, crate::proofs::Sets::second_back))]

@@ -12,6 +12,9 @@ use fop_types::{Aspect, Cell, Entry, Gfid, Job, Kind, Object, Seq, Span, StoreOp
 use std::alloc::{AllocError, Global};
 use std::cmp::Ordering;
 
+/// The greatest length of a name in bytes.
+pub(crate) const NAME_LIMIT: usize = 255;
+
 pub(crate) fn is_directory(kind: Kind) -> bool
     ensures { result ≡ is_directory_of kind }
 {

@@ -1,4 +1,4 @@
-ghost use Rattle.std.specs.Prelude.{◌≡◌, ◌≤◌, [], length, IfOk, Some, Ok, Err};
+ghost use Rattle.std.specs.Prelude.{◌≡◌, ◌≤◌, [], length, IfOk, OnErr, Some, None, Ok, Err};
 ghost use Rattle.dht_linkto.specs.declared.names.DirNames.{DirNames};
 ghost use Rattle.dht_fops.specs.Courses.{on_names, on_contents, on_number};
 ghost use Rattle.dht_fops.specs.Fops.{fop_course};
@@ -74,15 +74,17 @@ impl DhtFop {
     /// Takes the reply of the set that was asked for a job.
     ///
     /// # Errors
-    /// Out of memory. The fop is then done without an answer.
+    /// Out of memory. The fop is then spent, and asks no set any more.
     pub fn answer(&mut self, alloc: Global, set: u8, reply: SetReply) -> Result<DhtNext, AllocError>
         requires { self.old.asked ≡ Some set }
         ensures course { IfOk result (λ next. course_on self.new next ≡ goes_on_with self.old reply) }
         ensures learnt { IfOk result (λ next. self.new.learnt ≡ learnt_with self.old reply) }
         ensures asked { IfOk result (λ next. self.new.asked ≡ asked_of next) }
+        ensures spent { OnErr result (self.new.asked ≡ None) }
         ensures one { IfOk result (λ next. GivesOneJob next) }
     {
         prove!(self.asked == Some(set));
+        self.asked = None;
         let state = mem::replace(&mut self.state, State::Reply(OnReply::End));
         let step = resume(alloc, self.volume, &mut self.learnt, state, reply)?;
         let asked = step.turn.asked();
@@ -92,16 +94,19 @@ impl DhtFop {
         Ok(next)
     }
 
-    /// The call's hold was extended by the directory that was asked for.
+    /// The call's hold was extended by the directory that was asked for. A fop that waits for no hold is spent by this
+    /// call, and what it gives is no answer to it.
     ///
     /// # Errors
-    /// Out of memory. The fop is then done without an answer.
+    /// Out of memory. The fop is then spent, and asks no set any more.
     pub fn held(&mut self, alloc: Global) -> Result<DhtNext, AllocError>
         ensures course { IfOk result (λ next. course_on self.new next ≡ goes_held_with self.old) }
         ensures learnt { IfOk result (λ next. self.new.learnt ≡ self.old.learnt) }
         ensures asked { IfOk result (λ next. self.new.asked ≡ asked_of next) }
+        ensures spent { OnErr result (self.new.asked ≡ None) }
         ensures one { IfOk result (λ next. GivesOneJob next) }
     {
+        self.asked = None;
         let state = mem::replace(&mut self.state, State::Reply(OnReply::End));
         let step = held(alloc, self.volume, state)?;
         let asked = step.turn.asked();

@@ -1,14 +1,49 @@
+ghost use Rattle.dht_fops.specs.Additions.{FopsAddOnSets};
 ghost use Rattle.dht_fops.specs.Answers.{FopsAnswerAsFlat};
+ghost use Rattle.dht_fops.specs.Bounds.{FopsKeepBounds, AnswersHaveBounds};
 ghost use Rattle.dht_fops.specs.Costs.{FopsAskFew};
 ghost use Rattle.dht_fops.specs.Founded.{FopsAskWell};
+ghost use Rattle.dht_fops.specs.Links.{FopsChangeLinks};
+ghost use Rattle.dht_fops.specs.Places.{FopsPlaceAnswers};
+ghost use Rattle.dht_fops.specs.code.Within.{CoursesKeepFops};
 
 /// What a fop knows before it asks: each job is on a set of the volume, and is one that a set takes, if the replies so far
-/// answered their jobs; a name that is added was seen on no set; a name that is dropped was seen as a file's on that set; a
+/// are within their bounds; a name that is added was seen on no set; a name that is dropped was seen as a file's on that set; a
 /// directory is removed after its name was seen, the hold was extended by it, and every set showed it empty; a name that is
-/// moved was seen on that set, and the new one on none, on that set as a file's, or dropped before. These are facts about
-/// the replies so far alone. The call does nothing: its contract exports this.
+/// moved was seen on that set, and the new one on none, on that set as a file's, or dropped before, by part 1 of the rename. These
+/// are facts about the replies so far alone. The call does nothing: its contract exports this.
 pub fn fops_ask_well()
     ensures { FopsAskWell }
+{}
+
+/// Bounds alone: where the fop's values are within theirs, and the replies so far, whatever they answer, each job is on a set
+/// of the volume and one that a set takes, and the directory of a hold and an object that is found have gfids within
+/// bounds. So the course of a fop keeps bounds from its beginning and under each such reply; a fop on such a course gives
+/// what is within bounds, and what it waits for leads to such a course again; and a reply that answers its job is within
+/// bounds. The call does nothing: its contract exports this.
+pub fn fops_keep_bounds()
+    ensures courses { FopsKeepBounds }
+    ensures fops { CoursesKeepFops }
+    ensures answers { AnswersHaveBounds }
+{}
+
+/// The place of an answer is that of the latest read or change with an effect, and there is none where no lock was needed. An
+/// I/O error has no place, and is the one that the latest reply carried. The call does nothing: its contract exports this.
+pub fn fops_place_answers()
+    ensures { FopsPlaceAnswers }
+{}
+
+/// What a change without an effect rests on, and a birth: a link that is dropped was seen on that set; a link is added for a
+/// name to which a file was moved on another set; and a copy is born of the directory that the fop makes, or of one of
+/// which that set showed no copy. The call does nothing: its contract exports this.
+pub fn fops_change_links()
+    ensures { FopsChangeLinks }
+{}
+
+/// On which set a name is added: a directory's on the first, and a file's on the set to which its name belongs, by the layout
+/// that is known, or by the ranges that the sets showed. The call does nothing: its contract exports this.
+pub fn fops_add_on_sets()
+    ensures { FopsAddOnSets }
 {}
 
 /// How many jobs a fop asks for at most: 4 for each set and 16; a migration one for each descriptor; a heal one for each

@@ -13,7 +13,7 @@ use std::alloc::{AllocError, Global};
 use std::collections::BTreeMap;
 
 /// The layout of a directory as it was read: the range of its copy on each of the sets.
-#[derive(Drop, PartialEq, Eq)]
+#[derive(Drop)]
 pub struct Layout {
     pub dir: Gfid,
     pub spans: Seq<Option<Span>>,

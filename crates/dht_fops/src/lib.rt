@@ -13,8 +13,9 @@
 //! Each fop has its course in `specs/Fops.antt`; the machine is one value of its state, and each state goes on with a
 //! part of the course. A change of a link has no effect on the file system, and an error in one changes no answer.
 //!
-//! Called by the distribute node of a graph, with the replies of its sets. Names are searched where they are, moved
-//! into the answer of a list, and never copied but for the few bytes of the names that a change carries.
+//! Called by the distribute node of a graph, with the replies of its sets. The names of a directory are searched where
+//! they are, moved into the answer of a list, and never copied but for the few bytes of those that a change carries. A
+//! look takes a copy of the names of the sets, by which links are followed.
 #![tactic(auto)]
 
 mod begin;
@@ -44,6 +45,9 @@ mod step;
 mod volume;
 
 pub use dht_fop::DhtFop;
-pub use laws::{fops_answer_as_flat, fops_ask_few, fops_ask_well};
+pub use laws::{
+    fops_add_on_sets, fops_answer_as_flat, fops_ask_few, fops_ask_well, fops_change_links,
+    fops_keep_bounds, fops_place_answers,
+};
 pub use layouts::Layout;
 pub use step::DhtNext;

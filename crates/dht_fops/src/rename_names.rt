@@ -4,7 +4,7 @@ ghost use Rattle.dht_fops.specs.code.Waits.{course_of};
 ghost use Rattle.dht_fops.specs.declared.volume.Volume.{Volume};
 ghost use Rattle.fop_types.specs.Names.{is_same_name as is_same_name_of};
 
-use crate::cells::is_directory;
+use crate::cells::{NAME_LIMIT, is_directory};
 use crate::look::Seen;
 use crate::purpose::Purpose;
 use crate::rename::{Renaming, Source, change_names};
@@ -14,9 +14,6 @@ use crate::volume::Volume;
 use dht_linkto::{Ended, Found, SetNames};
 use fop_types::{Answer, AppError, Gfid, Object, Seq};
 use std::alloc::{AllocError, Global};
-
-/// The greatest length of a name in bytes.
-const NAME_LIMIT: usize = 255;
 
 /// The new name that is wanted, and the set to which it belongs, where that is known.
 #[derive(Drop)]

@@ -9,10 +9,10 @@ use crate::state::{OnReply, State};
 use fop_types::{Answer, AppError, FopAnswer, Gfid, IoError, Job, Seq};
 use std::alloc::{AllocError, Global};
 
-/// How a fop goes on: it asks sets for jobs; it waits until its call's hold is extended by a directory alone; or it is
-/// done, with its answer and its place. The place is the number of the fop's own entry in the history, or the length of
-/// the history at its last lock; `None` where no lock was needed, or where the answer is an I/O error.
-#[derive(Drop, PartialEq, Eq)]
+/// How a fop goes on: it asks sets for jobs; it waits until its call's hold is extended by a directory, exclusively; or
+/// it is done, with its answer and its place. The place is the number of the fop's own entry in the history, or the
+/// length of the history at its last lock; `None` where no lock was needed, or where the answer is an I/O error.
+#[derive(Drop)]
 pub enum DhtNext {
     Jobs(Seq<(u8, Job)>),
     Hold(Gfid),

@@ -1,4 +1,4 @@
--- What a fop under way stands for.
+-- The course that a fop under way is on.
 use Rattle.std.specs.Prelude.{◌≡◌, ℕ, length, List, [], ◌∷◌, Option, Some, None}
 use Rattle.dht_fops.specs.Courses.{Course, answers}
 use Rattle.dht_fops.specs.Courses.Course.{Asks, Extends, Ends}

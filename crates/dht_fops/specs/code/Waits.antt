@@ -1,4 +1,4 @@
--- What a fop that waits goes on with: the courses that its states stand for.
+-- What a fop that waits goes on with: the course that each state means.
 use Rattle.std.specs.Prelude.{ℕ, ◌-◌, ◌==◌, length, Bool, true, false, List, [], ◌∷◌, ◌++◌, drop, Option, Some, None, Result, Ok, Err, if◌then◌else◌}
 use Rattle.std.specs.List.{range_with_len}
 use Rattle.dht_linkto.specs.DirNames.{names_job, first_content}

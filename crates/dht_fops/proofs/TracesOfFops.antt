@@ -1,0 +1,336 @@
+-- Every fop's answers are placed at the latest read or change with an effect, and its changes of links and births rest on
+-- what was seen.
+use Rattle.std.proofs.Common.{◌≡◌, ◌∙◌, ℕ, ◌+◌, inl, inr, ◌==◌, Bool, true, false, List, [], ◌∷◌, Option, Some, None, if◌then◌else◌, nat_lt, length, refl, ap, sym}
+use Rattle.dht_linkto.specs.DirNames.{first_content}
+use Rattle.dht_linkto.specs.Search.{hashed_set}
+use Rattle.dht_linkto.specs.declared.found.Found.{Found}
+use Rattle.dht_linkto.specs.declared.found.Found.TheVariants as found
+use Rattle.dht_layout.specs.Layouts.{even_span}
+use Rattle.dht_fops.proofs.Handing.{Later, later_same, later_push, later_then, no_error}
+use Rattle.dht_fops.proofs.Traces.{Given, Traces, IsRested, saw_spans_later, EndsTraced, IsRead, IsInHand, names_traced, read_traced, change_traced, birth_traced, open_traced, if_traced, kept_traced, looks_traced, finds_traced, link_later, no_copy_later}
+use Rattle.dht_fops.specs.Courses.{Course}
+use Rattle.dht_fops.specs.Courses.Course.{Asks, Extends, Ends}
+use Rattle.dht_fops.specs.Entries.{lookup_found, lists_from, birth_job, births_from, adds_dir, mkdir_found, create_found, drops_link, unlinks, unlink_found, empties, rmdir_found}
+use Rattle.dht_fops.specs.Fops.{on_name, lists, renames, fop_course}
+use Rattle.dht_fops.specs.Handed.{Handed, Always, AnyJob, AnyHold, AnyAnswer}
+use Rattle.dht_fops.specs.Handed.Event.{Replied, Held}
+use Rattle.dht_fops.specs.Internal.{opens_again, heals, indexes, with_cells, cells_in}
+use Rattle.dht_fops.specs.Looks.{Ending, where_named, looks_in, finds}
+use Rattle.dht_fops.specs.Merges.{merged, real_items}
+use Rattle.dht_fops.specs.Objects.{opens, stats, attr_value, gets_attr, drops_attr, dels_attr, reads_bytes, changes_cell, truncates, writes_some, writes, home}
+use Rattle.dht_fops.specs.Founded.{IsNoError}
+use Rattle.dht_fops.specs.Additions.{IsSetOf, IsOnSet, AddsOnSet, FopsAddOnSets}
+use Rattle.dht_fops.specs.Links.{SawLink, SawNoCopy, IsOfCopy, WasMoved, IsMadeBy, RestsOnLinks, FopsChangeLinks}
+use Rattle.dht_fops.specs.Places.{last_place, IsPlaced, FopsPlaceAnswers}
+use Rattle.dht_fops.specs.Renames.{adds_link, moves, bears, replaces, changes_names, other_set, target_found, target_ending, looks_for_target, renames_file, source_at, source_found, second_set, renames_from}
+use Rattle.dht_fops.specs.Volumes.{Kept, known_set, sets_from, entry}
+use Rattle.dht_fops.specs.declared.look.Seen.{Seen}
+use Rattle.dht_fops.specs.declared.rename.Renaming.{Renaming}
+use Rattle.dht_fops.specs.declared.rename.Source.{Source}
+use Rattle.dht_fops.specs.declared.volume.Volume.{Volume}
+use Rattle.fop_types.specs.FileBytes.{file_limit}
+use Rattle.fop_types.specs.Limits.{max_item_name}
+use Rattle.fop_types.specs.Names.{attr_named, has_real_name, is_directory, is_same_name}
+use Rattle.fop_types.specs.StoreOps.{attrs_of}
+use Rattle.fop_types.specs.declared.answers.FopAnswer.{FopAnswer}
+use Rattle.fop_types.specs.declared.answers.FopAnswer.TheVariants as fop_answer
+use Rattle.fop_types.specs.declared.answers.Answer.TheVariants as answer
+use Rattle.fop_types.specs.declared.cells.Cell.{Cell}
+use Rattle.fop_types.specs.declared.cells.Gfid.{Gfid}
+use Rattle.fop_types.specs.declared.contents.Attr.{Attr}
+use Rattle.fop_types.specs.declared.contents.Content.{Content}
+use Rattle.fop_types.specs.declared.contents.Item.{Item}
+use Rattle.fop_types.specs.declared.fops.Fop.{Fop}
+use Rattle.fop_types.specs.declared.fops.Fop.TheVariants as fop
+use Rattle.fop_types.specs.declared.fops.Object.{Object}
+use Rattle.fop_types.specs.declared.fops.OpenFd.{OpenFd}
+use Rattle.fop_types.specs.declared.jobs.Job.{Job}
+use Rattle.fop_types.specs.declared.jobs.Job.TheVariants as job
+use Rattle.fop_types.specs.declared.store_ops.StoreOp.{StoreOp}
+
+-- ---- fops on an object
+
+cell_done : (g : Given) (v : Volume) (set : ℕ) (cell : Cell) (fd : ℕ) (op : StoreOp) (handed : Handed) → IsOnSet g.volume (length g.names) g.kept handed set op → Traces g handed (changes_cell v set cell fd op (fop_answer.Call answer.Done))
+cell_done g v set cell fd op handed b = change_traced g handed set _ fd op _ _ b (λ said number done at. sym at)
+
+cell_counted : (g : Given) (v : Volume) (set : ℕ) (cell : Cell) (fd : ℕ) (op : StoreOp) (n : ℕ) (handed : Handed) → IsOnSet g.volume (length g.names) g.kept handed set op → Traces g handed (changes_cell v set cell fd op (fop_answer.Call (answer.Count n)))
+cell_counted g v set cell fd op n handed b = change_traced g handed set _ fd op _ _ b (λ said number done at. sym at)
+
+opens_traced : (g : Given) (object : Object) (fd : ℕ) → Traces g [] (opens object fd)
+opens_traced g object fd = if_traced g [] _ _ (is_directory object.kind) (λ dir. refl) (λ file. open_traced g [] object.set fd object.gfid _ (λ later number at. sym at))
+
+stats_traced : (g : Given) (object : Object) → Traces g [] (stats object)
+stats_traced g object =
+    if_traced g [] _ _ (is_directory object.kind) (λ dir. read_traced g [] 0 _ 0 _ _ (λ later contents place l at shows. sym at)) (λ file. read_traced g [] object.set _ 0 _ _ (λ later contents place l at shows. sym at))
+
+gets_traced : (g : Given) (object : Object) (name : List ℕ) → Traces g [] (gets_attr object name)
+gets_traced g object name = read_traced g [] (home object) _ 0 _ _ (λ later contents place l at shows. by_attr later (attr_named (attrs_of (first_content contents)) name) place at)
+  where
+    by_attr : (later : Handed) (attr : Option Attr) (place : ℕ) → last_place later ≡ Some place → Traces g later (attr_value attr place)
+    by_attr later None place at = sym at
+    by_attr later (Some attr) place at = sym at
+
+dels_traced : (g : Given) (v : Volume) (object : Object) (name : List ℕ) → Traces g [] (dels_attr v object name)
+dels_traced g v object name = read_traced g [] (home object) _ 0 _ _ (λ later contents place l at shows. by_attr later (attr_named (attrs_of (first_content contents)) name) place at)
+  where
+    by_attr : (later : Handed) (attr : Option Attr) (place : ℕ) → last_place later ≡ Some place → Traces g later (drops_attr v object name attr place)
+    by_attr later None place at = sym at
+    by_attr later (Some attr) place at = cell_done g v (home object) _ 0 _ later tt
+
+reads_traced : (g : Given) (object : Object) (fd offset count : ℕ) → Traces g [] (reads_bytes object fd offset count)
+reads_traced g object fd offset count = if_traced g [] _ _ (is_directory object.kind) (λ dir. refl) (λ file. read_traced g [] object.set _ fd false _ (λ later contents place l at shows. sym at))
+
+truncates_traced : (g : Given) (v : Volume) (object : Object) (size : ℕ) → Traces g [] (truncates v object size)
+truncates_traced g v object size = if_traced g [] _ _ (is_directory object.kind) (λ dir. refl) (λ file. if_traced g [] _ _ (nat_lt file_limit size) (λ big. refl) (λ fits. cell_done g v object.set _ 0 _ [] tt))
+
+writes_traced : (g : Given) (v : Volume) (object : Object) (fd offset : ℕ) (bytes : List ℕ) → Traces g [] (writes v object fd offset bytes)
+writes_traced g v object fd offset bytes = if_traced g [] _ _ (is_directory object.kind) (λ dir. refl) (λ file. if_traced g [] _ _ (nat_lt file_limit (offset + length bytes)) (λ big. refl) (λ fits. by_bytes bytes))
+  where
+    by_bytes : (bytes : List ℕ) → Traces g [] (writes_some v object fd offset bytes)
+    by_bytes [] = refl
+    by_bytes (first ∷ rest) = cell_counted g v object.set _ fd _ (length (first ∷ rest)) [] tt
+
+-- ---- fops on a name
+
+-- where no lock is needed, the place is that of what was read before
+named_traced : (g : Given) (handed : Handed) (parent : Object) (name : List ℕ) (place : Option ℕ) (next : Course) → last_place handed ≡ place → Traces g handed next → Traces g handed (where_named parent name place next)
+named_traced g handed parent name place next at k =
+    if_traced g handed _ _ (is_directory parent.kind) (λ dir. if_traced g handed _ _ (nat_lt max_item_name (length name)) (λ long. sym at) (λ short. k)) (λ file. sym at)
+
+on_name_traced : (g : Given) (v : Volume) (names : List (List ℕ)) (kept : Kept) (parent : Object) (name : List ℕ) (ending : ℕ → Ending) → ((hashed : ℕ) (handed : Handed) → IsSetOf v (length names) kept handed parent.gfid name hashed → EndsTraced g handed parent.gfid name hashed 0 (ending hashed))
+    → Traces g [] (on_name v names kept parent name ending)
+on_name_traced g v names kept parent name ending ends =
+    named_traced g [] parent name None _ refl
+    (finds_traced g (length names) parent.gfid (known_set v kept parent.gfid name) _ _ []
+    (λ set known. looks_traced g parent.gfid name names 0 ending set [] (ends set [] (inl known)))
+    (λ whole later l w saw. looks_traced g parent.gfid name names 0 ending (hashed_set whole name) later
+    (ends (hashed_set whole name) later (inr (record { spans = whole; whole = w; saw = saw; set_is = refl })))))
+
+lookup_traced : (g : Given) (handed : Handed) (dir : Gfid) (name : List ℕ) (hashed : ℕ) → EndsTraced g handed dir name hashed 0 lookup_found
+lookup_traced g handed dir name hashed = λ result seen later l r h. by_found later result seen r h.place
+  where
+    by_found : (later : Handed) (result : Found) (seen : Seen) → IsRead result → last_place later ≡ Some seen.place → Traces g later (lookup_found result seen)
+    by_found later (found.Item set gfid kind) seen r at = sym at
+    by_found later found.Absent seen r at = sym at
+    by_found later (found.Io error) seen r at = absurd r
+
+births_traced : (g : Given) (v : Volume) (parent : Gfid) (name : List ℕ) (mode : ℕ) (drawn : Gfid) (sets : List ℕ) (handed : Handed) → IsMadeBy g.fop drawn → Traces g handed (births_from v parent name mode drawn sets)
+births_traced g v parent name mode drawn [] handed made = change_traced g handed 0 _ 0 _ _ _ refl (λ said number done at. sym at)
+births_traced g v parent name mode drawn (set ∷ sets) handed made = birth_traced g handed set _ _ _ (inl made) (λ later number l at. births_traced g v parent name mode drawn sets later made)
+
+mkdir_traced : (g : Given) (v : Volume) (handed : Handed) (parent : Gfid) (name : List ℕ) (mode : ℕ) (drawn : Gfid) (hashed : ℕ) → IsMadeBy g.fop drawn → EndsTraced g handed parent name hashed 0 (mkdir_found v parent name mode drawn)
+mkdir_traced g v handed parent name mode drawn hashed made = λ result seen later l r h. by_found later result seen r h.place
+  where
+    by_found : (later : Handed) (result : Found) (seen : Seen) → IsRead result → last_place later ≡ Some seen.place → Traces g later (mkdir_found v parent name mode drawn result seen)
+    by_found later (found.Item set gfid kind) seen r at = sym at
+    by_found later found.Absent seen r at = births_traced g v parent name mode drawn (sets_from v 1) later made
+    by_found later (found.Io error) seen r at = absurd r
+
+set_later : (g : Given) (a b : Handed) (dir : Gfid) (name : List ℕ) (set : ℕ) → Later a b → IsSetOf g.volume (length g.names) g.kept a dir name set → IsSetOf g.volume (length g.names) g.kept b dir name set
+set_later g a b dir name set l (inl known) = inl known
+set_later g a b dir name set l (inr read) = inr (record { spans = read.spans; whole = read.whole; saw = saw_spans_later a b dir 0 read.spans l read.saw; set_is = read.set_is })
+
+create_traced : (g : Given) (v : Volume) (handed : Handed) (parent : Gfid) (name : List ℕ) (mode : ℕ) (drawn : Gfid) (hashed : ℕ) → IsSetOf g.volume (length g.names) g.kept handed parent name hashed → EndsTraced g handed parent name hashed 0 (create_found v parent name mode drawn hashed)
+create_traced g v handed parent name mode drawn hashed on = λ result seen later l r h. by_found later result seen r h.place (set_later g handed later parent name hashed l on)
+  where
+    by_found : (later : Handed) (result : Found) (seen : Seen) → IsRead result → last_place later ≡ Some seen.place → IsSetOf g.volume (length g.names) g.kept later parent name hashed → Traces g later (create_found v parent name mode drawn hashed result seen)
+    by_found later (found.Item set gfid kind) seen r at on = sym at
+    by_found later found.Absent seen r at on = change_traced g later hashed _ 0 _ _ _ on (λ said number done e. sym e)
+    by_found later (found.Io error) seen r at on = absurd r
+
+-- a change of a link leaves the place
+drops_link_traced : (g : Given) (parent : Gfid) (name : List ℕ) (hashed : ℕ) (has_link : Bool) (number : Option ℕ) (handed : Handed) → last_place handed ≡ number → (has_link ≡ true → SawLink handed parent name hashed)
+    → Traces g handed (drops_link parent name hashed has_link number)
+drops_link_traced g parent name hashed true number handed at saw = (saw refl, λ r. sym at)
+drops_link_traced g parent name hashed false number handed at saw = sym at
+
+unlink_traced : (g : Given) (v : Volume) (handed : Handed) (parent : Gfid) (name : List ℕ) (hashed : ℕ) → EndsTraced g handed parent name hashed 0 (unlink_found v parent name hashed)
+unlink_traced g v handed parent name hashed = λ result seen later l r h. by_found later result seen r h
+  where
+    by_found : (later : Handed) (result : Found) (seen : Seen) → IsRead result → IsInHand later parent name hashed 0 seen → Traces g later (unlink_found v parent name hashed result seen)
+    by_found later (found.Item set gfid kind) seen r h =
+        if_traced g later _ _ (is_directory kind) (λ dir. sym h.place)
+        (λ file. change_traced g later set _ 0 _ _ _ tt
+        (λ said number done e. drops_link_traced g parent name hashed seen.has_link number _ e (λ has. link_later later _ parent name hashed (later_push _ later) (h.link has))))
+    by_found later found.Absent seen r h = sym h.place
+    by_found later (found.Io error) seen r h = absurd r
+
+empties_traced : (g : Given) (v : Volume) (parent : Gfid) (name : List ℕ) (gfid : Gfid) (sets : List ℕ) (handed : Handed) → Traces g handed (empties v parent name gfid sets)
+empties_traced g v parent name gfid [] handed = change_traced g handed 0 _ 0 _ _ _ tt (λ said number done at. sym at)
+empties_traced g v parent name gfid (set ∷ sets) handed =
+    names_traced g handed set gfid _ (λ later shown l saw at. if_traced g later _ _ (has_real_name shown.items) (λ full. sym at) (λ none. empties_traced g v parent name gfid sets later))
+
+rmdir_traced : (g : Given) (v : Volume) (handed : Handed) (parent : Gfid) (name : List ℕ) (hashed : ℕ) → EndsTraced g handed parent name hashed 0 (rmdir_found v parent name)
+rmdir_traced g v handed parent name hashed = λ result seen later l r h. by_found later result seen r h.place
+  where
+    by_found : (later : Handed) (result : Found) (seen : Seen) → IsRead result → last_place later ≡ Some seen.place → Traces g later (rmdir_found v parent name result seen)
+    by_found later (found.Item set gfid kind) seen r at =
+        if_traced g later _ _ (is_directory kind) (λ dir. (tt, empties_traced g v parent name gfid (sets_from v 0) (Held gfid ∷ later))) (λ file. sym at)
+    by_found later found.Absent seen r at = sym at
+    by_found later (found.Io error) seen r at = absurd r
+
+lists_traced : (g : Given) (dir : Gfid) (sets : List ℕ) (names : List Item) (place : Option ℕ) (handed : Handed) → last_place handed ≡ place → Traces g handed (lists_from dir sets names place)
+lists_traced g dir [] names place handed at = sym at
+lists_traced g dir (set ∷ sets) names place handed at =
+    names_traced g handed set dir _ (λ later shown l saw e. kept_traced g later shown _ e (lists_traced g dir sets (merged names (real_items shown.items)) (Some shown.place) later e))
+
+-- ---- rename
+
+-- the old link was seen, if there is one
+abbrev pub SawOldLink : Handed → Source → Type 0
+SawOldLink handed source = source.has_link ≡ true → SawLink handed source.parent source.name source.hashed
+
+old_later : (a b : Handed) (source : Source) → Later a b → SawOldLink a source → SawOldLink b source
+old_later a b source l s = λ has. link_later a b source.parent source.name source.hashed l (s has)
+
+adds_link_traced : (g : Given) (r : Renaming) (number : Option ℕ) (handed : Handed) → last_place handed ≡ number → SawOldLink handed r.source → ((r.hashed == r.source.set) ≡ false → WasMoved handed r.target r.new_name r.hashed)
+    → Traces g handed (adds_link r number)
+adds_link_traced g r number handed at old moved = if_traced g handed _ _ (r.hashed == r.source.set)
+    (λ same. drops_link_traced g r.source.parent r.source.name r.source.hashed r.source.has_link number handed at old)
+    (λ other. ((refl, moved other), λ said. drops_link_traced g r.source.parent r.source.name r.source.hashed r.source.has_link number _ at (old_later handed _ r.source (later_push _ handed) old)))
+
+moves_traced : (g : Given) (v : Volume) (r : Renaming) (handed : Handed) → SawOldLink handed r.source → Traces g handed (moves v r)
+moves_traced g v r handed old =
+    change_traced g handed r.source.set _ 0 _ _ _ tt
+    (λ said number done at. adds_link_traced g r number _ at (old_later handed _ r.source (later_push _ handed) old)
+    (λ other. inl (record { parent = r.source.parent; old = r.source.name; is_move = refl }, done, other)))
+
+bears_traced : (g : Given) (v : Volume) (r : Renaming) (copy : Bool) (handed : Handed) → SawOldLink handed r.source → (copy ≡ false → SawNoCopy handed r.target r.source.set) → Traces g handed (bears v r copy)
+bears_traced g v r true handed old none = moves_traced g v r handed old
+bears_traced g v r false handed old none =
+    birth_traced g handed r.source.set _ _ _ (inr (none refl)) (λ later number l at. moves_traced g v r later (old_later handed later r.source l old))
+
+replaces_traced : (g : Given) (v : Volume) (r : Renaming) (replaced : Option ℕ) (copy : Bool) (handed : Handed) → SawOldLink handed r.source → (copy ≡ false → SawNoCopy handed r.target r.source.set) → Traces g handed (replaces v r replaced copy)
+replaces_traced g v r None copy handed old none = bears_traced g v r copy handed old none
+replaces_traced g v r (Some set) copy handed old none =
+    change_traced g handed set _ 0 _ _ _ tt
+    (λ said number done at. bears_traced g v r copy _ (old_later handed _ r.source (later_push _ handed) old) (λ e. no_copy_later handed _ r.target r.source.set (later_push _ handed) (none e)))
+
+changes_traced : (g : Given) (v : Volume) (r : Renaming) (replaced : Option ℕ) (copy : Option Bool) (handed : Handed) → SawOldLink handed r.source → (copy ≡ Some false → SawNoCopy handed r.target r.source.set)
+    → Traces g handed (changes_names v r replaced copy)
+changes_traced g v r replaced (Some copy) handed old none = replaces_traced g v r replaced copy handed old (λ e. none (ap Some e))
+changes_traced g v r replaced None handed old none =
+    names_traced g handed r.source.set r.target _
+    (λ later shown l saw at. replaces_traced g v r replaced shown.has_copy later (old_later handed later r.source l old) (λ e. record { shown = shown; saw = saw; none = e }))
+
+target_traced : (g : Given) (v : Volume) (handed : Handed) (r : Renaming) → SawOldLink handed r.source → EndsTraced g handed r.target r.new_name r.hashed r.source.set (target_found v r)
+target_traced g v handed r old = λ result seen later l read h. by_found later result seen read h (old_later handed later r.source l old)
+  where
+    by_found : (later : Handed) (result : Found) (seen : Seen) → IsRead result → IsInHand later r.target r.new_name r.hashed r.source.set seen → SawOldLink later r.source → Traces g later (target_found v r result seen)
+    by_found later (found.Item set gfid kind) seen read h old =
+        if_traced g later _ _ (is_directory kind) (λ dir. sym h.place) (λ file. changes_traced g v r (other_set set r.source.set) seen.copy later old h.copy)
+    by_found later found.Absent seen read h old = changes_traced g v r None seen.copy later old h.copy
+    by_found later (found.Io error) seen read h old = absurd read
+
+looks_for_target_traced : (g : Given) (v : Volume) (source : Source) (target : Gfid) (new_name : List ℕ) (names : List (List ℕ)) (second : Option ℕ) (handed : Handed) → SawOldLink handed source
+    → Traces g handed (looks_for_target v source target new_name names second)
+looks_for_target_traced g v source target new_name names second handed old =
+    finds_traced g (length names) target second _ _ handed
+    (λ set known. looks_traced g target new_name names source.set (target_ending v source target new_name names) set handed (target_traced g v handed _ old))
+    (λ whole later l w saw. looks_traced g target new_name names source.set (target_ending v source target new_name names) (hashed_set whole new_name) later (target_traced g v later _ (old_later handed later source l old)))
+
+source_traced : (g : Given) (v : Volume) (handed : Handed) (parent : Gfid) (name : List ℕ) (names : List (List ℕ)) (target : Object) (new_name : List ℕ) (second : Option ℕ) (hashed : ℕ)
+    → EndsTraced g handed parent name hashed 0 (source_found v parent name names target new_name second hashed)
+source_traced g v handed parent name names target new_name second hashed = λ result seen later l r h. by_found later result seen r h
+  where
+    by_found : (later : Handed) (result : Found) (seen : Seen) → IsRead result → IsInHand later parent name hashed 0 seen → Traces g later (source_found v parent name names target new_name second hashed result seen)
+    by_found later (found.Item set gfid kind) seen r h =
+        if_traced g later _ _ (is_directory kind) (λ dir. sym h.place)
+        (λ file. named_traced g later target new_name (Some seen.place) _ h.place
+        (if_traced g later _ _ (is_same_name parent name target.gfid new_name) (λ same. sym h.place)
+        (λ other. looks_for_target_traced g v (source_at parent name hashed seen.has_link set gfid) target.gfid new_name names second later h.link)))
+    by_found later found.Absent seen r h = sym h.place
+    by_found later (found.Io error) seen r h = absurd r
+
+renames_traced : (g : Given) (v : Volume) (names : List (List ℕ)) (kept : Kept) (parent : Object) (name : List ℕ) (target : Object) (new_name : List ℕ) → Traces g [] (renames v names kept parent name target new_name)
+renames_traced g v names kept parent name target new_name =
+    named_traced g [] parent name None _ refl
+    (finds_traced g (length names) parent.gfid (known_set v kept parent.gfid name) _ _ []
+    (λ set known. looks_traced g parent.gfid name names 0 (source_found v parent.gfid name names target new_name (known_set v kept target.gfid new_name)) set []
+    (source_traced g v [] parent.gfid name names target new_name (known_set v kept target.gfid new_name) set))
+    (λ whole later l w saw. looks_traced g parent.gfid name names 0 (source_found v parent.gfid name names target new_name (second_set parent.gfid target.gfid new_name (known_set v kept target.gfid new_name) whole)) (hashed_set whole name) later
+    (source_traced g v later parent.gfid name names target new_name (second_set parent.gfid target.gfid new_name (known_set v kept target.gfid new_name) whole) (hashed_set whole name))))
+
+-- ---- fops of the mount itself
+
+opens_again_traced : (g : Given) (fds : List OpenFd) (handed : Handed) → last_place handed ≡ None → Traces g handed (opens_again fds)
+opens_again_traced g [] handed at = sym at
+opens_again_traced g (one ∷ fds) handed at = (tt, λ r. opens_again_traced g fds (Replied one.set (job.Open one.fd one.gfid) r ∷ handed) at)
+
+heals_traced : (g : Given) (cells : List (ℕ × Cell)) (handed : Handed) → last_place handed ≡ None → Traces g handed (heals cells)
+heals_traced g [] handed at = sym at
+heals_traced g (one ∷ cells) handed at = (tt, λ r. heals_traced g cells (Replied one.0 (job.Heal one.1) r ∷ handed) at)
+
+indexes_traced : (g : Given) (count : ℕ) (sets : List ℕ) (cells : List (ℕ × Cell)) (handed : Handed) → last_place handed ≡ None → Traces g handed (indexes count sets cells)
+indexes_traced g count [] cells handed at = heals_traced g cells handed at
+indexes_traced g count (set ∷ sets) cells handed at = (tt, λ r. indexes_traced g count sets (with_cells cells count set (cells_in r)) (Replied set job.Index r ∷ handed) at)
+
+-- ---- all
+
+traced : (g : Given) (f : Fop) → g.fop ≡ f → Traces g [] (fop_course g.volume g.names g.kept f)
+traced g (fop.Lookup parent name) e = on_name_traced g g.volume g.names g.kept parent name _ (λ hashed handed on. lookup_traced g handed parent.gfid name hashed)
+traced g (fop.Mkdir parent name mode drawn) e =
+    on_name_traced g g.volume g.names g.kept parent name _ (λ hashed handed on. mkdir_traced g g.volume handed parent.gfid name mode drawn hashed (record { parent = parent; name = name; mode = mode; is_mkdir = e }))
+traced g (fop.Rmdir parent name) e = on_name_traced g g.volume g.names g.kept parent name _ (λ hashed handed on. rmdir_traced g g.volume handed parent.gfid name hashed)
+traced g (fop.Create fd parent name mode drawn) e = on_name_traced g g.volume g.names g.kept parent name _ (λ hashed handed on. create_traced g g.volume handed parent.gfid name mode drawn hashed on)
+traced g (fop.Unlink parent name) e = on_name_traced g g.volume g.names g.kept parent name _ (λ hashed handed on. unlink_traced g g.volume handed parent.gfid name hashed)
+traced g (fop.Rename parent name target new_name) e = renames_traced g g.volume g.names g.kept parent name target new_name
+traced g (fop.Open fd object) e = opens_traced g object fd
+traced g (fop.Stat object) e = stats_traced g object
+traced g (fop.List object) e = if_traced g [] _ _ (is_directory object.kind) (λ dir. lists_traced g object.gfid (sets_from g.volume 0) [] None [] refl) (λ file. refl)
+traced g (fop.Chmod object mode) e = cell_done g g.volume (home object) _ 0 _ [] tt
+traced g (fop.Truncate object size) e = truncates_traced g g.volume object size
+traced g (fop.SetAttr object attr) e = cell_done g g.volume (home object) _ 0 _ [] tt
+traced g (fop.GetAttr object name) e = gets_traced g object name
+traced g (fop.DelAttr object name) e = dels_traced g g.volume object name
+traced g (fop.Read fd object offset count) e = reads_traced g object fd offset count
+traced g (fop.Write fd object offset bytes) e = writes_traced g g.volume object fd offset bytes
+traced g (fop.Migrate fds) e = opens_again_traced g fds [] refl
+traced g (fop.Heal count) e = indexes_traced g count (sets_from g.volume 0) [] [] refl
+
+-- ---- each part alone
+
+places_of : (g : Given) (handed : Handed) (course : Course) → Traces g handed course → Always AnyJob AnyHold IsPlaced handed course
+places_of g handed (Asks set job next) t = (tt, λ reply. places_of g (Replied set job reply ∷ handed) (next reply) (t.1 reply))
+places_of g handed (Extends dir next) t = (tt, places_of g (Held dir ∷ handed) next t.1)
+places_of g handed (Ends answer place) t = t
+
+job_links : (g : Given) (handed : Handed) (set : ℕ) (j : Job) → IsRested g handed set j → RestsOnLinks g.fop handed set j
+job_links g handed set (job.Change cells fd o (Some entry)) r = tt
+job_links g handed set (job.Change cells fd o None) r = r
+job_links g handed set (job.Birth cells o) r = r
+job_links g handed set (job.Read cells fd dir) r = tt
+job_links g handed set (job.Open fd gfid) r = tt
+job_links g handed set job.Index r = tt
+job_links g handed set (job.Heal cell) r = tt
+
+links_of : (g : Given) (handed : Handed) (course : Course) → Traces g handed course → Always (RestsOnLinks g.fop) AnyHold AnyAnswer handed course
+links_of g handed (Asks set job next) t = (job_links g handed set job t.0, λ reply. links_of g (Replied set job reply ∷ handed) (next reply) (t.1 reply))
+links_of g handed (Extends dir next) t = (tt, links_of g (Held dir ∷ handed) next t.1)
+links_of g handed (Ends answer place) t = tt
+
+job_adds : (g : Given) (handed : Handed) (set : ℕ) (j : Job) → IsRested g handed set j → AddsOnSet g.volume (length g.names) g.kept handed set j
+job_adds g handed set (job.Change cells fd o (Some entry)) r = r
+job_adds g handed set (job.Change cells fd o None) r = tt
+job_adds g handed set (job.Birth cells o) r = tt
+job_adds g handed set (job.Read cells fd dir) r = tt
+job_adds g handed set (job.Open fd gfid) r = tt
+job_adds g handed set job.Index r = tt
+job_adds g handed set (job.Heal cell) r = tt
+
+adds_of : (g : Given) (handed : Handed) (course : Course) → Traces g handed course → Always (AddsOnSet g.volume (length g.names) g.kept) AnyHold AnyAnswer handed course
+adds_of g handed (Asks set job next) t = (job_adds g handed set job t.0, λ reply. adds_of g (Replied set job reply ∷ handed) (next reply) (t.1 reply))
+adds_of g handed (Extends dir next) t = (tt, adds_of g (Held dir ∷ handed) next t.1)
+adds_of g handed (Ends answer place) t = tt
+
+abbrev given : Volume → List (List ℕ) → Kept → Fop → Given
+given v names kept f = record { volume = v; names = names; kept = kept; fop = f }
+
+pub fops_place : FopsPlaceAnswers
+fops_place = λ v names kept f. places_of (given v names kept f) [] (fop_course v names kept f) (traced (given v names kept f) f refl)
+
+pub fops_change_links : FopsChangeLinks
+fops_change_links = λ v names kept f. links_of (given v names kept f) [] (fop_course v names kept f) (traced (given v names kept f) f refl)
+
+pub fops_add : FopsAddOnSets
+fops_add = λ v names kept f. adds_of (given v names kept f) [] (fop_course v names kept f) (traced (given v names kept f) f refl)
