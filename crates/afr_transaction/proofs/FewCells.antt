@@ -1,6 +1,9 @@
 -- The cells that a job locks are one to four, rising: its own, or those of an unsettled change that touches them.
 use Rattle.std.proofs.Common.{◌≡◌, ◌∙◌, ℕ, ◌+◌, ◌-◌, ◌<◌, ◌≤◌, Bool, true, false, cond, List, [], ◌∷◌, ◌++◌, Option, Some, None, refl, sym, subst, arith}
-use Rattle.std.specs.Ordering.{is_eq, nat_cmp}
+use Rattle.std.specs.BTreeMap.{insert_entry}
+use Rattle.std.specs.declared.cmp.Ordering.{Ordering}
+use Rattle.std.specs.declared.cmp.Ordering.TheVariants.{Less, Equal, Greater}
+use Rattle.std.specs.Ordering.{is_eq, nat_cmp, match_ordering}
 use Rattle.std.proofs.lemmas.Bool.{cond_both, true≢false}
 use Rattle.fop_types.specs.Bounds.{Each, AreFew}
 use Rattle.fop_types.specs.Jobs.{IsJob}
@@ -56,3 +59,12 @@ cells_few txn ledger (Some change) e j t few = found_few ledger.unsettled txn.se
 pub few_without : (n : ℕ) (us : List (ℕ × Unsettled Cell)) → FewIn us → FewIn (without n us)
 few_without n [] h = h
 few_without n (u ∷ us) h = cond_both (is_eq (nat_cmp n u.0)) us (u ∷ without n us) FewIn (λ e. h.1) (λ e. (h.0, few_without n us h.1))
+
+-- a change more, at its place
+pub few_with : (us : List (ℕ × Unsettled Cell)) (n : ℕ) (u : Unsettled Cell) → AreFew u.cells → FewIn us → FewIn (insert_entry nat_cmp us n u)
+few_with [] n u fits h = (fits, tt)
+few_with (e ∷ us) n u fits h = by (nat_cmp n e.0) (few_with us n u fits h.1) where
+  by : (o : Ordering) → FewIn (insert_entry nat_cmp us n u) → FewIn (match_ordering o ((n, u) ∷ e ∷ us) ((e.0, u) ∷ us) (e ∷ insert_entry nat_cmp us n u))
+  by Less rest = (fits, h)
+  by Equal rest = (fits, h.1)
+  by Greater rest = (h.0, rest)

@@ -1,4 +1,5 @@
 pub mod Bounds
+pub mod CopyParts
 pub mod EachTurn
 pub mod Encodings
 pub mod Entries
@@ -7,6 +8,7 @@ pub mod Joins
 pub mod Moves
 pub mod Posts
 pub mod Quorums
+pub mod Replies
 pub mod Turned
 pub mod Steps
 pub mod TurnsAnswers

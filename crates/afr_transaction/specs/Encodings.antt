@@ -1,11 +1,13 @@
--- Every request of a transaction has an encoding. For it a transaction keeps its job and its call within their bounds, and
--- under locks the cells of the lock phase and the number of its change.
-use Rattle.std.specs.Prelude.{◌≡◌, ℕ, Bool, true, List}
+-- Every request of a transaction has an encoding, and so have those of a copy that it asks for. For it a transaction keeps its
+-- job and its call within their bounds, and under locks the cells of the lock phase, the number of its change, and the cells
+-- that are still to be copied.
+use Rattle.std.specs.Prelude.{◌≡◌, ℕ, ◌<◌, Bool, true, false, List}
 use Rattle.fop_types.specs.Bounds.{Each, AreFew, IsHyper, IsReq, IsUnit}
 use Rattle.fop_types.specs.Jobs.{IsJob}
 use Rattle.fop_types.specs.declared.cells.Cell.{Cell}
 use Rattle.fop_types.specs.declared.contents.Mask.{Mask}
 use Rattle.fop_types.specs.declared.copy_jobs.CopyDone.{CopyDone}
+use Rattle.fop_types.specs.declared.copy_jobs.CopyJob.{CopyJob}
 use Rattle.fop_types.specs.declared.jobs.Job.{Job}
 use Rattle.fop_types.specs.declared.jobs.Job.TheVariants as job
 use Rattle.fop_types.specs.declared.jobs.SetPlan.{SetPlan}
@@ -13,6 +15,10 @@ use Rattle.fop_types.specs.declared.messages.BrickRep.{BrickRep}
 use Rattle.fop_types.specs.declared.messages.BrickReq.{BrickReq}
 use Rattle.afr_ledger.specs.Ledger.{State}
 use Rattle.afr_ledger.specs.declared.unsettled.Unsettled.{Unsettled}
+use Rattle.afr_phases.specs.Flags.{flag, names}
+use Rattle.afr_transaction.specs.declared.need.Need.{Need}
+use Rattle.afr_transaction.specs.declared.need.Need.TheVariants as need
+use Rattle.afr_transaction.specs.declared.phase.Part.{Part}
 use Rattle.afr_transaction.specs.declared.phase.Phase.{Phase}
 use Rattle.afr_transaction.specs.declared.phase.Phase.TheVariants as phase
 use Rattle.afr_transaction.specs.declared.size.Size.{Size}
@@ -20,10 +26,36 @@ use Rattle.afr_transaction.specs.declared.txn.Txn.{Txn}
 use Rattle.afr_transaction.specs.Answers.{answered, copied}
 use Rattle.afr_transaction.specs.Begins.{fresh, started}
 use Rattle.afr_transaction.specs.Requests.{IsOfPhase}
+use Rattle.afr_transaction.specs.Shapes.{is_asking}
 
 -- each unsettled change has one to four cells, rising
 abbrev pub HaveFew : State Cell → Type 0
 HaveFew ledger = Each (λ (e : ℕ × Unsettled Cell). AreFew e.1.cells) ledger.unsettled
+
+-- ---- copies
+
+-- none is among both
+abbrev pub AreApart : List Bool → List Bool → Type 0
+AreApart sources sinks = (k : ℕ) → flag sources k ≡ true → flag sinks k ≡ false
+
+-- cells that are copied together: one to four, rising; no source is a sink
+pub record IsPart (part : Part) : Type 0 where
+  pub few : AreFew part.cells
+  pub apart : AreApart part.sources part.sinks
+
+-- the same of a copy that is asked for; each sink's lock is held
+pub record IsCopyJob (job : CopyJob) : Type 0 where
+  pub few : AreFew job.cells
+  pub apart : (k : ℕ) → k < 5 → names job.sources k ≡ true → names job.sinks k ≡ false
+  pub held : (k : ℕ) → k < 5 → names job.sinks k ≡ true → names job.held k ≡ true
+
+abbrev pub CopyFits : Need → Type 0
+CopyFits (need.Copy job rows) = IsCopyJob job
+CopyFits (need.Send list) = Unit {0}
+CopyFits (need.Reply reply) = Unit {0}
+CopyFits need.Wait = Unit {0}
+
+-- ---- between two turns
 
 -- the job takes locks
 abbrev pub TakesLocks : Job → Type 0
@@ -42,7 +74,7 @@ abbrev pub BoundsIn : Phase → Txn → Type 0
 BoundsIn (phase.Locking at) txn = IsLocked txn
 BoundsIn (phase.Unlocking after) txn = TakesLocks txn.job
 BoundsIn (phase.Fetching place from contents) txn = IsLocked txn
-BoundsIn (phase.Copying sinks rest) txn = IsLocked txn
+BoundsIn (phase.Copying sinks rest) txn = IsLocked txn × Each IsPart rest
 BoundsIn (phase.Marking change) txn = IsLocked txn × IsHyper change
 BoundsIn (phase.Writing change) txn = IsLocked txn × IsHyper change
 BoundsIn (phase.Posting change adopted) txn = IsLocked txn × IsHyper change
@@ -60,17 +92,30 @@ HasBounds txn = IsOwn txn × BoundsIn txn.phase txn
 
 -- ---- the laws
 
+-- a turn keeps the bounds, and a copy that it asks for has its own
+abbrev pub Bounds : Txn → Need → Type 0
+Bounds txn need = HasBounds txn × CopyFits need
+
 abbrev pub BeginsBound : Type 0
 BeginsBound = (size : Size) (set : SetPlan) (call : ℕ) (job : Job) (ledger : State Cell) (live : Mask) (last : List ℕ)
-    → IsJob job → IsUnit call → HaveFew ledger → HasBounds (started (fresh size set call job) ledger live last).0
+    → IsJob job → IsUnit call → HaveFew ledger
+    → Bounds (started (fresh size set call job) ledger live last).0 (started (fresh size set call job) ledger live last).1
 
 abbrev pub AnswersBound : Type 0
 AnswersBound = (txn : Txn) (k mark : ℕ) (rep : BrickRep) (ledger : State Cell) (live : Mask) (last : List ℕ)
-    → HasBounds txn → HaveFew ledger → HasBounds (answered txn k rep mark ledger live last).0
+    → HasBounds txn → HaveFew ledger → Bounds (answered txn k rep mark ledger live last).0 (answered txn k rep mark ledger live last).1.0
 
 abbrev pub CopiesBound : Type 0
 CopiesBound = (txn : Txn) (done : CopyDone) (ledger : State Cell) (live : Mask) (last : List ℕ)
-    → HasBounds txn → HaveFew ledger → HasBounds (copied txn done ledger live last).0
+    → HasBounds txn → HaveFew ledger → Bounds (copied txn done ledger live last).0 (copied txn done ledger live last).1.0
+
+-- a turn leaves few cells to each unsettled change
+abbrev pub AnswersLeaveFew : Type 0
+AnswersLeaveFew = (txn : Txn) (k mark : ℕ) (rep : BrickRep) (ledger : State Cell) (live : Mask) (last : List ℕ)
+    → is_asking txn ≡ true → HasBounds txn → HaveFew ledger → HaveFew (answered txn k rep mark ledger live last).1.1
+
+abbrev pub CopiesLeaveFew : Type 0
+CopiesLeaveFew = (txn : Txn) (done : CopyDone) (ledger : State Cell) (live : Mask) (last : List ℕ) → HaveFew ledger → HaveFew (copied txn done ledger live last).1.1
 
 -- a request of the phase has an encoding
 abbrev pub RequestsAreEncoded : Type 0

@@ -1,6 +1,7 @@
-ghost use Rattle.afr_transaction.specs.Encodings.{BeginsBound, AnswersBound, CopiesBound, RequestsAreEncoded};
+ghost use Rattle.afr_transaction.specs.Encodings.{BeginsBound, AnswersBound, CopiesBound, AnswersLeaveFew, CopiesLeaveFew, RequestsAreEncoded};
 ghost use Rattle.afr_transaction.specs.Laws.{DecidesAtQuorum};
 ghost use Rattle.afr_transaction.specs.Moves.{AnswersMove, CopiesDraw};
+ghost use Rattle.afr_transaction.specs.Replies.{BeginsReply, AnswersReply, CopiesReply};
 ghost use Rattle.afr_transaction.specs.Requests.{BeginsSend, AnswersSend, CopiesSend, PostsFollowOps};
 ghost use Rattle.afr_transaction.specs.Shapes.{BeginsGoOn, AnswersGoOn, CopiesGoOn};
 
@@ -39,11 +40,22 @@ pub fn turns_move_the_ledger()
 {}
 
 /// Every request has an encoding, where the job's values are within their bounds and each unsettled change has one to four
-/// cells: every turn keeps these bounds, and by them a request of its phase has an encoding. The call does nothing: its
-/// contract exports this.
+/// cells: every turn keeps both, and by them a request of its phase has an encoding. A copy that is asked for has one to four
+/// cells, rising; no source of it is a sink, and the lock of each sink is held. The call does nothing: its contract exports
+/// this.
 pub fn requests_are_encoded()
     ensures begin { BeginsBound }
     ensures answers { AnswersBound }
     ensures copies { CopiesBound }
+    ensures answers_leave { AnswersLeaveFew }
+    ensures copies_leave { CopiesLeaveFew }
     ensures requests { RequestsAreEncoded }
+{}
+
+/// Every reply is within its bounds, where the answers of the replicas are: each content is a content, and each listed cell a
+/// cell. Every turn keeps that of what was answered so far. The call does nothing: its contract exports this.
+pub fn replies_are_within_bounds()
+    ensures begin { BeginsReply }
+    ensures answers { AnswersReply }
+    ensures copies { CopiesReply }
 {}

@@ -32,7 +32,7 @@ pub struct Txn {
 
 impl Txn {
     /// The replicas that are still used.
-    pub fn alive(&self) -> Flags
+    pub(crate) fn alive(&self) -> Flags
         ensures { result ≡ alive self.now }
     {
         self.outs.used(self.size.n)
@@ -42,7 +42,7 @@ impl Txn {
     ///
     /// # Errors
     /// Out of memory.
-    pub fn ask(
+    pub(crate) fn ask(
         &mut self,
         alloc: Global,
         to: Flags,
@@ -58,7 +58,7 @@ impl Txn {
     }
 
     /// The job is answered.
-    pub fn finish(&mut self, reply: SetReply) -> Need
+    pub(crate) fn finish(&mut self, reply: SetReply) -> Need
         ensures { (self.new, result) ≡ over self.old reply }
     {
         self.phase = Phase::Over;

@@ -40,7 +40,7 @@ const CHANGES: [Case; 7] = [
             (Rows(0, 0, 0), Lock(2)),
             (Turn::Fault(1), Lock(4)),
             (Cut(6), Wait),
-            (Turn::Fault(2), Want::Fault(2, 0)),
+            (Turn::Fault(2), Want::Fault(6, 0)),
         ],
     ),
     (
@@ -57,7 +57,7 @@ const CHANGES: [Case; 7] = [
             (Done(1), Wait),
             (Gone(2), Unlock(6)),
             (Done(1), Wait),
-            (Done(2), Quorum(2)),
+            (Done(2), Quorum(5)),
         ],
     ),
     (
@@ -125,7 +125,7 @@ const CHANGES: [Case; 7] = [
             (Turn::Fault(1), Wait),
             (Gone(2), Wait),
             (Done(3), Wait),
-            (Gone(4), Want::Fault(1, 2)),
+            (Gone(4), Want::Fault(2, 20)),
         ],
     ),
 ];

@@ -5,7 +5,11 @@
 #[cfg(test)]
 mod changes;
 #[cfg(test)]
+mod five_replicas;
+#[cfg(test)]
 mod heals;
+#[cfg(test)]
+mod losses;
 #[cfg(test)]
 mod one_replica;
 #[cfg(test)]
@@ -14,3 +18,7 @@ mod played;
 mod settlings;
 #[cfg(test)]
 mod summary;
+#[cfg(test)]
+mod three_replicas;
+#[cfg(test)]
+mod two_cells;

@@ -11,7 +11,7 @@ const ALONE: [Case; 15] = [
         1,
         false,
         Work::Read,
-        Lock(1),
+        Shared(1),
         &[
             (Rows(0, 0, 0), Fetch(1)),
             (Bytes(0), Unlock(1)),
@@ -23,7 +23,7 @@ const ALONE: [Case; 15] = [
         1,
         false,
         Work::ReadDir,
-        Lock(1),
+        Shared(1),
         &[(Absent(0), Unlock(1)), (Done(0), Contents(1, 0))],
     ),
     (
@@ -31,7 +31,7 @@ const ALONE: [Case; 15] = [
         1,
         false,
         Work::Read,
-        Lock(1),
+        Shared(1),
         &[(Absent(0), Unlock(1)), (Done(0), Split(1))],
     ),
     (
@@ -127,7 +127,7 @@ const ALONE: [Case; 15] = [
         &[
             (Rows(0, 0, 1), Settle(1, 0)),
             (Done(0), Unlock(1)),
-            (Done(0), Lock(1)),
+            (Done(0), Shared(1)),
             (Rows(0, 0, 1), Fetch(1)),
             (Bytes(0), Unlock(1)),
             (Done(0), Contents(1, 1)),

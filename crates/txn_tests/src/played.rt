@@ -2,8 +2,8 @@ use crate::summary::{Want, summary};
 use afr_ledger::{Ledger, Unsettled};
 use afr_transaction::Txn;
 use fop_types::{
-    Aspect, BrickRep, Cell, Content, CopyDone, DoneArm, Entry, Gfid, Job, Mask, Row, Seq, SetPlan,
-    StoreOp,
+    Aspect, BrickRep, Cell, Content, CopyDone, DoneArm, Entry, Gfid, Job, Mask, Out, Row, Seq,
+    SetPlan, StoreOp,
 };
 use std::alloc::{AllocError, Global};
 
@@ -12,25 +12,29 @@ pub(crate) type Case = (u8, u8, bool, Work, Want, &'static [(Turn, Want)]);
 
 const LAST: [u32; 5] = [4; 5];
 
-/// What happens next: an answer of a replica; a copy that is done, with the sinks that have it; a connection that ends;
-/// or another transaction that settles change 1, or begins a change of the cell.
+/// What happens next: an answer of a replica; a copy that is done, with the sinks that have it, and the replicas that are out
+/// by it; a connection that ends; or another transaction that settles change 1, or begins a change of the cell.
 #[derive(Clone, Copy)]
 pub(crate) enum Turn {
     Done(u8),
     /// The rows of one cell: who is accused, and the last change.
     Rows(u8, u8, u64),
+    /// The rows of two cells: the same of each.
+    Pair(u8, u8, u64, u8, u64),
     Absent(u8),
     Bytes(u8),
+    Names(u8),
     Cells(u8),
     Gone(u8),
     Fault(u8),
     Copied(u8),
+    CopyOuts(u8, u8),
     Cut(u8),
     Settled(bool),
     Begun,
 }
 
-/// A job of one cell, the data of a file or, for the birth, a directory's names.
+/// A job of one cell, the data of a file; or a rename between two directories, and a read of the first one's names.
 #[derive(Clone, Copy)]
 pub(crate) enum Work {
     Read,
@@ -40,6 +44,8 @@ pub(crate) enum Work {
     Open,
     Index,
     Heal,
+    Rename,
+    ReadNames,
 }
 
 #[derive(Drop)]
@@ -56,9 +62,39 @@ fn cell() -> Cell {
     }
 }
 
-fn job_of(alloc: Global, work: Work) -> Result<Job, AllocError> {
+// The names of a directory.
+fn names(lo: u64) -> Cell {
+    Cell {
+        gfid: Gfid { hi: 0, lo },
+        aspect: Aspect::Entry,
+    }
+}
+
+// The cells that a change before the job touches: those of the rename, else the file's data.
+fn touched(alloc: Global, work: Work) -> Result<Seq<Cell>, AllocError> {
     let mut cells = Seq::new(alloc);
-    cells.push(cell())?;
+    match work {
+        Work::Rename | Work::ReadNames => {
+            cells.push(names(2))?;
+            cells.push(names(3))?;
+        }
+        _ => cells.push(cell())?,
+    }
+    Ok(cells)
+}
+
+fn read_names(alloc: Global) -> Result<Job, AllocError> {
+    let mut cells = Seq::new(alloc);
+    cells.push(names(2))?;
+    Ok(Job::Read {
+        cells,
+        fd: 0,
+        dir: true,
+    })
+}
+
+fn job_of(alloc: Global, work: Work) -> Result<Job, AllocError> {
+    let cells = touched(alloc, work)?;
     let gfid = cell().gfid;
     match work {
         Work::Read => Ok(Job::Read {
@@ -84,14 +120,26 @@ fn job_of(alloc: Global, work: Work) -> Result<Job, AllocError> {
         Work::Open => Ok(Job::Open { fd: 1, gfid }),
         Work::Index => Ok(Job::Index),
         Work::Heal => Ok(Job::Heal(cell())),
+        Work::Rename => Ok(Job::Change {
+            cells,
+            fd: 0,
+            op: StoreOp::Move {
+                parent: gfid,
+                name: Seq::from_bytes(alloc, b"a")?,
+                target: Gfid { hi: 0, lo: 3 },
+                new_name: Seq::from_bytes(alloc, b"b")?,
+            },
+            effect: Some(Entry { call: 3, part: 1 }),
+        }),
+        Work::ReadNames => read_names(alloc),
     }
 }
 
-// The second set of a plan, with `n` bricks.
+// The second set of a plan, with `n` bricks, from number 10 on.
 fn set_of(alloc: Global, n: u8) -> Result<SetPlan, AllocError> {
     let mut bricks = Seq::new(alloc);
     for k in 0..n {
-        bricks.push(k)?;
+        bricks.push(10 + k % 5)?;
     }
     Ok(SetPlan {
         number: 1,
@@ -102,15 +150,13 @@ fn set_of(alloc: Global, n: u8) -> Result<SetPlan, AllocError> {
     })
 }
 
-// A ledger in which change 1 touches the cell, where it is unsettled.
-fn ledger_of(alloc: Global, unsettled: bool) -> Result<Ledger<Cell>, AllocError> {
+// A ledger in which change 1 touches these cells, where it is unsettled.
+fn ledger_of(alloc: Global, unsettled: bool, cells: Seq<Cell>) -> Result<Ledger<Cell>, AllocError> {
     let mut ledger = Ledger::new(alloc);
     if !unsettled {
         return Ok(ledger);
     }
     let change = ledger.draw();
-    let mut cells = Seq::new(alloc);
-    cells.push(cell())?;
     let u = Unsettled {
         change,
         set: 1,
@@ -142,6 +188,28 @@ fn rows_of(alloc: Global, row: Row) -> Result<BrickRep, AllocError> {
     Ok(BrickRep::Done(DoneArm::Rows(rows)))
 }
 
+fn pair_of(alloc: Global, one: Row, other: Row) -> Result<BrickRep, AllocError> {
+    let mut rows = Seq::new(alloc);
+    rows.push(one)?;
+    rows.push(other)?;
+    Ok(BrickRep::Done(DoneArm::Rows(rows)))
+}
+
+// Those that a mask names, each with connection 9.
+fn outs_of(alloc: Global, mask: u8) -> Result<Seq<Out>, AllocError> {
+    let mut outs = Seq::new(alloc);
+    for k in 0..5u8 {
+        if mask >> k & 1 == 1 {
+            outs.push(Out {
+                replica: k,
+                fault: false,
+                mark: 9,
+            })?;
+        }
+    }
+    Ok(outs)
+}
+
 fn cells_of(alloc: Global) -> Result<BrickRep, AllocError> {
     let mut cells = Seq::new(alloc);
     cells.push(cell())?;
@@ -159,11 +227,11 @@ impl Play {
         Ok(summary(&need))
     }
 
-    fn copied(&mut self, alloc: Global, current: u8) -> Result<Want, AllocError> {
+    fn copied(&mut self, alloc: Global, current: u8, outs: u8) -> Result<Want, AllocError> {
         let done = CopyDone {
             held: Mask(current),
             current: Mask(current),
-            outs: Seq::new(alloc),
+            outs: outs_of(alloc, outs)?,
             records: Seq::new(alloc),
         };
         let need = self
@@ -209,6 +277,14 @@ impl Play {
                 let rep = rows_of(alloc, row(accused, last, true))?;
                 self.answer(alloc, k, rep)
             }
+            Turn::Pair(k, one, one_last, other, other_last) => {
+                let rep = pair_of(
+                    alloc,
+                    row(one, one_last, true),
+                    row(other, other_last, true),
+                )?;
+                self.answer(alloc, k, rep)
+            }
             Turn::Absent(k) => {
                 let rep = rows_of(alloc, row(0, 0, false))?;
                 self.answer(alloc, k, rep)
@@ -217,13 +293,21 @@ impl Play {
                 let content = Content::Bytes(Seq::new(alloc));
                 self.answer(alloc, k, BrickRep::Done(DoneArm::Content(content, 1)))
             }
+            Turn::Names(k) => {
+                let content = Content::Names {
+                    removed: false,
+                    items: Seq::new(alloc),
+                };
+                self.answer(alloc, k, BrickRep::Done(DoneArm::Content(content, 1)))
+            }
             Turn::Cells(k) => {
                 let rep = cells_of(alloc)?;
                 self.answer(alloc, k, rep)
             }
             Turn::Gone(k) => self.answer(alloc, k, BrickRep::Gone),
             Turn::Fault(k) => self.answer(alloc, k, BrickRep::Fault),
-            Turn::Copied(current) => self.copied(alloc, current),
+            Turn::Copied(current) => self.copied(alloc, current, 0),
+            Turn::CopyOuts(current, outs) => self.copied(alloc, current, outs),
             Turn::Cut(live) => {
                 self.live = live;
                 Ok(Want::Wait)
@@ -259,7 +343,7 @@ pub(crate) fn is_played(
     if count % 2 != 1 || count > 5 || set.q as usize != (count + 1) / 2 {
         return Ok(false);
     }
-    let ledger = ledger_of(alloc, unsettled)?;
+    let ledger = ledger_of(alloc, unsettled, touched(alloc, work)?)?;
     let job = job_of(alloc, work)?;
     let (txn, need) = Txn::begin(alloc, &set, 3, job, Mask(live), &LAST, &ledger)?;
     if summary(&need) != first {
