@@ -1,4 +1,5 @@
 -- Every turn keeps the answers of the replicas within their bounds, and replies within them.
+use Rattle.fop_types.specs.Jobs.{AreContents, IsSetReply}
 use Rattle.std.proofs.Common.{ℕ, zero, suc, ◌+◌, ◌-◌, Bool, true, false, ◌==◌, not, cond, List, [], ◌∷◌, ◌++◌, Option, Some, None, is_none, is_some}
 use Rattle.std.specs.Prelude.{length, slice_get, slice_index}
 use Rattle.std.proofs.lemmas.Bool.{cond_both}
@@ -63,7 +64,7 @@ use Rattle.afr_transaction.specs.Ready.{split, skipping, is_touched, settle_by, 
 use Rattle.afr_transaction.specs.Settles.{settle_decided, settle_parts}
 use Rattle.afr_transaction.specs.Txns.{alive, over, heal_reply, healing, ending, io_of, is_heal, kept}
 use Rattle.afr_transaction.specs.Listing.{with_cells}
-use Rattle.afr_transaction.specs.Replies.{AreContents, IsSetReply, ThenFits, AnswersIn, RepliesFit, BeginsReply, AnswersReply, CopiesReply}
+use Rattle.afr_transaction.specs.Replies.{ThenFits, AnswersIn, RepliesFit, BeginsReply, AnswersReply, CopiesReply}
 
 -- a turn, and one with its ledger
 abbrev Fits : Txn × Need → Type 0

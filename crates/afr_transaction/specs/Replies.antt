@@ -1,15 +1,13 @@
 -- The replies of a transaction are within their bounds, where those of its bricks are, whatever was asked: each content is a
 -- content, and each listed cell a cell. For it a transaction keeps what the replicas have answered so far within the bounds.
-use Rattle.std.specs.Prelude.{◌≡◌, ℕ, true, List, Option, IfSome}
-use Rattle.fop_types.specs.Bounds.{Each, IsCell, IsContent, IsRep}
+use Rattle.std.specs.Prelude.{◌≡◌, ℕ, true, List}
+use Rattle.fop_types.specs.Bounds.{Each, IsCell, IsRep}
+use Rattle.fop_types.specs.Jobs.{AreContents, IsSetReply}
 use Rattle.fop_types.specs.declared.cells.Cell.{Cell}
-use Rattle.fop_types.specs.declared.contents.Content.{Content}
 use Rattle.fop_types.specs.declared.contents.Mask.{Mask}
 use Rattle.fop_types.specs.declared.copy_jobs.CopyDone.{CopyDone}
 use Rattle.fop_types.specs.declared.jobs.Job.{Job}
 use Rattle.fop_types.specs.declared.jobs.SetPlan.{SetPlan}
-use Rattle.fop_types.specs.declared.jobs.SetReply.{SetReply}
-use Rattle.fop_types.specs.declared.jobs.SetReply.TheVariants as reply
 use Rattle.fop_types.specs.declared.messages.BrickRep.{BrickRep}
 use Rattle.afr_ledger.specs.Ledger.{State}
 use Rattle.afr_transaction.specs.declared.need.Need.{Need}
@@ -22,18 +20,6 @@ use Rattle.afr_transaction.specs.declared.size.Size.{Size}
 use Rattle.afr_transaction.specs.declared.txn.Txn.{Txn}
 use Rattle.afr_transaction.specs.Answers.{answered, copied}
 use Rattle.afr_transaction.specs.Begins.{fresh, started}
-
-abbrev pub AreContents : List (Option Content) → Type 0
-AreContents contents = Each (λ (content : Option Content). IfSome content (IsContent true)) contents
-
-abbrev pub IsSetReply : SetReply → Type 0
-IsSetReply (reply.Contents contents place) = AreContents contents
-IsSetReply (reply.Decided number) = Unit {0}
-IsSetReply reply.Opened = Unit {0}
-IsSetReply (reply.Listed cells answered short) = Each IsCell cells
-IsSetReply (reply.Healed records) = Unit {0}
-IsSetReply (reply.Skipped cause) = Unit {0}
-IsSetReply (reply.Io error) = Unit {0}
 
 -- ---- between two turns
 

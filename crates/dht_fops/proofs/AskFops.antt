@@ -13,7 +13,7 @@ use Rattle.dht_fops.proofs.Known.{hashed_below, known_below}
 use Rattle.dht_fops.specs.Courses.{number_in}
 use Rattle.dht_fops.specs.Fops.{lists, renames, fop_course}
 use Rattle.dht_fops.specs.Founded.{AsksWell, NamesSets, IsFounded}
-use Rattle.dht_fops.specs.Handed.{Handed, HasBounds, HaveBounds}
+use Rattle.dht_fops.specs.Handed.{Handed, HaveBounds}
 use Rattle.dht_fops.specs.Handed.Event.{Replied}
 use Rattle.dht_fops.specs.Internal.{opens_again, heals, indexes, cells_in}
 use Rattle.dht_fops.specs.Objects.{home, changes_cell, opens, stats, gets_attr, reads_bytes, truncates, dels_attr, writes, writes_some, drops_attr, attr_value}
@@ -23,7 +23,7 @@ use Rattle.dht_fops.specs.declared.volume.Volume.{Volume}
 use Rattle.fop_types.specs.Bounds.{Each, IsGfid, IsCell, IsOpenFd, IsOpened, IsAttrName, IsComponent, IsVolumeName, IsFop}
 use Rattle.fop_types.specs.Cells.{data_cell, meta_cell}
 use Rattle.fop_types.specs.FileBytes.{file_limit}
-use Rattle.fop_types.specs.Jobs.{IsJob}
+use Rattle.fop_types.specs.Jobs.{IsJob, IsSetReply}
 use Rattle.fop_types.specs.Limits.{max_data}
 use Rattle.fop_types.specs.Names.{is_directory, attr_named}
 use Rattle.fop_types.specs.Orders.{gfid_cmp}
@@ -140,7 +140,7 @@ each_taken zero cells e = tt
 each_taken (suc count) [] e = tt
 each_taken (suc count) (cell ∷ cells) e = (e.0, each_taken count cells e.1)
 
-index_cells : (r : SetReply) → HasBounds r → Each IsCell (cells_in r)
+index_cells : (r : SetReply) → IsSetReply r → Each IsCell (cells_in r)
 index_cells (reply.Contents contents place) b = tt
 index_cells (reply.Decided number) b = tt
 index_cells reply.Opened b = tt

@@ -6,7 +6,7 @@ use Rattle.dht_fops.specs.Courses.{Course}
 use Rattle.dht_fops.specs.Courses.Course.{Asks, Extends, Ends}
 use Rattle.dht_fops.specs.Founded.{AsksWell, IsWellFound}
 use Rattle.dht_fops.specs.Fops.{fop_course}
-use Rattle.dht_fops.specs.Handed.{Handed, HasBounds, HaveBounds}
+use Rattle.dht_fops.specs.Handed.{Handed, HaveBounds}
 use Rattle.dht_fops.specs.Handed.Event.{Replied, Held}
 use Rattle.dht_fops.specs.code.Fops.{course_on, GivesOneJob}
 use Rattle.dht_fops.specs.code.Within.{IsNextWithin, WaitsWithin, CoursesKeepFops}
@@ -14,7 +14,7 @@ use Rattle.dht_fops.specs.declared.dht_fop.DhtFop.{DhtFop}
 use Rattle.dht_fops.specs.declared.step.DhtNext.{DhtNext}
 use Rattle.dht_fops.specs.declared.step.DhtNext.TheVariants as next
 use Rattle.fop_types.specs.Bounds.{Each, IsContent}
-use Rattle.fop_types.specs.Jobs.{AreContentsOf, AnswersRead, AnswersChange, AnswersOpen, AnswersIndex, AnswersHeal, IsAnsweredBy, may_lack}
+use Rattle.fop_types.specs.Jobs.{AreContentsOf, AnswersRead, AnswersChange, AnswersOpen, AnswersIndex, AnswersHeal, IsAnsweredBy, may_lack, IsSetReply}
 use Rattle.fop_types.specs.declared.answers.FopAnswer.{FopAnswer}
 use Rattle.fop_types.specs.declared.answers.FopAnswer.TheVariants.{Found, Call}
 use Rattle.fop_types.specs.declared.cells.Cell.{Cell}
@@ -60,7 +60,7 @@ contents_bounded may (cell ∷ cells) [] a = absurd a
 contents_bounded may (cell ∷ cells) (None ∷ contents) a = (tt, contents_bounded may cells contents a.1)
 contents_bounded may (cell ∷ cells) (Some content ∷ contents) a = (a.0.1, contents_bounded may cells contents a.1)
 
-read_bounded : (set : ℕ) (cells : List Cell) (may : Bool) (r : SetReply) → AnswersRead set cells may r → HasBounds r
+read_bounded : (set : ℕ) (cells : List Cell) (may : Bool) (r : SetReply) → AnswersRead set cells may r → IsSetReply r
 read_bounded set cells may (reply.Contents contents place) a = contents_bounded may cells contents a
 read_bounded set cells may (reply.Decided number) a = tt
 read_bounded set cells may reply.Opened a = tt
@@ -69,7 +69,7 @@ read_bounded set cells may (reply.Healed records) a = tt
 read_bounded set cells may (reply.Skipped cause) a = tt
 read_bounded set cells may (reply.Io error) a = tt
 
-change_bounded : (set : ℕ) (effect : Option Entry) (r : SetReply) → AnswersChange set effect r → HasBounds r
+change_bounded : (set : ℕ) (effect : Option Entry) (r : SetReply) → AnswersChange set effect r → IsSetReply r
 change_bounded set effect (reply.Contents contents place) a = absurd a
 change_bounded set effect (reply.Decided number) a = tt
 change_bounded set effect reply.Opened a = tt
@@ -78,7 +78,7 @@ change_bounded set effect (reply.Healed records) a = tt
 change_bounded set effect (reply.Skipped cause) a = tt
 change_bounded set effect (reply.Io error) a = tt
 
-open_bounded : (set : ℕ) (r : SetReply) → AnswersOpen set r → HasBounds r
+open_bounded : (set : ℕ) (r : SetReply) → AnswersOpen set r → IsSetReply r
 open_bounded set (reply.Contents contents place) a = absurd a
 open_bounded set (reply.Decided number) a = tt
 open_bounded set reply.Opened a = tt
@@ -87,7 +87,7 @@ open_bounded set (reply.Healed records) a = tt
 open_bounded set (reply.Skipped cause) a = tt
 open_bounded set (reply.Io error) a = tt
 
-index_bounded : (set q : ℕ) (r : SetReply) → AnswersIndex set q r → HasBounds r
+index_bounded : (set q : ℕ) (r : SetReply) → AnswersIndex set q r → IsSetReply r
 index_bounded set q (reply.Contents contents place) a = absurd a
 index_bounded set q (reply.Decided number) a = tt
 index_bounded set q reply.Opened a = tt
@@ -96,7 +96,7 @@ index_bounded set q (reply.Healed records) a = tt
 index_bounded set q (reply.Skipped cause) a = tt
 index_bounded set q (reply.Io error) a = tt
 
-heal_bounded : (cell : Cell) (r : SetReply) → AnswersHeal cell r → HasBounds r
+heal_bounded : (cell : Cell) (r : SetReply) → AnswersHeal cell r → IsSetReply r
 heal_bounded cell (reply.Contents contents place) a = absurd a
 heal_bounded cell (reply.Decided number) a = tt
 heal_bounded cell reply.Opened a = tt
@@ -105,7 +105,7 @@ heal_bounded cell (reply.Healed records) a = tt
 heal_bounded cell (reply.Skipped cause) a = tt
 heal_bounded cell (reply.Io error) a = tt
 
-pub answers_bounded : (set q : ℕ) (j : Job) (r : SetReply) → IsAnsweredBy set q j r → HasBounds r
+pub answers_bounded : (set q : ℕ) (j : Job) (r : SetReply) → IsAnsweredBy set q j r → IsSetReply r
 answers_bounded set q (job.Read cells fd dir) r a = read_bounded set cells (may_lack set dir) r a
 answers_bounded set q (job.Change cells fd o effect) r a = change_bounded set effect r a
 answers_bounded set q (job.Birth cells o) r a = change_bounded set None r a

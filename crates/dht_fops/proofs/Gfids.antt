@@ -1,10 +1,11 @@
 -- The gfids that replies show are within their bounds, if the replies are.
+use Rattle.fop_types.specs.Jobs.{IsSetReply}
 use Rattle.std.proofs.Common.{◌≡◌, ℕ, inl, inr, Bool, true, false, List, [], ◌∷◌, Option, Some, None, IfSome, Result, Ok, Err, if◌then◌else◌, nat_eq, ap, subst}
 use Rattle.std.specs.Cmp.Lexicographic.{pointwise}
 use Rattle.dht_linkto.specs.DirNames.{names_in, names_shown, first_content}
 use Rattle.dht_linkto.specs.declared.names.DirNames.{DirNames}
 use Rattle.dht_fops.proofs.Handing.{IsKnown}
-use Rattle.dht_fops.specs.Handed.{Handed, HasBounds, HaveBounds, Saw, SawName}
+use Rattle.dht_fops.specs.Handed.{Handed, HaveBounds, Saw, SawName}
 use Rattle.dht_fops.specs.Handed.Event.{Replied, Held}
 use Rattle.fop_types.specs.Bounds.{Each, IsItem, IsGfid, IsContent}
 use Rattle.fop_types.specs.Names.{item_named}
@@ -32,7 +33,7 @@ first_items (content ∷ contents) b = content_items content b.0
 shown_items : (one two : DirNames) → ◌≡◌ {A = Result DirNames IoError} (Ok one) (Ok two) → Each IsItem one.items → Each IsItem two.items
 shown_items one two e i = let same : one ≡ two = cc in subst (λ (d : DirNames). Each IsItem d.items) same i
 
-reply_items : (r : SetReply) (shown : DirNames) → HasBounds r → names_in r ≡ Ok shown → Each IsItem shown.items
+reply_items : (r : SetReply) (shown : DirNames) → IsSetReply r → names_in r ≡ Ok shown → Each IsItem shown.items
 reply_items (reply.Contents contents place) shown b e = shown_items (names_shown (first_content contents) place) shown e (first_items contents b)
 reply_items (reply.Decided number) shown b e = shown_items (names_shown None 0) shown e tt
 reply_items reply.Opened shown b e = shown_items (names_shown None 0) shown e tt

@@ -4,11 +4,10 @@ use Rattle.dht_fops.specs.Courses.{Course}
 use Rattle.dht_fops.specs.Courses.Course.{Asks, Extends, Ends}
 use Rattle.dht_fops.specs.Fops.{fop_course}
 use Rattle.dht_fops.specs.Founded.{NamesSets}
-use Rattle.dht_fops.specs.Handed.{HasBounds}
 use Rattle.dht_fops.specs.Volumes.{Kept}
 use Rattle.dht_fops.specs.declared.volume.Volume.{Volume}
 use Rattle.fop_types.specs.Bounds.{Each, IsGfid, IsFop, IsVolumeName}
-use Rattle.fop_types.specs.Jobs.{IsJob, IsAnsweredBy}
+use Rattle.fop_types.specs.Jobs.{IsJob, IsAnsweredBy, IsSetReply}
 use Rattle.fop_types.specs.declared.answers.Answer.{Answer}
 use Rattle.fop_types.specs.declared.answers.FopAnswer.{FopAnswer}
 use Rattle.fop_types.specs.declared.answers.FopAnswer.TheVariants.{Found, Call}
@@ -24,7 +23,7 @@ NamesObject count (Call answer) = Unit {0}
 -- Wherever replies within their bounds lead a course, each job is on a set of the volume and is one that a set takes, the
 -- hold is extended by a gfid within its bounds, and so is an object that is found.
 abbrev pub KeepsBounds : ℕ → Course → Type 0
-KeepsBounds count (Asks set job next) = (set < count) × IsJob job × ((reply : SetReply) → HasBounds reply → KeepsBounds count (next reply))
+KeepsBounds count (Asks set job next) = (set < count) × IsJob job × ((reply : SetReply) → IsSetReply reply → KeepsBounds count (next reply))
 KeepsBounds count (Extends dir next) = IsGfid dir × KeepsBounds count next
 KeepsBounds count (Ends answer place) = NamesObject count answer
 
@@ -35,4 +34,4 @@ FopsKeepBounds = (v : Volume) (names : List (List ℕ)) (kept : Kept) (f : Fop) 
 
 -- A reply that answers its job is within its bounds.
 abbrev pub AnswersHaveBounds : Type 0
-AnswersHaveBounds = (set quorum : ℕ) (job : Job) (reply : SetReply) → IsAnsweredBy set quorum job reply → HasBounds reply
+AnswersHaveBounds = (set quorum : ℕ) (job : Job) (reply : SetReply) → IsAnsweredBy set quorum job reply → IsSetReply reply

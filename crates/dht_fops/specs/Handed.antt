@@ -1,21 +1,19 @@
 -- What a fop was handed in on its way: the replies to its jobs, and the extension of its hold. A fact about a fop before a
 -- job is a fact about these alone, whatever the replies are.
-use Rattle.std.specs.Prelude.{◌≡◌, ◌⊎◌, ℕ, ◌<◌, true, false, List, [], ◌∷◌, Option, Some, Ok, IfSome}
+use Rattle.std.specs.Prelude.{◌≡◌, ◌⊎◌, ℕ, ◌<◌, true, false, List, [], ◌∷◌, Option, Some, Ok}
 use Rattle.dht_fops.specs.Courses.{Course}
 use Rattle.dht_fops.specs.Courses.Course.{Asks, Extends, Ends}
 use Rattle.dht_linkto.specs.DirNames.{names_job, names_in}
 use Rattle.dht_linkto.specs.Known.{is_no_object}
 use Rattle.dht_linkto.specs.declared.names.DirNames.{DirNames}
-use Rattle.fop_types.specs.Bounds.{Each, IsCell, IsContent}
 use Rattle.fop_types.specs.Names.{item_named, is_link, has_real_name}
+use Rattle.fop_types.specs.Jobs.{IsSetReply}
 use Rattle.fop_types.specs.declared.answers.FopAnswer.{FopAnswer}
 use Rattle.fop_types.specs.declared.cells.Gfid.{Gfid}
 use Rattle.fop_types.specs.declared.cells.Kind.{Kind}
-use Rattle.fop_types.specs.declared.contents.Content.{Content}
 use Rattle.fop_types.specs.declared.contents.Item.{Item}
 use Rattle.fop_types.specs.declared.jobs.Job.{Job}
 use Rattle.fop_types.specs.declared.jobs.SetReply.{SetReply}
-use Rattle.fop_types.specs.declared.jobs.SetReply.TheVariants as reply
 
 pub data Event : Type 0 where
   Replied : (set : ℕ) → (job : Job) → (reply : SetReply) → Event
@@ -44,18 +42,8 @@ AnyAnswer handed answer place = Unit {0}
 
 -- ---- replies within their bounds
 
--- each content that a reply shows, and each cell that it lists, is within its bounds; whatever it answers
-abbrev pub HasBounds : SetReply → Type 0
-HasBounds (reply.Contents contents place) = Each (λ (content : Option Content). IfSome content (IsContent true)) contents
-HasBounds (reply.Decided number) = Unit {0}
-HasBounds reply.Opened = Unit {0}
-HasBounds (reply.Listed cells answered short) = Each IsCell cells
-HasBounds (reply.Healed records) = Unit {0}
-HasBounds (reply.Skipped cause) = Unit {0}
-HasBounds (reply.Io error) = Unit {0}
-
 abbrev pub IsBounded : Event → Type 0
-IsBounded (Replied set job reply) = HasBounds reply
+IsBounded (Replied set job reply) = IsSetReply reply
 IsBounded (Held dir) = Unit {0}
 
 abbrev pub HaveBounds : Handed → Type 0

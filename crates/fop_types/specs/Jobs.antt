@@ -105,6 +105,21 @@ IsShortage set (error.Fault of_set faults lost) = of_set ≡ set
 abbrev pub IsShortBy : ℕ → ℕ → Mask → Option IoError → Type 0
 IsShortBy set q answered short = (is_some short ≡ nat_lt (count_ones answered.0) q) × IfSome short (IsShortage set)
 
+-- ---- bounds of a reply
+
+abbrev pub AreContents : List (Option Content) → Type 0
+AreContents contents = Each (λ (content : Option Content). IfSome content (IsContent true)) contents
+
+-- each content that a reply shows, and each cell that it lists, is within its bounds, whatever it answers
+abbrev pub IsSetReply : SetReply → Type 0
+IsSetReply (reply.Contents contents place) = AreContents contents
+IsSetReply (reply.Decided number) = Unit {0}
+IsSetReply reply.Opened = Unit {0}
+IsSetReply (reply.Listed cells answered short) = Each IsCell cells
+IsSetReply (reply.Healed records) = Unit {0}
+IsSetReply (reply.Skipped cause) = Unit {0}
+IsSetReply (reply.Io error) = Unit {0}
+
 -- the replies that answer a job
 abbrev pub AnswersRead : ℕ → List Cell → Bool → SetReply → Type 0
 AnswersRead set cells may_lack (reply.Contents contents place) = AreContentsOf may_lack cells contents

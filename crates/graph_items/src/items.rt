@@ -1,8 +1,8 @@
 //! What nodes hand to one another.
 ghost use Rattle.std.specs.Prelude.{◌≡◌, true};
 ghost use Rattle.fop_types.specs.Bounds.{IsFop, IsReq, IsRep};
-ghost use Rattle.fop_types.specs.Jobs.{IsJob};
-ghost use Rattle.graph_items.specs.Items.{IsSetReply, RequestValue, ReplyValue};
+ghost use Rattle.fop_types.specs.Jobs.{IsJob, IsSetReply};
+ghost use Rattle.graph_items.specs.Items.{RequestValue, ReplyValue};
 
 use fop_types::{BrickRep, BrickReq, Fop, FopAnswer, Job, SetReply};
 use std::marker::Model;
@@ -138,7 +138,7 @@ pub struct SetAnswer {
 
 impl Model for SetAnswer {
     ghost use Rattle.fop_types.specs.declared.jobs.SetReply.{SetReply};
-    ghost use Rattle.graph_items.specs.Items.{IsSetReply};
+    ghost use Rattle.fop_types.specs.Jobs.{IsSetReply};
 
     ghost Value = { SetReply };
 
