@@ -87,6 +87,20 @@ impl Client {
         self.connection
     }
 
+    /// The number of the last connection, 0 where there was none.
+    pub fn last(&self) -> u32
+        ensures { result ≡ self.now.last }
+    {
+        self.last
+    }
+
+    /// Whether a request that is bound to this connection, or to none, goes out.
+    pub fn reaches(&self, bound: Option<u32>) -> bool
+        ensures { result ≡ is_reachable self.now.connection bound }
+    {
+        is_reachable(self.connection, bound)
+    }
+
     /// Notes that an open of that number and gfid was answered Done on the open connection; it changes
     /// nothing where none is open. The table grows in the allocator that it was made with.
     ///
