@@ -105,14 +105,14 @@ module _ (u : ℕ) (cells : List Cell) (store : Store) (whole : (c d : Cell) →
 -- ---- one brick
 
 module _ (changes : ℕ → Change) (fit : ChangesFit changes) (u : ℕ) where
-  abbrev Whole : Store → Type 0
+  abbrev pub Whole : Store → Type 0
   Whole store = (c d : Cell) → has_cell (changes u).cells c ≡ true → has_cell (changes u).cells d ≡ true → has_change (changes_of (store c).copy) u ≡ has_change (changes_of (store d).copy) u
 
   own_needs : (v : ℕ) (op : StoreOp) → IsOpOf changes v op → u ≡ v → needs op ≡ (changes u).cells
   own_needs v op (inl birth) same = birth.1 ∙ sym (ap (λ n. (changes n).cells) (same ∙ birth.0) ∙ fit.none)
   own_needs v op (inr sent) same = ap needs sent.1 ∙ sym (fit.needs_are v) ∙ ap (λ n. (changes n).cells) (sym same)
 
-  move_whole : (may : List Input → Type 0) (old new : Brick) → BrickMove may old new → EachInput (λ by ask. Carries changes ask) old.line → NextIsNoCopy old.line → Whole old.store → Whole new.store
+  pub move_whole : (may : List Input → Type 0) (old new : Brick) → BrickMove may old new → EachInput (λ by ask. Carries changes ask) old.line → NextIsNoCopy old.line → Whole old.store → Whole new.store
   move_whole may old new (Stays is) carries none w = subst (λ (b : Brick). Whole b.store) (sym is) w
   move_whole may old new (Takes inputs its is) carries none w = subst (λ (b : Brick). Whole b.store) (sym is) w
   move_whole may old new (Hands first rest front is) carries none w = subst (λ (b : Brick). Whole b.store) (sym is) w

@@ -64,6 +64,14 @@ IsSoundIn size phase cell i = IsSound (rows_in size phase cell) size.replicas si
 abbrev pub IsSoundOn : Size → Phase → List Cell → ℕ → Type 0
 IsSoundOn size phase cells i = (cell : Cell) → has_cell cells cell ≡ true → IsSoundIn size phase cell i
 
+-- some replica is sound on the cell
+pub record HasSound (size : Size) (phase : Phase) (cell : Cell) : Type 0 where
+  pub member : ℕ
+  pub sound : IsSoundIn size phase cell member
+
+abbrev pub EachHasSound : Size → Phase → Type 0
+EachHasSound size phase = (cell : Cell) → has_cell phase.cells cell ≡ true → HasSound size phase cell
+
 -- the replica received a copy of the cell: itself and a quorum confirmed the clear
 pub record IsCopiedIn (size : Size) (phase : Phase) (cell : Cell) (i : ℕ) : Type 0 where
   pub itself : phase.cleared i cell i ≡ true

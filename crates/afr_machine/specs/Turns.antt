@@ -15,7 +15,7 @@ use Rattle.afr_machine.specs.Touching.{has_cell}
 use Rattle.afr_machine.specs.Copies.{nothing_kept, row_of}
 use Rattle.afr_machine.specs.Changes.{is_unsettled, touches, any_touches}
 use Rattle.afr_machine.specs.Changes.Verdict.{Drawn}
-use Rattle.afr_machine.specs.Phases.{Phase, Deciding, IsSoundIn, IsSoundOn, IsReadyIn}
+use Rattle.afr_machine.specs.Phases.{Phase, Deciding, IsSoundIn, IsSoundOn, EachHasSound, IsReadyIn}
 use Rattle.afr_machine.specs.Phases.Deciding.{NoChange, ByPosts, BySettles}
 use Rattle.afr_machine.specs.Transactions.{Work, Grant, CopyRun, Stage, Txn, cells_of_job, locks_shared, settles_first, needs_locks, decided_by, new_txn}
 pub use Rattle.afr_machine.specs.Transactions.{may_hold}
@@ -211,10 +211,17 @@ abbrev pub IsSink : Size → Phase → List Cell → Option Replicas → ℕ →
 IsSink size phase cells None i = (cell : Cell) → has_cell cells cell ≡ true → ¬ IsSoundIn size phase cell i
 IsSink size phase cells (Some group) i = group i ≡ false
 
+-- Before a copy for its own job, each cell of the lock phase has a sound member: a change that finds a cell without one is
+-- split and copies none of its cells, a heal skips such a cell. After a settling only its group's rows count.
+abbrev pub IsNotSplit : Size → Phase → Option Replicas → Type 0
+IsNotSplit size phase None = EachHasSound size phase
+IsNotSplit size phase (Some group) = Unit {0}
+
 pub record MayCopyNow (size : Size) (m : State) (t : ℕ) (run : CopyRun) : Type 0 where
   pub answered : IsAnswered size (m.txns t)
   pub allowed : MayCopyAs m t (m.txns t).work run.group
   pub many : IsConfirmed size (m.txns t) (m.txns t).stage
+  pub not_split : IsNotSplit size (phase_of m t) run.group
   pub within : (cell : Cell) → has_cell run.cells cell ≡ true → has_cell (phase_of m t).cells cell ≡ true
   pub sources_are : (i : ℕ) → run.sources i ≡ true → (i < size.replicas) × ((phase_of m t).reached i ≡ true) × IsSource size (phase_of m t) run.cells run.group i
   pub sinks_are : (i : ℕ) → run.sinks i ≡ true → (i < size.replicas) × (members m t i ≡ true) × IsSink size (phase_of m t) run.cells run.group i

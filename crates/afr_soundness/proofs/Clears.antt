@@ -12,8 +12,7 @@ use Rattle.afr_machine.specs.Requests.Input.{Asked, Steered}
 use Rattle.afr_machine.specs.Requests.Answer.{Done, Rows, Gone}
 use Rattle.afr_machine.specs.Bricks.{Brick, stored_by, answer_of}
 use Rattle.afr_machine.specs.Phases.{Phase}
-use Rattle.afr_machine.specs.Transactions.{CopyRun, Stage, Txn}
-use Rattle.afr_machine.specs.Transactions.Work.{Own, Settles}
+use Rattle.afr_machine.specs.Transactions.{CopyRun, Stage}
 use Rattle.afr_machine.specs.Transactions.Stage.{Copying}
 use Rattle.afr_machine.specs.States.{State, phase_of}
 use Rattle.afr_machine.specs.Births.{cells_of_work}
@@ -31,7 +30,6 @@ use Rattle.afr_laws.specs.Sound.{comes, accusers_coming, IsSpared}
 use Rattle.afr_laws.proofs.Bools.{apart_bools, both_left, both_right, either_way, neither_left, neither, or_last}
 use Rattle.afr_laws.proofs.Counts.{quorums_meet}
 use Rattle.afr_laws.proofs.Accusers.{accusers_follow}
-use Rattle.afr_laws.proofs.Flying.{on_their_way}
 use Rattle.afr_laws.proofs.Copies.Served.{served_store, steered_store}
 use Rattle.afr_laws.proofs.Fresh.Phased.{PhasesGo}
 use Rattle.afr_laws.proofs.Fresh.Known.{phases_are_known}
@@ -42,7 +40,7 @@ use Rattle.afr_laws.proofs.Overtaken.Steps.{PhaseFrom, phase_from}
 use Rattle.afr_laws.proofs.Overtaken.Steps.PhaseFrom.{Old, Now}
 use Rattle.afr_soundness.specs.Replies.{IsReplyIn}
 use Rattle.afr_soundness.specs.Clears.{ShowsCleared, ClearsAreDone, IsClearedAt, ClearedAccuseNone, CopiedIsFree, EveryCopiedIsFree}
-use Rattle.afr_soundness.proofs.TxnMoves.{TxnMove, txn_moves}
+use Rattle.afr_soundness.proofs.States.{phase_stays}
 use Rattle.afr_soundness.proofs.PhaseMoves.{IsHandedIn, PhaseMove, phase_moves}
 use Rattle.afr_soundness.proofs.Deciding.Whose.{decides_exactly}
 use Rattle.afr_soundness.proofs.Takers.Asked.{asked_are_members}
@@ -80,27 +78,6 @@ module _ (size : Size) (is_size : IsSize size) (m : State) (r : IsReached size m
   next : IsReached size (after size m step)
   next = IsReached.Further m step r allowed
 
-  -- a transaction stays behind its lock phase
-  phase_stays : (t : ℕ) → is_behind (m.txns t).stage ≡ true → (new.txns t).phase ≡ (m.txns t).phase
-  phase_stays t behind = by_case (txn_moves size m step allowed t) where
-    by_case : TxnMove size m step t (new.txns t) → (new.txns t).phase ≡ (m.txns t).phase
-    by_case (TxnMove.Goes none g) = g.task.phase
-    by_case (TxnMove.Begins graph own step_is at is) = apart_bools behind (ap is_behind ((on_their_way size m r).unbegun t (omega (arith, at))))
-    by_case (TxnMove.Locks Own step_is h is) = ap (λ (z : Txn). z.phase) is
-    by_case (TxnMove.Locks (Settles u) step_is h is) = ap (λ (z : Txn). z.phase) is
-    by_case (TxnMove.Reaches step_is h is) = apart_bools behind (ap is_behind h.turn)
-    by_case (TxnMove.Marks step_is h is) = ap (λ (z : Txn). z.phase) is
-    by_case (TxnMove.Unsettles step_is h is) = ap (λ (z : Txn). z.phase) is
-    by_case (TxnMove.Posts step_is h is) = ap (λ (z : Txn). z.phase) is
-    by_case (TxnMove.SettlesAs group adopts step_is h is) = ap (λ (z : Txn). z.phase) is
-    by_case (TxnMove.Bears step_is h is) = ap (λ (z : Txn). z.phase) is
-    by_case (TxnMove.Copies run step_is h is) = ap (λ (z : Txn). z.phase) is
-    by_case (TxnMove.Clears step_is h is) = ap (λ (z : Txn). z.phase) is
-    by_case (TxnMove.Polls step_is h is) = ap (λ (z : Txn). z.phase) is
-    by_case (TxnMove.Unlocks step_is h is) = ap (λ (z : Txn). z.phase) is
-    by_case (TxnMove.Rests step_is h is) = ap (λ (z : Txn). z.phase) is
-    by_case (TxnMove.Ends step_is h is) = ap (λ (z : Txn). z.phase) is
-
   keeps_none : (p k i : ℕ) (cell : Cell) → 1 ≤ p → p ≤ m.ended → has_cell (m.phases p).cells cell ≡ true → (m.phases p).reached k ≡ true → IsSpared m p cell i → accuses_at (m.bricks k).store cell i ≡ false → accuses_at (new.bricks k).store cell i ≡ false
   keeps_none p k i cell one low covers reached spared none =
       store_spares (IsTaken m step k) (m.bricks k) (new.bricks k) cell i (spared_are_left size m is_size r p k i cell one low covers reached spared) none (bricks_move size m step allowed k)
@@ -132,7 +109,7 @@ module _ (size : Size) (is_size : IsSize size) (m : State) (r : IsReached size m
       let before = links_back size m step allowed k by.graph by.connection (reply_numbered size m r k by (Clear cells who) answer one).connection current in
       let c = clear_known k by cells who (reply_awaited size m r k by (Clear cells who) answer refl before one) in
       let low : (m.txns by.txn).phase ≤ m.ended = (phases_are_known size m r by.txn).low in
-      let earlier : IsSpared m (m.txns by.txn).phase cell i = was_spared size m step (m.txns by.txn).phase low cell i (subst (λ q. IsSpared new q cell i) (phase_stays by.txn c.behind) spared) in
+      let earlier : IsSpared m (m.txns by.txn).phase cell i = was_spared size m step (m.txns by.txn).phase low cell i (subst (λ q. IsSpared new q cell i) (phase_stays size m r step allowed by.txn c.behind) spared) in
       keeps_none (m.txns by.txn).phase k i cell (one_of by.txn c.behind) low (c.covers cell has) c.reached earlier (was done before cell i has in_it earlier)
   shows_on k by other answer one was done = tt
 

@@ -19,6 +19,7 @@ use Rattle.afr_soundness.specs.Later.{IsOf, IsQuietFor, IsOwnPhase, HasFreeOnAll
 use Rattle.afr_soundness.proofs.Deciding.Whose.{decides_exactly}
 use Rattle.afr_soundness.proofs.Takers.Steps.{takers_are}
 use Rattle.afr_soundness.proofs.Free.{ready_is_free}
+use Rattle.afr_soundness.proofs.Marked.{each_is_marked}
 use Rattle.afr_soundness.proofs.Later.Steps.{later_are_quiet}
 
 module _ (size : Size) (m : State) (is : IsSize size) (r : IsReached size m) (p u : ℕ) (unsettled : is_unsettled (m.changes u).verdict ≡ true) (mine : IsOwnPhase m p u) where
@@ -62,9 +63,10 @@ module _ (size : Size) (m : State) (is : IsSize size) (r : IsReached size m) (p 
           ((later_are_quiet size m r).deciding p at u mine.one mine.decides unsettled (record { later = beyond; ended = low; common = share_at (m.phases at).cells (m.changes u).cells cell covers (sym (ap (λ cs. has_cell cs cell) cells_are) ∙ has) }))
           (d.accused at (omega (arith, beyond)) low)
 
-  free_on_all : HasFreeOnAll size m p u
+  pub free_on_all : HasFreeOnAll size m p u
   free_on_all = record {
     replica = taker.taker;
+    low = taker.takes.replica;
     reached = taker.takes.reached;
     free = λ cell has.
         let covers : has_cell (m.phases p).cells cell ≡ true = ap (λ cs. has_cell cs cell) cells_are ∙ has in
@@ -72,4 +74,4 @@ module _ (size : Size) (m : State) (is : IsSize size) (r : IsReached size m) (p 
   }
 
 pub unsettled_has_free : EveryUnsettledHasFree
-unsettled_has_free size m is r = record { later = later_are_quiet size m r; free = λ p u unsettled mine. free_on_all size m is r p u unsettled mine }
+unsettled_has_free size m is r = record { later = later_are_quiet size m r; marked = each_is_marked size m r; free = λ p u unsettled mine. free_on_all size m is r p u unsettled mine }

@@ -1,3 +1,2 @@
 -- Replacements that were confirmed.
-pub mod Heard
 pub mod Steps

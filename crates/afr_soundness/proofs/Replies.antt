@@ -139,7 +139,7 @@ module _ (P : Sender → Ask → Answer → Type 0) where
 
 -- ---- replies on their way, on the open connection
 
-abbrev IsIn : Ask → List Ask → Type 0
+abbrev pub IsIn : Ask → List Ask → Type 0
 IsIn ask [] = ⊥
 IsIn ask (a ∷ as1) = (ask ≡ a) ⊎ IsIn ask as1
 
@@ -148,7 +148,7 @@ in_left ask [] ys h = absurd h
 in_left ask (x ∷ xs) ys (inl is) = inl is
 in_left ask (x ∷ xs) ys (inr later) = inr (in_left ask xs ys later)
 
-reply_flies : (mine : Sender → Bool) (by : Sender) (ask : Ask) (answer : Answer) (os : List Output) → mine by ≡ true → IsReplyIn by ask answer os → IsIn ask (in_outputs mine os)
+pub reply_flies : (mine : Sender → Bool) (by : Sender) (ask : Ask) (answer : Answer) (os : List Output) → mine by ≡ true → IsReplyIn by ask answer os → IsIn ask (in_outputs mine os)
 reply_flies mine by ask answer [] own is = absurd is
 reply_flies mine by ask answer (Answered b a r ∷ os) own (inl is) = subst (λ c. IsIn ask (if c then a ∷ in_outputs mine os else in_outputs mine os)) (sym (sym (ap mine is.0) ∙ own)) (inl is.1.0)
 reply_flies mine by ask answer (Answered b a r ∷ os) own (inr is) = by_case (reply_flies mine by ask answer os own is) (mine b) where

@@ -1,5 +1,5 @@
 -- What a transaction that copies knows of its sources and sinks, over every list of steps.
-use Rattle.std.proofs.Common.{◌≡◌, ◌∙◌, ℕ, ◌≤◌, Bool, true, false, refl, sym, ap, subst, arith, Option, Some, None}
+use Rattle.std.proofs.Common.{◌≡◌, ◌∙◌, ℕ, ◌≤◌, true, false, refl, sym, ap, subst, arith, Option, Some, None}
 use Rattle.std.specs.Prelude.{if◌then◌else◌, not, List}
 use Rattle.fop_types.specs.declared.cells.Cell.{Cell}
 use Rattle.fop_types.specs.declared.contents.Row.{Row}
@@ -8,19 +8,20 @@ use Rattle.fop_types.specs.declared.jobs.Job.TheVariants as job
 use Rattle.afr_changelog.specs.Soundness.{IsSound}
 use Rattle.afr_machine.specs.Replicas.{Size, Replicas}
 use Rattle.afr_machine.specs.Touching.{has_cell}
-use Rattle.afr_machine.specs.Phases.{Phase, rows_up_to, IsSoundIn}
+use Rattle.afr_machine.specs.Phases.{Phase, rows_up_to, IsSoundIn, EachHasSound}
 use Rattle.afr_machine.specs.Transactions.{Work, CopyRun, Stage, Txn}
 use Rattle.afr_machine.specs.Transactions.Work.{Own, Settles}
 use Rattle.afr_machine.specs.Transactions.Stage.{Copying}
 use Rattle.afr_machine.specs.States.{State, phase_of}
 use Rattle.afr_machine.specs.Answering.{passed}
-use Rattle.afr_machine.specs.Turns.{MayCopyNow, MayCopyAs, MayCopyFor, IsSource, IsSink}
+use Rattle.afr_machine.specs.Turns.{MayCopyNow, MayCopyAs, MayCopyFor, IsNotSplit, IsSource, IsSink}
 use Rattle.afr_machine.specs.Steps.{Step, Allowed, after, IsReached}
 use Rattle.afr_laws.proofs.Bools.{both_left}
 use Rattle.afr_laws.proofs.Fresh.Known.{phases_are_known}
 use Rattle.afr_laws.proofs.Fresh.Phased.{PhasesGo}
 use Rattle.afr_laws.proofs.Fresh.Steps.{step_phases}
-use Rattle.afr_soundness.specs.Runs.{IsUntouchedFor, KnowsRun, EachRunIsKnown, EveryCopyKnowsItsSources}
+use Rattle.afr_soundness.specs.Runs.{IsUntouchedFor, KnowsRun, EachRunIsKnown}
+use Rattle.afr_soundness.specs.Copied.{is_copying}
 use Rattle.afr_soundness.proofs.TxnMoves.{SameRun, StageKeeps, TxnMove, txn_moves}
 use Rattle.afr_soundness.proofs.TxnMoves.StageKeeps.{StaysIn, PassesOn, CopiesOn}
 use Rattle.afr_soundness.proofs.PhaseMoves.{PhaseMove, phase_moves}
@@ -36,10 +37,6 @@ record IsSameCopy (old new : CopyRun) : Type 0 where
 
 same_copy : (old new : CopyRun) → SameRun old new → IsSameCopy old new
 same_copy old new s = record { cells = s.cells; sources = s.sources; sinks = s.sinks; group = s.group }
-
-abbrev pub is_copy : Stage → Bool
-is_copy (Copying other) = true
-is_copy other = false
 
 pub record IsRunBefore (old : Stage) (run : CopyRun) : Type 0 where
   pub before : CopyRun
@@ -80,14 +77,24 @@ module _ (size : Size) (old new : Phase) (reached : new.reached ≡ old.reached)
   source_stays cells None i h = λ cell has. sound_stays cell i (h cell has)
   source_stays cells (Some g) i h = (h.0, λ cell has. sound_stays cell i (h.1 cell has))
 
+pub has_sound_stays : (size : Size) (old new : Phase) → new.cells ≡ old.cells → new.reached ≡ old.reached → new.rows ≡ old.rows → EachHasSound size old → EachHasSound size new
+has_sound_stays size old new cells reached rows h cell has =
+    let s = h cell (sym (ap (λ cs. has_cell cs cell) cells) ∙ has) in
+    record { member = s.member; sound = sound_stays size old new reached rows cell s.member s.sound }
+
+not_split_stays : (size : Size) (old new : Phase) → new.cells ≡ old.cells → new.reached ≡ old.reached → new.rows ≡ old.rows → (group : Option Replicas) → IsNotSplit size old group → IsNotSplit size new group
+not_split_stays size old new cells reached rows None h = has_sound_stays size old new cells reached rows h
+not_split_stays size old new cells reached rows (Some g) h = tt
+
 sink_stays : (size : Size) (old new : Phase) → new.reached ≡ old.reached → new.rows ≡ old.rows → (cells : List Cell) (group : Option Replicas) (i : ℕ) → IsSink size old cells group i → IsSink size new cells group i
 sink_stays size old new reached rows cells None i h = λ cell has sound. h cell has (sound_stays size new old (sym reached) (sym rows) cell i sound)
 sink_stays size old new reached rows cells (Some g) i h = h
 
-untouched_stays : (own : Job) (group : Option Replicas) (old new : Phase) → new.untouched ≡ old.untouched → IsUntouchedFor own group old → IsUntouchedFor own group new
-untouched_stays (job.Heal cell) None old new same h = same ∙ h
-untouched_stays (job.Heal cell) (Some g) old new same h = tt
-untouched_stays other group old new same h = tt
+untouched_stays : (group : Option Replicas) (own : Job) (old new : Phase) → new.untouched ≡ old.untouched → IsUntouchedFor group own old → IsUntouchedFor group own new
+untouched_stays (Some g) own old new same h = tt
+untouched_stays None (job.Change cells fd op effect) old new same h = tt
+untouched_stays None (job.Heal cell) old new same h = same ∙ h
+untouched_stays None other old new same h = absurd h
 
 module _ (size : Size) (m : State) (r : IsReached size m) (was : EachRunIsKnown size m) (step : Step) (allowed : Allowed size m step) (t : ℕ) where
   abbrev new : State
@@ -114,6 +121,7 @@ module _ (size : Size) (m : State) (r : IsReached size m) (was : EachRunIsKnown 
   -- a copy of the same cells from the same sources, behind the same lock phase
   stays : (before run : CopyRun) → IsSameCopy before run → KnowsRun size (phase_of m t) (m.txns t).job before → KnowsRun size (new.phases (m.txns t).phase) (m.txns t).job run
   stays before run same k = record {
+    not_split = not_split_stays size (phase_of m t) (new.phases (m.txns t).phase) (goes.cells (m.txns t).phase low) (goes.reached (m.txns t).phase low) (goes.rows (m.txns t).phase low) run.group (subst (IsNotSplit size (phase_of m t)) (sym same.group) k.not_split);
     within = λ cell has. ap (λ cs. has_cell cs cell) (goes.cells (m.txns t).phase low) ∙ k.within cell (ap (λ cs. has_cell cs cell) (sym same.cells) ∙ has);
     sources_are = λ i is. let s = k.sources_are i (ap (λ (f : Replicas). f i) (sym same.sources) ∙ is) in record {
       replica = s.replica;
@@ -129,17 +137,19 @@ module _ (size : Size) (m : State) (r : IsReached size m) (was : EachRunIsKnown 
     source_in = ap (λ (f : Replicas). f k.source) same.sources ∙ k.source_in;
     cell = k.cell;
     cell_in = ap (λ cs. has_cell cs k.cell) same.cells ∙ k.cell_in;
-    untouched = untouched_stays (m.txns t).job run.group (phase_of m t) (new.phases (m.txns t).phase) untouched (subst (λ g. IsUntouchedFor (m.txns t).job g (phase_of m t)) (sym same.group) k.untouched);
+    untouched = untouched_stays run.group (m.txns t).job (phase_of m t) (new.phases (m.txns t).phase) untouched (subst (λ g. IsUntouchedFor g (m.txns t).job (phase_of m t)) (sym same.group) k.untouched);
   }
 
-  begins_untouched : (work : Work) (group : Option Replicas) (own : Job) → MayCopyAs m t work group → (m.txns t).job ≡ own → IsUntouchedFor own group (phase_of m t)
+  begins_untouched : (work : Work) (group : Option Replicas) (own : Job) → MayCopyAs m t work group → (m.txns t).job ≡ own → IsUntouchedFor group own (phase_of m t)
+  begins_untouched work (Some g) own h is = tt
+  begins_untouched (Settles u) None own h is = absurd h
+  begins_untouched Own None (job.Change cells fd op effect) h is = tt
   begins_untouched Own None (job.Heal cell) h is = subst (MayCopyFor m t) is h.1
-  begins_untouched (Settles u) None (job.Heal cell) h is = absurd h
-  begins_untouched work (Some g) (job.Heal cell) h is = tt
-  begins_untouched work group other h is = tt
+  begins_untouched Own None other h is = absurd (subst (MayCopyFor m t) is h.1)
 
   begins : (run : CopyRun) → MayCopyNow size m t run → KnowsRun size (phase_of m t) (m.txns t).job run
   begins run h = record {
+    not_split = h.not_split;
     within = h.within;
     sources_are = λ i is. let s = h.sources_are i is in record { replica = s.0; reached = s.1; source = s.2 };
     sinks_are = λ i is. let s = h.sinks_are i is in record { replica = s.0; reached = both_left ((phase_of m t).reached i) (not ((m.txns t).out i)) s.1; sink = s.2 };
@@ -158,8 +168,8 @@ module _ (size : Size) (m : State) (r : IsReached size m) (was : EachRunIsKnown 
         (subst (λ j. KnowsRun size (new.phases (m.txns t).phase) j run) (sym (ap (λ (z : Txn). z.job) is ∙ own)) k)
 
     -- a stage that copies nothing
-    none : (y : Txn) → new.txns t ≡ y → is_copy y.stage ≡ false → KnowsRun size (phase_of new t) (new.txns t).job run
-    none y is free = absurd (let e : false ≡ true = sym free ∙ ap (λ (z : Txn). is_copy z.stage) (sym is) ∙ ap is_copy copies in cc)
+    none : (y : Txn) → new.txns t ≡ y → is_copying y.stage ≡ false → KnowsRun size (phase_of new t) (new.txns t).job run
+    none y is free = absurd (let e : false ≡ true = sym free ∙ ap (λ (z : Txn). is_copying z.stage) (sym is) ∙ ap is_copying copies in cc)
 
     known_after : TxnMove size m step t (new.txns t) → KnowsRun size (phase_of new t) (new.txns t).job run
     known_after (TxnMove.Goes quiet g) =
@@ -187,6 +197,6 @@ module _ (size : Size) (m : State) (r : IsReached size m) (was : EachRunIsKnown 
 
 -- ---- every list of steps
 
-pub runs_are_known : EveryCopyKnowsItsSources
-runs_are_known size m IsReached.Start = λ t run copies. absurd (let e : false ≡ true = ap is_copy copies in cc)
+pub runs_are_known : (size : Size) (m : State) → IsReached size m → EachRunIsKnown size m
+runs_are_known size m IsReached.Start = λ t run copies. absurd (let e : false ≡ true = ap is_copying copies in cc)
 runs_are_known size m (IsReached.Further old step reached allowed) = λ t run copies. known_after size old reached (runs_are_known size old reached) step allowed t run copies (txn_moves size old step allowed t)

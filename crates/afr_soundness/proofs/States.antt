@@ -1,19 +1,23 @@
--- What no step takes back: numbers that were drawn, and transactions that have begun.
-use Rattle.std.proofs.Common.{◌≡◌, ℕ, ◌≤◌, Bool, true, false, refl, arith, Option, Some, None}
+-- What no step takes back: numbers that were drawn, transactions that have begun, and the lock phase that one is behind.
+use Rattle.std.proofs.Common.{◌≡◌, ◌∙◌, ℕ, ◌≤◌, Bool, true, false, refl, ap, arith, Option, Some, None}
 use Rattle.std.specs.Prelude.{List, [], ◌∷◌}
 use Rattle.fop_types.specs.declared.jobs.Job.{Job}
 use Rattle.fop_types.specs.declared.jobs.Job.TheVariants as job
 use Rattle.afr_machine.specs.Replicas.{Size}
 use Rattle.afr_machine.specs.Requests.{Output}
-use Rattle.afr_machine.specs.Transactions.{Work, Stage}
+use Rattle.afr_machine.specs.Transactions.{Work, Stage, Txn}
 use Rattle.afr_machine.specs.Transactions.Work.{Own, Settles}
 use Rattle.afr_machine.specs.Transactions.Stage.{Marking, Applying, Copying}
 use Rattle.afr_machine.specs.States.{State}
 use Rattle.afr_machine.specs.Answering.{without_first_output}
 use Rattle.afr_machine.specs.Turns.{Turn, after_turn, drawing, posting, settling, bearing, clearing}
-use Rattle.afr_machine.specs.Steps.{Step, Allowed, after, take_in_front, unsettling, deciding, decided, decided_by}
+use Rattle.afr_machine.specs.Steps.{Step, Allowed, after, IsReached, take_in_front, unsettling, deciding, decided, decided_by}
 use Rattle.afr_machine.proofs.Keeping.{taken_in_beside}
+use Rattle.afr_laws.specs.Fresh.{is_behind}
+use Rattle.afr_laws.proofs.Bools.{apart_bools}
+use Rattle.afr_laws.proofs.Flying.{on_their_way}
 use Rattle.afr_laws.proofs.Goes.{step_begun}
+use Rattle.afr_soundness.proofs.TxnMoves.{TxnMove, txn_moves}
 
 pub same_drawn : (m new : State) → new.drawn ≡ m.drawn → m.drawn ≤ new.drawn
 same_drawn m new is = omega (arith, is)
@@ -69,3 +73,52 @@ drawn_goes size m other h = omega arith
 pub begun_goes : (size : Size) (m : State) (step : Step) → Allowed size m step → m.begun ≤ (after size m step).begun
 begun_goes size m (Step.Turns t (Turn.Begins graph own)) h = omega (arith, h.0)
 begun_goes size m step h = omega (arith, step_begun size m step refl)
+
+-- a transaction behind its lock phase stays behind it
+module _ (size : Size) (m : State) (r : IsReached size m) (step : Step) (allowed : Allowed size m step) where
+  abbrev new : State
+  new = after size m step
+
+  pub phase_stays : (t : ℕ) → is_behind (m.txns t).stage ≡ true → (new.txns t).phase ≡ (m.txns t).phase
+  phase_stays t behind = by_case (txn_moves size m step allowed t) where
+    by_case : TxnMove size m step t (new.txns t) → (new.txns t).phase ≡ (m.txns t).phase
+    by_case (TxnMove.Goes none g) = g.task.phase
+    by_case (TxnMove.Begins graph own step_is at is) = apart_bools behind (ap is_behind ((on_their_way size m r).unbegun t (omega (arith, at))))
+    by_case (TxnMove.Locks Own step_is h is) = ap (λ (z : Txn). z.phase) is
+    by_case (TxnMove.Locks (Settles u) step_is h is) = ap (λ (z : Txn). z.phase) is
+    by_case (TxnMove.Reaches step_is h is) = apart_bools behind (ap is_behind h.turn)
+    by_case (TxnMove.Marks step_is h is) = ap (λ (z : Txn). z.phase) is
+    by_case (TxnMove.Unsettles step_is h is) = ap (λ (z : Txn). z.phase) is
+    by_case (TxnMove.Posts step_is h is) = ap (λ (z : Txn). z.phase) is
+    by_case (TxnMove.SettlesAs group adopts step_is h is) = ap (λ (z : Txn). z.phase) is
+    by_case (TxnMove.Bears step_is h is) = ap (λ (z : Txn). z.phase) is
+    by_case (TxnMove.Copies run step_is h is) = ap (λ (z : Txn). z.phase) is
+    by_case (TxnMove.Clears step_is h is) = ap (λ (z : Txn). z.phase) is
+    by_case (TxnMove.Polls step_is h is) = ap (λ (z : Txn). z.phase) is
+    by_case (TxnMove.Unlocks step_is h is) = ap (λ (z : Txn). z.phase) is
+    by_case (TxnMove.Rests step_is h is) = ap (λ (z : Txn). z.phase) is
+    by_case (TxnMove.Ends step_is h is) = ap (λ (z : Txn). z.phase) is
+
+  -- and one that is behind a lock phase goes on with its work
+  pub work_stays : (t : ℕ) → is_behind (new.txns t).stage ≡ true → (new.txns t).work ≡ (m.txns t).work
+  work_stays t behind = by_case (txn_moves size m step allowed t) where
+    none : (y : Txn) → new.txns t ≡ y → is_behind y.stage ≡ false → (new.txns t).work ≡ (m.txns t).work
+    none y is free = apart_bools behind (ap (λ (z : Txn). is_behind z.stage) is ∙ free)
+
+    by_case : TxnMove size m step t (new.txns t) → (new.txns t).work ≡ (m.txns t).work
+    by_case (TxnMove.Goes quiet g) = g.task.work
+    by_case (TxnMove.Begins graph own step_is at is) = none _ is refl
+    by_case (TxnMove.Locks Own step_is h is) = none _ is refl
+    by_case (TxnMove.Locks (Settles u) step_is h is) = none _ is refl
+    by_case (TxnMove.Reaches step_is h is) = ap (λ (z : Txn). z.work) is
+    by_case (TxnMove.Marks step_is h is) = ap (λ (z : Txn). z.work) is
+    by_case (TxnMove.Unsettles step_is h is) = ap (λ (z : Txn). z.work) is
+    by_case (TxnMove.Posts step_is h is) = ap (λ (z : Txn). z.work) is
+    by_case (TxnMove.SettlesAs group adopts step_is h is) = ap (λ (z : Txn). z.work) is
+    by_case (TxnMove.Bears step_is h is) = ap (λ (z : Txn). z.work) is
+    by_case (TxnMove.Copies run step_is h is) = ap (λ (z : Txn). z.work) is
+    by_case (TxnMove.Clears step_is h is) = ap (λ (z : Txn). z.work) is
+    by_case (TxnMove.Polls step_is h is) = ap (λ (z : Txn). z.work) is
+    by_case (TxnMove.Unlocks step_is h is) = ap (λ (z : Txn). z.work) is
+    by_case (TxnMove.Rests step_is h is) = none _ is refl
+    by_case (TxnMove.Ends step_is h is) = ap (λ (z : Txn). z.work) is

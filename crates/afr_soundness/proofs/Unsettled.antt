@@ -29,7 +29,7 @@ use Rattle.afr_soundness.proofs.Deciding.Kept.{keeps_test}
 use Rattle.afr_soundness.proofs.Deciding.Whose.{unsettled_was}
 use Rattle.afr_soundness.proofs.TxnMoves.{StageKeeps}
 
-decided_is_not : (b : Bool) → is_unsettled (verdict_of b) ≡ false
+pub decided_is_not : (b : Bool) → is_unsettled (verdict_of b) ≡ false
 decided_is_not true = refl
 decided_is_not false = refl
 

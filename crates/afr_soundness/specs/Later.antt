@@ -46,6 +46,18 @@ pub record LaterAreQuiet (m : State) : Type 0 where
   pub settling : (t at u : ℕ) → is_behind (m.txns t).stage ≡ true → (m.txns t).work ≡ Settles u → is_unsettled (m.changes u).verdict ≡ true → IsLaterOver m (m.changes u).cells (m.txns t).phase at → IsQuietFor m.changes u (m.phases at).decides
   pub own : (t at : ℕ) → is_before (m.txns t).stage ≡ true → (m.txns t).work ≡ Own → settles_first (m.txns t).job ≡ true → IsLaterOver m (cells_of_job (m.txns t).job) (m.txns t).phase at → IsQuietFor m.changes (m.txns t).own (m.phases at).decides
 
+-- ---- the lock phase that marked a change
+
+pub record IsMarked (m : State) (u : ℕ) : Type 0 where
+  pub phase : ℕ
+  pub one : 1 ≤ phase
+  pub low : phase ≤ m.ended
+  pub decides : (m.phases phase).decides ≡ ByPosts u
+
+-- each change that became unsettled was marked in one
+abbrev pub EachIsMarked : State → Type 0
+EachIsMarked m = (u : ℕ) → was_unsettled (m.changes u).verdict ≡ true → IsMarked m u
+
 -- ---- who is free on each cell of an unsettled change
 
 -- of the lock phases that decide the change, its own and those that settle it, this one ended last
@@ -58,6 +70,7 @@ pub record IsOwnPhase (m : State) (p u : ℕ) : Type 0 where
 -- one replica that the lock phase reached is free on every cell of the change
 pub record HasFreeOnAll (size : Size) (m : State) (p u : ℕ) : Type 0 where
   pub replica : ℕ
+  pub low : replica < size.replicas
   pub reached : (m.phases p).reached replica ≡ true
   pub free : (cell : Cell) → has_cell (m.changes u).cells cell ≡ true → IsFree size m cell replica
 
@@ -66,6 +79,7 @@ OwnPhaseFree size m = (p u : ℕ) → is_unsettled (m.changes u).verdict ≡ tru
 
 pub record KeepsOwnFree (size : Size) (m : State) : Type 0 where
   pub later : LaterAreQuiet m
+  pub marked : EachIsMarked m
   pub free : OwnPhaseFree size m
 
 abbrev pub EveryUnsettledHasFree : Type 0

@@ -1,4 +1,4 @@
--- A clear comes after its replacements: whoever confirmed one has a copy. Ours.
+-- Whoever confirmed a replacement has a copy of the cell from then on. Ours.
 use Rattle.std.specs.Prelude.{◌≡◌, ◌≤◌, ℕ, true}
 use Rattle.fop_types.specs.declared.cells.Cell.{Cell}
 use Rattle.afr_machine.specs.Replicas.{Size}

@@ -1,20 +1,23 @@
 -- Who takes what a lock phase decides, and that it spares one of them. Ours.
-use Rattle.std.specs.Prelude.{◌≡◌, ◌<◌, ◌≤◌, ℕ, true, false}
+use Rattle.std.specs.Prelude.{◌≡◌, ◌<◌, ◌≤◌, ℕ, true, false, Some}
 use Rattle.fop_types.specs.declared.cells.Cell.{Cell}
 use Rattle.afr_machine.specs.Replicas.{Size, IsSize}
 use Rattle.afr_machine.specs.Touching.{has_cell}
 use Rattle.afr_machine.specs.Changes.{Change}
 use Rattle.afr_machine.specs.Phases.{Phase, Deciding, IsReadyIn}
 use Rattle.afr_machine.specs.Phases.Deciding.{NoChange, ByPosts, BySettles}
-use Rattle.afr_machine.specs.Transactions.{Txn}
+use Rattle.afr_machine.specs.Transactions.{Grant, Txn}
 use Rattle.afr_machine.specs.States.{State, phase_of}
 use Rattle.afr_machine.specs.Steps.{IsReached}
 use Rattle.afr_laws.specs.Fresh.{is_behind}
 
--- the brick was reached by the lock phase, and is not out
+-- the brick was reached by the lock phase, is not out, and was asked on the connection on which it granted the lock
 pub record IsMemberOf (phase : Phase) (x : Txn) (k : ℕ) : Type 0 where
   pub reached : phase.reached k ≡ true
   pub not_out : x.out k ≡ false
+  pub grant : Grant
+  pub granted : x.grants k ≡ Some grant
+  pub on : grant.connection ≡ x.asked_on k
 
 -- behind its lock phase a transaction waits for members alone
 abbrev pub AskedAreMembers : State → Type 0

@@ -1,7 +1,7 @@
 ghost use Rattle.afr_soundness.specs.Deciding.{EveryPhaseAccusesAsItDecides};
 ghost use Rattle.afr_soundness.specs.Takers.{EveryDecisionSparesATaker};
 ghost use Rattle.afr_soundness.specs.Lines.{EveryLineIsApart};
-ghost use Rattle.afr_soundness.specs.Free.{EveryDecisionLeavesOneFree};
+ghost use Rattle.afr_soundness.specs.Free.{EveryLockPhaseLeavesOneFree};
 
 /// The law of accusations, of every state that allowed steps lead to. A lock phase that decides nothing accuses nobody.
 /// One that marked a change accuses nobody before its posts, and from then on exactly the replicas that have no op wind of
@@ -22,16 +22,19 @@ pub fn every_decision_spares_a_taker()
 
 /// The law of lines at the bricks of a lock phase, of every state that allowed steps lead to, for one, three and five
 /// replicas. While no later lock phase over the cell wrote, each request in the line of a brick that the lock phase reached
-/// which alters the cell is of the lock phase's own transaction, whatever its connection. No request there accuses a replica
-/// that neither the lock phase nor a later one over the cell which wrote accuses.
+/// which alters the cell is of the lock phase's own transaction, whatever its connection, births apart. No request there
+/// accuses a replica that neither the lock phase nor a later one over the cell which wrote accuses.
 pub fn every_line_is_apart()
     ensures { EveryLineIsApart }
 {}
 
 /// The law of the free, of every state that allowed steps lead to, for one, three and five replicas. From the turn by which
-/// a lock phase decides a change, its own or an unsettled one, and while no later lock phase over the cell wrote, one of the
-/// replicas that it reached has a copy of the cell and does not accuse itself on it, and fewer than a quorum of all accuse it,
-/// in their rows or by what is in their lines, whatever its connection.
-pub fn every_decision_leaves_one_free()
-    ensures { EveryDecisionLeavesOneFree }
+/// a lock phase decides a change, its own or an unsettled one, one of the replicas that it reached is free on each of its
+/// cells over which no later lock phase wrote: it has a copy of the cell, does not accuse itself on it, and fewer than a
+/// quorum of all accuse it, in their rows or by what is in their lines, whatever its connection. A lock phase that wrote and
+/// decides nothing found a sound replica on each of its cells. Of the lock phases over a cell that wrote, take the one that
+/// ended last: whoever was sound in it, or received a copy, is free unless it accuses that replica; and one that it reached
+/// is free.
+pub fn every_lock_phase_leaves_one_free()
+    ensures { EveryLockPhaseLeavesOneFree }
 {}

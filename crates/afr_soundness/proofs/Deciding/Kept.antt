@@ -1,7 +1,6 @@
 -- What a step leaves of a lock phase that decides, and of its transaction.
 use Rattle.std.proofs.Common.{◌≡◌, ◌∙◌, ℕ, ◌≤◌, ◌<◌, Bool, true, false, refl, sym, ap, subst, ◌⊎◌, inl, inr, arith, Option, Some, None}
 use Rattle.std.proofs.lemmas.Bool.{cases_lt}
-use Rattle.fop_types.specs.declared.jobs.Job.TheVariants as job
 use Rattle.afr_machine.specs.Replicas.{Size, Replicas, outside}
 use Rattle.afr_machine.specs.Changes.{Change}
 use Rattle.afr_machine.specs.Phases.{Phase}
@@ -184,7 +183,7 @@ module _ (size : Size) (m : State) (r : IsReached size m) (d : DecidesExactly si
     by_case (ChangeMove.Decides t step_is h at unsettled is) = (ap (λ (c : Change). c.by) is, ap (λ (c : Change). c.cells) is)
 
   -- once its posts are sent, nobody else applies a change
-  posting_done : (t u : ℕ) → (m.txns t).stage ≡ Posting u → (new.changes u).done ≡ (m.changes u).done
+  pub posting_done : (t u : ℕ) → (m.txns t).stage ≡ Posting u → (new.changes u).done ≡ (m.changes u).done
   posting_done t u is = by_case (done_goes u (drawn_by t u (posting_own t u is)).0) where
     by_case : ((new.changes u).done ≡ (m.changes u).done) ⊎ IsAppliedNow u → (new.changes u).done ≡ (m.changes u).done
     by_case (inl same) = same

@@ -1,47 +1,38 @@
 -- Whoever confirmed a replacement has a copy, over every list of steps.
-use Rattle.std.proofs.Common.{◌≡◌, ◌∙◌, ℕ, ◌+◌, ◌≤◌, Bool, true, false, refl, sym, ap, subst, ◌⊎◌, inl, inr, arith, Some}
-use Rattle.std.specs.Prelude.{if◌then◌else◌, List, [], ◌∷◌, ◌||◌, ◌&&◌, ◌==◌, not}
+use Rattle.std.proofs.Common.{◌≡◌, ◌∙◌, ℕ, ◌≤◌, Bool, true, false, sym, ap, subst, ◌⊎◌, inl, inr, arith, Some}
+use Rattle.std.specs.Prelude.{if◌then◌else◌, List, [], ◌∷◌, ◌&&◌, ◌==◌}
 use Rattle.std.specs.Ordering.{is_eq}
+use Rattle.std.proofs.lemmas.Bool.{eqb-true}
 use Rattle.std.proofs.lemmas.Cmp.{tied_itself}
 use Rattle.fop_types.specs.declared.cells.Cell.{Cell}
 use Rattle.fop_types.proofs.MapLemmas.{cell_cmp_total}
-use Rattle.afr_machine.specs.Replicas.{Size, outside, with_at}
+use Rattle.afr_machine.specs.Replicas.{Size}
 use Rattle.afr_machine.specs.Touching.{is_cell, has_cell}
 use Rattle.afr_machine.specs.Copies.{Store, Fetched, rows_of, row_of}
-use Rattle.afr_machine.specs.Requests.{Sender, Ask, Answer, Output}
+use Rattle.afr_machine.specs.Requests.{Ask}
 use Rattle.afr_machine.specs.Requests.Ask.{Replace}
 use Rattle.afr_machine.specs.Requests.Answer.{Done, Rows, Gone}
-use Rattle.afr_machine.specs.Requests.Output.{Answered, Closed, Opened, Connected}
 use Rattle.afr_machine.specs.Bricks.{stored_by}
 use Rattle.afr_machine.specs.Phases.{Phase}
-use Rattle.afr_machine.specs.Transactions.{Work, CopyRun, Stage, Txn, new_txn}
-use Rattle.afr_machine.specs.Transactions.Work.{Own, Settles}
-use Rattle.afr_machine.specs.Transactions.Stage.{Over, Locking, Locked, Marking, Applying, Posting, Settling, Bearing, Copying, Polling, Unlocking}
-use Rattle.afr_machine.specs.States.{State, is_current}
-use Rattle.afr_machine.specs.Sending.{asking, is_replaced, is_confirmed_sink}
-use Rattle.afr_machine.specs.Answering.{is_done, is_wanted, passed, missing, forgetting, replied, taken_in, without_first_output}
-use Rattle.afr_machine.specs.Turns.{Turn, MayTurn, entering, members, open_grants, after_turn, locking_for, skipping, resting, drawing, posting, settling, bearing, clearing}
-use Rattle.afr_machine.specs.Steps.{Step, Allowed, after, IsReached, IsRefusal, take_in_front, unsettling, decided, decided_by}
+use Rattle.afr_machine.specs.Transactions.{CopyRun}
+use Rattle.afr_machine.specs.States.{State}
+use Rattle.afr_machine.specs.Sending.{is_replaced, is_confirmed_sink}
+use Rattle.afr_machine.specs.Steps.{Step, Allowed, after, IsReached, IsRefusal}
 use Rattle.afr_machine.specs.Moves.{IsTaken}
 use Rattle.afr_machine.proofs.BrickMoves.{bricks_move}
-use Rattle.afr_laws.proofs.Bools.{both_left, both_right, either_way}
-use Rattle.afr_laws.proofs.Carry.{at_case}
-use Rattle.afr_laws.proofs.EachTxn.{forgotten}
-use Rattle.afr_laws.proofs.Heard.{Heard, replied_txns}
-use Rattle.afr_laws.proofs.Goes.{decided_txns}
+use Rattle.afr_laws.proofs.Bools.{both_left, both_right, either_way, or_right}
 use Rattle.afr_laws.proofs.Sharing.{cells_are}
 use Rattle.afr_laws.proofs.Overtaken.Steps.{PhaseFrom, phase_from}
 use Rattle.afr_laws.proofs.Overtaken.Steps.PhaseFrom.{Old, Now}
 use Rattle.afr_laws.proofs.LastPhase.Moves.{move_present}
 use Rattle.afr_soundness.specs.Replies.{EachReply}
 use Rattle.afr_soundness.specs.Replaced.{HasCopy, ShowsReplaced, ReplacedHaveCopies, EveryReplacedHasCopy}
+use Rattle.afr_soundness.specs.Copied.{is_copying}
 use Rattle.afr_soundness.proofs.PhaseMoves.{PhaseMove, phase_moves}
 use Rattle.afr_soundness.proofs.Replies.{done_is, reply_at, replies_of, HoldsOtherwise, move_replies}
-use Rattle.afr_soundness.proofs.Runs.{is_copy, one_run, was_passed}
-use Rattle.afr_soundness.proofs.Replaced.Heard.{ReplacedFrom, heard_shows}
-use Rattle.afr_soundness.proofs.Replaced.Heard.ReplacedFrom.{Before, Confirmed}
+use Rattle.afr_soundness.proofs.RunMoves.{RunMove, run_moves}
 
-is_itself : (cell : Cell) → is_cell cell cell ≡ true
+pub is_itself : (cell : Cell) → is_cell cell cell ≡ true
 is_itself cell = ap is_eq (tied_itself cell_cmp_total cell)
 
 -- ---- one step
@@ -83,111 +74,22 @@ module _ (size : Size) (m : State) (was : ReplacedHaveCopies m) (step : Step) (a
 
   -- ---- copies that are under way
 
-  abbrev pub Holds : Stage → Type 0
-  Holds stage = (run : CopyRun) → stage ≡ Copying run → (i : ℕ) (cell : Cell) → run.replaced i cell ≡ true → HasCopy (after size m step) i cell
+  runs_after : (t : ℕ) (run : CopyRun) → RunMove size m step t run → (i : ℕ) (cell : Cell) → run.replaced i cell ≡ true → HasCopy new i cell
+  runs_after t run (RunMove.Stays is) i cell h = copy_stays i cell (was.runs t run is i cell h)
+  runs_after t run (RunMove.Begins step_is may) i cell h = absurd (let e : false ≡ true = sym (ap (λ (f : ℕ → Cell → Bool). f i cell) may.not_replaced) ∙ h in cc)
+  runs_after t run (RunMove.Clears step_is may is) i cell h = copy_stays i cell (was.runs t may.run may.turn i cell (sym (ap (λ (x : CopyRun). x.replaced i cell) is) ∙ h))
+  runs_after t run (RunMove.Fetches k by at found before step_is handed txn stage is) i cell h = copy_stays i cell (was.runs t before stage i cell (sym (ap (λ (x : CopyRun). x.replaced i cell) is) ∙ h))
+  runs_after t run (RunMove.Replaces k by at found answer before step_is handed txn stage is) i cell h = by_case (either_way (i == k && has_cell (at ∷ []) cell) (before.replaced i cell) (sym (ap (λ (x : CopyRun). x.replaced i cell) is) ∙ h)) where
+    -- the brick that answers has a copy
+    confirmed : HasCopy m k at
+    confirmed = (subst (EachReply (λ b a r. r ≡ Done → ShowsReplaced (m.bricks k).store a)) handed.front (was.replies k)).0 (done_is answer handed.wanted)
 
-  same_holds : (t : ℕ) (stage : Stage) → stage ≡ (m.txns t).stage → Holds stage
-  same_holds t stage is run copies i cell h = copy_stays i cell (was.runs t run (sym is ∙ copies) i cell h)
-
-  passed_holds : (t : ℕ) (stage : Stage) → stage ≡ passed (m.txns t).stage → Holds stage
-  passed_holds t stage is run copies i cell h = copy_stays i cell (was.runs t run (was_passed (m.txns t).stage run (sym is ∙ copies)) i cell h)
-
-  none_holds : (stage : Stage) → is_copy stage ≡ false → Holds stage
-  none_holds stage free run copies i cell h = absurd (let e : false ≡ true = sym free ∙ ap is_copy copies in cc)
-
-  stays : (i : ℕ) → Holds (m.txns i).stage
-  stays i = same_holds i (m.txns i).stage refl
-
-  only : (t : ℕ) (y : Txn) → Holds y.stage → (i : ℕ) → Holds (with_at m.txns t y i).stage
-  only t y h i = at_case (λ j (z : Txn). Holds z.stage) m.txns t y h i (λ ne. stays i)
-
-  table : (f g : ℕ → Txn) → g ≡ f → ((i : ℕ) → Holds (f i).stage) → (i : ℕ) → Holds (g i).stage
-  table f g is h i = subst (λ (f : ℕ → Txn). Holds (f i).stage) (sym is) (h i)
-
-  module _ (t : ℕ) where
-    abbrev x : Txn
-    x = m.txns t
-
-    skips_hold : (stage : Stage) → x.stage ≡ stage → Holds (skipping x stage).stage
-    skips_hold (Locking cells shared next) is = none_holds (Locking cells shared (next + 1)) refl
-    skips_hold other is = stays t
-
-    locks_hold : (work : Work) → Holds (locking_for m x work).stage
-    locks_hold Own = none_holds (locking_for m x Own).stage refl
-    locks_hold (Settles u) = none_holds (locking_for m x (Settles u)).stage refl
-
-    turned : (turn : Turn) → MayTurn size m t turn → (i : ℕ) → Holds ((after_turn size m t turn).txns i).stage
-    turned (Turn.Begins graph job) h = only t (new_txn graph job) (none_holds Stage.Choosing refl)
-    turned (Turn.LocksFor work) h = only t (locking_for m x work) (locks_hold work)
-    turned Turn.Skips h = only t (skipping x x.stage) (skips_hold x.stage refl)
-    turned Turn.Reaches h = only t (record x { stage = Locked; phase = m.ended + 1; out = λ k. x.out k || not (open_grants m t k) }) (none_holds Locked refl)
-    turned Turn.Marks h =
-        table (with_at m.txns t (record (entering x (Marking (m.drawn + 1)) (members m t)) { own = m.drawn + 1 })) ((drawing m t x.job).txns) (ap (λ j. (drawing m t j).txns) h.job_is)
-        (only t (record (entering x (Marking (m.drawn + 1)) (members m t)) { own = m.drawn + 1 }) (none_holds (Marking (m.drawn + 1)) refl))
-    turned Turn.Posts h =
-        table (with_at m.txns t (entering x (Posting h.change) (m.changes h.change).done)) ((posting size m t x.stage).txns) (ap (λ s. (posting size m t s).txns) h.turn)
-        (only t (entering x (Posting h.change) (m.changes h.change).done) (none_holds (Posting h.change) refl))
-    turned (Turn.SettlesAs group adopts) h =
-        table (with_at m.txns t (entering x (Settling h.change group adopts) (members m t))) ((settling size m t x.work group adopts).txns) (ap (λ w. (settling size m t w group adopts).txns) h.work_is)
-        (only t (entering x (Settling h.change group adopts) (members m t)) (none_holds (Settling h.change group adopts) refl))
-    turned Turn.Bears h =
-        table (with_at m.txns t (entering x Bearing (members m t))) ((bearing m t x.job).txns) (ap (λ j. (bearing m t j).txns) h.job_is) (only t (entering x Bearing (members m t)) (none_holds Bearing refl))
-    turned Turn.Confirms h = stays
-    turned (Turn.Copies other) h = only t (entering x (Copying other) (λ k. false))
-        (λ run copies i cell e. absurd (let no : false ≡ true = sym (ap (λ (f : ℕ → Cell → Bool). f i cell) h.not_replaced) ∙ ap (λ (r : CopyRun). r.replaced i cell) (one_run other run copies) ∙ e in cc))
-    turned Turn.Clears h =
-        table (with_at m.txns t (entering x (Copying (record h.run { clears = true })) (members m t))) ((clearing m t x.stage).txns) (ap (λ s. (clearing m t s).txns) h.turn)
-        (only t (entering x (Copying (record h.run { clears = true })) (members m t)) (λ run copies i cell e. copy_stays i cell (was.runs t h.run h.turn i cell (ap (λ (r : CopyRun). r.replaced i cell) (one_run (record h.run { clears = true }) run copies) ∙ e))))
-    turned Turn.Polls h = only t (entering x Polling (outside size x.out)) (none_holds Polling refl)
-    turned Turn.Unlocks h = only t (entering x Unlocking (open_grants m t)) (none_holds Unlocking refl)
-    turned Turn.Rests h = only t (resting m t) (none_holds Stage.Choosing refl)
-    turned Turn.Ends h = only t (record x { stage = Over }) (none_holds Over refl)
-
-  -- a reply, with the front of the outputs
-  module _ (k : ℕ) (by : Sender) (ask : Ask) (answer : Answer) (rest : List Output) (front : (m.bricks k).outputs ≡ Answered by ask answer ∷ rest) where
-    confirmed : (at : Cell) (found : Fetched) → ask ≡ Replace at found → is_wanted ask answer ≡ true → HasCopy m k at
-    confirmed at found is wanted =
-        let e : (m.bricks k).outputs ≡ Answered by (Replace at found) answer ∷ rest = front ∙ ap (λ a. Answered by a answer ∷ rest) is in
-        let w : is_done answer ≡ true = sym (ap (λ a. is_wanted a answer) is) ∙ wanted in
-        (subst (EachReply (λ b a r. r ≡ Done → ShowsReplaced (m.bricks k).store a)) e (was.replies k)).0 (done_is answer w)
-
-    hears_holds : (y : Txn) (connection : ℕ) → Heard (m.txns by.txn) y k connection ask answer → Holds y.stage
-    hears_holds y connection h run copies i cell e = by_case (heard_shows (m.txns by.txn) y k connection ask answer h run copies i cell e) where
-      by_case : ReplacedFrom (m.txns by.txn) k ask answer i cell → HasCopy new i cell
-      by_case (Before before is old) = copy_stays i cell (was.runs by.txn before is i cell old)
-      by_case (Confirmed at found is wanted here same) = copy_stays i cell (subst (λ n. HasCopy m n cell) (sym here) (subst (λ c. HasCopy m k c) (sym same) (confirmed at found is wanted)))
-
-    replied_holds : (i : ℕ) → Holds ((replied (without_first_output m k) k by ask answer).txns i).stage
-    replied_holds i =
-        let p = replied_txns (without_first_output m k) k by ask answer in
-        subst (λ (f : ℕ → Txn). Holds (f i).stage) (sym p.is) (only by.txn p.after (hears_holds p.after by.connection p.heard) i)
-
-  forgets_holds : (ends : ℕ → Bool) (k i : ℕ) → Holds (forgetting ends k (m.txns i)).stage
-  forgets_holds ends k i = forgotten m (λ j (y : Txn). Holds y.stage) stays (λ j n. stays j) ends k i
-
-  taken_holds : (k : ℕ) (o : Output) (rest : List Output) → (m.bricks k).outputs ≡ o ∷ rest → (i : ℕ) → Holds ((taken_in (without_first_output m k) k o).txns i).stage
-  taken_holds k (Answered by ask answer) rest front i = by_case (is_current (m.links k by.graph) by.connection) where
-    by_case : (b : Bool) → Holds ((if b then replied (without_first_output m k) k by ask answer else without_first_output m k).txns i).stage
-    by_case true = replied_holds k by ask answer rest front i
-    by_case false = stays i
-  taken_holds k Closed rest front i = forgets_holds (λ g. true) k i
-  taken_holds k Opened rest front i = stays i
-  taken_holds k (Connected graph) rest front i = stays i
-
-  front_holds : (k : ℕ) (os : List Output) → (m.bricks k).outputs ≡ os → (i : ℕ) → Holds ((take_in_front (without_first_output m k) k os).txns i).stage
-  front_holds k [] front i = stays i
-  front_holds k (o ∷ os) front i = taken_holds k o os front i
-
-  runs_by : (st : Step) → step ≡ st → Allowed size m st → (i : ℕ) → Holds ((after size m st).txns i).stage
-  runs_by (Step.Turns t turn) is h = turned t turn h
-  runs_by (Step.Asks t k first ask) is h = only t (asking (m.txns t) k (m.links k (m.txns t).graph).last first ask) (stays t)
-  runs_by (Step.HandsIn k) is h = front_holds k (m.bricks k).outputs refl
-  runs_by (Step.Bails t k) is h = only t (missing (record (m.txns t) { waits = with_at (m.txns t).waits k false }) k) (passed_holds t (passed (m.txns t).stage) refl)
-  runs_by (Step.Misses t k) is h = only t (record (m.txns t) { left = with_at (m.txns t).left k false; out = with_at (m.txns t).out k true }) (stays t)
-  runs_by (Step.Cuts k g) is h = forgets_holds (λ other. other == g) k
-  runs_by (Step.Unsettles t) is h = table (with_at m.txns t (entering (m.txns t) (Applying h.change) (m.txns t).confirmed)) ((unsettling m t (m.txns t).stage).txns) (ap (λ s. (unsettling m t s).txns) h.turn) (only t (entering (m.txns t) (Applying h.change) (m.txns t).confirmed) (none_holds (Applying h.change) refl))
-  runs_by (Step.Decides t) is h = table m.txns ((decided m (decided_by (m.txns t).stage)).txns) (decided_txns m (decided_by (m.txns t).stage)) stays
-  runs_by other is h = λ i. stays i
+    by_case : ((i == k && has_cell (at ∷ []) cell) ≡ true) ⊎ (before.replaced i cell ≡ true) → HasCopy new i cell
+    by_case (inr old) = copy_stays i cell (was.runs t before stage i cell old)
+    by_case (inl now) =
+        let here : i ≡ k = eqb-true i k (both_left (i == k) (has_cell (at ∷ []) cell) now) in
+        let same : cell ≡ at = cells_are cell at (sym (or_right (is_cell cell at)) ∙ both_right (i == k) (has_cell (at ∷ []) cell) now) in
+        copy_stays i cell (subst (λ n. HasCopy m n cell) (sym here) (subst (λ c. HasCopy m k c) (sym same) confirmed))
 
   -- ---- clears that were confirmed
 
@@ -224,11 +126,11 @@ module _ (size : Size) (m : State) (was : ReplacedHaveCopies m) (step : Step) (a
 pub replaced_have_copies : EveryReplacedHasCopy
 replaced_have_copies size m IsReached.Start = record {
   replies = λ k. tt;
-  runs = λ t run copies. absurd (let e : false ≡ true = ap is_copy copies in cc);
+  runs = λ t run copies. absurd (let e : false ≡ true = ap is_copying copies in cc);
   cleared = λ p i k cell one low h. absurd (omega (arith, one, low));
 }
 replaced_have_copies size m (IsReached.Further old step reached allowed) = record {
   replies = replies_after size old (replaced_have_copies size old reached) step allowed;
-  runs = λ t. runs_by size old (replaced_have_copies size old reached) step allowed step refl allowed t;
+  runs = λ t run copies. runs_after size old (replaced_have_copies size old reached) step allowed t run (run_moves size old step allowed t run copies);
   cleared = λ p i k cell one low h. cleared_after size old (replaced_have_copies size old reached) step allowed p i k cell one h (phase_from size old step allowed p low);
 }

@@ -1,5 +1,7 @@
 -- Behind its lock phase a transaction waits for members alone, over every list of steps.
 use Rattle.std.proofs.Common.{◌≡◌, ◌∙◌, ℕ, true, false, refl, sym, ap, inl, inr}
+use Rattle.std.specs.Prelude.{◌==◌}
+use Rattle.std.proofs.lemmas.Bool.{eqb-true}
 use Rattle.afr_machine.specs.Replicas.{Size, Replicas}
 use Rattle.afr_machine.specs.Requests.{Ask}
 use Rattle.afr_machine.specs.Requests.Ask.{Lock, Unlock, Mark, Op, Post, Fetch, Replace, Clear, Settle, Index, Open, Release, OpenFirst}
@@ -11,33 +13,30 @@ use Rattle.afr_machine.specs.Turns.{IsAnswered}
 use Rattle.afr_machine.specs.Steps.{Step, Allowed, after, IsReached}
 use Rattle.afr_laws.specs.Waiting.{EachWaitsFit}
 use Rattle.afr_laws.specs.Fresh.{is_behind}
-use Rattle.afr_laws.proofs.Bools.{apart_bools}
+use Rattle.afr_laws.proofs.Bools.{apart_bools, both_right}
 use Rattle.afr_laws.proofs.Waiting.{waits_fit}
 use Rattle.afr_laws.proofs.Fresh.Known.{phases_are_known}
 use Rattle.afr_laws.proofs.Fresh.Phased.{PhasesGo}
 use Rattle.afr_laws.proofs.Fresh.Steps.{step_phases}
 use Rattle.afr_soundness.specs.Takers.{IsMemberOf, AskedAreMembers}
 use Rattle.afr_soundness.proofs.TxnMoves.{GoesOn, TxnMove, txn_moves}
-use Rattle.afr_soundness.proofs.Waits.{WaitsFrom, waits_from}
+use Rattle.afr_soundness.proofs.Waits.{IsSameAt, WaitsFrom, waits_from}
 use Rattle.afr_soundness.proofs.Waits.WaitsFrom.{Before, Asked}
 use Rattle.afr_soundness.proofs.Deciding.Kept.{keeps_behind}
 
 module _ (size : Size) (m : State) (t k : ℕ) (behind : is_behind (m.txns t).stage ≡ true) where
-  as_member : IsMember size m t k → IsMemberOf (phase_of m t) (m.txns t) k
-  as_member h = record { reached = h.reached; not_out = h.not_out }
-
-  pub asked_member : (ask : Ask) → MayAsk size m t k ask → IsMemberOf (phase_of m t) (m.txns t) k
+  pub asked_member : (ask : Ask) → MayAsk size m t k ask → IsMember size m t k
   asked_member (Lock shared cells) h = apart_bools behind (ap is_behind h.turn)
   asked_member Unlock h = apart_bools behind (ap is_behind h.turn)
-  asked_member (Mark u cells) h = as_member h.next.member
-  asked_member (Op u op) (inl h) = as_member h.next.member
-  asked_member (Op u op) (inr h) = as_member h.next.member
-  asked_member (Post u cells accused) h = as_member h.next.member
-  asked_member (Fetch cell) (inl h) = as_member h.member
-  asked_member (Fetch cell) (inr h) = as_member h.member
-  asked_member (Replace cell found) h = as_member h.member
-  asked_member (Clear cells who) h = as_member h.next.member
-  asked_member (Settle u cells accused) h = as_member h.next.member
+  asked_member (Mark u cells) h = h.next.member
+  asked_member (Op u op) (inl h) = h.next.member
+  asked_member (Op u op) (inr h) = h.next.member
+  asked_member (Post u cells accused) h = h.next.member
+  asked_member (Fetch cell) (inl h) = h.member
+  asked_member (Fetch cell) (inr h) = h.member
+  asked_member (Replace cell found) h = h.member
+  asked_member (Clear cells who) h = h.next.member
+  asked_member (Settle u cells accused) h = h.next.member
   asked_member Index h = apart_bools behind (ap is_behind h.poll.turn)
   asked_member Open h = apart_bools behind (ap is_behind h.poll.turn)
   asked_member Release h = absurd h
@@ -68,15 +67,25 @@ module _ (size : Size) (m : State) (r : IsReached size m) (was : AskedAreMembers
       was_behind : is_behind (m.txns t).stage ≡ true
       was_behind = sym (keeps_behind (m.txns t).stage (new.txns t).stage g.stage) ∙ behind
 
-      of_old : IsMemberOf (phase_of m t) (m.txns t) k → (new.txns t).out k ≡ (m.txns t).out k → IsMemberOf (phase_of new t) (new.txns t) k
-      of_old h out = record {
-        reached = ap (λ p. (new.phases p).reached k) g.task.phase ∙ ap (λ (f : Replicas). f k) (goes.reached (m.txns t).phase (phases_are_known size m r t).low) ∙ h.reached;
-        not_out = out ∙ h.not_out;
+      reached_still : (phase_of m t).reached k ≡ true → (phase_of new t).reached k ≡ true
+      reached_still h = ap (λ p. (new.phases p).reached k) g.task.phase ∙ ap (λ (f : Replicas). f k) (goes.reached (m.txns t).phase (phases_are_known size m r t).low) ∙ h
+
+      of_old : IsMemberOf (phase_of m t) (m.txns t) k → IsSameAt (m.txns t) (new.txns t) k → (new.txns t).asked_on k ≡ (m.txns t).asked_on k → IsMemberOf (phase_of new t) (new.txns t) k
+      of_old h same on = record { reached = reached_still h.reached; not_out = same.out ∙ h.not_out; grant = h.grant; granted = same.grants ∙ h.granted; on = h.on ∙ sym on }
+
+      -- it is asked on the connection that is open, on which it granted the lock
+      of_member : IsMember size m t k → IsSameAt (m.txns t) (new.txns t) k → (new.txns t).asked_on k ≡ (m.links k (m.txns t).graph).last → IsMemberOf (phase_of new t) (new.txns t) k
+      of_member h same on = record {
+        reached = reached_still h.reached;
+        not_out = same.out ∙ h.not_out;
+        grant = h.grant.grant;
+        granted = same.grants ∙ h.grant.granted;
+        on = eqb-true h.grant.grant.connection (m.links k (m.txns t).graph).last (both_right (m.links k (m.txns t).graph).is_open (h.grant.grant.connection == (m.links k (m.txns t).graph).last) h.grant.still_open) ∙ sym on;
       }
 
       by_case : WaitsFrom size m step t k (new.txns t) → IsMemberOf (phase_of new t) (new.txns t) k
-      by_case (Before w out) = of_old (was t k was_behind w) out
-      by_case (Asked first ask step_is may out) = of_old (asked_member size m t k was_behind ask may) out
+      by_case (Before w same on) = of_old (was t k was_behind w) same on
+      by_case (Asked first ask step_is may same on) = of_member (asked_member size m t k was_behind ask may) same on
 
     asked_now : TxnMove size m step t (new.txns t) → IsMemberOf (phase_of new t) (new.txns t) k
     asked_now (TxnMove.Goes none g) = goes_on g
