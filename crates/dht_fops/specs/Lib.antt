@@ -1,0 +1,16 @@
+pub mod Answers
+pub mod Costs
+pub mod Courses
+pub mod Entries
+pub mod Fops
+pub mod Founded
+pub mod Handed
+pub mod Internal
+pub mod Looks
+pub mod Merges
+pub mod Objects
+pub mod Renames
+pub mod Shown
+pub mod Standing
+pub mod Volumes
+pub mod code

@@ -1,0 +1,113 @@
+ghost use Rattle.std.specs.Prelude.{◌≡◌, ◌≤◌, [], length, IfOk, Some, Ok, Err};
+ghost use Rattle.dht_linkto.specs.declared.names.DirNames.{DirNames};
+ghost use Rattle.dht_fops.specs.Courses.{on_names, on_contents, on_number};
+ghost use Rattle.dht_fops.specs.Fops.{fop_course};
+ghost use Rattle.dht_fops.specs.code.Fops.{volume_of, course_on, goes_on_with, goes_held_with, learnt_with, asked_of, GivesOneJob};
+
+use crate::begin::begin_fop;
+use crate::dht_fop::DhtFop;
+use crate::layouts::Layout;
+use crate::resume::{held, resume};
+use crate::state::{OnReply, State};
+use crate::step::DhtNext;
+use crate::volume::Volume;
+use fop_types::{Fop, Gfid, Job, Seq, SetReply, Span};
+use std::alloc::{AllocError, Global};
+use std::collections::BTreeMap;
+use std::mem;
+
+impl DhtFop {
+    /// Begins a fop of a call on a volume of this many sets, which have these names in their order. `root_sets` is the
+    /// number of sets of the first graph; `kept` are the layouts that were read before, by directory. One with another
+    /// number of places than there are sets is not looked at.
+    ///
+    /// # Errors
+    /// Out of memory.
+    pub fn begin(
+        alloc: Global,
+        call: u32,
+        fop: Fop,
+        sets: u8,
+        names: &[Seq<u8>],
+        root_sets: u8,
+        kept: &BTreeMap<Gfid, Seq<Option<Span>>>,
+    ) -> Result<(DhtFop, DhtNext), AllocError>
+        requires root { 1 ≤ root_sets }
+        requires within { root_sets ≤ sets }
+        requires names { length names.now ≡ sets }
+        ensures course { IfOk result (λ begun. course_on begun.0 begun.1 ≡ fop_course (volume_of call sets root_sets) names.now kept.now.entries fop) }
+        ensures learnt { IfOk result (λ begun. begun.0.learnt ≡ []) }
+        ensures asked { IfOk result (λ begun. begun.0.asked ≡ asked_of begun.1) }
+        ensures one { IfOk result (λ begun. GivesOneJob begun.1) }
+    {
+        let volume = Volume {
+            call,
+            sets,
+            root_sets,
+        };
+        let step = begin_fop(alloc, volume, fop, names, kept)?;
+        let asked = step.turn.asked();
+        let next = step.turn.into_next(alloc)?;
+        let begun = DhtFop {
+            volume,
+            learnt: Seq::new(alloc),
+            asked,
+            state: step.state,
+        };
+        Ok((begun, next))
+    }
+
+    /// The layouts that this fop has read.
+    pub fn learnt(&self) -> &[Layout]
+        ensures { result.now ≡ self.now.learnt }
+    {
+        self.learnt.as_slice()
+    }
+
+    /// The set that is asked for a job, `None` where none is.
+    pub fn asked(&self) -> Option<u8>
+        ensures { result ≡ self.now.asked }
+    {
+        self.asked
+    }
+
+    /// Takes the reply of the set that was asked for a job.
+    ///
+    /// # Errors
+    /// Out of memory. The fop is then done without an answer.
+    pub fn answer(&mut self, alloc: Global, set: u8, reply: SetReply) -> Result<DhtNext, AllocError>
+        requires { self.old.asked ≡ Some set }
+        ensures course { IfOk result (λ next. course_on self.new next ≡ goes_on_with self.old reply) }
+        ensures learnt { IfOk result (λ next. self.new.learnt ≡ learnt_with self.old reply) }
+        ensures asked { IfOk result (λ next. self.new.asked ≡ asked_of next) }
+        ensures one { IfOk result (λ next. GivesOneJob next) }
+    {
+        prove!(self.asked == Some(set));
+        let state = mem::replace(&mut self.state, State::Reply(OnReply::End));
+        let step = resume(alloc, self.volume, &mut self.learnt, state, reply)?;
+        let asked = step.turn.asked();
+        let next = step.turn.into_next(alloc)?;
+        self.asked = asked;
+        self.state = step.state;
+        Ok(next)
+    }
+
+    /// The call's hold was extended by the directory that was asked for.
+    ///
+    /// # Errors
+    /// Out of memory. The fop is then done without an answer.
+    pub fn held(&mut self, alloc: Global) -> Result<DhtNext, AllocError>
+        ensures course { IfOk result (λ next. course_on self.new next ≡ goes_held_with self.old) }
+        ensures learnt { IfOk result (λ next. self.new.learnt ≡ self.old.learnt) }
+        ensures asked { IfOk result (λ next. self.new.asked ≡ asked_of next) }
+        ensures one { IfOk result (λ next. GivesOneJob next) }
+    {
+        let state = mem::replace(&mut self.state, State::Reply(OnReply::End));
+        let step = held(alloc, self.volume, state)?;
+        let asked = step.turn.asked();
+        let next = step.turn.into_next(alloc)?;
+        self.asked = asked;
+        self.state = step.state;
+        Ok(next)
+    }
+}
