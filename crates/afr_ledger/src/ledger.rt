@@ -17,13 +17,14 @@ pub struct Ledger<C: Ord> {
 }
 
 impl<C: Ord> Model for Ledger<C> {
+    ghost use Rattle.std.specs.Prelude.{◌≤◌, length};
     ghost use Rattle.afr_ledger.specs.Ledger.{State, AreDrawn};
 
     ghost Value = { State C };
 
     ghost view = { λ l. record { drawn = l.drawn; unsettled = l.changes; history = l.entries } };
 
-    ghost invariant = { λ l. AreDrawn l.drawn l.changes };
+    ghost invariant = { λ l. record { numbers : AreDrawn l.drawn l.changes; room : length l.entries ≤ 4294967295 } };
 }
 
 impl<C: Ord + Copy> Ledger<C> {
@@ -120,11 +121,13 @@ impl<C: Ord + Copy> Ledger<C> {
         self.entries.as_slice()
     }
 
-    /// What every ledger keeps: each unsettled change has a number that was drawn, the numbers rise, and at most one
-    /// unsettled change touches a cell of a set. The call does nothing: its contract exports this.
+    /// What every ledger keeps: each unsettled change has a number that was drawn, the numbers rise, at most one
+    /// unsettled change touches a cell of a set, and the history has at most 4,294,967,295 entries. The call does
+    /// nothing: its contract exports this.
     pub fn keep_apart(&self)
         ensures kept { AreKept C.cmp self.now.unsettled }
         ensures drawn { AreDrawn self.now.drawn self.now.unsettled }
+        ensures room { length self.now.history ≤ 4294967295 }
     {
         self.changes.keep_apart();
     }
