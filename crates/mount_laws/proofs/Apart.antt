@@ -1,0 +1,110 @@
+-- Holds of different calls do not conflict.
+use Rattle.std.proofs.Common.{◌≡◌, ℕ, ◌+◌, ◌⊎◌, inl, inr, Bool, true, false, refl, sym, ap, subst, List, [], ◌∷◌, ◌++◌}
+use Rattle.std.specs.Prelude.{◌≢◌}
+use Rattle.afr_machine.specs.Replicas.{with_at}
+use Rattle.fop_types.specs.declared.answers.FopAnswer.{FopAnswer}
+use Rattle.fop_types.specs.declared.cells.Gfid.{Gfid}
+use Rattle.fop_types.specs.declared.fops.Fop.{Fop}
+use Rattle.mount_laws.specs.Guards.{Allowed, IsReached, IsUnderWay}
+use Rattle.mount_laws.specs.Holding.{HoldsApart}
+use Rattle.mount_laws.specs.Holds.{Hold, Holds, HoldsAlone, AreApart, holds_of, extensions}
+use Rattle.mount_laws.specs.Runs.{Run, holds_in}
+use Rattle.mount_laws.specs.States.{State, Call, Status, Runs, held, holds_by, start}
+use Rattle.mount_laws.specs.States.Status.{Unsubmitted, Ready, Running, Answered}
+use Rattle.mount_laws.specs.Steps.{Step, Task, after, is_lookup, status_after}
+use Rattle.mount_laws.proofs.Moving.{quiet}
+use Rattle.mount_laws.proofs.Tables.{at_case}
+
+pub flipped : (hs ks : List Hold) → AreApart hs ks → AreApart ks hs
+flipped hs ks a = record { first = λ gfid h k. a.second gfid k h; second = λ gfid h k. a.first gfid k h }
+
+none_apart : (ks : List Hold) → AreApart [] ks
+none_apart ks = record { first = λ gfid h k. h; second = λ gfid h k. h }
+
+-- ---- one more hold
+
+split_holds : (hs : List Hold) (d : Hold) (es : List Hold) (gfid : Gfid) → Holds (hs ++ d ∷ es) gfid → Holds (hs ++ es) gfid ⊎ Holds (d ∷ []) gfid
+split_holds [] d es gfid (inl e) = inr (inl e)
+split_holds [] d es gfid (inr h) = inl h
+split_holds (one ∷ hs) d es gfid (inl e) = inl (inl e)
+split_holds (one ∷ hs) d es gfid (inr h) = by_case (split_holds hs d es gfid h) where
+  by_case : Holds (hs ++ es) gfid ⊎ Holds (d ∷ []) gfid → Holds (one ∷ hs ++ es) gfid ⊎ Holds (d ∷ []) gfid
+  by_case (inl k) = inl (inr k)
+  by_case (inr k) = inr k
+
+split_alone : (hs : List Hold) (d : Hold) (es : List Hold) (gfid : Gfid) → HoldsAlone (hs ++ d ∷ es) gfid → HoldsAlone (hs ++ es) gfid ⊎ HoldsAlone (d ∷ []) gfid
+split_alone [] d es gfid (inl e) = inr (inl e)
+split_alone [] d es gfid (inr h) = inl h
+split_alone (one ∷ hs) d es gfid (inl e) = inl (inl e)
+split_alone (one ∷ hs) d es gfid (inr h) = by_case (split_alone hs d es gfid h) where
+  by_case : HoldsAlone (hs ++ es) gfid ⊎ HoldsAlone (d ∷ []) gfid → HoldsAlone (one ∷ hs ++ es) gfid ⊎ HoldsAlone (d ∷ []) gfid
+  by_case (inl k) = inl (inr k)
+  by_case (inr k) = inr k
+
+extended_apart : (hs : List Hold) (d : Hold) (es ks : List Hold) → AreApart (hs ++ es) ks → AreApart (d ∷ []) ks → AreApart (hs ++ d ∷ es) ks
+extended_apart hs d es ks a b = record { first = λ gfid h k. first gfid k (split_alone hs d es gfid h); second = λ gfid h k. second gfid k (split_holds hs d es gfid h) }
+  where
+    first : (gfid : Gfid) → Holds ks gfid → HoldsAlone (hs ++ es) gfid ⊎ HoldsAlone (d ∷ []) gfid → ⊥
+    first gfid k (inl h) = a.first gfid h k
+    first gfid k (inr h) = b.first gfid h k
+
+    second : (gfid : Gfid) → HoldsAlone ks gfid → Holds (hs ++ es) gfid ⊎ Holds (d ∷ []) gfid → ⊥
+    second gfid k (inl h) = a.second gfid h k
+    second gfid k (inr h) = b.second gfid h k
+
+-- ---- one call whose status changes
+
+abbrev AreApartIn : (ℕ → Call) → Type 0
+AreApartIn calls = (a b : ℕ) → a ≢ b → AreApart (holds_by (calls a).status) (holds_by (calls b).status)
+
+one_apart : (m : State) (c : ℕ) (call : Call) → HoldsApart m → ((other : ℕ) → other ≢ c → AreApart (holds_by call.status) (held m other)) → AreApartIn (with_at m.calls c call)
+one_apart m c call old new a b =
+    at_case (λ i (x : Call). i ≢ b → AreApart (holds_by x.status) (holds_by (with_at m.calls c call b).status)) m.calls c call
+    (λ ne. at_case (λ j (y : Call). c ≢ j → AreApart (holds_by call.status) (holds_by y.status)) m.calls c call (λ same. absurd (same refl)) b (λ other same. new b other) ne) a
+    (λ first ne. at_case (λ j (y : Call). a ≢ j → AreApart (held m a) (holds_by y.status)) m.calls c call (λ same. flipped _ _ (new a first)) b (λ other same. old a b same) ne)
+
+-- a call that holds nothing more
+same_apart : (m : State) (c : ℕ) (old new : Run) → HoldsApart m → Runs m c old → holds_in new ≡ holds_in old → AreApartIn (with_at m.calls c (record (m.calls c) { status = Running new }))
+same_apart m c old new a runs same =
+    one_apart m c (record (m.calls c) { status = Running new }) a
+    (λ other ne. subst (λ (hs : List Hold). AreApart hs (held m other)) (sym same) (subst (λ (s : Status). AreApart (holds_by s) (held m other)) runs (a c other (λ e. ne (sym e)))))
+
+-- one that holds nothing
+holds_none : (s : Status) → ((run : Run) → s ≡ Running run → ⊥) → holds_by s ≡ []
+holds_none Unsubmitted h = refl
+holds_none Ready h = refl
+holds_none (Running run) h = absurd (h run refl)
+holds_none Answered h = refl
+
+free_apart : (m : State) (c : ℕ) (call : Call) → HoldsApart m → ((run : Run) → call.status ≡ Running run → ⊥) → AreApartIn (with_at m.calls c call)
+free_apart m c call a h = one_apart m c call a (λ other ne. subst (λ (hs : List Hold). AreApart hs (held m other)) (sym (holds_none call.status h)) (none_apart (held m other)))
+
+-- ---- each step
+
+step_apart : (m : State) (step : Step) → Allowed m step → HoldsApart m → HoldsApart (after m step)
+step_apart m (Step.Submits draws) h a = free_apart m (m.submitted + 1) _ a (λ run e. absurd cc)
+step_apart m (Step.Leaves c) h a = free_apart m c _ a (λ run e. absurd cc)
+step_apart m (Step.Switches names) h a = a
+step_apart m (Step.Begins c f kept) h a = one_apart m c _ a (λ other ne. subst (λ (hs : List Hold). AreApart hs (held m other)) (sym (no_more (holds_of f))) (h.apart other ne))
+  where
+    no_more : (hs : List Hold) → hs ++ [] ≡ hs
+    no_more [] = refl
+    no_more (one ∷ hs) = ap (λ (ks : List Hold). one ∷ ks) (no_more hs)
+step_apart m (Step.Settles t u true) h a = same_apart m t.call t.run _ a h.under_way.runs refl
+step_apart m (Step.Settles t u false) h a = same_apart m t.call t.run _ a h.under_way.runs refl
+step_apart m (Step.Rests t) h a = same_apart m t.call t.run _ a h.under_way.runs refl
+step_apart m (Step.Unsettles t u) h a = same_apart m t.call t.run _ a h.under_way.runs refl
+step_apart m (Step.Decides t u) h a = same_apart m t.call t.run _ a h.under_way.runs refl
+step_apart m (Step.Bears t) h a = same_apart m t.call t.run _ a h.under_way.runs refl
+step_apart m (Step.Confirms t) h a = same_apart m t.call t.run _ a h.under_way.runs refl
+step_apart m (Step.HandsIn t shown) h a = same_apart m t.call t.run _ a h.under_way.runs refl
+step_apart m (Step.Extends c run dir next) h a =
+    one_apart m c _ a
+    (λ other ne. extended_apart (holds_of run.fop) (record { gfid = dir; shared = false }) (extensions run.handed) (held m other)
+    (subst (λ (s : Status). AreApart (holds_by s) (held m other)) h.runs (a c other (λ e. ne (sym e)))) (h.apart other ne))
+step_apart m (Step.Learns c run dir spans) h a = a
+step_apart m (Step.Answers c run answer) h a = free_apart m c _ a (λ other e. quiet (is_lookup run.fop) answer other e)
+
+pub holds_apart : (first : List (List ℕ)) (m : State) → IsReached first m → HoldsApart m
+holds_apart first _ (IsReached.Start planned) = λ a b ne. none_apart []
+holds_apart first _ (IsReached.Further old step reached allowed) = step_apart old step allowed (holds_apart first old reached)

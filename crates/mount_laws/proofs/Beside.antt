@@ -1,0 +1,327 @@
+-- A fop under way beside a change: each step keeps what is said of the two.
+use Rattle.std.proofs.Common.{◌≡◌, ◌∙◌, ℕ, ◌+◌, ◌<◌, ◌⊎◌, inl, inr, Bool, true, false, refl, sym, ap, subst, List, [], ◌∷◌, ◌++◌, length, Option, None, arith}
+use Rattle.std.specs.Prelude.{◌≢◌}
+use Rattle.afr_machine.specs.Changes.{Verdict}
+use Rattle.afr_machine.specs.Changes.Verdict.{Undrawn, Unsettled, Adopted, Dropped}
+use Rattle.afr_machine.specs.Replicas.{with_at}
+use Rattle.afr_machine.specs.Touching.{has_cell, share}
+use Rattle.afr_machine.specs.Transactions.{cells_of_job, settles_first}
+use Rattle.dht_fops.specs.Courses.{Course}
+use Rattle.dht_fops.specs.Handed.{Handed}
+use Rattle.dht_fops.specs.Handed.Event.{Replied, Held}
+use Rattle.fop_types.specs.Bounds.{Each}
+use Rattle.fop_types.specs.declared.answers.FopAnswer.{FopAnswer}
+use Rattle.fop_types.specs.declared.answers.FopAnswer.TheVariants as fop_answer
+use Rattle.fop_types.specs.declared.cells.Cell.{Cell}
+use Rattle.fop_types.specs.declared.fops.Fop.{Fop}
+use Rattle.fop_types.specs.declared.jobs.Job.{Job}
+use Rattle.fop_types.specs.declared.jobs.Job.TheVariants as job
+use Rattle.fop_types.specs.declared.jobs.SetReply.{SetReply}
+use Rattle.fop_types.specs.declared.store_ops.StoreOp.{StoreOp}
+use Rattle.mount_laws.specs.Guards.{Allowed, IsReached, IsUnderWay, IsUnsettledOn, IsChange, MaySettle, MayRest, MayUnsettle, MayDecide}
+use Rattle.mount_laws.specs.Holding.{HoldsApart, HoldCovers, AreHeld, AreHeldAlone, IsHeldChange, IsCovered}
+use Rattle.mount_laws.specs.Holds.{Hold, HoldsAlone, AreApart, holds_of, extensions}
+use Rattle.mount_laws.specs.Runs.{Run, Stage, SettledJob, Sight, holds_in, begun, going_on}
+use Rattle.mount_laws.specs.Runs.Stage.{Waiting, Settled, Changing, Bearing, Decided}
+use Rattle.mount_laws.specs.Settling.{OneUnsettled, IsRunning, IsSettledJob, StandsBeside, EachStandsBeside, RunningIsAlone, AreNumbered}
+use Rattle.mount_laws.specs.States.{State, Change, Call, Status, Runs, has_begun, holds_by, held, start}
+use Rattle.mount_laws.specs.States.Status.{Unsubmitted, Ready, Running, Answered}
+use Rattle.mount_laws.specs.Steps.{Step, Task, after, is_lookup, status_after, change_by, at_stage}
+use Rattle.mount_laws.proofs.Apart.{holds_apart}
+use Rattle.mount_laws.proofs.Held.{holds_cover, covered_held, alone_held}
+use Rattle.mount_laws.proofs.Moving.{unwrap}
+use Rattle.mount_laws.proofs.Sharing.{held_apart}
+use Rattle.mount_laws.proofs.Tables.{at_case}
+
+-- ---- lists
+
+pub each_map : {A : Type 0} (P Q : A → Type 0) (xs : List A) → ((x : A) → P x → Q x) → Each P xs → Each Q xs
+each_map P Q [] f e = tt
+each_map P Q (x ∷ xs) f e = (f x e.0, each_map P Q xs f e.1)
+
+pub each_of : {A : Type 0} (P : A → Type 0) (xs : List A) → ((x : A) → P x) → Each P xs
+each_of P [] f = tt
+each_of P (x ∷ xs) f = (f x, each_of P xs f)
+
+-- ---- the job that is asked
+
+record SameJob (set : ℕ) (asked : Job) (other : ℕ) (wanted : Job) : Type 0 where
+  pub set_is : set ≡ other
+  pub job_is : asked ≡ wanted
+
+one_job : (course : Course) (set other : ℕ) (asked wanted : Job) (next later : SetReply → Course) → course ≡ Course.Asks set asked next → course ≡ Course.Asks other wanted later → SameJob set asked other wanted
+one_job course set other asked wanted next later e f = record { set_is = cc; job_is = cc }
+
+-- the change of a job
+record IsChangeOf (c set : ℕ) (asked : Job) (f : Fop) (hs : List Hold) : Type 0 where
+  pub by : (change_by c set asked).by ≡ c
+  pub unsettled : (change_by c set asked).verdict ≡ Unsettled
+  pub on_set : (change_by c set asked).set ≡ set
+  pub cells : (change_by c set asked).cells ≡ cells_of_job asked
+  pub alone : AreHeldAlone hs (cells_of_job asked)
+  pub no_lookup : is_lookup f ≡ false
+  pub settles : settles_first asked ≡ true
+
+change_of_job : (c set : ℕ) (asked : Job) (f : Fop) (handed : Handed) → IsChange asked → IsCovered f handed set asked → IsChangeOf c set asked f (holds_of f ++ extensions handed)
+change_of_job c set (job.Change cells fd o effect) f handed is h = record { by = refl; unsettled = refl; on_set = refl; cells = refl; alone = h.alone; no_lookup = h.no_lookup; settles = refl }
+change_of_job c set (job.Read cells fd dir) f handed is h = absurd is
+change_of_job c set (job.Birth cells o) f handed is h = absurd is
+change_of_job c set (job.Open fd gfid) f handed is h = absurd is
+change_of_job c set job.Index f handed is h = absurd is
+change_of_job c set (job.Heal cell) f handed is h = absurd is
+
+-- ---- more holds
+
+more_alone : (hs : List Hold) (d : Hold) (es : List Hold) (cells : List Cell) → AreHeldAlone (hs ++ es) cells → AreHeldAlone (hs ++ d ∷ es) cells
+more_alone hs d es [] h = tt
+more_alone hs d es (cell ∷ cells) h = (one hs h.0, more_alone hs d es cells h.1)
+  where
+    one : (ks : List Hold) → HoldsAlone (ks ++ es) cell.gfid → HoldsAlone (ks ++ d ∷ es) cell.gfid
+    one [] k = inr k
+    one (k ∷ ks) (inl e) = inl e
+    one (k ∷ ks) (inr e) = inr (one ks e)
+
+-- ---- a fop that goes on, beside a change that stays
+
+module _ (c : ℕ) (run : Run) (u : ℕ) (change : Change) (a : StandsBeside c run u change) where
+  -- with another stage, at which nothing is said of its job
+  aside : (stage : Stage) → ((w : ℕ) → stage ≢ Changing w) → ((place : ℕ) → stage ≢ Settled place) → (saw : List Sight) → StandsBeside c (record run { stage = stage; saw = saw }) u change
+  aside stage no_change no_rest saw = record {
+    own_is_held = a.own_is_held;
+    running_is_unsettled = λ e. absurd (no_change u e);
+    none_left = λ place set asked next e. absurd (no_rest place e);
+    settled = a.settled;
+    lookup = a.lookup;
+  }
+
+  -- a job that settled it has rested
+  rested : (set : ℕ) (asked : Job) (next : SetReply → Course) → run.course ≡ Course.Asks set asked next → (IsUnsettledOn change set (cells_of_job asked) → ⊥) → (place : ℕ)
+      → StandsBeside c (record run { stage = Settled place; settled = record { set = set; cells = cells_of_job asked } ∷ run.settled }) u change
+  rested set asked next asks none place = record {
+    own_is_held = a.own_is_held;
+    running_is_unsettled = λ e. absurd cc;
+    none_left = λ at other wanted later e f settles on. let same = one_job run.course set other asked wanted next later asks f in
+        none (subst (λ (s : ℕ). IsUnsettledOn change s (cells_of_job asked)) (sym same.set_is) (subst (λ (j : Job). IsUnsettledOn change other (cells_of_job j)) (sym same.job_is) on));
+    settled = (λ on. absurd (none on), a.settled);
+    lookup = a.lookup;
+  }
+
+  -- it was handed a reply, or its hold was extended
+  gone_on : (handed : Handed) (course : Course) (saw : List Sight) → ((cells : List Cell) → AreHeldAlone (holds_in run) cells → AreHeldAlone (holds_of run.fop ++ extensions handed) cells) → StandsBeside c (going_on run handed course saw) u change
+  gone_on handed course saw more = record {
+    own_is_held = λ by drawn. more change.cells (a.own_is_held by drawn);
+    running_is_unsettled = λ e. absurd cc;
+    none_left = λ place set asked next e. absurd cc;
+    settled = a.settled;
+    lookup = a.lookup;
+  }
+
+  -- the change is decided
+  decided : (verdict : Verdict) → verdict ≢ Undrawn → verdict ≢ Unsettled → change.verdict ≡ Unsettled → run.stage ≢ Changing u → StandsBeside c run u (record change { verdict = verdict })
+  decided verdict drawn settled was other = record {
+    own_is_held = λ by d. a.own_is_held by (λ e. let clash : Unsettled ≡ Undrawn = sym was ∙ e in absurd cc);
+    running_is_unsettled = λ e. absurd (other e);
+    none_left = λ place set asked next e f g on. settled on.verdict;
+    settled = each_of (IsSettledJob c (record change { verdict = verdict })) run.settled (λ done on. absurd (settled on.verdict));
+    lookup = λ look by. let clash : Unsettled ≡ Undrawn = sym was ∙ a.lookup look by in absurd cc;
+  }
+
+-- ---- tables of calls and changes
+
+abbrev EachBeside : (ℕ → Call) → (ℕ → Change) → Type 0
+EachBeside calls changes = (c : ℕ) (run : Run) → (calls c).status ≡ Running run → (u : ℕ) → StandsBeside c run u (changes u)
+
+abbrev NoneUnbegun : (ℕ → Call) → (ℕ → Change) → Type 0
+NoneUnbegun calls changes = (c : ℕ) → has_begun (calls c).status ≡ false → (u : ℕ) → (changes u).by ≡ c → (changes u).verdict ≡ Undrawn
+
+-- one call's status changes
+one_beside : (calls : ℕ → Call) (changes : ℕ → Change) (c : ℕ) (call : Call) → EachBeside calls changes → ((run : Run) → call.status ≡ Running run → (u : ℕ) → StandsBeside c run u (changes u)) → EachBeside (with_at calls c call) changes
+one_beside calls changes c call a new i =
+    at_case (λ j (one : Call). (run : Run) → one.status ≡ Running run → (u : ℕ) → StandsBeside j run u (changes u)) calls c call new i (λ other. a i)
+
+one_unbegun : (calls : ℕ → Call) (changes : ℕ → Change) (c : ℕ) (call : Call) → NoneUnbegun calls changes → (has_begun call.status ≡ false → (u : ℕ) → (changes u).by ≡ c → (changes u).verdict ≡ Undrawn) → NoneUnbegun (with_at calls c call) changes
+one_unbegun calls changes c call a new i =
+    at_case (λ j (one : Call). has_begun one.status ≡ false → (u : ℕ) → (changes u).by ≡ j → (changes u).verdict ≡ Undrawn) calls c call new i (λ other. a i)
+
+-- a fop goes on
+run_beside : (calls : ℕ → Call) (changes : ℕ → Change) (c : ℕ) (run : Run) → EachBeside calls changes → ((u : ℕ) → StandsBeside c run u (changes u)) → EachBeside (with_at calls c (record (calls c) { status = Running run })) changes
+run_beside calls changes c run a new =
+    one_beside calls changes c (record (calls c) { status = Running run }) a (λ other e. subst (λ (r : Run). (u : ℕ) → StandsBeside c r u (changes u)) (unwrap run other e) new)
+
+-- one change changes
+change_beside : (calls : ℕ → Call) (changes : ℕ → Change) (u : ℕ) (change : Change) → EachBeside calls changes → ((c : ℕ) (run : Run) → (calls c).status ≡ Running run → StandsBeside c run u change) → EachBeside calls (with_at changes u change)
+change_beside calls changes u change a new c run runs w =
+    at_case (λ i (one : Change). StandsBeside c run i one) changes u change (new c run runs) w (λ other. a c run runs w)
+
+change_unbegun : (calls : ℕ → Call) (changes : ℕ → Change) (u : ℕ) (change : Change) → NoneUnbegun calls changes → ((c : ℕ) → has_begun (calls c).status ≡ false → change.by ≡ c → change.verdict ≡ Undrawn) → NoneUnbegun calls (with_at changes u change)
+change_unbegun calls changes u change a new c b w =
+    at_case (λ i (one : Change). one.by ≡ c → one.verdict ≡ Undrawn) changes u change (new c b) w (λ other. a c b w)
+
+-- ---- each step
+
+abbrev BesideIn : State → Type 0
+BesideIn m = EachBeside m.calls m.changes × NoneUnbegun m.calls m.changes
+
+module _ (m : State) (apart : HoldsApart m) (cover : HoldCovers m) (numbered : AreNumbered m) (a : EachBeside m.calls m.changes) (b : NoneUnbegun m.calls m.changes) where
+  -- the fop of a job goes on, and nothing else changes
+  goes : (t : Task) (run : Run) → Runs m t.call t.run → ((u : ℕ) → StandsBeside t.call t.run u (m.changes u) → StandsBeside t.call run u (m.changes u)) → BesideIn (record m { calls = with_at m.calls t.call (record (m.calls t.call) { status = Running run }) })
+  goes t run runs new = (
+    run_beside m.calls m.changes t.call run a (λ u. new u (a t.call t.run runs u)),
+    one_unbegun m.calls m.changes t.call (record (m.calls t.call) { status = Running run }) b (λ none. absurd cc),
+  )
+
+  -- a fop whose job settles is at no change of its own
+  settling_is_alone : (c : ℕ) (run : Run) (t : Task) (u : ℕ) → Runs m c run → run.stage ≡ Changing u → MaySettle m t u → ⊥
+  settling_is_alone c run t u runs stage h =
+      let running = (a c run runs u).running_is_unsettled stage in
+      let other : t.call ≢ c = λ same. waits (subst (λ (i : ℕ). Runs m i t.run) same h.under_way.runs) in
+      let own = (a c run runs u).own_is_held running.by (λ e. let clash : Unsettled ≡ Undrawn = sym running.unsettled ∙ e in absurd cc) in
+      let mine : AreHeldAlone (held m c) (m.changes u).cells = subst (λ (s : Status). AreHeldAlone (holds_by s) (m.changes u).cells) (sym runs) own in
+      let theirs : AreHeld (held m t.call) (cells_of_job t.job) = subst (λ (s : Status). AreHeld (holds_by s) (cells_of_job t.job)) (sym h.under_way.runs)
+      (covered_held t.run.fop t.run.handed t.set t.job h.settles (cover.asked t.call t.run t.set t.job t.next h.under_way.runs h.under_way.asks)) in
+      let none = held_apart (held m c) (held m t.call) (m.changes u).cells (cells_of_job t.job) (apart c t.call (λ e. other (sym e))) mine theirs in
+      let clash : true ≡ false = sym h.unsettled.touches ∙ none in absurd cc
+    where
+      waits : Runs m c t.run → ⊥
+      waits again = let one : t.run ≡ run = unwrap t.run run (sym again ∙ runs) in
+          let clash : Waiting ≡ Changing u = sym h.waiting ∙ ap (λ (r : Run). r.stage) one ∙ stage in absurd cc
+
+  -- the change of this number is decided
+  decides : (u : ℕ) (verdict : Verdict) → verdict ≢ Undrawn → verdict ≢ Unsettled → (m.changes u).verdict ≡ Unsettled → (calls : ℕ → Call) → EachBeside calls m.changes → NoneUnbegun calls m.changes
+      → ((c : ℕ) (run : Run) → (calls c).status ≡ Running run → run.stage ≢ Changing u)
+      → EachBeside calls (with_at m.changes u (record (m.changes u) { verdict = verdict })) × NoneUnbegun calls (with_at m.changes u (record (m.changes u) { verdict = verdict }))
+  decides u verdict drawn settled was calls new unbegun other = (
+    change_beside calls m.changes u (record (m.changes u) { verdict = verdict }) new (λ c run runs. decided c run u (m.changes u) (new c run runs u) verdict drawn settled was (other c run runs)),
+    change_unbegun calls m.changes u (record (m.changes u) { verdict = verdict }) unbegun (λ c none by. let clash : Unsettled ≡ Undrawn = sym was ∙ unbegun c none u by in absurd cc),
+  )
+
+  settles : (t : Task) (u : ℕ) (verdict : Verdict) (saw : List Sight) → verdict ≢ Undrawn → verdict ≢ Unsettled → MaySettle m t u
+      → EachBeside (with_at m.calls t.call (record (m.calls t.call) { status = Running (record t.run { saw = saw }) })) (with_at m.changes u (record (m.changes u) { verdict = verdict }))
+      × NoneUnbegun (with_at m.calls t.call (record (m.calls t.call) { status = Running (record t.run { saw = saw }) })) (with_at m.changes u (record (m.changes u) { verdict = verdict }))
+  settles t u verdict saw drawn settled h =
+      let run = record t.run { saw = saw } in
+      let calls = with_at m.calls t.call (record (m.calls t.call) { status = Running run }) in
+      let g = goes t run h.under_way.runs (λ w old. same w old) in
+      decides u verdict drawn settled h.unsettled.verdict calls g.0 g.1
+      (λ c other. at_case (λ i (one : Call). one.status ≡ Running other → other.stage ≢ Changing u) m.calls t.call (record (m.calls t.call) { status = Running run })
+      (λ e f. let one : run ≡ other = unwrap run other e in let clash : Waiting ≡ Changing u = sym h.waiting ∙ ap (λ (r : Run). r.stage) one ∙ f in absurd cc) c
+      (λ differ e f. settling_is_alone c other t u e f h))
+    where
+      same : (w : ℕ) → StandsBeside t.call t.run w (m.changes w) → StandsBeside t.call (record t.run { saw = saw }) w (m.changes w)
+      same w old = record { own_is_held = old.own_is_held; running_is_unsettled = λ e. let r = old.running_is_unsettled e in record { by = r.by; unsettled = r.unsettled; asked = r.asked }; none_left = old.none_left; settled = old.settled; lookup = old.lookup }
+
+  decides_own : (t : Task) (u : ℕ) (number : Option ℕ) (saw : List Sight) → MayDecide m t u
+      → EachBeside (with_at m.calls t.call (record (m.calls t.call) { status = Running (record t.run { stage = Decided number; saw = saw }) })) (with_at m.changes u (record (m.changes u) { verdict = Adopted }))
+      × NoneUnbegun (with_at m.calls t.call (record (m.calls t.call) { status = Running (record t.run { stage = Decided number; saw = saw }) })) (with_at m.changes u (record (m.changes u) { verdict = Adopted }))
+  decides_own t u number saw h =
+      let run = record t.run { stage = Decided number; saw = saw } in
+      let calls = with_at m.calls t.call (record (m.calls t.call) { status = Running run }) in
+      let g = goes t run h.under_way.runs (λ w old. aside t.call t.run w (m.changes w) old (Decided number) (λ n e. absurd cc) (λ n e. absurd cc) saw) in
+      let mine = (a t.call t.run h.under_way.runs u).running_is_unsettled h.turn in
+      decides u Adopted (λ e. absurd cc) (λ e. absurd cc) h.unsettled calls g.0 g.1
+      (λ c other. at_case (λ i (one : Call). one.status ≡ Running other → other.stage ≢ Changing u) m.calls t.call (record (m.calls t.call) { status = Running run })
+      (λ e f. let one : run ≡ other = unwrap run other e in let clash : Decided number ≡ Changing u = ap (λ (r : Run). r.stage) one ∙ f in absurd cc) c
+      (λ differ e f. differ (sym ((a c other e u).running_is_unsettled f).by ∙ mine.by)))
+
+  unsettles : (t : Task) (u : ℕ) → MayUnsettle m t u
+      → EachBeside (with_at m.calls t.call (record (m.calls t.call) { status = Running (at_stage t.run (Changing u)) })) (with_at m.changes u (change_by t.call t.set t.job))
+      × NoneUnbegun (with_at m.calls t.call (record (m.calls t.call) { status = Running (at_stage t.run (Changing u)) })) (with_at m.changes u (change_by t.call t.set t.job))
+  unsettles t u h = (
+    change_running,
+    change_none,
+  )
+    where
+      run : Run
+      run = at_stage t.run (Changing u)
+
+      new : Change
+      new = change_by t.call t.set t.job
+
+      made : IsChangeOf t.call t.set t.job t.run.fop (holds_in t.run)
+      made = change_of_job t.call t.set t.job t.run.fop t.run.handed h.is_change (cover.asked t.call t.run t.set t.job t.next h.under_way.runs h.under_way.asks)
+
+      was : StandsBeside t.call t.run u (m.changes u)
+      was = a t.call t.run h.under_way.runs u
+
+      -- its own fop beside it
+      mine : StandsBeside t.call run u new
+      mine = record {
+        own_is_held = λ by drawn. subst (λ (cells : List Cell). AreHeldAlone (holds_in t.run) cells) (sym made.cells) made.alone;
+        running_is_unsettled = λ e. record {
+          by = made.by;
+          unsettled = made.unsettled;
+          asked = λ set asked next f.
+              let one = one_job t.run.course t.set set t.job asked t.next next h.under_way.asks f in
+              subst (λ (s : ℕ). new ≡ change_by t.call s asked) one.set_is (ap (λ (j : Job). change_by t.call t.set j) one.job_is);
+        };
+        none_left = λ place set asked next e. absurd cc;
+        settled = each_of (IsSettledJob t.call new) t.run.settled (λ done on. made.by);
+        lookup = λ look by. let clash : true ≡ false = sym look ∙ made.no_lookup in absurd cc;
+      }
+
+      -- its own fop beside an other change
+      other_change : (w : ℕ) → w ≢ u → StandsBeside t.call run w (m.changes w)
+      other_change w ne =
+          let old = a t.call t.run h.under_way.runs w in
+          record { own_is_held = old.own_is_held; running_is_unsettled = λ e. absurd (ne (changing_of u w e)); none_left = λ place set asked next e. absurd cc; settled = old.settled; lookup = old.lookup }
+        where
+          changing_of : (x y : ℕ) → Changing x ≡ Changing y → y ≡ x
+          changing_of x y e = cc
+
+      -- what an other call holds is apart from it
+      no_share : (c : ℕ) → c ≢ t.call → (hs : List Hold) → held m c ≡ hs → (cells : List Cell) → AreHeld hs cells → share new.cells cells ≡ true → ⊥
+      no_share c ne hs is cells h2 s =
+          let alone : AreHeldAlone (held m t.call) new.cells = subst (λ (st : Status). AreHeldAlone (holds_by st) new.cells) (sym h.under_way.runs)
+          (subst (λ (cs : List Cell). AreHeldAlone (holds_in t.run) cs) (sym made.cells) made.alone) in
+          let none = held_apart (held m t.call) (held m c) new.cells cells (apart t.call c (λ e. ne (sym e))) alone (subst (λ (ks : List Hold). AreHeld ks cells) (sym is) h2) in
+          let clash : true ≡ false = sym s ∙ none in absurd cc
+
+      -- an other fop beside it
+      other_fop : (c : ℕ) (other : Run) → c ≢ t.call → Runs m c other → StandsBeside c other u new
+      other_fop c other ne runs =
+          let old = a c other runs u in
+          let holds : held m c ≡ holds_in other = ap (λ (s : Status). holds_by s) runs in
+          record {
+            own_is_held = λ by drawn. absurd (ne (sym (sym made.by ∙ by)));
+            running_is_unsettled = λ e. let clash : Unsettled ≡ Undrawn = sym (old.running_is_unsettled e).unsettled ∙ h.fresh in absurd cc;
+            none_left = λ place set asked next e f settles on.
+                no_share c ne (holds_in other) holds (cells_of_job asked) (covered_held other.fop other.handed set asked settles (cover.asked c other set asked next runs f)) on.touches;
+            settled = each_map (λ (done : SettledJob). AreHeld (holds_in other) done.cells) (IsSettledJob c new) other.settled (λ done held_cells on. absurd (no_share c ne (holds_in other) holds done.cells held_cells on.touches)) (cover.settled c other runs);
+            lookup = λ look by. absurd (ne (sym (sym made.by ∙ by)));
+          }
+
+      change_running : EachBeside (with_at m.calls t.call (record (m.calls t.call) { status = Running run })) (with_at m.changes u new)
+      change_running c =
+          at_case (λ i (one : Call). (other : Run) → one.status ≡ Running other → (w : ℕ) → StandsBeside i other w (with_at m.changes u new w)) m.calls t.call (record (m.calls t.call) { status = Running run })
+          (λ other e. subst (λ (r : Run). (w : ℕ) → StandsBeside t.call r w (with_at m.changes u new w)) (unwrap run other e)
+          (λ w. at_case (λ i (one : Change). StandsBeside t.call run i one) m.changes u new mine w (other_change w))) c
+          (λ ne other e w. at_case (λ i (one : Change). StandsBeside c other i one) m.changes u new (other_fop c other ne e) w (λ differ. a c other e w))
+
+      change_none : NoneUnbegun (with_at m.calls t.call (record (m.calls t.call) { status = Running run })) (with_at m.changes u new)
+      change_none c =
+          at_case (λ i (one : Call). has_begun one.status ≡ false → (w : ℕ) → (with_at m.changes u new w).by ≡ i → (with_at m.changes u new w).verdict ≡ Undrawn) m.calls t.call (record (m.calls t.call) { status = Running run })
+          (λ none. absurd cc) c
+          (λ ne none w. at_case (λ i (one : Change). one.by ≡ c → one.verdict ≡ Undrawn) m.changes u new (λ by. absurd (ne (sym (sym made.by ∙ by)))) w (λ differ. b c none w))
+
+  -- a fop begins where its call has made no change
+  begins : (c : ℕ) (run : Run) → (m.calls c).status ≡ Ready → run.stage ≡ Waiting → run.settled ≡ [] → BesideIn (record m { calls = with_at m.calls c (record (m.calls c) { status = Running run }) })
+  begins c run ready waiting nothing = (
+    run_beside m.calls m.changes c run a (λ u. new u),
+    one_unbegun m.calls m.changes c (record (m.calls c) { status = Running run }) b (λ none. absurd cc),
+  )
+    where
+      undrawn : (u : ℕ) → (m.changes u).by ≡ c → (m.changes u).verdict ≡ Undrawn
+      undrawn = b c (ap (λ (s : Status). has_begun s) ready)
+
+      new : (u : ℕ) → StandsBeside c run u (m.changes u)
+      new u = record {
+        own_is_held = λ by drawn. absurd (drawn (undrawn u by));
+        running_is_unsettled = λ e. let clash : Waiting ≡ Changing u = sym waiting ∙ e in absurd cc;
+        none_left = λ place set asked next e. let clash : Waiting ≡ Settled place = sym waiting ∙ e in absurd cc;
+        settled = subst (λ (jobs : List SettledJob). Each (IsSettledJob c (m.changes u)) jobs) (sym nothing) tt;
+        lookup = λ look by. undrawn u by;
+      }
+
+  -- a call without a fop
+  stops : (c : ℕ) (call : Call) → ((run : Run) → call.status ≡ Running run → ⊥) → (has_begun call.status ≡ false → (u : ℕ) → (m.changes u).by ≡ c → (m.changes u).verdict ≡ Undrawn) → BesideIn (record m { calls = with_at m.calls c call })
+  stops c call quiet none = (one_beside m.calls m.changes c call a (λ run e. absurd (quiet run e)), one_unbegun m.calls m.changes c call b none)

@@ -1,0 +1,69 @@
+-- What a step makes of the fops under way: each stays, begins, or goes on by the step of its call.
+use Rattle.std.proofs.Common.{◌≡◌, ℕ, ◌+◌, Bool, true, false, refl, sym, subst, List, ◌∷◌, ◌++◌, length, Option, None}
+use Rattle.afr_machine.specs.Replicas.{with_at}
+use Rattle.afr_machine.specs.Transactions.{cells_of_job}
+use Rattle.dht_fops.specs.Courses.{Course}
+use Rattle.dht_fops.specs.Handed.Event.{Replied, Held}
+use Rattle.dht_fops.specs.Volumes.{Kept}
+use Rattle.fop_types.specs.declared.answers.FopAnswer.{FopAnswer}
+use Rattle.fop_types.specs.declared.answers.FopAnswer.TheVariants as fop_answer
+use Rattle.fop_types.specs.declared.cells.Gfid.{Gfid}
+use Rattle.fop_types.specs.declared.fops.Fop.{Fop}
+use Rattle.fop_types.specs.declared.jobs.SetReply.{SetReply}
+use Rattle.mount_laws.specs.Guards.{Allowed, MayBegin, MaySettle, MayRest, MayUnsettle, MayDecide, MayBear, MayConfirm, MayHandIn, MayExtend}
+use Rattle.mount_laws.specs.Runs.{Run, begun, going_on}
+use Rattle.mount_laws.specs.Runs.Stage.{Settled, Changing, Bearing, Decided}
+use Rattle.mount_laws.specs.States.{State, Call, Status, Runs}
+use Rattle.mount_laws.specs.States.Status.{Ready, Running, Answered}
+use Rattle.mount_laws.specs.Steps.{Step, Task, after, volume_of, status_after, is_lookup, deciding, adopting, sees, at_stage, number_after, sights_by}
+use Rattle.mount_laws.proofs.Tables.{at_case}
+
+pub data RunMove (m : State) : ℕ → Run → Type 0 where
+  Stays : (c : ℕ) → (run : Run) → Runs m c run → RunMove m c run
+  Begins : (c : ℕ) → (f : Fop) → (kept : Kept) → MayBegin m c f kept → RunMove m c (begun f (volume_of m c) (m.calls c).names kept)
+  Settles : (t : Task) → (u : ℕ) → (adopts : Bool) → MaySettle m t u → RunMove m t.call (record t.run { saw = sees (deciding m u adopts) u t.run.saw })
+  Rests : (t : Task) → MayRest m t → RunMove m t.call (record t.run { stage = Settled (length m.history); settled = record { set = t.set; cells = cells_of_job t.job } ∷ t.run.settled })
+  Unsettles : (t : Task) → (u : ℕ) → MayUnsettle m t u → RunMove m t.call (at_stage t.run (Changing u))
+  Decides : (t : Task) → (u : ℕ) → MayDecide m t u → RunMove m t.call (record t.run { stage = Decided (number_after m (m.changes u).effect); saw = sees (adopting m u) u t.run.saw })
+  Bears : (t : Task) → MayBear m t → RunMove m t.call (at_stage t.run Bearing)
+  Confirms : (t : Task) → MayConfirm m t → RunMove m t.call (at_stage t.run (Decided None))
+  HandsIn : (t : Task) → (shown : SetReply) → MayHandIn m t shown →
+      RunMove m t.call (going_on t.run (Replied t.set t.job shown ∷ t.run.handed) (t.next shown) (sights_by t.set t.job shown ++ t.run.saw))
+  Extends : (c : ℕ) → (run : Run) → (dir : Gfid) → (next : Course) → MayExtend m c run dir next → RunMove m c (going_on run (Held dir ∷ run.handed) next run.saw)
+
+-- ---- by the call whose status changes
+
+pub unwrap : (a b : Run) → Running a ≡ Running b → a ≡ b
+unwrap a b e = cc
+
+pub one_call : (m : State) (c : ℕ) (call : Call) → ((run : Run) → call.status ≡ Running run → RunMove m c run) → (i : ℕ) (run : Run) → (with_at m.calls c call i).status ≡ Running run → RunMove m i run
+one_call m c call new i =
+    at_case (λ j (one : Call). (run : Run) → one.status ≡ Running run → RunMove m j run) m.calls c call new i (λ other run e. Stays i run e)
+
+one_run : (m : State) (c : ℕ) (run : Run) → RunMove m c run → (i : ℕ) (other : Run) → (with_at m.calls c (record (m.calls c) { status = Running run }) i).status ≡ Running other → RunMove m i other
+one_run m c run move = one_call m c (record (m.calls c) { status = Running run }) (λ other e. subst (λ (r : Run). RunMove m c r) (unwrap run other e) move)
+
+-- a call that was answered a fop has none
+pub quiet : (is_lookup : Bool) (a : FopAnswer) (run : Run) → status_after is_lookup a ≡ Running run → ⊥
+quiet true (fop_answer.Found set gfid kind) run e = absurd cc
+quiet true (fop_answer.Call answer) run e = absurd cc
+quiet false a run e = absurd cc
+
+-- ---- each step
+
+pub run_moves : (m : State) (step : Step) → Allowed m step → (c : ℕ) (run : Run) → Runs (after m step) c run → RunMove m c run
+run_moves m (Step.Submits draws) h = one_call m (m.submitted + 1) _ (λ run e. absurd cc)
+run_moves m (Step.Leaves c) h = one_call m c _ (λ run e. absurd cc)
+run_moves m (Step.Switches names) h = λ c run e. Stays c run e
+run_moves m (Step.Begins c f kept) h = one_run m c _ (Begins c f kept h)
+run_moves m (Step.Settles t u true) h = one_run m t.call _ (Settles t u true h)
+run_moves m (Step.Settles t u false) h = one_run m t.call _ (Settles t u false h)
+run_moves m (Step.Rests t) h = one_run m t.call _ (Rests t h)
+run_moves m (Step.Unsettles t u) h = one_run m t.call _ (Unsettles t u h)
+run_moves m (Step.Decides t u) h = one_run m t.call _ (Decides t u h)
+run_moves m (Step.Bears t) h = one_run m t.call _ (Bears t h)
+run_moves m (Step.Confirms t) h = one_run m t.call _ (Confirms t h)
+run_moves m (Step.HandsIn t shown) h = one_run m t.call _ (HandsIn t shown h)
+run_moves m (Step.Extends c run dir next) h = one_run m c _ (Extends c run dir next h)
+run_moves m (Step.Learns c run dir spans) h = λ i other e. Stays i other e
+run_moves m (Step.Answers c run answer) h = one_call m c _ (λ other e. absurd (quiet (is_lookup run.fop) answer other e))

@@ -1,0 +1,85 @@
+-- A fop of a call under way: how it stands to what it was handed in, how far its job is, and what it has seen since it
+-- began. Ours.
+use Rattle.std.specs.Prelude.{ℕ, List, [], ◌∷◌, ◌++◌, Option, None}
+use Rattle.dht_fops.specs.Courses.{Course}
+use Rattle.dht_fops.specs.Courses.Course.{Asks, Extends}
+use Rattle.dht_fops.specs.Fops.{fop_course}
+use Rattle.dht_fops.specs.Handed.{Handed}
+use Rattle.dht_fops.specs.Handed.Event.{Replied, Held}
+use Rattle.dht_fops.specs.Volumes.{Kept}
+use Rattle.dht_fops.specs.declared.volume.Volume.{Volume}
+use Rattle.fop_types.specs.declared.cells.Cell.{Cell}
+use Rattle.fop_types.specs.declared.cells.Gfid.{Gfid}
+use Rattle.fop_types.specs.declared.contents.Content.{Content}
+use Rattle.fop_types.specs.declared.fops.Fop.{Fop}
+use Rattle.fop_types.specs.declared.jobs.Job.{Job}
+use Rattle.fop_types.specs.declared.jobs.SetReply.{SetReply}
+use Rattle.mount_laws.specs.Holds.{Hold, holds_of, extensions}
+
+-- ---- what was handed in
+
+-- the replies and extensions lead from the first course to the second
+pub data Leads (first : Course) : Handed → Course → Type 0 where
+  Begun : Leads first [] first
+  Answered : (handed : Handed) → (set : ℕ) → (job : Job) → (next : SetReply → Course) → (reply : SetReply) →
+      Leads first handed (Asks set job next) → Leads first (Replied set job reply ∷ handed) (next reply)
+  Extended : (handed : Handed) → (dir : Gfid) → (next : Course) → Leads first handed (Extends dir next) → Leads first (Held dir ∷ handed) next
+
+-- ---- the job that the course asks for
+
+-- `Waiting`: the job settles the unsettled changes on its cells, if it has any. `Settled`: none was left on them at this
+-- length of the history. `Changing`: its change of this number became unsettled. `Bearing`: its births were sent.
+-- `Decided`: its change was adopted, with the number of its entry if it has an effect, or a quorum confirmed its births.
+pub data Stage : Type 0 where
+  Waiting : Stage
+  Settled : (place : ℕ) → Stage
+  Changing : (u : ℕ) → Stage
+  Bearing : Stage
+  Decided : (number : Option ℕ) → Stage
+
+-- a job of this fop whose settling has ended
+pub record SettledJob : Type 0 where
+  pub set : ℕ
+  pub cells : List Cell
+
+-- what the fop has read of a cell, with the fop's own changes since
+pub record Sight : Type 0 where
+  pub set : ℕ
+  pub cell : Cell
+  pub content : Option Content
+
+-- `names` are the names of the sets of the call's graph, `kept` the layouts that the graph had read when the fop began
+pub record Run : Type 0 where
+  pub fop : Fop
+  pub volume : Volume
+  pub names : List (List ℕ)
+  pub kept : Kept
+  pub handed : Handed
+  pub course : Course
+  pub stage : Stage
+  pub settled : List SettledJob
+  pub saw : List Sight
+
+abbrev pub first_course : Run → Course
+first_course run = fop_course run.volume run.names run.kept run.fop
+
+-- what the fop holds now
+abbrev pub holds_in : Run → List Hold
+holds_in run = holds_of run.fop ++ extensions run.handed
+
+abbrev pub begun : Fop → Volume → List (List ℕ) → Kept → Run
+begun fop volume names kept = record {
+  fop = fop;
+  volume = volume;
+  names = names;
+  kept = kept;
+  handed = [];
+  course = fop_course volume names kept fop;
+  stage = Waiting;
+  settled = [];
+  saw = [];
+}
+
+-- it goes on with one more event
+abbrev pub going_on : Run → Handed → Course → List Sight → Run
+going_on run handed next saw = record run { handed = handed; course = next; stage = Waiting; saw = saw }
