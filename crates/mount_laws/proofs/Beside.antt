@@ -1,6 +1,7 @@
 -- A fop under way beside a change: each step keeps what is said of the two.
-use Rattle.std.proofs.Common.{◌≡◌, ◌∙◌, ℕ, ◌+◌, ◌<◌, ◌⊎◌, inl, inr, Bool, true, false, refl, sym, ap, subst, List, [], ◌∷◌, ◌++◌, length, Option, None, arith}
+use Rattle.std.proofs.Common.{◌≡◌, ◌∙◌, ℕ, ◌+◌, ◌<◌, ◌≤◌, ◌⊎◌, inl, inr, Bool, true, false, refl, sym, ap, subst, List, [], ◌∷◌, ◌++◌, length, Option, None, nat_lt, arith}
 use Rattle.std.specs.Prelude.{◌≢◌}
+use Rattle.std.proofs.lemmas.Bool.{ltb-true, ltb-false}
 use Rattle.afr_machine.specs.Changes.{Verdict}
 use Rattle.afr_machine.specs.Changes.Verdict.{Undrawn, Unsettled, Adopted, Dropped}
 use Rattle.afr_machine.specs.Replicas.{with_at}
@@ -29,7 +30,7 @@ use Rattle.mount_laws.specs.States.Status.{Unsubmitted, Ready, Running, Answered
 use Rattle.mount_laws.specs.Steps.{Step, Task, after, is_lookup, status_after, change_by, at_stage}
 use Rattle.mount_laws.proofs.Apart.{holds_apart}
 use Rattle.mount_laws.proofs.Held.{holds_cover, covered_held, alone_held}
-use Rattle.mount_laws.proofs.Moving.{unwrap}
+use Rattle.mount_laws.proofs.Moving.{unwrap, quiet}
 use Rattle.mount_laws.proofs.Sharing.{held_apart}
 use Rattle.mount_laws.proofs.Tables.{at_case}
 
@@ -325,3 +326,84 @@ module _ (m : State) (apart : HoldsApart m) (cover : HoldCovers m) (numbered : A
   -- a call without a fop
   stops : (c : ℕ) (call : Call) → ((run : Run) → call.status ≡ Running run → ⊥) → (has_begun call.status ≡ false → (u : ℕ) → (m.changes u).by ≡ c → (m.changes u).verdict ≡ Undrawn) → BesideIn (record m { calls = with_at m.calls c call })
   stops c call quiet none = (one_beside m.calls m.changes c call a (λ run e. absurd (quiet run e)), one_unbegun m.calls m.changes c call b none)
+
+step_beside : (m : State) (step : Step) → Allowed m step → HoldsApart m → HoldCovers m → AreNumbered m → EachBeside m.calls m.changes → NoneUnbegun m.calls m.changes → BesideIn (after m step)
+step_beside m (Step.Submits draws) h apart cover numbered a b =
+    stops m apart cover numbered a b (m.submitted + 1) _ (λ run e. absurd cc) (λ none. b (m.submitted + 1) (ap (λ (s : Status). has_begun s) (numbered (m.submitted + 1) (omega arith))))
+step_beside m (Step.Leaves c) h apart cover numbered a b = stops m apart cover numbered a b c _ (λ run e. absurd cc) (λ none. absurd cc)
+step_beside m (Step.Switches names) h apart cover numbered a b = (a, b)
+step_beside m (Step.Begins c f kept) h apart cover numbered a b = begins m apart cover numbered a b c _ h.ready refl refl
+step_beside m (Step.Settles t u true) h apart cover numbered a b = settles m apart cover numbered a b t u Adopted _ (λ e. absurd cc) (λ e. absurd cc) h
+step_beside m (Step.Settles t u false) h apart cover numbered a b = settles m apart cover numbered a b t u Dropped _ (λ e. absurd cc) (λ e. absurd cc) h
+step_beside m (Step.Rests t) h apart cover numbered a b =
+    goes m apart cover numbered a b t _ h.under_way.runs (λ u old. rested t.call t.run u (m.changes u) old t.set t.job t.next h.under_way.asks (h.none u) (length m.history))
+step_beside m (Step.Unsettles t u) h apart cover numbered a b = unsettles m apart cover numbered a b t u h
+step_beside m (Step.Decides t u) h apart cover numbered a b = decides_own m apart cover numbered a b t u _ _ h
+step_beside m (Step.Bears t) h apart cover numbered a b =
+    goes m apart cover numbered a b t _ h.under_way.runs (λ u old. aside t.call t.run u (m.changes u) old Bearing (λ w e. absurd cc) (λ w e. absurd cc) t.run.saw)
+step_beside m (Step.Confirms t) h apart cover numbered a b =
+    goes m apart cover numbered a b t _ h.under_way.runs (λ u old. aside t.call t.run u (m.changes u) old (Decided None) (λ w e. absurd cc) (λ w e. absurd cc) t.run.saw)
+step_beside m (Step.HandsIn t shown) h apart cover numbered a b =
+    goes m apart cover numbered a b t _ h.under_way.runs (λ u old. gone_on t.call t.run u (m.changes u) old (Replied t.set t.job shown ∷ t.run.handed) (t.next shown) _ (λ cells k. k))
+step_beside m (Step.Extends c run dir next) h apart cover numbered a b = (
+  run_beside m.calls m.changes c _ a
+      (λ u. gone_on c run u (m.changes u) (a c run h.runs u) (Held dir ∷ run.handed) next run.saw (λ cells k. more_alone (holds_of run.fop) (record { gfid = dir; shared = false }) (extensions run.handed) cells k)),
+  one_unbegun m.calls m.changes c _ b (λ none. absurd cc),
+)
+step_beside m (Step.Learns c run dir spans) h apart cover numbered a b = (a, b)
+step_beside m (Step.Answers c run answer) h apart cover numbered a b =
+    stops m apart cover numbered a b c _ (λ other e. quiet (is_lookup run.fop) answer other e) (λ none u by. by_kind (is_lookup run.fop) refl none u by)
+  where
+    by_kind : (k : Bool) → is_lookup run.fop ≡ k → has_begun (status_after k answer) ≡ false → (u : ℕ) → (m.changes u).by ≡ c → (m.changes u).verdict ≡ Undrawn
+    by_kind true e none u by = (a c run h.runs u).lookup e by
+    by_kind false e none u by = absurd cc
+
+-- ---- numbers of calls
+
+counted : (m : State) → AreNumbered m → (c : ℕ) → (m.calls c).status ≢ Unsubmitted → c ≤ m.submitted
+counted m numbered c known = by_order (nat_lt m.submitted c) refl
+  where
+    by_order : (b : Bool) → nat_lt m.submitted c ≡ b → c ≤ m.submitted
+    by_order true e = absurd (known (numbered c (ltb-true m.submitted c e)))
+    by_order false e = ltb-false m.submitted c e
+
+number_at : (m : State) (c : ℕ) (call : Call) (submitted : ℕ) → AreNumbered m → m.submitted ≤ submitted → c ≤ submitted → (i : ℕ) → submitted < i → (with_at m.calls c call i).status ≡ Unsubmitted
+number_at m c call submitted numbered more known i =
+    at_case (λ j (one : Call). submitted < j → one.status ≡ Unsubmitted) m.calls c call (λ h. absurd (omega (arith, h))) i (λ other h. numbered i (omega arith))
+
+number_run : (m : State) (t : Task) → AreNumbered m → IsUnderWay m t → {call : Call} → (i : ℕ) → m.submitted < i → (with_at m.calls t.call call i).status ≡ Unsubmitted
+number_run m t n h {call} = number_at m t.call call m.submitted n (omega arith) (counted m n t.call (λ e. let clash : Running t.run ≡ Unsubmitted = sym h.runs ∙ e in absurd cc))
+
+step_numbered : (m : State) (step : Step) → Allowed m step → AreNumbered m → AreNumbered (after m step)
+step_numbered m (Step.Submits draws) h n = number_at m (m.submitted + 1) _ (m.submitted + 1) n (omega arith) (omega arith)
+step_numbered m (Step.Leaves c) h n = number_at m c _ m.submitted n (omega arith) (counted m n c (λ e. let clash : Ready ≡ Unsubmitted = sym h ∙ e in absurd cc))
+step_numbered m (Step.Switches names) h n = n
+step_numbered m (Step.Begins c f kept) h n = number_at m c _ m.submitted n (omega arith) (counted m n c (λ e. let clash : Ready ≡ Unsubmitted = sym h.ready ∙ e in absurd cc))
+step_numbered m (Step.Settles t u true) h n = number_run m t n h.under_way
+step_numbered m (Step.Settles t u false) h n = number_run m t n h.under_way
+step_numbered m (Step.Rests t) h n = number_run m t n h.under_way
+step_numbered m (Step.Unsettles t u) h n = number_run m t n h.under_way
+step_numbered m (Step.Decides t u) h n = number_run m t n h.under_way
+step_numbered m (Step.Bears t) h n = number_run m t n h.under_way
+step_numbered m (Step.Confirms t) h n = number_run m t n h.under_way
+step_numbered m (Step.HandsIn t shown) h n = number_run m t n h.under_way
+step_numbered m (Step.Extends c run dir next) h n = number_at m c _ m.submitted n (omega arith) (counted m n c (λ e. let clash : Running run ≡ Unsubmitted = sym h.runs ∙ e in absurd cc))
+step_numbered m (Step.Learns c run dir spans) h n = n
+step_numbered m (Step.Answers c run answer) h n = number_at m c _ m.submitted n (omega arith) (counted m n c (λ e. let clash : Running run ≡ Unsubmitted = sym h.runs ∙ e in absurd cc))
+
+pub numbered : (first : List (List ℕ)) (m : State) → IsReached first m → AreNumbered m
+numbered first _ (IsReached.Start planned) = λ c h. refl
+numbered first _ (IsReached.Further old step reached allowed) = step_numbered old step allowed (numbered first old reached)
+
+both : (first : List (List ℕ)) (m : State) → IsReached first m → BesideIn m
+both first _ (IsReached.Start planned) = (λ c run e. absurd cc, λ c none u by. refl)
+both first _ (IsReached.Further old step reached allowed) =
+    let b = both first old reached in
+    step_beside old step allowed (holds_apart first old reached) (holds_cover first old reached) (numbered first old reached) b.0 b.1
+
+pub each_beside : (first : List (List ℕ)) (m : State) → IsReached first m → EachStandsBeside m
+each_beside first m reached = let b = both first m reached in record { running = b.0; unbegun = b.1 }
+
+pub running_alone : (first : List (List ℕ)) (m : State) → IsReached first m → RunningIsAlone m
+running_alone first m reached = λ c run t u runs stage h. let b = both first m reached in
+    settling_is_alone m (holds_apart first m reached) (holds_cover first m reached) (numbered first m reached) b.0 b.1 c run t u runs stage h

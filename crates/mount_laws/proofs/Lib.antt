@@ -1,6 +1,12 @@
 pub mod Apart
+pub mod Beside
+pub mod Contents
 pub mod Covering
+pub mod Firm
 pub mod Held
 pub mod Leading
 pub mod Moving
+pub mod One
+pub mod Seen
+pub mod Sharing
 pub mod Tables

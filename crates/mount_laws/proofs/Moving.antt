@@ -21,10 +21,10 @@ use Rattle.mount_laws.proofs.Tables.{at_case}
 pub data RunMove (m : State) : ℕ → Run → Type 0 where
   Stays : (c : ℕ) → (run : Run) → Runs m c run → RunMove m c run
   Begins : (c : ℕ) → (f : Fop) → (kept : Kept) → MayBegin m c f kept → RunMove m c (begun f (volume_of m c) (m.calls c).names kept)
-  Settles : (t : Task) → (u : ℕ) → (adopts : Bool) → MaySettle m t u → RunMove m t.call (record t.run { saw = sees (deciding m u adopts) u t.run.saw })
+  Settles : (t : Task) → (u : ℕ) → (adopts : Bool) → MaySettle m t u → RunMove m t.call (record t.run { saw = sees (deciding m u adopts).adopted (m.changes u) t.run.saw })
   Rests : (t : Task) → MayRest m t → RunMove m t.call (record t.run { stage = Settled (length m.history); settled = record { set = t.set; cells = cells_of_job t.job } ∷ t.run.settled })
   Unsettles : (t : Task) → (u : ℕ) → MayUnsettle m t u → RunMove m t.call (at_stage t.run (Changing u))
-  Decides : (t : Task) → (u : ℕ) → MayDecide m t u → RunMove m t.call (record t.run { stage = Decided (number_after m (m.changes u).effect); saw = sees (adopting m u) u t.run.saw })
+  Decides : (t : Task) → (u : ℕ) → MayDecide m t u → RunMove m t.call (record t.run { stage = Decided (number_after m (m.changes u).effect); saw = sees (adopting m u).adopted (m.changes u) t.run.saw })
   Bears : (t : Task) → MayBear m t → RunMove m t.call (at_stage t.run Bearing)
   Confirms : (t : Task) → MayConfirm m t → RunMove m t.call (at_stage t.run (Decided None))
   HandsIn : (t : Task) → (shown : SetReply) → MayHandIn m t shown →

@@ -2,8 +2,11 @@
 use Rattle.std.specs.Prelude.{ℕ, List}
 use Rattle.mount_laws.specs.Guards.{IsReached}
 use Rattle.mount_laws.specs.Holding.{HoldsApart, JobAsked, HoldCovers}
+use Rattle.mount_laws.specs.Seeing.{RestedIsListed, SawStill}
+use Rattle.mount_laws.specs.Settling.{OneUnsettled, EachStandsBeside, RunningIsAlone, SettlingEnds, ReadIsAdopted, AreWhole, FirmIsTouched}
 use Rattle.mount_laws.specs.States.{State}
 
+-- of every mount, whatever the sets of its first graph
 abbrev pub EveryState : (State → Type 0) → Type 0
 EveryState Fact = (first : List (List ℕ)) (m : State) → IsReached first m → Fact m
 
@@ -12,5 +15,24 @@ pub record KeepsHolds (m : State) : Type 0 where
   pub asked : JobAsked m
   pub covers : HoldCovers m
 
+pub record KeepsSettled (m : State) : Type 0 where
+  pub beside : EachStandsBeside m
+  pub one : OneUnsettled m
+  pub alone : RunningIsAlone m
+  pub ends : SettlingEnds m
+
+pub record KeepsSights (m : State) : Type 0 where
+  pub saw : SawStill m
+  pub adopted : ReadIsAdopted m
+  pub rested : RestedIsListed m
+  pub whole : AreWhole m
+  pub firm : FirmIsTouched m
+
 abbrev pub EveryStateKeepsHolds : Type 0
 EveryStateKeepsHolds = EveryState KeepsHolds
+
+abbrev pub EveryStateKeepsSettled : Type 0
+EveryStateKeepsSettled = EveryState KeepsSettled
+
+abbrev pub EveryStateKeepsSights : Type 0
+EveryStateKeepsSights = EveryState KeepsSights

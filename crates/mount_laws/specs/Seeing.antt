@@ -8,6 +8,7 @@ use Rattle.dht_fops.specs.Answers.{AreMade}
 use Rattle.dht_fops.specs.Courses.{Course}
 use Rattle.dht_fops.specs.Handed.{Handed, Event}
 use Rattle.dht_fops.specs.Handed.Event.{Replied, Held}
+use Rattle.dht_fops.specs.Shown.{SetContents}
 use Rattle.dht_fops.specs.Standing.{Volumes, IsMade}
 use Rattle.fop_types.specs.Bounds.{Each}
 use Rattle.fop_types.specs.Files.{first_files}
@@ -22,7 +23,7 @@ use Rattle.fop_types.specs.declared.fops.Object.{Object}
 use Rattle.fop_types.specs.declared.jobs.Job.{Job}
 use Rattle.fop_types.specs.declared.jobs.SetReply.{SetReply}
 use Rattle.mount_laws.specs.Runs.{Run, Stage, SettledJob, Sight}
-use Rattle.mount_laws.specs.Runs.Stage.{Bearing, Changing}
+use Rattle.mount_laws.specs.Runs.Stage.{Settled, Bearing, Changing}
 use Rattle.mount_laws.specs.Settling.{HasNoNames}
 use Rattle.mount_laws.specs.States.{State, Status, Runs}
 use Rattle.mount_laws.specs.Steps.{births_by}
@@ -33,24 +34,35 @@ volumes m = record { contents = m.adopted; homes = m.homes; kinds = m.kinds; fil
 
 -- ---- what was seen
 
+-- one of the settled jobs is this one
+abbrev pub IsListed : List SettledJob → SettledJob → Type 0
+IsListed [] done = ⊥
+IsListed (one ∷ more) done = (one ≡ done) ⊎ IsListed more done
+
+-- From the end of its settling until its change begins, a job is among the settled ones.
+abbrev pub RestedIsListed : State → Type 0
+RestedIsListed m = (c : ℕ) (run : Run) (place set : ℕ) (asked : Job) (next : SetReply → Course) → Runs m c run → run.stage ≡ Settled place → run.course ≡ Course.Asks set asked next
+    → IsListed run.settled (record { set = set; cells = cells_of_job asked })
+
 -- one of the settled jobs was of the cell
-abbrev pub WasSettled : List SettledJob → ℕ → Cell → Type 0
-WasSettled [] set cell = ⊥
-WasSettled (done ∷ more) set cell = ((done.set ≡ set) × (has_cell done.cells cell ≡ true)) ⊎ WasSettled more set cell
+pub record WasSettled (jobs : List SettledJob) (set : ℕ) (cell : Cell) : Type 0 where
+  pub cells : List Cell
+  pub listed : IsListed jobs (record { set = set; cells = cells })
+  pub has : has_cell cells cell ≡ true
 
--- a cell that was not shown, of a directory on a set after the first, has no names
-pub record IsStillLacking (m : State) (sight : Sight) : Type 0 where
-  pub nothing : sight.content ≡ None
-  pub later : may_lack sight.set true ≡ true
-  pub no_names : HasNoNames (m.adopted sight.set sight.cell)
+-- a cell that was not shown has no names
+abbrev pub IsStill : SetContents → Sight → Type 0
+IsStill adopted sight = (adopted sight.set sight.cell ≡ sight.content) ⊎ ((sight.content ≡ None) × HasNoNames (adopted sight.set sight.cell))
 
-pub record StandsAsSeen (m : State) (run : Run) (sight : Sight) : Type 0 where
-  pub content : (m.adopted sight.set sight.cell ≡ sight.content) ⊎ IsStillLacking m sight
-  pub settled : WasSettled run.settled sight.set sight.cell
+-- only on a set after the first is a cell not shown
+pub record StandsAsSeen (adopted : SetContents) (jobs : List SettledJob) (sight : Sight) : Type 0 where
+  pub content : IsStill adopted sight
+  pub lacks : sight.content ≡ None → may_lack sight.set true ≡ true
+  pub settled : WasSettled jobs sight.set sight.cell
 
 -- What a fop has read is what is adopted now, with its own changes since; each read was of a settled job.
 abbrev pub SawStill : State → Type 0
-SawStill m = (c : ℕ) (run : Run) → Runs m c run → Each (StandsAsSeen m run) run.saw
+SawStill m = (c : ℕ) (run : Run) → Runs m c run → Each (StandsAsSeen m.adopted run.settled) run.saw
 
 -- ---- objects
 

@@ -79,38 +79,45 @@ pub record SettlingEnds (m : State) : Type 0 where
   pub asked : (c : ℕ) (run : Run) (cells : List Cell) (t : Task) (u : ℕ) → c ≢ t.call → Allowed m (Step.Unsettles t u) → IsAtWork m c run t.set cells → share (cells_of_job t.job) cells ≡ false
   pub settled : (c : ℕ) (run : Run) (t : Task) (u : ℕ) → c ≢ t.call → Allowed m (Step.Unsettles t u) → Runs m c run → Each (λ (done : SettledJob). share (cells_of_job t.job) done.cells ≡ false) run.settled
 
--- the call whose step it is, where it is one of a job
+-- no names, and not removed
+pub record HasNoNames (content : Option Content) : Type 0 where
+  pub none : items_of content ≡ []
+  pub kept : is_removed content ≡ false
+
+-- the content of a cell stays, or a cell that was absent is born
+abbrev pub StaysOrBorn : Option Content → Option Content → Type 0
+StaysOrBorn old new = (new ≡ old) ⊎ ((old ≡ None) × HasNoNames new)
+
+-- a step of the call's own job that changes what is adopted
 abbrev pub IsStepOf : ℕ → Step → Type 0
 IsStepOf c (Step.Settles t u adopts) = t.call ≡ c
 IsStepOf c (Step.Decides t u) = t.call ≡ c
-IsStepOf c (Step.Bears t) = t.call ≡ c
 IsStepOf c other = ⊥
 
--- No step of another call changes what is adopted on the cells of a settled job: so a read's content is what was adopted when
--- its settling ended and is adopted when it is answered.
+-- No step of another call changes what is adopted on the cells of a settled job, but for the birth of an absent cell, which
+-- has no names: so a read's content is what was adopted when its settling ended and is adopted when it is answered.
 abbrev pub LeavesSettled : State → State → SettledJob → Type 0
-LeavesSettled m new done = (cell : Cell) → has_cell done.cells cell ≡ true → new.adopted done.set cell ≡ m.adopted done.set cell
+LeavesSettled m new done = (cell : Cell) → has_cell done.cells cell ≡ true → StaysOrBorn (m.adopted done.set cell) (new.adopted done.set cell)
 
 abbrev pub ReadIsAdopted : State → Type 0
 ReadIsAdopted m = (c : ℕ) (run : Run) (step : Step) → Allowed m step → (IsStepOf c step → ⊥) → Runs m c run → Each (LeavesSettled m (after m step)) run.settled
 
 -- ---- births
 
--- no names, and not removed
-pub record HasNoNames (content : Option Content) : Type 0 where
-  pub none : items_of content ≡ []
-  pub kept : is_removed content ≡ false
+-- A change is of the cells that its op needs.
+abbrev pub AreWhole : State → Type 0
+AreWhole m = (u : ℕ) → (m.changes u).verdict ≢ Undrawn → (m.changes u).cells ≡ needs (m.changes u).op
 
--- Each cell of an unsettled change is firm, and a firm cell is born.
-pub record BornFirst (m : State) : Type 0 where
-  pub firm : (u : ℕ) (cell : Cell) → (m.changes u).verdict ≡ Unsettled → has_cell (m.changes u).cells cell ≡ true → m.firm (m.changes u).set cell ≡ true
-  pub born : (set : ℕ) (cell : Cell) → m.firm set cell ≡ true → holds cell.aspect (m.adopted set cell) ≡ true
+-- Each cell of a change is firm from the moment on at which the change becomes unsettled. A cell that is not firm has no names
+-- and is not removed: to a fop, whether a read showed it or not says the same.
+pub record FirmIsTouched (m : State) : Type 0 where
+  pub touched : (u : ℕ) (cell : Cell) → (m.changes u).verdict ≢ Undrawn → has_cell (m.changes u).cells cell ≡ true → m.firm (m.changes u).set cell ≡ true
+  pub no_names : (set : ℕ) (cell : Cell) → m.firm set cell ≡ false → HasNoNames (m.adopted set cell)
 
--- A cell that is born and not firm has the content of its first birth, which has no names: to a fop, whether a read showed it
--- or not says the same.
+-- A firm cell is born, with a content of its aspect; one that is born and not firm has the content of its first birth.
 pub record UnconfirmedIsBorn (m : State) : Type 0 where
+  pub firm : (set : ℕ) (cell : Cell) → m.firm set cell ≡ true → holds cell.aspect (m.adopted set cell) ≡ true
   pub as_born : (set : ℕ) (cell : Cell) (content : Content) → m.firm set cell ≡ false → m.adopted set cell ≡ Some content → m.born set cell ≡ Some content
-  pub no_names : (set : ℕ) (cell : Cell) → HasNoNames (m.born set cell)
 
 -- Each birth gives its cell the content of the first one.
 pub record OneBirth (m : State) : Type 0 where

@@ -2,7 +2,7 @@
 -- unsettled changes on its cells; then a read shows contents, a change becomes unsettled and is decided, a birth is sent and
 -- confirmed; its reply leads the fop on. A job may fail at each point; its change then stays unsettled, until another job
 -- settles it. Ours.
-use Rattle.std.specs.Prelude.{ℕ, ◌+◌, ◌==◌, ◌&&◌, Bool, true, false, List, [], ◌∷◌, ◌++◌, length, map, Option, Some, None, if◌then◌else◌}
+use Rattle.std.specs.Prelude.{ℕ, ◌+◌, ◌==◌, ◌&&◌, Bool, true, false, List, [], ◌∷◌, ◌++◌, length, Option, Some, None, if◌then◌else◌}
 use Rattle.std.specs.Ordering.{is_eq}
 use Rattle.afr_machine.specs.Changes.Verdict.{Unsettled, Adopted, Dropped}
 use Rattle.afr_machine.specs.Replicas.{with_at}
@@ -173,9 +173,10 @@ is_of change sight = (change.set == sight.set) && has_cell change.cells sight.ce
 abbrev pub sees_again : SetContents → Change → Sight → Sight
 sees_again adopted change sight = if is_of change sight then record sight { content = adopted sight.set sight.cell } else sight
 
--- its cells have now what is adopted
-abbrev pub sees : State → ℕ → List Sight → List Sight
-sees m u saw = map (sees_again m.adopted (m.changes u)) saw
+-- the change's cells have now what is adopted
+abbrev pub sees : SetContents → Change → List Sight → List Sight
+sees adopted change [] = []
+sees adopted change (sight ∷ saw) = sees_again adopted change sight ∷ sees adopted change saw
 
 -- ---- jobs
 
@@ -184,7 +185,7 @@ at_stage run stage = record run { stage = stage }
 
 abbrev pub settling : State → Task → ℕ → Bool → State
 settling m t u adopts =
-    with_run (deciding m u adopts) t.call (record t.run { saw = sees (deciding m u adopts) u t.run.saw })
+    with_run (deciding m u adopts) t.call (record t.run { saw = sees (deciding m u adopts).adopted (m.changes u) t.run.saw })
 
 abbrev pub resting : State → Task → State
 resting m t =
@@ -221,7 +222,7 @@ number_after m (Some entry) = Some (length m.history + 1)
 abbrev pub deciding_own : State → Task → ℕ → State
 deciding_own m t u =
     with_run (adopting m u) t.call
-    (record t.run { stage = Decided (number_after m (m.changes u).effect); saw = sees (adopting m u) u t.run.saw })
+    (record t.run { stage = Decided (number_after m (m.changes u).effect); saw = sees (adopting m u).adopted (m.changes u) t.run.saw })
 
 abbrev pub bearing : State → Task → State
 bearing m t =

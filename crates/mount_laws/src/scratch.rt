@@ -1,5 +1,7 @@
 ghost use Rattle.mount_laws.specs.States.{State};
-ghost use Rattle.mount_laws.specs.Settling.{OneBirth, OneUnsettled, ReadIsAdopted};
+ghost use Rattle.mount_laws.specs.Laws.{EveryState};
+ghost use Rattle.mount_laws.specs.Settling.{OneBirth, OneUnsettled, ReadIsAdopted, FirmIsTouched, UnconfirmedIsBorn};
+ghost use Rattle.mount_laws.specs.Seeing.{SawStill, RestedIsListed, ObjectsMade, JobHome};
 ghost use Rattle.mount_laws.specs.Seeing.{DrawnIsFree};
 ghost use Rattle.mount_laws.specs.Naming.{PendingFits, LayoutStands};
 ghost use Rattle.mount_laws.specs.Knowing.{NotRemoved};
@@ -12,4 +14,8 @@ pub fn words()
     ensures c { (m : State) → PendingFits m → PendingFits m }
     ensures d { (m : State) → NotRemoved m → NotRemoved m }
     ensures e { (m : State) → BeyondOld m → BeyondOld m }
+    ensures f { (m : State) → SawStill m → SawStill m }
+    ensures g { (m : State) → RestedIsListed m → RestedIsListed m }
+    ensures h { (m : State) → ObjectsMade m → JobHome m → ObjectsMade m }
+    ensures i { (m : State) → UnconfirmedIsBorn m → ReadIsAdopted m → UnconfirmedIsBorn m }
 {}
