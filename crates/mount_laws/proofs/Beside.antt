@@ -46,11 +46,11 @@ each_of P (x ∷ xs) f = (f x, each_of P xs f)
 
 -- ---- the job that is asked
 
-record SameJob (set : ℕ) (asked : Job) (other : ℕ) (wanted : Job) : Type 0 where
+pub record SameJob (set : ℕ) (asked : Job) (other : ℕ) (wanted : Job) : Type 0 where
   pub set_is : set ≡ other
   pub job_is : asked ≡ wanted
 
-one_job : (course : Course) (set other : ℕ) (asked wanted : Job) (next later : SetReply → Course) → course ≡ Course.Asks set asked next → course ≡ Course.Asks other wanted later → SameJob set asked other wanted
+pub one_job : (course : Course) (set other : ℕ) (asked wanted : Job) (next later : SetReply → Course) → course ≡ Course.Asks set asked next → course ≡ Course.Asks other wanted later → SameJob set asked other wanted
 one_job course set other asked wanted next later e f = record { set_is = cc; job_is = cc }
 
 -- the change of a job
@@ -371,22 +371,22 @@ number_at : (m : State) (c : ℕ) (call : Call) (submitted : ℕ) → AreNumbere
 number_at m c call submitted numbered more known i =
     at_case (λ j (one : Call). submitted < j → one.status ≡ Unsubmitted) m.calls c call (λ h. absurd (omega (arith, h))) i (λ other h. numbered i (omega arith))
 
-number_run : (m : State) (t : Task) → AreNumbered m → IsUnderWay m t → {call : Call} → (i : ℕ) → m.submitted < i → (with_at m.calls t.call call i).status ≡ Unsubmitted
-number_run m t n h {call} = number_at m t.call call m.submitted n (omega arith) (counted m n t.call (λ e. let clash : Running t.run ≡ Unsubmitted = sym h.runs ∙ e in absurd cc))
+number_run : (m : State) (t : Task) → AreNumbered m → IsUnderWay m t → (call : Call) → (i : ℕ) → m.submitted < i → (with_at m.calls t.call call i).status ≡ Unsubmitted
+number_run m t n h call = number_at m t.call call m.submitted n (omega arith) (counted m n t.call (λ e. let clash : Running t.run ≡ Unsubmitted = sym h.runs ∙ e in absurd cc))
 
 step_numbered : (m : State) (step : Step) → Allowed m step → AreNumbered m → AreNumbered (after m step)
 step_numbered m (Step.Submits draws) h n = number_at m (m.submitted + 1) _ (m.submitted + 1) n (omega arith) (omega arith)
 step_numbered m (Step.Leaves c) h n = number_at m c _ m.submitted n (omega arith) (counted m n c (λ e. let clash : Ready ≡ Unsubmitted = sym h ∙ e in absurd cc))
 step_numbered m (Step.Switches names) h n = n
 step_numbered m (Step.Begins c f kept) h n = number_at m c _ m.submitted n (omega arith) (counted m n c (λ e. let clash : Ready ≡ Unsubmitted = sym h.ready ∙ e in absurd cc))
-step_numbered m (Step.Settles t u true) h n = number_run m t n h.under_way
-step_numbered m (Step.Settles t u false) h n = number_run m t n h.under_way
-step_numbered m (Step.Rests t) h n = number_run m t n h.under_way
-step_numbered m (Step.Unsettles t u) h n = number_run m t n h.under_way
-step_numbered m (Step.Decides t u) h n = number_run m t n h.under_way
-step_numbered m (Step.Bears t) h n = number_run m t n h.under_way
-step_numbered m (Step.Confirms t) h n = number_run m t n h.under_way
-step_numbered m (Step.HandsIn t shown) h n = number_run m t n h.under_way
+step_numbered m (Step.Settles t u true) h n = number_run m t n h.under_way _
+step_numbered m (Step.Settles t u false) h n = number_run m t n h.under_way _
+step_numbered m (Step.Rests t) h n = number_run m t n h.under_way _
+step_numbered m (Step.Unsettles t u) h n = number_run m t n h.under_way _
+step_numbered m (Step.Decides t u) h n = number_run m t n h.under_way _
+step_numbered m (Step.Bears t) h n = number_run m t n h.under_way _
+step_numbered m (Step.Confirms t) h n = number_run m t n h.under_way _
+step_numbered m (Step.HandsIn t shown) h n = number_run m t n h.under_way _
 step_numbered m (Step.Extends c run dir next) h n = number_at m c _ m.submitted n (omega arith) (counted m n c (λ e. let clash : Running run ≡ Unsubmitted = sym h.runs ∙ e in absurd cc))
 step_numbered m (Step.Learns c run dir spans) h n = n
 step_numbered m (Step.Answers c run answer) h n = number_at m c _ m.submitted n (omega arith) (counted m n c (λ e. let clash : Running run ≡ Unsubmitted = sym h.runs ∙ e in absurd cc))

@@ -35,14 +35,14 @@ first_has cell cells = ap (λ b. b || has_cell cells cell) (is_cell_refl cell)
 both_first : (a b : Gfid) → has_cell (both_names a b) (names_cell a) ≡ true
 both_first a b = by_order (gfid_cmp a b)
   where
+    later : (x : Bool) → has_cell (names_cell a ∷ []) (names_cell a) ≡ true → (x || has_cell (names_cell a ∷ []) (names_cell a)) ≡ true
+    later true h = refl
+    later false h = h
+
     by_order : (o : Ordering) → has_cell (match_ordering o (names_cell a ∷ names_cell b ∷ []) (names_cell a ∷ []) (names_cell b ∷ names_cell a ∷ [])) (names_cell a) ≡ true
     by_order Less = first_has (names_cell a) (names_cell b ∷ [])
     by_order Equal = first_has (names_cell a) []
     by_order Greater = later (is_cell (names_cell a) (names_cell b)) (first_has (names_cell a) [])
-
-    later : (x : Bool) → has_cell (names_cell a ∷ []) (names_cell a) ≡ true → (x || has_cell (names_cell a ∷ []) (names_cell a)) ≡ true
-    later true h = refl
-    later false h = h
 
 both_second : (a b : Gfid) → has_cell (both_names a b) (names_cell b) ≡ true
 both_second a b = by_order (gfid_cmp a b) refl

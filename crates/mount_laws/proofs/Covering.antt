@@ -26,6 +26,7 @@ use Rattle.dht_fops.specs.declared.volume.Volume.{Volume}
 use Rattle.fop_types.specs.Cells.{meta_cell, names_cell}
 use Rattle.fop_types.specs.Orders.{gfid_cmp}
 use Rattle.fop_types.specs.StoreOps.{needs, both_names, items_of}
+use Rattle.fop_types.specs.declared.answers.AppError.TheVariants.{Enotempty}
 use Rattle.fop_types.specs.declared.answers.FopAnswer.{FopAnswer}
 use Rattle.fop_types.specs.declared.answers.IoError.{IoError}
 use Rattle.fop_types.specs.declared.cells.Cell.{Cell}
@@ -47,6 +48,7 @@ use Rattle.fop_types.specs.declared.store_ops.StoreOp.TheVariants as op
 use Rattle.mount_laws.specs.Holding.{drawn_by, AreHeld, AreHeldAlone, AreHeldOrDrawn, IsCovered}
 use Rattle.mount_laws.specs.Holds.{Hold, Holds, HoldsAlone, holds_of, extensions}
 use Rattle.mount_laws.specs.Steps.{is_lookup}
+use Rattle.mount_laws.proofs.Arguments.{Seen, Source, Renaming}
 
 -- ---- holds
 
@@ -143,20 +145,6 @@ both_alone hs a b h k = by_order (gfid_cmp a b)
 
 -- ---- looks
 
--- the argument of a function, by which types are named that the functions of fops take
-module _ {A B : Type 0} where
-  abbrev ArgOf : (A → B) → Type 0
-  ArgOf f = A
-
-abbrev Seen : Type 0
-Seen = ArgOf (lookup_found found.Absent)
-
-abbrev Source : Type 0
-Source = ArgOf drops_old_link
-
-abbrev Renaming : Type 0
-Renaming = ArgOf adds_link
-
 abbrev EndsWell : Fop → Ending → Type 0
 EndsWell f ending = (result : Found) (seen : Seen) → Goes f (ending result seen)
 
@@ -233,28 +221,29 @@ unlink_ends f v parent name hashed w h (found.Item set gfid kind) seen =
 unlink_ends f v parent name hashed w h found.Absent seen = λ handed. tt
 unlink_ends f v parent name hashed w h (found.Io error) seen = λ handed. tt
 
+names_lead : (f : Fop) (later : Handed) (next : DirNames → Course) (read : Result DirNames IoError) → ((shown : DirNames) → Always (IsCovered f) AnyAnswer later (next shown)) → Always (IsCovered f) AnyAnswer later (on_names next read)
+names_lead f later next (Ok shown) k = k shown
+names_lead f later next (Err error) k = tt
+
+number_leads : (f : Fop) (later : Handed) (next : Option ℕ → Course) (read : Result (Option ℕ) IoError) → ((number : Option ℕ) → Always (IsCovered f) AnyAnswer later (next number)) → Always (IsCovered f) AnyAnswer later (on_number next read)
+number_leads f later next (Ok number) k = k number
+number_leads f later next (Err error) k = tt
+
+full_goes : (f : Fop) (later : Handed) (place : ℕ) (next : Course) (b : Bool) → Always (IsCovered f) AnyAnswer later next → Always (IsCovered f) AnyAnswer later (if b then refuses Enotempty (Some place) else next)
+full_goes f later place next true k = tt
+full_goes f later place next false k = k
+
 -- the directory that is removed is held once the hold was extended by it
 empties_go : (f : Fop) (v : Volume) (parent : Gfid) (name : List ℕ) (gfid : Gfid) (sets : List ℕ) (handed : Handed) → is_lookup f ≡ false → HoldsAlone (holds_of f) parent → HoldsAlone (extensions handed) gfid → Always (IsCovered f) AnyAnswer handed (empties v parent name gfid sets)
 empties_go f v parent name gfid [] handed w h e = (
   record { alone = both_alone (holds_of f ++ extensions handed) parent gfid (alone_front (holds_of f) (extensions handed) parent h) (alone_back (holds_of f) (extensions handed) gfid e); whole = refl; no_lookup = w },
-  λ reply. lead _ (number_in reply),
+  λ reply. number_leads f _ _ (number_in reply) (λ number. tt),
 )
-  where
-    lead : (later : Handed) (read : Result (Option ℕ) IoError) → Always (IsCovered f) AnyAnswer later (on_number (Ends _) read)
-    lead later (Ok number) = tt
-    lead later (Err error) = tt
 empties_go f v parent name gfid (set ∷ sets) handed w h e = (
   (alone_holds (holds_of f ++ extensions handed) gfid (alone_back (holds_of f) (extensions handed) gfid e), tt),
-  λ reply. lead (Replied set (names_job gfid) reply ∷ handed) e (names_in reply),
+  λ reply. names_lead f (Replied set (names_job gfid) reply ∷ handed) _ (names_in reply)
+      (λ shown. full_goes f (Replied set (names_job gfid) reply ∷ handed) shown.place _ _ (empties_go f v parent name gfid sets (Replied set (names_job gfid) reply ∷ handed) w h e)),
 )
-  where
-    full : (later : Handed) (shown : DirNames) (b : Bool) → HoldsAlone (extensions later) gfid → Always (IsCovered f) AnyAnswer later (if b then refuses _ (Some shown.place) else empties v parent name gfid sets)
-    full later shown true held = tt
-    full later shown false held = empties_go f v parent name gfid sets later w h held
-
-    lead : (later : Handed) → HoldsAlone (extensions later) gfid → (read : Result DirNames IoError) → Always (IsCovered f) AnyAnswer later (on_names _ read)
-    lead later held (Ok shown) = full later shown _ held
-    lead later held (Err error) = tt
 
 rmdir_ends : (f : Fop) (v : Volume) (parent : Gfid) (name : List ℕ) → is_lookup f ≡ false → HoldsAlone (holds_of f) parent → EndsWell f (rmdir_found v parent name)
 rmdir_ends f v parent name w h (found.Item set gfid kind) seen = if_goes f _ _ _ (λ handed. empties_go f v parent name gfid (sets_from v 0) (Held gfid ∷ handed) w h (inl (refl, refl))) (λ handed. tt)

@@ -47,7 +47,7 @@ made_whole m cover t u h = of_job t.job h.is_change (cover.asked t.call t.run t.
     of_job (job.Heal cell) is k = absurd is
 
 step_whole : (m : State) (step : Step) → Allowed m step → HoldCovers m → AreWhole m → AreWhole (after m step)
-step_whole m (Step.Unsettles t u) h cover a w =
+step_whole m (Step.Unsettles t u) h cover a = λ w.
     at_case (λ i (one : Change). one.verdict ≢ Undrawn → one.cells ≡ needs one.op) m.changes u (change_by t.call t.set t.job) (λ drawn. made_whole m cover t u h) w (λ differ. a w)
 step_whole m (Step.Settles t u true) h cover a = decided_whole m u Adopted h.unsettled.verdict a
 step_whole m (Step.Settles t u false) h cover a = decided_whole m u Dropped h.unsettled.verdict a
@@ -135,7 +135,7 @@ born_nameless m t a s cell =
     (λ soft. stays_nameless (m.adopted t.set cell) (after_births (m.adopted t.set) (births_by t.job) cell) (births_leave (births_by t.job) (m.adopted t.set) cell (jobs_have_none t.job)) (a t.set cell soft)) s (λ differ. a s cell)
 
 step_touched : (m : State) (step : Step) → Allowed m step → TouchedIn m.changes m.firm → TouchedIn (after m step).changes (after m step).firm
-step_touched m (Step.Unsettles t u) h a w cell =
+step_touched m (Step.Unsettles t u) h a = λ w cell.
     at_case (λ i (one : Change). one.verdict ≢ Undrawn → has_cell one.cells cell ≡ true → firm_with m.firm t.set (cells_of_job t.job) one.set cell ≡ true) m.changes u (change_by t.call t.set t.job)
     (λ drawn has. made t.job h.is_change cell has) w (λ differ drawn has. firm_grows m.firm t.set (cells_of_job t.job) (m.changes w).set cell (a w cell drawn has))
   where

@@ -1,5 +1,7 @@
 pub mod Apart
+pub mod Arguments
 pub mod Beside
+pub mod Beyond
 pub mod Contents
 pub mod Covering
 pub mod Firm
@@ -10,3 +12,4 @@ pub mod One
 pub mod Seen
 pub mod Sharing
 pub mod Tables
+pub mod Within

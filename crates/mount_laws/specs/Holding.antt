@@ -1,6 +1,6 @@
 -- What the holds give: no two of them conflict, each job is of objects that its call holds, and a job that changes holds them
 -- exclusively. Ours.
-use Rattle.std.specs.Prelude.{◌≡◌, ◌≢◌, ◌⊎◌, ℕ, List, ◌++◌, Option, Some, None}
+use Rattle.std.specs.Prelude.{◌≡◌, ◌≢◌, ◌⊎◌, ℕ, false, List, ◌++◌, Option, Some, None}
 use Rattle.dht_fops.specs.Courses.{Course}
 use Rattle.dht_fops.specs.Handed.{Handed}
 use Rattle.fop_types.specs.Bounds.{Each}

@@ -1,5 +1,6 @@
 -- What every state of the mount keeps that allowed steps lead to. Ours.
 use Rattle.std.specs.Prelude.{ℕ, List}
+use Rattle.mount_laws.specs.Graphs.{BeyondOld, InItsGraph}
 use Rattle.mount_laws.specs.Guards.{IsReached}
 use Rattle.mount_laws.specs.Holding.{HoldsApart, JobAsked, HoldCovers}
 use Rattle.mount_laws.specs.Seeing.{RestedIsListed, SawStill}
@@ -28,6 +29,10 @@ pub record KeepsSights (m : State) : Type 0 where
   pub whole : AreWhole m
   pub firm : FirmIsTouched m
 
+pub record KeepsGraphs (m : State) : Type 0 where
+  pub in_its_graph : InItsGraph m
+  pub beyond : BeyondOld m
+
 abbrev pub EveryStateKeepsHolds : Type 0
 EveryStateKeepsHolds = EveryState KeepsHolds
 
@@ -36,3 +41,6 @@ EveryStateKeepsSettled = EveryState KeepsSettled
 
 abbrev pub EveryStateKeepsSights : Type 0
 EveryStateKeepsSights = EveryState KeepsSights
+
+abbrev pub EveryStateKeepsGraphs : Type 0
+EveryStateKeepsGraphs = EveryState KeepsGraphs

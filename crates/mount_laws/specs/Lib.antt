@@ -11,3 +11,4 @@ pub mod Settling
 pub mod States
 pub mod Steps
 pub mod Touched
+pub mod Within

@@ -1,0 +1,34 @@
+ghost use Rattle.mount_laws.specs.Laws.{EveryStateKeepsHolds, EveryStateKeepsSettled, EveryStateKeepsSights, EveryStateKeepsGraphs};
+
+/// The law of holds, of every state that allowed steps lead to. Holds of different calls do not conflict. The job
+/// under way is what the fop's course asks for after what was handed in. It is covered by the hold, and so is each
+/// job that has settled under it: a read is of objects that are held, a change of objects that are held
+/// exclusively and of the cells that its op needs, a birth of such objects or of the one that the fop makes.
+pub fn every_state_keeps_holds()
+    ensures { EveryStateKeepsHolds }
+{}
+
+/// The law of settled jobs, of every state that allowed steps lead to. After a job's settling, each unsettled
+/// change on its cells is its own call's, until the hold is released; until the job's own change begins, none is
+/// left at all. The change of a job is unsettled until that job decides it, which no other does. At most one
+/// unsettled change touches a cell of a set. From a job's asking to the end of its hold no change of another call
+/// becomes unsettled on its cells.
+pub fn every_state_keeps_settled()
+    ensures { EveryStateKeepsSettled }
+{}
+
+/// The law of sights, of every state that allowed steps lead to. What a fop has read is what is adopted now, with
+/// its own changes since; of a cell that was not shown, which is a directory's on a set after the first, there are
+/// no names. No step of another call changes what is adopted on the cells of a settled job, but for the birth of an
+/// absent cell. A change is of the cells that its op needs, and they are firm; a cell that is not firm has no names.
+pub fn every_state_keeps_sights()
+    ensures { EveryStateKeepsSights }
+{}
+
+/// The law of graphs, of every state that allowed steps lead to. A fop under way is on the sets of its call's graph,
+/// and has no more sets than any unanswered call. On the sets that an unanswered call's graph lacks no change was
+/// begun, no file lives and no directory has a name or a link, and no object that was answered is on them; and so it
+/// is beyond the sets of the newest graph.
+pub fn every_state_keeps_graphs()
+    ensures { EveryStateKeepsGraphs }
+{}
