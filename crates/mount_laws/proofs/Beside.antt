@@ -27,7 +27,7 @@ use Rattle.mount_laws.specs.Runs.Stage.{Waiting, Settled, Changing, Bearing, Dec
 use Rattle.mount_laws.specs.Settling.{OneUnsettled, IsRunning, IsSettledJob, StandsBeside, EachStandsBeside, RunningIsAlone, AreNumbered}
 use Rattle.mount_laws.specs.States.{State, Change, Call, Status, Runs, has_begun, holds_by, held, start}
 use Rattle.mount_laws.specs.States.Status.{Unsubmitted, Ready, Running, Answered}
-use Rattle.mount_laws.specs.Steps.{Step, Task, after, is_lookup, status_after, change_by, at_stage}
+use Rattle.mount_laws.specs.Steps.{Step, Task, after, is_lookup, status_after, volume_of, change_by, at_stage}
 use Rattle.mount_laws.proofs.Apart.{holds_apart}
 use Rattle.mount_laws.proofs.Held.{holds_cover, covered_held, alone_held}
 use Rattle.mount_laws.proofs.Moving.{unwrap, quiet}
@@ -43,6 +43,10 @@ each_map P Q (x ∷ xs) f e = (f x e.0, each_map P Q xs f e.1)
 pub each_of : {A : Type 0} (P : A → Type 0) (xs : List A) → ((x : A) → P x) → Each P xs
 each_of P [] f = tt
 each_of P (x ∷ xs) f = (f x, each_of P xs f)
+
+pub each_append : {A : Type 0} (P : A → Type 0) (xs ys : List A) → Each P xs → Each P ys → Each P (xs ++ ys)
+each_append P [] ys a b = b
+each_append P (x ∷ xs) ys a b = (a.0, each_append P xs ys a.1 b)
 
 -- ---- the job that is asked
 
@@ -205,7 +209,7 @@ module _ (m : State) (apart : HoldsApart m) (cover : HoldCovers m) (numbered : A
       let g = goes t run h.under_way.runs (λ w old. same w old) in
       decides u verdict drawn settled h.unsettled.verdict calls g.0 g.1
       (λ c other. at_case (λ i (one : Call). one.status ≡ Running other → other.stage ≢ Changing u) m.calls t.call (record (m.calls t.call) { status = Running run })
-      (λ e f. let one : run ≡ other = unwrap run other e in let clash : Waiting ≡ Changing u = sym h.waiting ∙ ap (λ (r : Run). r.stage) one ∙ f in absurd cc) c
+      (λ e f. let one : run ≡ other = unwrap run other e in let moved : t.run.stage ≡ other.stage = ap (λ (r : Run). r.stage) one in let clash : Waiting ≡ Changing u = sym h.waiting ∙ moved ∙ f in absurd cc) c
       (λ differ e f. settling_is_alone c other t u e f h))
     where
       same : (w : ℕ) → StandsBeside t.call t.run w (m.changes w) → StandsBeside t.call (record t.run { saw = saw }) w (m.changes w)
@@ -221,7 +225,7 @@ module _ (m : State) (apart : HoldsApart m) (cover : HoldCovers m) (numbered : A
       let mine = (a t.call t.run h.under_way.runs u).running_is_unsettled h.turn in
       decides u Adopted (λ e. absurd cc) (λ e. absurd cc) h.unsettled calls g.0 g.1
       (λ c other. at_case (λ i (one : Call). one.status ≡ Running other → other.stage ≢ Changing u) m.calls t.call (record (m.calls t.call) { status = Running run })
-      (λ e f. let one : run ≡ other = unwrap run other e in let clash : Decided number ≡ Changing u = ap (λ (r : Run). r.stage) one ∙ f in absurd cc) c
+      (λ e f. let one : run ≡ other = unwrap run other e in let moved : Decided number ≡ other.stage = ap (λ (r : Run). r.stage) one in let clash : Decided number ≡ Changing u = moved ∙ f in absurd cc) c
       (λ differ e f. differ (sym ((a c other e u).running_is_unsettled f).by ∙ mine.by)))
 
   unsettles : (t : Task) (u : ℕ) → MayUnsettle m t u
@@ -244,6 +248,12 @@ module _ (m : State) (apart : HoldsApart m) (cover : HoldCovers m) (numbered : A
       was : StandsBeside t.call t.run u (m.changes u)
       was = a t.call t.run h.under_way.runs u
 
+      mine_by : new.by ≡ t.call
+      mine_by = made.by
+
+      not_mine : (c : ℕ) → c ≢ t.call → new.by ≡ c → ⊥
+      not_mine c ne by = ne (sym by ∙ mine_by)
+
       -- its own fop beside it
       mine : StandsBeside t.call run u new
       mine = record {
@@ -257,7 +267,7 @@ module _ (m : State) (apart : HoldsApart m) (cover : HoldCovers m) (numbered : A
         };
         none_left = λ place set asked next e. absurd cc;
         settled = each_of (IsSettledJob t.call new) t.run.settled (λ done on. made.by);
-        lookup = λ look by. let clash : true ≡ false = sym look ∙ made.no_lookup in absurd cc;
+        lookup = λ look by. let looks : is_lookup t.run.fop ≡ true = look in let clash : true ≡ false = sym looks ∙ made.no_lookup in absurd cc;
       }
 
       -- its own fop beside an other change
@@ -283,12 +293,12 @@ module _ (m : State) (apart : HoldsApart m) (cover : HoldCovers m) (numbered : A
           let old = a c other runs u in
           let holds : held m c ≡ holds_in other = ap (λ (s : Status). holds_by s) runs in
           record {
-            own_is_held = λ by drawn. absurd (ne (sym (sym made.by ∙ by)));
+            own_is_held = λ by drawn. absurd (not_mine c ne by);
             running_is_unsettled = λ e. let clash : Unsettled ≡ Undrawn = sym (old.running_is_unsettled e).unsettled ∙ h.fresh in absurd cc;
             none_left = λ place set asked next e f settles on.
                 no_share c ne (holds_in other) holds (cells_of_job asked) (covered_held other.fop other.handed set asked settles (cover.asked c other set asked next runs f)) on.touches;
             settled = each_map (λ (done : SettledJob). AreHeld (holds_in other) done.cells) (IsSettledJob c new) other.settled (λ done held_cells on. absurd (no_share c ne (holds_in other) holds done.cells held_cells on.touches)) (cover.settled c other runs);
-            lookup = λ look by. absurd (ne (sym (sym made.by ∙ by)));
+            lookup = λ look by. absurd (not_mine c ne by);
           }
 
       change_running : EachBeside (with_at m.calls t.call (record (m.calls t.call) { status = Running run })) (with_at m.changes u new)
@@ -302,7 +312,7 @@ module _ (m : State) (apart : HoldsApart m) (cover : HoldCovers m) (numbered : A
       change_none c =
           at_case (λ i (one : Call). has_begun one.status ≡ false → (w : ℕ) → (with_at m.changes u new w).by ≡ i → (with_at m.changes u new w).verdict ≡ Undrawn) m.calls t.call (record (m.calls t.call) { status = Running run })
           (λ none. absurd cc) c
-          (λ ne none w. at_case (λ i (one : Change). one.by ≡ c → one.verdict ≡ Undrawn) m.changes u new (λ by. absurd (ne (sym (sym made.by ∙ by)))) w (λ differ. b c none w))
+          (λ ne none w. at_case (λ i (one : Change). one.by ≡ c → one.verdict ≡ Undrawn) m.changes u new (λ by. absurd (not_mine c ne by)) w (λ differ. b c none w))
 
   -- a fop begins where its call has made no change
   begins : (c : ℕ) (run : Run) → (m.calls c).status ≡ Ready → run.stage ≡ Waiting → run.settled ≡ [] → BesideIn (record m { calls = with_at m.calls c (record (m.calls c) { status = Running run }) })
@@ -332,7 +342,7 @@ step_beside m (Step.Submits draws) h apart cover numbered a b =
     stops m apart cover numbered a b (m.submitted + 1) _ (λ run e. absurd cc) (λ none. b (m.submitted + 1) (ap (λ (s : Status). has_begun s) (numbered (m.submitted + 1) (omega arith))))
 step_beside m (Step.Leaves c) h apart cover numbered a b = stops m apart cover numbered a b c _ (λ run e. absurd cc) (λ none. absurd cc)
 step_beside m (Step.Switches names) h apart cover numbered a b = (a, b)
-step_beside m (Step.Begins c f kept) h apart cover numbered a b = begins m apart cover numbered a b c _ h.ready refl refl
+step_beside m (Step.Begins c f kept) h apart cover numbered a b = begins m apart cover numbered a b c (begun f (volume_of m c) (m.calls c).names kept) h.ready refl refl
 step_beside m (Step.Settles t u true) h apart cover numbered a b = settles m apart cover numbered a b t u Adopted _ (λ e. absurd cc) (λ e. absurd cc) h
 step_beside m (Step.Settles t u false) h apart cover numbered a b = settles m apart cover numbered a b t u Dropped _ (λ e. absurd cc) (λ e. absurd cc) h
 step_beside m (Step.Rests t) h apart cover numbered a b =

@@ -32,12 +32,12 @@ use Rattle.fop_types.specs.declared.store_ops.StoreOp.TheVariants as op
 use Rattle.mount_laws.specs.Graphs.{AreOnFirst, FirstSets, BeyondOld, IsPlanned, RunsInItsGraph, InItsGraph}
 use Rattle.mount_laws.specs.Guards.{Allowed, IsReached, IsKnown, IsUnderWay, IsChange, IsBirth, MayBegin, objects_of}
 use Rattle.mount_laws.specs.Holding.{JobAsked}
-use Rattle.mount_laws.specs.Runs.{Run, first_course}
+use Rattle.mount_laws.specs.Runs.{Run, begun, first_course}
 use Rattle.mount_laws.specs.States.{State, Change, Call, Status, Runs, is_unanswered, set_count, start}
 use Rattle.mount_laws.specs.States.Status.{Unsubmitted, Ready, Running, Answered}
-use Rattle.mount_laws.specs.Steps.{Step, Task, after, is_lookup, status_after, object_in, change_by, births_by, by_effect, kinds_after, homes_after, with_kind, with_home}
+use Rattle.mount_laws.specs.Steps.{Step, Task, after, is_lookup, status_after, volume_of, object_in, change_by, births_by, by_effect, kinds_after, homes_after, with_kind, with_home}
 use Rattle.mount_laws.specs.Within.{IsWithin, AnswersWithin}
-use Rattle.mount_laws.proofs.Beside.{each_map}
+use Rattle.mount_laws.proofs.Beside.{each_map, each_append}
 use Rattle.mount_laws.proofs.Held.{jobs_asked}
 use Rattle.mount_laws.proofs.Leading.{led_always}
 use Rattle.mount_laws.proofs.Moving.{unwrap, quiet}
@@ -100,8 +100,8 @@ step_graphed m (Step.Switches names) h b g = record {
 }
 step_graphed m (Step.Begins c f kept) h b g =
     let was : is_unanswered (m.calls c).status ≡ true = ap (λ (s : Status). is_unanswered s) h.ready in
-    status_graphed m.root_sets m.names m.calls c _ g was
-    (λ run e. subst (λ (r : Run). IsPlanned m.root_sets (m.calls c).names r.fop r.volume r.names) (unwrap _ run e)
+    status_graphed m.root_sets m.names m.calls c (Running (begun f (volume_of m c) (m.calls c).names kept)) g was
+    (λ run e. subst (λ (r : Run). IsPlanned m.root_sets (m.calls c).names r.fop r.volume r.names) (unwrap (begun f (volume_of m c) (m.calls c).names kept) run e)
     (record {
       names_are = refl;
       sets = refl;
@@ -133,7 +133,7 @@ module _ (m : State) (asked : JobAsked m) (g : InItsGraph m) (c : ℕ) (run : Ru
       let known = g.unanswered c (ap (λ (s : Status). is_unanswered s) runs) in
       led_always (IsWithin run.volume.sets) (AnswersWithin run.volume.sets) (first_course run) run.handed run.course (asked c run runs)
       (courses_within run.volume run.names run.kept run.fop (let r = p.roots in let s = g.some in omega arith) (let r = p.roots in let s = p.sets in let k = known.0 in omega arith)
-      (ap (λ (n : List (List ℕ)). length n) p.names_are ∙ sym p.sets) (subst (λ (n : ℕ). Each (λ (object : Object). object.set < n) (objects_of run.fop)) (sym p.sets) p.objects) [])
+      (let many : length run.names ≡ length (m.calls c).names = ap (λ (n : List (List ℕ)). length n) p.names_are in many ∙ sym p.sets) (subst (λ (n : ℕ). Each (λ (object : Object). object.set < n) (objects_of run.fop)) (sym p.sets) p.objects) [])
 
   job_within : (set : ℕ) (wanted : Job) (next : SetReply → Course) → run.course ≡ Course.Asks set wanted next → IsWithin run.volume.sets run.handed set wanted
   job_within set wanted next e = (subst (λ (course : Course). Always (IsWithin run.volume.sets) (AnswersWithin run.volume.sets) run.handed course) e always_within).0
@@ -193,10 +193,6 @@ adopted_first m u count was a =
       no_names = set_nameless m.adopted (m.changes u).set count (contents_after (m.adopted (m.changes u).set) (m.changes u).op) on a.no_names;
     }
 
-each_more : (P : Object → Type 0) (xs ys : List Object) → Each P xs → Each P ys → Each P (xs ++ ys)
-each_more P [] ys a b = b
-each_more P (x ∷ xs) ys a b = (a.0, each_more P xs ys a.1 b)
-
 -- each step of a fop whose sets are among the first
 step_first : (m : State) (step : Step) → Allowed m step → JobAsked m → InItsGraph m → (count : ℕ) → ((c : ℕ) (run : Run) → Runs m c run → run.volume.sets ≤ count) → FirstSets m count → FirstSets (after m step) count
 step_first m (Step.Submits draws) h asked g count few a = a
@@ -241,7 +237,7 @@ step_first m (Step.HandsIn t shown) h asked g count few a = a
 step_first m (Step.Extends c run dir next) h asked g count few a = a
 step_first m (Step.Learns c run dir spans) h asked g count few a = a
 step_first m (Step.Answers c run answer) h asked g count few a = record {
-  answered = each_more (λ (object : Object). object.set < count) (object_in answer) m.known (named answer (answer_within m asked g c run h.runs answer h.place h.ends)) a.answered;
+  answered = each_append (λ (object : Object). object.set < count) (object_in answer) m.known (named answer (answer_within m asked g c run h.runs answer h.place h.ends)) a.answered;
   begun = a.begun;
   homed = a.homed;
   no_names = a.no_names;
@@ -290,39 +286,39 @@ step_beyond m step h asked g b = by_step step h
     was_running : (c : ℕ) (run : Run) → Runs m c run → is_unanswered (m.calls c).status ≡ true
     was_running c run runs = ap (λ (s : Status). is_unanswered s) runs
 
-    goes : (one : Step) → Allowed m one → (c : ℕ) (call : Call) → call.names ≡ (m.calls c).names → is_unanswered (m.calls c).status ≡ true
-        → (i : ℕ) → is_unanswered (with_at m.calls c call i).status ≡ true → FirstSets (after m one) (length (with_at m.calls c call i).names)
-    goes one k c call same was = one_unanswered m (after m one) c call (λ u. subst (λ (n : List (List ℕ)). FirstSets (after m one) (length n)) (sym same) (rest one k c was)) (rest one k)
+    goes : (one : Step) → Allowed m one → (c : ℕ) (status : Status) → is_unanswered (m.calls c).status ≡ true
+        → (i : ℕ) → is_unanswered (with_at m.calls c (record (m.calls c) { status = status }) i).status ≡ true → FirstSets (after m one) (length (with_at m.calls c (record (m.calls c) { status = status }) i).names)
+    goes one k c status was = one_unanswered m (after m one) c (record (m.calls c) { status = status }) (λ u. rest one k c was) (rest one k)
 
     by_step : (one : Step) → Allowed m one → BeyondOld (after m one)
     by_step (Step.Submits draws) k = record {
       unanswered = one_unanswered m (after m (Step.Submits draws)) (m.submitted + 1) _ (λ u. newest (Step.Submits draws) k) (rest (Step.Submits draws) k);
       newest = newest (Step.Submits draws) k;
     }
-    by_step (Step.Leaves c) k = record { unanswered = goes (Step.Leaves c) k c _ refl (ap (λ (s : Status). is_unanswered s) k); newest = newest (Step.Leaves c) k }
+    by_step (Step.Leaves c) k = record { unanswered = goes (Step.Leaves c) k c _ (ap (λ (s : Status). is_unanswered s) k); newest = newest (Step.Leaves c) k }
     by_step (Step.Switches names) k = record {
       unanswered = rest (Step.Switches names) k;
       newest = more_first (after m (Step.Switches names)) (set_count m) (length names) k.enough (newest (Step.Switches names) k);
     }
-    by_step (Step.Begins c f kept) k = record { unanswered = goes (Step.Begins c f kept) k c _ refl (ap (λ (s : Status). is_unanswered s) k.ready); newest = newest (Step.Begins c f kept) k }
-    by_step (Step.Settles t u true) k = record { unanswered = goes (Step.Settles t u true) k t.call _ refl (was_running t.call t.run k.under_way.runs); newest = newest (Step.Settles t u true) k }
-    by_step (Step.Settles t u false) k = record { unanswered = goes (Step.Settles t u false) k t.call _ refl (was_running t.call t.run k.under_way.runs); newest = newest (Step.Settles t u false) k }
-    by_step (Step.Rests t) k = record { unanswered = goes (Step.Rests t) k t.call _ refl (was_running t.call t.run k.under_way.runs); newest = newest (Step.Rests t) k }
-    by_step (Step.Unsettles t u) k = record { unanswered = goes (Step.Unsettles t u) k t.call _ refl (was_running t.call t.run k.under_way.runs); newest = newest (Step.Unsettles t u) k }
-    by_step (Step.Decides t u) k = record { unanswered = goes (Step.Decides t u) k t.call _ refl (was_running t.call t.run k.under_way.runs); newest = newest (Step.Decides t u) k }
-    by_step (Step.Bears t) k = record { unanswered = goes (Step.Bears t) k t.call _ refl (was_running t.call t.run k.under_way.runs); newest = newest (Step.Bears t) k }
-    by_step (Step.Confirms t) k = record { unanswered = goes (Step.Confirms t) k t.call _ refl (was_running t.call t.run k.under_way.runs); newest = newest (Step.Confirms t) k }
-    by_step (Step.HandsIn t shown) k = record { unanswered = goes (Step.HandsIn t shown) k t.call _ refl (was_running t.call t.run k.under_way.runs); newest = newest (Step.HandsIn t shown) k }
-    by_step (Step.Extends c run dir next) k = record { unanswered = goes (Step.Extends c run dir next) k c _ refl (was_running c run k.runs); newest = newest (Step.Extends c run dir next) k }
+    by_step (Step.Begins c f kept) k = record { unanswered = goes (Step.Begins c f kept) k c _ (ap (λ (s : Status). is_unanswered s) k.ready); newest = newest (Step.Begins c f kept) k }
+    by_step (Step.Settles t u true) k = record { unanswered = goes (Step.Settles t u true) k t.call _ (was_running t.call t.run k.under_way.runs); newest = newest (Step.Settles t u true) k }
+    by_step (Step.Settles t u false) k = record { unanswered = goes (Step.Settles t u false) k t.call _ (was_running t.call t.run k.under_way.runs); newest = newest (Step.Settles t u false) k }
+    by_step (Step.Rests t) k = record { unanswered = goes (Step.Rests t) k t.call _ (was_running t.call t.run k.under_way.runs); newest = newest (Step.Rests t) k }
+    by_step (Step.Unsettles t u) k = record { unanswered = goes (Step.Unsettles t u) k t.call _ (was_running t.call t.run k.under_way.runs); newest = newest (Step.Unsettles t u) k }
+    by_step (Step.Decides t u) k = record { unanswered = goes (Step.Decides t u) k t.call _ (was_running t.call t.run k.under_way.runs); newest = newest (Step.Decides t u) k }
+    by_step (Step.Bears t) k = record { unanswered = goes (Step.Bears t) k t.call _ (was_running t.call t.run k.under_way.runs); newest = newest (Step.Bears t) k }
+    by_step (Step.Confirms t) k = record { unanswered = goes (Step.Confirms t) k t.call _ (was_running t.call t.run k.under_way.runs); newest = newest (Step.Confirms t) k }
+    by_step (Step.HandsIn t shown) k = record { unanswered = goes (Step.HandsIn t shown) k t.call _ (was_running t.call t.run k.under_way.runs); newest = newest (Step.HandsIn t shown) k }
+    by_step (Step.Extends c run dir next) k = record { unanswered = goes (Step.Extends c run dir next) k c _ (was_running c run k.runs); newest = newest (Step.Extends c run dir next) k }
     by_step (Step.Learns c run dir spans) k = record { unanswered = rest (Step.Learns c run dir spans) k; newest = newest (Step.Learns c run dir spans) k }
-    by_step (Step.Answers c run answer) k = record { unanswered = goes (Step.Answers c run answer) k c _ refl (was_running c run k.runs); newest = newest (Step.Answers c run answer) k }
+    by_step (Step.Answers c run answer) k = record { unanswered = goes (Step.Answers c run answer) k c _ (was_running c run k.runs); newest = newest (Step.Answers c run answer) k }
 
 -- the root alone, on the first set
 start_first : (first : List (List ℕ)) → 1 ≤ length first → FirstSets (start first) (length first)
 start_first first some = record {
-  answered = (some, tt);
+  answered = (omega (arith, some), tt);
   begun = λ u drawn. absurd (drawn refl);
-  homed = λ gfid e. some;
+  homed = λ gfid e. omega (arith, some);
   no_names = λ set dir more. none (names_cell dir);
 }
   where
@@ -339,7 +335,7 @@ start_first first some = record {
 
 both : (first : List (List ℕ)) (m : State) → IsReached first m → Both m
 both first _ (IsReached.Start planned) = record {
-  graphs = record { some = planned.enough; first = omega arith; unanswered = λ c u. absurd cc; planned = λ c run e. absurd cc; in_turn = λ c d run u. absurd cc };
+  graphs = record { some = planned.enough; first = let same : length first ≤ length first = omega arith in same; unanswered = λ c u. absurd cc; planned = λ c run e. absurd cc; in_turn = λ c d run u. absurd cc };
   beyond = record { unanswered = λ c u. absurd cc; newest = start_first first planned.enough };
 }
 both first _ (IsReached.Further old step reached allowed) =

@@ -29,7 +29,7 @@ use Rattle.mount_laws.specs.States.{State, Change, Call, Status, Runs, holds_by,
 use Rattle.mount_laws.specs.States.Status.{Running}
 use Rattle.mount_laws.specs.Steps.{Step, Task, after, is_lookup, adopting, births_by, is_of, sees_again, sees, sights, sights_by, contents_shown}
 use Rattle.mount_laws.proofs.Apart.{holds_apart}
-use Rattle.mount_laws.proofs.Beside.{each_map, each_beside, SameJob, one_job}
+use Rattle.mount_laws.proofs.Beside.{each_map, each_append, each_beside, SameJob, one_job}
 use Rattle.mount_laws.proofs.Contents.{births_leave, op_leaves, op_none}
 use Rattle.mount_laws.proofs.Firm.{are_whole, firm_touched, jobs_have_none}
 use Rattle.mount_laws.proofs.Held.{holds_cover, covered_held}
@@ -237,10 +237,6 @@ reply_sights m firm rested t shown h = by_reply shown h.is_reply h.fitting.answe
     by_reply _ (Enters number stage) fitting = empty _ (nothing t.set t.job (reply.Decided number) refl)
     by_reply _ (Fails error stage) fitting = empty _ (nothing t.set t.job (reply.Io error) refl)
     by_reply one (Aside _ is) fitting = empty _ (aside t.set t.job one is)
-
-each_append : {A : Type 0} (P : A → Type 0) (xs ys : List A) → Each P xs → Each P ys → Each P (xs ++ ys)
-each_append P [] ys a b = b
-each_append P (x ∷ xs) ys a b = (a.0, each_append P xs ys a.1 b)
 
 -- ---- each step
 

@@ -127,9 +127,16 @@ pub record MaySettle (m : State) (t : Task) (u : ℕ) : Type 0 where
   pub settles : settles_first t.job ≡ true
   pub unsettled : IsUnsettledOn (m.changes u) t.set (cells_of_job t.job)
 
+-- until its change begins or its reply is handed in, a job that has settled may begin again, which ends at a later length of
+-- the history
+abbrev pub IsSettling : Stage → Type 0
+IsSettling Waiting = Unit {0}
+IsSettling (Settled place) = Unit {0}
+IsSettling other = ⊥
+
 pub record MayRest (m : State) (t : Task) : Type 0 where
   pub under_way : IsUnderWay m t
-  pub waiting : t.run.stage ≡ Waiting
+  pub turn : IsSettling t.run.stage
   pub settles : settles_first t.job ≡ true
   pub none : (u : ℕ) → IsUnsettledOn (m.changes u) t.set (cells_of_job t.job) → ⊥
 
