@@ -1,17 +1,15 @@
 -- Holds of different calls do not conflict.
-use Rattle.std.proofs.Common.{◌≡◌, ℕ, ◌+◌, ◌⊎◌, inl, inr, Bool, true, false, refl, sym, ap, subst, List, [], ◌∷◌, ◌++◌}
+use Rattle.std.proofs.Common.{◌≡◌, ℕ, ◌+◌, ◌⊎◌, inl, inr, true, false, refl, sym, ap, subst, List, [], ◌∷◌, ◌++◌}
 use Rattle.std.specs.Prelude.{◌≢◌}
 use Rattle.afr_machine.specs.Replicas.{with_at}
-use Rattle.fop_types.specs.declared.answers.FopAnswer.{FopAnswer}
 use Rattle.fop_types.specs.declared.cells.Gfid.{Gfid}
-use Rattle.fop_types.specs.declared.fops.Fop.{Fop}
-use Rattle.mount_laws.specs.Guards.{Allowed, IsReached, IsUnderWay}
+use Rattle.mount_laws.specs.Guards.{Allowed, IsReached}
 use Rattle.mount_laws.specs.Holding.{HoldsApart}
 use Rattle.mount_laws.specs.Holds.{Hold, Holds, HoldsAlone, AreApart, holds_of, extensions}
 use Rattle.mount_laws.specs.Runs.{Run, holds_in}
-use Rattle.mount_laws.specs.States.{State, Call, Status, Runs, held, holds_by, start}
+use Rattle.mount_laws.specs.States.{State, Call, Status, Runs, held, holds_by}
 use Rattle.mount_laws.specs.States.Status.{Unsubmitted, Ready, Running, Answered}
-use Rattle.mount_laws.specs.Steps.{Step, Task, after, is_lookup, status_after}
+use Rattle.mount_laws.specs.Steps.{Step, after, is_lookup}
 use Rattle.mount_laws.proofs.Moving.{quiet}
 use Rattle.mount_laws.proofs.Tables.{at_case}
 

@@ -1,35 +1,32 @@
 -- A fop under way beside a change: each step keeps what is said of the two.
-use Rattle.std.proofs.Common.{◌≡◌, ◌∙◌, ℕ, ◌+◌, ◌<◌, ◌≤◌, ◌⊎◌, inl, inr, Bool, true, false, refl, sym, ap, subst, List, [], ◌∷◌, ◌++◌, length, Option, None, nat_lt, arith}
+use Rattle.std.proofs.Common.{◌≡◌, ◌∙◌, ℕ, ◌+◌, ◌<◌, ◌≤◌, inl, inr, Bool, true, false, refl, sym, ap, subst, List, [], ◌∷◌, ◌++◌, length, Option, None, nat_lt, arith}
 use Rattle.std.specs.Prelude.{◌≢◌}
 use Rattle.std.proofs.lemmas.Bool.{ltb-true, ltb-false}
 use Rattle.afr_machine.specs.Changes.{Verdict}
 use Rattle.afr_machine.specs.Changes.Verdict.{Undrawn, Unsettled, Adopted, Dropped}
 use Rattle.afr_machine.specs.Replicas.{with_at}
-use Rattle.afr_machine.specs.Touching.{has_cell, share}
+use Rattle.afr_machine.specs.Touching.{share}
 use Rattle.afr_machine.specs.Transactions.{cells_of_job, settles_first}
 use Rattle.dht_fops.specs.Courses.{Course}
 use Rattle.dht_fops.specs.Handed.{Handed}
 use Rattle.dht_fops.specs.Handed.Event.{Replied, Held}
 use Rattle.fop_types.specs.Bounds.{Each}
-use Rattle.fop_types.specs.declared.answers.FopAnswer.{FopAnswer}
-use Rattle.fop_types.specs.declared.answers.FopAnswer.TheVariants as fop_answer
 use Rattle.fop_types.specs.declared.cells.Cell.{Cell}
 use Rattle.fop_types.specs.declared.fops.Fop.{Fop}
 use Rattle.fop_types.specs.declared.jobs.Job.{Job}
 use Rattle.fop_types.specs.declared.jobs.Job.TheVariants as job
 use Rattle.fop_types.specs.declared.jobs.SetReply.{SetReply}
-use Rattle.fop_types.specs.declared.store_ops.StoreOp.{StoreOp}
-use Rattle.mount_laws.specs.Guards.{Allowed, IsReached, IsUnderWay, IsUnsettledOn, IsChange, MaySettle, MayRest, MayUnsettle, MayDecide}
-use Rattle.mount_laws.specs.Holding.{HoldsApart, HoldCovers, AreHeld, AreHeldAlone, IsHeldChange, IsCovered}
-use Rattle.mount_laws.specs.Holds.{Hold, HoldsAlone, AreApart, holds_of, extensions}
+use Rattle.mount_laws.specs.Guards.{Allowed, IsReached, IsUnderWay, IsUnsettledOn, IsChange, MaySettle, MayUnsettle, MayDecide}
+use Rattle.mount_laws.specs.Holding.{HoldsApart, HoldCovers, AreHeld, AreHeldAlone, IsCovered}
+use Rattle.mount_laws.specs.Holds.{Hold, HoldsAlone, holds_of, extensions}
 use Rattle.mount_laws.specs.Runs.{Run, Stage, SettledJob, Sight, holds_in, begun, going_on}
 use Rattle.mount_laws.specs.Runs.Stage.{Waiting, Settled, Changing, Bearing, Decided}
-use Rattle.mount_laws.specs.Settling.{OneUnsettled, IsRunning, IsSettledJob, StandsBeside, EachStandsBeside, RunningIsAlone, AreNumbered}
-use Rattle.mount_laws.specs.States.{State, Change, Call, Status, Runs, has_begun, holds_by, held, start}
-use Rattle.mount_laws.specs.States.Status.{Unsubmitted, Ready, Running, Answered}
+use Rattle.mount_laws.specs.Settling.{IsSettledJob, StandsBeside, EachStandsBeside, RunningIsAlone, AreNumbered}
+use Rattle.mount_laws.specs.States.{State, Change, Call, Status, Runs, has_begun, holds_by, held}
+use Rattle.mount_laws.specs.States.Status.{Unsubmitted, Ready, Running}
 use Rattle.mount_laws.specs.Steps.{Step, Task, after, is_lookup, status_after, volume_of, change_by, at_stage}
 use Rattle.mount_laws.proofs.Apart.{holds_apart}
-use Rattle.mount_laws.proofs.Held.{holds_cover, covered_held, alone_held}
+use Rattle.mount_laws.proofs.Held.{holds_cover, covered_held}
 use Rattle.mount_laws.proofs.Moving.{unwrap, quiet}
 use Rattle.mount_laws.proofs.Sharing.{held_apart}
 use Rattle.mount_laws.proofs.Tables.{at_case}

@@ -1,5 +1,5 @@
 -- Nothing is on sets that an unanswered call's graph lacks.
-use Rattle.std.proofs.Common.{◌≡◌, ◌∙◌, ℕ, ◌+◌, ◌<◌, ◌≤◌, ◌⊎◌, inl, inr, Bool, true, false, refl, sym, ap, subst, List, [], ◌∷◌, ◌++◌, length, Option, Some, None, if◌then◌else◌, arith}
+use Rattle.std.proofs.Common.{◌≡◌, ◌∙◌, ℕ, ◌+◌, ◌<◌, ◌≤◌, inl, inr, Bool, true, false, refl, sym, ap, subst, List, [], ◌∷◌, length, Option, Some, None, if◌then◌else◌, arith}
 use Rattle.std.specs.Prelude.{◌≢◌}
 use Rattle.std.specs.Ordering.{is_eq}
 use Rattle.afr_machine.specs.Changes.{Verdict}
@@ -8,9 +8,8 @@ use Rattle.afr_machine.specs.Copies.{root_alone, contents_of}
 use Rattle.afr_machine.specs.Replicas.{with_at}
 use Rattle.afr_machine.specs.Touching.{is_cell}
 use Rattle.dht_fops.specs.Courses.{Course}
-use Rattle.dht_fops.specs.Handed.{Handed, Always}
+use Rattle.dht_fops.specs.Handed.{Always}
 use Rattle.dht_fops.specs.Shown.{SetContents, Homes}
-use Rattle.dht_fops.specs.declared.volume.Volume.{Volume}
 use Rattle.fop_types.specs.Bounds.{Each}
 use Rattle.fop_types.specs.Cells.{root, meta_cell, names_cell}
 use Rattle.fop_types.specs.Orders.{gfid_cmp}
@@ -21,7 +20,6 @@ use Rattle.fop_types.specs.declared.cells.Cell.{Cell}
 use Rattle.fop_types.specs.declared.cells.Gfid.{Gfid}
 use Rattle.fop_types.specs.declared.cells.Kind.{Kind}
 use Rattle.fop_types.specs.declared.cells.Kind.TheVariants as kind
-use Rattle.fop_types.specs.declared.fops.Fop.{Fop}
 use Rattle.fop_types.specs.declared.fops.Object.{Object}
 use Rattle.fop_types.specs.declared.history.Entry.{Entry}
 use Rattle.fop_types.specs.declared.jobs.Job.{Job}
@@ -30,12 +28,12 @@ use Rattle.fop_types.specs.declared.jobs.SetReply.{SetReply}
 use Rattle.fop_types.specs.declared.store_ops.StoreOp.{StoreOp}
 use Rattle.fop_types.specs.declared.store_ops.StoreOp.TheVariants as op
 use Rattle.mount_laws.specs.Graphs.{AreOnFirst, FirstSets, BeyondOld, IsPlanned, RunsInItsGraph, InItsGraph}
-use Rattle.mount_laws.specs.Guards.{Allowed, IsReached, IsKnown, IsUnderWay, IsChange, IsBirth, MayBegin, objects_of}
+use Rattle.mount_laws.specs.Guards.{Allowed, IsReached, IsKnown, IsChange, IsBirth, objects_of}
 use Rattle.mount_laws.specs.Holding.{JobAsked}
 use Rattle.mount_laws.specs.Runs.{Run, begun, first_course}
 use Rattle.mount_laws.specs.States.{State, Change, Call, Status, Runs, is_unanswered, set_count, start}
-use Rattle.mount_laws.specs.States.Status.{Unsubmitted, Ready, Running, Answered}
-use Rattle.mount_laws.specs.Steps.{Step, Task, after, is_lookup, status_after, volume_of, object_in, change_by, births_by, by_effect, kinds_after, homes_after, with_kind, with_home}
+use Rattle.mount_laws.specs.States.Status.{Running, Answered}
+use Rattle.mount_laws.specs.Steps.{Step, after, is_lookup, status_after, volume_of, object_in, change_by, births_by, by_effect, kinds_after, homes_after, with_kind, with_home}
 use Rattle.mount_laws.specs.Within.{IsWithin, AnswersWithin}
 use Rattle.mount_laws.proofs.Beside.{each_map, each_append}
 use Rattle.mount_laws.proofs.Held.{jobs_asked}
@@ -132,8 +130,8 @@ module _ (m : State) (asked : JobAsked m) (g : InItsGraph m) (c : ℕ) (run : Ru
       let p = g.planned c run runs in
       let known = g.unanswered c (ap (λ (s : Status). is_unanswered s) runs) in
       led_always (IsWithin run.volume.sets) (AnswersWithin run.volume.sets) (first_course run) run.handed run.course (asked c run runs)
-      (courses_within run.volume run.names run.kept run.fop (let r = p.roots in let s = g.some in omega arith) (let r = p.roots in let s = p.sets in let k = known.0 in omega arith)
-      (let many : length run.names ≡ length (m.calls c).names = ap (λ (n : List (List ℕ)). length n) p.names_are in many ∙ sym p.sets) (subst (λ (n : ℕ). Each (λ (object : Object). object.set < n) (objects_of run.fop)) (sym p.sets) p.objects) [])
+      ((courses_within run.volume run.names run.kept run.fop (let r = p.roots in let s = g.some in omega arith) (let r = p.roots in let s = p.sets in let k = known.0 in omega arith)
+      (let many : length run.names ≡ length (m.calls c).names = ap (λ (n : List (List ℕ)). length n) p.names_are in many ∙ sym p.sets) (subst (λ (n : ℕ). Each (λ (object : Object). object.set < n) (objects_of run.fop)) (sym p.sets) p.objects)).at [])
 
   job_within : (set : ℕ) (wanted : Job) (next : SetReply → Course) → run.course ≡ Course.Asks set wanted next → IsWithin run.volume.sets run.handed set wanted
   job_within set wanted next e = (subst (λ (course : Course). Always (IsWithin run.volume.sets) (AnswersWithin run.volume.sets) run.handed course) e always_within).0

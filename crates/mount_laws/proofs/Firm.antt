@@ -1,5 +1,5 @@
 -- The cells of a change are those that its op needs, and are firm; a cell that is not firm has no names.
-use Rattle.std.proofs.Common.{◌≡◌, ◌∙◌, ℕ, ◌⊎◌, inl, inr, Bool, true, false, refl, sym, ap, subst, List, [], ◌∷◌, Option, Some, None}
+use Rattle.std.proofs.Common.{◌≡◌, ◌∙◌, ℕ, Bool, true, false, refl, sym, ap, subst, List}
 use Rattle.std.specs.Prelude.{◌≢◌, ◌||◌}
 use Rattle.afr_machine.specs.Changes.{Verdict}
 use Rattle.afr_machine.specs.Changes.Verdict.{Undrawn, Unsettled, Adopted, Dropped}
@@ -8,18 +8,15 @@ use Rattle.afr_machine.specs.Replicas.{with_at}
 use Rattle.afr_machine.specs.Touching.{is_cell, has_cell}
 use Rattle.afr_machine.specs.Transactions.{cells_of_job}
 use Rattle.afr_machine.proofs.Tables.{at_same}
-use Rattle.fop_types.specs.Bounds.{Each}
 use Rattle.fop_types.specs.Cells.{root, meta_cell, names_cell}
-use Rattle.fop_types.specs.StoreOps.{Contents, needs, births, after_births, contents_after}
+use Rattle.fop_types.specs.StoreOps.{Contents, needs, after_births, contents_after}
 use Rattle.fop_types.specs.declared.cells.Cell.{Cell}
-use Rattle.fop_types.specs.declared.contents.Content.{Content}
 use Rattle.fop_types.specs.declared.jobs.Job.{Job}
 use Rattle.fop_types.specs.declared.jobs.Job.TheVariants as job
 use Rattle.dht_fops.specs.Shown.{SetContents}
 use Rattle.mount_laws.specs.Guards.{Allowed, IsReached, IsChange, MayUnsettle}
 use Rattle.mount_laws.specs.Holding.{HoldCovers, IsCovered}
-use Rattle.mount_laws.specs.Holds.{Hold}
-use Rattle.mount_laws.specs.Settling.{HasNoNames, StaysOrBorn, FirmIsTouched, AreWhole}
+use Rattle.mount_laws.specs.Settling.{HasNoNames, FirmIsTouched, AreWhole}
 use Rattle.mount_laws.specs.States.{State, Change, start}
 use Rattle.mount_laws.specs.Steps.{Step, Task, after, change_by, births_by}
 use Rattle.mount_laws.proofs.Contents.{births_leave, births_have_none, op_leaves, stays_nameless, HaveNoNames}

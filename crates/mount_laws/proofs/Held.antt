@@ -1,6 +1,6 @@
 -- The job that a fop asks for is what its course asks, and is covered by what the call holds; so are the jobs that have
 -- settled.
-use Rattle.std.proofs.Common.{◌≡◌, ℕ, ◌⊎◌, inl, inr, Bool, true, false, refl, sym, subst, List, [], ◌∷◌, ◌++◌}
+use Rattle.std.proofs.Common.{◌≡◌, ℕ, inl, inr, true, false, subst, List, [], ◌∷◌, ◌++◌}
 use Rattle.afr_machine.specs.Transactions.{cells_of_job, settles_first}
 use Rattle.dht_fops.specs.Courses.{Course}
 use Rattle.dht_fops.specs.Founded.{AnyAnswer}
@@ -12,12 +12,11 @@ use Rattle.fop_types.specs.declared.fops.Fop.{Fop}
 use Rattle.fop_types.specs.declared.jobs.Job.{Job}
 use Rattle.fop_types.specs.declared.jobs.Job.TheVariants as job
 use Rattle.fop_types.specs.declared.jobs.SetReply.{SetReply}
-use Rattle.mount_laws.specs.Guards.{Allowed, IsReached}
+use Rattle.mount_laws.specs.Guards.{IsReached}
 use Rattle.mount_laws.specs.Holding.{JobAsked, AreHeld, AreHeldAlone, IsCovered, HoldCovers}
-use Rattle.mount_laws.specs.Holds.{Hold, Holds, HoldsAlone, holds_of, extensions}
+use Rattle.mount_laws.specs.Holds.{Hold, Holds, holds_of, extensions}
 use Rattle.mount_laws.specs.Runs.{Run, SettledJob, Leads, first_course, holds_in}
-use Rattle.mount_laws.specs.States.{State, Runs, start}
-use Rattle.mount_laws.specs.Steps.{Step, Task, after}
+use Rattle.mount_laws.specs.States.{State, Runs}
 use Rattle.mount_laws.proofs.Covering.{courses_covered, alone_holds}
 use Rattle.mount_laws.proofs.Leading.{led_always}
 use Rattle.mount_laws.proofs.Moving.{RunMove, run_moves}
@@ -47,7 +46,7 @@ jobs_asked first _ (IsReached.Further old step reached allowed) = λ c run runs.
 asked_covered : (m : State) → JobAsked m → (c : ℕ) (run : Run) (set : ℕ) (asked : Job) (next : SetReply → Course) → Runs m c run → run.course ≡ Course.Asks set asked next → IsCovered run.fop run.handed set asked
 asked_covered m a c run set asked next runs asks =
     (subst (λ (course : Course). Always (IsCovered run.fop) AnyAnswer run.handed course) asks
-    (led_always (IsCovered run.fop) AnyAnswer (first_course run) run.handed run.course (a c run runs) (courses_covered run.volume run.names run.kept run.fop []))).0
+    (led_always (IsCovered run.fop) AnyAnswer (first_course run) run.handed run.course (a c run runs) ((courses_covered run.volume run.names run.kept run.fop).at []))).0
 
 pub alone_held : (hs : List Hold) (cells : List Cell) → AreHeldAlone hs cells → AreHeld hs cells
 alone_held hs [] h = tt

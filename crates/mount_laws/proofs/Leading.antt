@@ -1,5 +1,5 @@
 -- What always holds of a fop's course holds where it is.
-use Rattle.std.proofs.Common.{◌≡◌, ℕ, List, [], ◌∷◌, Option}
+use Rattle.std.proofs.Common.{ℕ, [], Option}
 use Rattle.dht_fops.specs.Courses.{Course}
 use Rattle.dht_fops.specs.Handed.{Handed, Always}
 use Rattle.fop_types.specs.declared.answers.FopAnswer.{FopAnswer}

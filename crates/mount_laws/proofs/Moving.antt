@@ -1,5 +1,5 @@
 -- What a step makes of the fops under way: each stays, begins, or goes on by the step of its call.
-use Rattle.std.proofs.Common.{◌≡◌, ℕ, ◌+◌, Bool, true, false, refl, sym, subst, List, ◌∷◌, ◌++◌, length, Option, None}
+use Rattle.std.proofs.Common.{◌≡◌, ℕ, ◌+◌, Bool, true, false, subst, ◌∷◌, ◌++◌, length, None}
 use Rattle.afr_machine.specs.Replicas.{with_at}
 use Rattle.afr_machine.specs.Transactions.{cells_of_job}
 use Rattle.dht_fops.specs.Courses.{Course}
@@ -13,8 +13,8 @@ use Rattle.fop_types.specs.declared.jobs.SetReply.{SetReply}
 use Rattle.mount_laws.specs.Guards.{Allowed, MayBegin, MaySettle, MayRest, MayUnsettle, MayDecide, MayBear, MayConfirm, MayHandIn, MayExtend}
 use Rattle.mount_laws.specs.Runs.{Run, begun, going_on}
 use Rattle.mount_laws.specs.Runs.Stage.{Settled, Changing, Bearing, Decided}
-use Rattle.mount_laws.specs.States.{State, Call, Status, Runs}
-use Rattle.mount_laws.specs.States.Status.{Ready, Running, Answered}
+use Rattle.mount_laws.specs.States.{State, Call, Runs}
+use Rattle.mount_laws.specs.States.Status.{Running}
 use Rattle.mount_laws.specs.Steps.{Step, Task, after, volume_of, status_after, is_lookup, deciding, adopting, sees, at_stage, number_after, sights_by}
 use Rattle.mount_laws.proofs.Tables.{at_case}
 

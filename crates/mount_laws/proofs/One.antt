@@ -1,21 +1,19 @@
 -- At most one unsettled change touches a cell; none of another call begins on the cells of a job.
-use Rattle.std.proofs.Common.{◌≡◌, ◌∙◌, ℕ, ◌⊎◌, inl, inr, Bool, true, false, refl, sym, ap, subst, List, [], ◌∷◌}
+use Rattle.std.proofs.Common.{◌≡◌, ℕ, true, false, refl, sym, subst, List}
 use Rattle.std.specs.Prelude.{◌≢◌}
 use Rattle.afr_machine.specs.Changes.{Verdict}
-use Rattle.afr_machine.specs.Changes.Verdict.{Undrawn, Unsettled, Adopted, Dropped}
+use Rattle.afr_machine.specs.Changes.Verdict.{Unsettled, Adopted, Dropped}
 use Rattle.afr_machine.specs.Replicas.{with_at}
 use Rattle.afr_machine.specs.Touching.{has_cell, share}
 use Rattle.afr_machine.specs.Transactions.{cells_of_job, settles_first}
-use Rattle.fop_types.specs.Bounds.{Each}
 use Rattle.fop_types.specs.declared.cells.Cell.{Cell}
 use Rattle.fop_types.specs.declared.jobs.Job.{Job}
 use Rattle.fop_types.specs.declared.jobs.Job.TheVariants as job
 use Rattle.mount_laws.specs.Guards.{Allowed, IsReached, IsUnsettledOn, IsChange, MayUnsettle}
-use Rattle.mount_laws.specs.Holding.{HoldsApart, HoldCovers, AreHeld, AreHeldAlone, IsCovered}
-use Rattle.mount_laws.specs.Holds.{Hold, holds_of, extensions}
+use Rattle.mount_laws.specs.Holding.{HoldCovers, AreHeld, AreHeldAlone, IsCovered}
 use Rattle.mount_laws.specs.Runs.{Run, SettledJob, holds_in}
-use Rattle.mount_laws.specs.Settling.{OneUnsettled, SettlingEnds, IsAtWork}
-use Rattle.mount_laws.specs.States.{State, Change, Status, Runs, holds_by, held, start}
+use Rattle.mount_laws.specs.Settling.{OneUnsettled, SettlingEnds}
+use Rattle.mount_laws.specs.States.{State, Change, Status, Runs, holds_by, held}
 use Rattle.mount_laws.specs.Steps.{Step, Task, after, change_by}
 use Rattle.mount_laws.proofs.Apart.{holds_apart}
 use Rattle.mount_laws.proofs.Beside.{each_map, each_beside}

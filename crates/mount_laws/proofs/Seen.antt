@@ -1,39 +1,38 @@
 -- What a fop has read is still so: nobody else changes the cells of its settled jobs.
-use Rattle.std.proofs.Common.{◌≡◌, ◌∙◌, ℕ, ◌+◌, ◌⊎◌, inl, inr, Bool, true, false, refl, sym, ap, subst, List, [], ◌∷◌, ◌++◌, Option, Some, None}
+use Rattle.std.proofs.Common.{◌≡◌, ◌∙◌, ℕ, ◌+◌, ◌⊎◌, inl, inr, Bool, true, false, refl, sym, ap, subst, List, [], ◌∷◌, Option, Some, None}
 use Rattle.std.specs.Prelude.{◌≢◌, ◌==◌, ◌&&◌, ◌||◌, if◌then◌else◌}
 use Rattle.std.proofs.lemmas.Bool.{eq-eqb}
-use Rattle.afr_machine.specs.Changes.{Verdict}
-use Rattle.afr_machine.specs.Changes.Verdict.{Undrawn, Unsettled, Adopted, Dropped}
+use Rattle.afr_machine.specs.Changes.Verdict.{Undrawn, Unsettled}
 use Rattle.afr_machine.specs.Replicas.{with_at}
-use Rattle.afr_machine.specs.Touching.{is_cell, has_cell, share}
-use Rattle.afr_machine.specs.Transactions.{cells_of_job, settles_first}
+use Rattle.afr_machine.specs.Touching.{is_cell, has_cell}
+use Rattle.afr_machine.specs.Transactions.{cells_of_job}
 use Rattle.dht_fops.specs.Courses.{Course}
 use Rattle.dht_fops.specs.Shown.{SetContents}
 use Rattle.fop_types.specs.Bounds.{Each}
 use Rattle.fop_types.specs.Jobs.{may_lack, IsAnsweredBy, IsContentOf, AreContentsOf}
-use Rattle.fop_types.specs.StoreOps.{Contents, needs, births, after_births, contents_after}
+use Rattle.fop_types.specs.StoreOps.{Contents, needs, after_births, contents_after}
 use Rattle.fop_types.specs.declared.cells.Cell.{Cell}
 use Rattle.fop_types.specs.declared.contents.Content.{Content}
 use Rattle.fop_types.specs.declared.jobs.Job.{Job}
 use Rattle.fop_types.specs.declared.jobs.Job.TheVariants as job
 use Rattle.fop_types.specs.declared.jobs.SetReply.{SetReply}
 use Rattle.fop_types.specs.declared.jobs.SetReply.TheVariants as reply
-use Rattle.mount_laws.specs.Guards.{Allowed, IsReached, IsUnsettledOn, IsShown, AreShown, IsReply, MaySettle, MayRest, MayDecide, MayHandIn, IsAside}
+use Rattle.mount_laws.specs.Guards.{Allowed, IsReached, IsShown, AreShown, IsReply, MaySettle, MayHandIn, IsAside}
 use Rattle.mount_laws.specs.Guards.IsReply.{Shows, Enters, Fails, Aside}
 use Rattle.mount_laws.specs.Holding.{AreHeld, AreHeldAlone}
-use Rattle.mount_laws.specs.Runs.{Run, Stage, SettledJob, Sight, holds_in}
-use Rattle.mount_laws.specs.Runs.Stage.{Waiting, Settled, Changing, Bearing, Decided}
+use Rattle.mount_laws.specs.Runs.{Run, SettledJob, Sight}
+use Rattle.mount_laws.specs.Runs.Stage.{Settled, Decided}
 use Rattle.mount_laws.specs.Seeing.{IsListed, RestedIsListed, WasSettled, IsStill, StandsAsSeen, SawStill}
-use Rattle.mount_laws.specs.Settling.{HasNoNames, StaysOrBorn, FirmIsTouched, IsSettledJob, StandsBeside, EachStandsBeside, ReadIsAdopted, LeavesSettled, IsStepOf}
-use Rattle.mount_laws.specs.States.{State, Change, Call, Status, Runs, holds_by, held, start}
+use Rattle.mount_laws.specs.Settling.{HasNoNames, StaysOrBorn, FirmIsTouched, IsSettledJob, ReadIsAdopted, LeavesSettled, IsStepOf}
+use Rattle.mount_laws.specs.States.{State, Change, Call, Status, Runs, holds_by, held}
 use Rattle.mount_laws.specs.States.Status.{Running}
 use Rattle.mount_laws.specs.Steps.{Step, Task, after, is_lookup, adopting, births_by, is_of, sees_again, sees, sights, sights_by, contents_shown}
 use Rattle.mount_laws.proofs.Apart.{holds_apart}
-use Rattle.mount_laws.proofs.Beside.{each_map, each_append, each_beside, SameJob, one_job}
+use Rattle.mount_laws.proofs.Beside.{each_map, each_append, each_beside, one_job}
 use Rattle.mount_laws.proofs.Contents.{births_leave, op_leaves, op_none}
 use Rattle.mount_laws.proofs.Firm.{are_whole, firm_touched, jobs_have_none}
 use Rattle.mount_laws.proofs.Held.{holds_cover, covered_held}
-use Rattle.mount_laws.proofs.Moving.{RunMove, run_moves, unwrap, quiet, one_call}
+use Rattle.mount_laws.proofs.Moving.{RunMove, run_moves, unwrap, quiet}
 use Rattle.mount_laws.proofs.Moving.RunMove.{Stays, Begins, Settles, Rests, Unsettles, Decides, Bears, Confirms, HandsIn, Extends}
 use Rattle.mount_laws.proofs.Sharing.{is_cell_refl, or_right, shared_cell, held_apart}
 use Rattle.mount_laws.proofs.Tables.{at_case}

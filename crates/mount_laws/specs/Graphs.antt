@@ -14,7 +14,7 @@ use Rattle.fop_types.specs.declared.fops.Fop.{Fop}
 use Rattle.fop_types.specs.declared.fops.Object.{Object}
 use Rattle.mount_laws.specs.Guards.{objects_of}
 use Rattle.mount_laws.specs.Runs.{Run}
-use Rattle.mount_laws.specs.States.{State, Change, Call, Status, is_unanswered, set_count}
+use Rattle.mount_laws.specs.States.{State, Change, Call, is_unanswered, set_count}
 use Rattle.mount_laws.specs.States.Status.{Running}
 
 -- On the first `count` sets alone there is something: objects that were answered, changes and homes of files are on them, and

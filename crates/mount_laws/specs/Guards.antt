@@ -1,13 +1,13 @@
 -- When each step of the mount can happen, by what is known of a set, of the holds and of the fop's own course; and the states
 -- that such steps lead to. A fop's objects were answered before, it holds what its kind holds, and no call of a graph with
 -- more sets begins one while a call of a graph with fewer is unanswered. Ours.
-use Rattle.std.specs.Prelude.{◌≡◌, ◌≢◌, ◌⊎◌, ℕ, ◌<◌, ◌≤◌, Bool, true, false, List, [], ◌∷◌, length, slice_get, Option, Some, None}
+use Rattle.std.specs.Prelude.{◌≡◌, ◌≢◌, ◌⊎◌, ℕ, ◌≤◌, Bool, true, false, List, [], ◌∷◌, length, slice_get, Option, Some, None}
 use Rattle.afr_machine.specs.Changes.Verdict.{Undrawn, Unsettled}
 use Rattle.afr_machine.specs.Touching.{share}
 use Rattle.afr_machine.specs.Transactions.{cells_of_job, settles_first}
 use Rattle.dht_fops.specs.Courses.{Course}
 use Rattle.dht_fops.specs.Handed.{Handed, Event, IsAnswered}
-use Rattle.dht_fops.specs.Handed.Event.{Replied, Held}
+use Rattle.dht_fops.specs.Handed.Event.{Replied}
 use Rattle.dht_fops.specs.Looks.{span_of, span_job}
 use Rattle.dht_fops.specs.Volumes.{Kept}
 use Rattle.dht_linkto.specs.DirNames.{first_content}
@@ -27,11 +27,11 @@ use Rattle.fop_types.specs.declared.jobs.Job.{Job}
 use Rattle.fop_types.specs.declared.jobs.Job.TheVariants as job
 use Rattle.fop_types.specs.declared.jobs.SetReply.{SetReply}
 use Rattle.fop_types.specs.declared.jobs.SetReply.TheVariants as reply
-use Rattle.mount_laws.specs.Holds.{Hold, holds_of, AreApart}
+use Rattle.mount_laws.specs.Holds.{holds_of, AreApart}
 use Rattle.mount_laws.specs.Runs.{Run, Stage}
 use Rattle.mount_laws.specs.Runs.Stage.{Waiting, Settled, Changing, Bearing, Decided}
-use Rattle.mount_laws.specs.States.{State, Change, Status, start, Runs, held, is_unanswered, set_count}
-use Rattle.mount_laws.specs.States.Status.{Ready, Running}
+use Rattle.mount_laws.specs.States.{State, Change, start, Runs, held, is_unanswered, set_count}
+use Rattle.mount_laws.specs.States.Status.{Ready}
 use Rattle.mount_laws.specs.Steps.{Step, Task, after}
 use Rattle.mount_laws.specs.Steps.Step.{Submits, Leaves, Switches, Begins, Settles, Rests, Unsettles, Decides, Bears, Confirms, HandsIn, Extends, Learns, Answers}
 

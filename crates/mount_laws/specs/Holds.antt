@@ -1,7 +1,7 @@
 -- What a fop holds from its start to its answer: directories and files by their gfids, each exclusively or shared. Two holds
 -- of one object agree where both are shared. Ours.
-use Rattle.std.specs.Prelude.{◌≡◌, ◌⊎◌, Bool, true, false, List, [], ◌∷◌, ◌++◌}
-use Rattle.dht_fops.specs.Handed.{Handed, Event}
+use Rattle.std.specs.Prelude.{◌≡◌, ◌⊎◌, Bool, true, false, List, [], ◌∷◌}
+use Rattle.dht_fops.specs.Handed.{Handed}
 use Rattle.dht_fops.specs.Handed.Event.{Replied, Held}
 use Rattle.fop_types.specs.declared.cells.Gfid.{Gfid}
 use Rattle.fop_types.specs.declared.fops.Fop.{Fop}

@@ -1,6 +1,6 @@
 -- A fop of a call under way: how it stands to what it was handed in, how far its job is, and what it has seen since it
 -- began. Ours.
-use Rattle.std.specs.Prelude.{ℕ, List, [], ◌∷◌, ◌++◌, Option, None}
+use Rattle.std.specs.Prelude.{ℕ, List, [], ◌∷◌, ◌++◌, Option}
 use Rattle.dht_fops.specs.Courses.{Course}
 use Rattle.dht_fops.specs.Courses.Course.{Asks, Extends}
 use Rattle.dht_fops.specs.Fops.{fop_course}

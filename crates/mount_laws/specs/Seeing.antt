@@ -1,6 +1,6 @@
 -- What a fop knows between two jobs: what it saw still is so, the objects that it names were made, a file's jobs go to the
 -- set on which it lives, and the gfid that its call drew is nobody else's. Ours.
-use Rattle.std.specs.Prelude.{◌≡◌, ◌≢◌, ◌⊎◌, ℕ, Bool, true, false, List, [], ◌∷◌, Option, Some, None}
+use Rattle.std.specs.Prelude.{◌≡◌, ◌≢◌, ◌⊎◌, ℕ, true, List, [], ◌∷◌, Some, None}
 use Rattle.afr_machine.specs.Changes.Verdict.{Undrawn}
 use Rattle.afr_machine.specs.Touching.{has_cell}
 use Rattle.afr_machine.specs.Transactions.{cells_of_job}
@@ -19,7 +19,6 @@ use Rattle.fop_types.specs.declared.cells.Cell.{Cell}
 use Rattle.fop_types.specs.declared.cells.Gfid.{Gfid}
 use Rattle.fop_types.specs.declared.cells.Kind.TheVariants as kind
 use Rattle.fop_types.specs.declared.contents.Content.{Content}
-use Rattle.fop_types.specs.declared.fops.Object.{Object}
 use Rattle.fop_types.specs.declared.jobs.Job.{Job}
 use Rattle.fop_types.specs.declared.jobs.SetReply.{SetReply}
 use Rattle.mount_laws.specs.Runs.{Run, Stage, SettledJob, Sight}

@@ -1,6 +1,6 @@
 -- What makes a set one atomic store to a fop: at most one unsettled change touches a cell; once a job has settled its cells,
 -- nobody but its own call changes them until the hold is released; what a read shows is what was adopted. Ours.
-use Rattle.std.specs.Prelude.{◌≡◌, ◌≢◌, ◌⊎◌, ℕ, ◌<◌, Bool, true, false, List, [], Option, Some, None}
+use Rattle.std.specs.Prelude.{◌≡◌, ◌≢◌, ◌⊎◌, ℕ, ◌<◌, true, false, List, [], Option, Some, None}
 use Rattle.afr_machine.specs.Births.{AreAsFirst}
 use Rattle.afr_machine.specs.Changes.Verdict.{Undrawn, Unsettled}
 use Rattle.afr_machine.specs.Touching.{has_cell, share}
@@ -14,10 +14,9 @@ use Rattle.fop_types.specs.declared.jobs.Job.{Job}
 use Rattle.fop_types.specs.declared.jobs.SetReply.{SetReply}
 use Rattle.mount_laws.specs.Guards.{Allowed, IsUnsettledOn, MaySettle, MayBear, MayUnsettle}
 use Rattle.mount_laws.specs.Holding.{AreHeldAlone}
-use Rattle.mount_laws.specs.Runs.{Run, Stage, SettledJob, holds_in}
-use Rattle.mount_laws.specs.Runs.Stage.{Waiting, Settled, Changing}
+use Rattle.mount_laws.specs.Runs.{Run, SettledJob, holds_in}
+use Rattle.mount_laws.specs.Runs.Stage.{Settled, Changing}
 use Rattle.mount_laws.specs.States.{State, Change, Status, Runs, has_begun}
-use Rattle.mount_laws.specs.States.Status.{Running}
 use Rattle.mount_laws.specs.Steps.{Step, Task, is_lookup, change_by, births_by, after}
 
 -- ---- unsettled changes

@@ -21,9 +21,7 @@ use Rattle.fop_types.specs.declared.answers.FopAnswer.TheVariants as fop_answer
 use Rattle.fop_types.specs.declared.cells.Cell.{Cell}
 use Rattle.fop_types.specs.declared.cells.Gfid.{Gfid}
 use Rattle.fop_types.specs.declared.cells.Kind.{Kind}
-use Rattle.fop_types.specs.declared.cells.Kind.TheVariants as kind
 use Rattle.fop_types.specs.declared.contents.Content.{Content}
-use Rattle.fop_types.specs.declared.contents.Item.{Item}
 use Rattle.fop_types.specs.declared.contents.Span.{Span}
 use Rattle.fop_types.specs.declared.flat.FlatOp.{FlatOp}
 use Rattle.fop_types.specs.declared.fops.Fop.{Fop}
@@ -36,10 +34,10 @@ use Rattle.fop_types.specs.declared.jobs.SetReply.{SetReply}
 use Rattle.fop_types.specs.declared.jobs.SetReply.TheVariants as reply
 use Rattle.fop_types.specs.declared.store_ops.StoreOp.{StoreOp}
 use Rattle.fop_types.specs.declared.store_ops.StoreOp.TheVariants as op
-use Rattle.mount_laws.specs.Runs.{Run, Stage, SettledJob, Sight, begun, going_on}
+use Rattle.mount_laws.specs.Runs.{Run, Stage, Sight, begun, going_on}
 use Rattle.mount_laws.specs.Runs.Stage.{Settled, Changing, Bearing, Decided}
 use Rattle.mount_laws.specs.States.{State, Change, no_change, Status, Call, with_status, with_run, with_change, with_firm}
-use Rattle.mount_laws.specs.States.Status.{Ready, Running, Answered}
+use Rattle.mount_laws.specs.States.Status.{Ready, Answered}
 
 -- the job that a call's fop asks for, with what its reply leads to
 pub record Task : Type 0 where
