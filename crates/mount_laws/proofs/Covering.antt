@@ -4,6 +4,7 @@ use Rattle.std.specs.List.{range_with_len}
 use Rattle.std.specs.Ordering.{match_ordering}
 use Rattle.std.specs.declared.cmp.Ordering.{Ordering}
 use Rattle.std.specs.declared.cmp.Ordering.TheVariants.{Less, Equal, Greater}
+use Rattle.dht_layout.specs.Layouts.{even_span}
 use Rattle.dht_linkto.specs.DirNames.{names_job, names_in, first_content}
 use Rattle.dht_linkto.specs.Search.{Search, search_of, hashed_set, led, set_named}
 use Rattle.dht_linkto.specs.declared.found.Found.{Found}
@@ -20,11 +21,12 @@ use Rattle.dht_fops.specs.Internal.{opens_again, heals, indexes, with_cells, cel
 use Rattle.dht_fops.specs.Looks.{Ending, where_named, where_kept, by_item, looks_along, looks_on, looks_in, finds, reads_spans, seen_on, unseen}
 use Rattle.dht_fops.specs.Merges.{merged, real_items}
 use Rattle.dht_fops.specs.Objects.{home, changes_cell, opened, dir_stat, file_stat, attr_read, attr_value, attr_seen, drops_attr, bytes_read, writes_some}
-use Rattle.dht_fops.specs.Renames.{source_found, source_at, looks_for_target, target_ending, target_found, changes_names, replaces, bears, moves, adds_link, drops_old_link, second_set, other_set}
+use Rattle.dht_fops.specs.Renames.{source_found, source_at, looks_for_target, target_ending, target_found, changes_names, replaces, bears, moves, adds_link, drops_old_link, second_set, other_set, link_of}
 use Rattle.dht_fops.specs.Volumes.{Kept, known_set, sets_from, entry}
 use Rattle.dht_fops.specs.declared.volume.Volume.{Volume}
 use Rattle.fop_types.specs.Cells.{data_cell, meta_cell, names_cell}
 use Rattle.fop_types.specs.FileBytes.{file_limit}
+use Rattle.fop_types.specs.Flat.{item_of}
 use Rattle.fop_types.specs.Limits.{max_item_name}
 use Rattle.fop_types.specs.Names.{is_link, is_directory, is_same_name, attr_named, has_real_name}
 use Rattle.fop_types.specs.Orders.{gfid_cmp}
@@ -36,6 +38,7 @@ use Rattle.fop_types.specs.declared.answers.FopAnswer.TheVariants as answers
 use Rattle.fop_types.specs.declared.answers.IoError.{IoError}
 use Rattle.fop_types.specs.declared.cells.Cell.{Cell}
 use Rattle.fop_types.specs.declared.cells.Gfid.{Gfid}
+use Rattle.fop_types.specs.declared.cells.Kind.TheVariants as kind
 use Rattle.fop_types.specs.declared.contents.Attr.{Attr}
 use Rattle.fop_types.specs.declared.contents.Content.{Content}
 use Rattle.fop_types.specs.declared.contents.Item.{Item}
@@ -207,7 +210,7 @@ on_name_goes f v names kept parent name ending h ends =
 -- ---- names of a directory
 
 lookup_ends : (f : Fop) → EndsWell f lookup_found
-lookup_ends f (found.Item set gfid kind) seen = ends_goes f _ _
+lookup_ends f (found.Item set gfid k) seen = ends_goes f _ _
 lookup_ends f found.Absent seen = ends_goes f _ _
 lookup_ends f (found.Io error) seen = ends_goes f _ _
 
@@ -216,25 +219,27 @@ lists_go f dir [] names place h = ends_goes f _ _
 lists_go f dir (set ∷ sets) names place h = names_go f set dir _ h (λ shown. kept_goes f shown _ (lists_go f dir sets (merged names (real_items shown.items)) (Some shown.place) h))
 
 births_go : (f : Fop) (v : Volume) (parent : Gfid) (name : List ℕ) (mode : ℕ) (drawn : Gfid) (sets : List ℕ) → is_lookup f ≡ false → HoldsAlone (holds_of f) parent → drawn_by f ≡ Some drawn → Goes f (births_from v parent name mode drawn sets)
-births_go f v parent name mode drawn [] w h d = change_goes f 0 _ 0 _ _ _ w (one_alone f (names_cell parent) h) refl (λ number. ends_goes f _ _)
+births_go f v parent name mode drawn [] w h d =
+    change_goes f 0 (names_cell parent ∷ []) 0 (op.AddName parent (item_of name drawn kind.Dir) mode (Some (even_span v.sets 0))) (Some (entry v 1)) (Ends (answers.Call answer.Done)) w (one_alone f (names_cell parent) h) refl (λ number. ends_goes f (answers.Call answer.Done) number)
 births_go f v parent name mode drawn (set ∷ sets) w h d = birth_goes f set drawn _ _ (inr d) (λ number. births_go f v parent name mode drawn sets w h d)
 
 mkdir_ends : (f : Fop) (v : Volume) (parent : Gfid) (name : List ℕ) (mode : ℕ) (drawn : Gfid) → is_lookup f ≡ false → HoldsAlone (holds_of f) parent → drawn_by f ≡ Some drawn → EndsWell f (mkdir_found v parent name mode drawn)
-mkdir_ends f v parent name mode drawn w h d (found.Item set gfid kind) seen = ends_goes f _ _
+mkdir_ends f v parent name mode drawn w h d (found.Item set gfid k) seen = ends_goes f _ _
 mkdir_ends f v parent name mode drawn w h d found.Absent seen = births_go f v parent name mode drawn (sets_from v 1) w h d
 mkdir_ends f v parent name mode drawn w h d (found.Io error) seen = ends_goes f _ _
 
 create_ends : (f : Fop) (v : Volume) (parent : Gfid) (name : List ℕ) (mode : ℕ) (drawn : Gfid) (hashed : ℕ) → is_lookup f ≡ false → HoldsAlone (holds_of f) parent → EndsWell f (create_found v parent name mode drawn hashed)
-create_ends f v parent name mode drawn hashed w h (found.Item set gfid kind) seen = ends_goes f _ _
-create_ends f v parent name mode drawn hashed w h found.Absent seen = change_goes f hashed _ 0 _ _ _ w (one_alone f (names_cell parent) h) refl (λ number. ends_goes f _ _)
+create_ends f v parent name mode drawn hashed w h (found.Item set gfid k) seen = ends_goes f _ _
+create_ends f v parent name mode drawn hashed w h found.Absent seen =
+    change_goes f hashed (names_cell parent ∷ []) 0 (op.AddName parent (item_of name drawn kind.File) mode None) (Some (entry v 1)) (Ends (answers.Found hashed drawn kind.File)) w (one_alone f (names_cell parent) h) refl (λ number. ends_goes f (answers.Found hashed drawn kind.File) number)
 create_ends f v parent name mode drawn hashed w h (found.Io error) seen = ends_goes f _ _
 
 link_goes : (f : Fop) (parent : Gfid) (name : List ℕ) (hashed : ℕ) (has_link : Bool) (number : Option ℕ) → is_lookup f ≡ false → HoldsAlone (holds_of f) parent → Goes f (drops_link parent name hashed has_link number)
 link_goes f parent name hashed has_link number w h = if_goes f _ _ has_link (any_goes f hashed _ 0 (op.DropName parent name) _ _ w (one_alone f (names_cell parent) h) refl (ends_goes f _ _)) (ends_goes f _ _)
 
 unlink_ends : (f : Fop) (v : Volume) (parent : Gfid) (name : List ℕ) (hashed : ℕ) → is_lookup f ≡ false → HoldsAlone (holds_of f) parent → EndsWell f (unlink_found v parent name hashed)
-unlink_ends f v parent name hashed w h (found.Item set gfid kind) seen =
-    if_goes f _ _ (is_directory kind) (ends_goes f _ _) (change_goes f set _ 0 (op.DropName parent name) _ _ w (one_alone f (names_cell parent) h) refl (λ number. link_goes f parent name hashed seen.has_link number w h))
+unlink_ends f v parent name hashed w h (found.Item set gfid k) seen =
+    if_goes f _ _ (is_directory k) (ends_goes f _ _) (change_goes f set _ 0 (op.DropName parent name) _ _ w (one_alone f (names_cell parent) h) refl (λ number. link_goes f parent name hashed seen.has_link number w h))
 unlink_ends f v parent name hashed w h found.Absent seen = ends_goes f _ _
 unlink_ends f v parent name hashed w h (found.Io error) seen = ends_goes f _ _
 
@@ -259,7 +264,7 @@ empties_go f v parent name gfid (set ∷ sets) handed w h e = (
 )
 
 rmdir_ends : (f : Fop) (v : Volume) (parent : Gfid) (name : List ℕ) → is_lookup f ≡ false → HoldsAlone (holds_of f) parent → EndsWell f (rmdir_found v parent name)
-rmdir_ends f v parent name w h (found.Item set gfid kind) seen = if_goes f _ _ (is_directory kind) (record { at = λ handed. empties_go f v parent name gfid (sets_from v 0) (Held gfid ∷ handed) w h (inl (refl, refl)) }) (ends_goes f _ _)
+rmdir_ends f v parent name w h (found.Item set gfid k) seen = if_goes f _ _ (is_directory k) (record { at = λ handed. empties_go f v parent name gfid (sets_from v 0) (Held gfid ∷ handed) w h (inl (refl, refl)) }) (ends_goes f _ _)
 rmdir_ends f v parent name w h found.Absent seen = ends_goes f _ _
 rmdir_ends f v parent name w h (found.Io error) seen = ends_goes f _ _
 
@@ -270,10 +275,10 @@ module _ (f : Fop) (w : is_lookup f ≡ false) (v : Volume) where
   old_link_goes source number h = link_goes f source.parent source.name source.hashed source.has_link number w h
 
   adds_goes : (r : Renaming) (number : Option ℕ) → HoldsAlone (holds_of f) r.source.parent → HoldsAlone (holds_of f) r.target → Goes f (adds_link r number)
-  adds_goes r number h t = if_goes f _ _ (r.hashed == r.source.set) (old_link_goes r.source number h) (any_goes f r.hashed _ 0 _ _ _ w (one_alone f (names_cell r.target) t) refl (old_link_goes r.source number h))
+  adds_goes r number h t = if_goes f _ _ (r.hashed == r.source.set) (old_link_goes r.source number h) (any_goes f r.hashed (names_cell r.target ∷ []) 0 (op.AddName r.target (link_of r) 0 None) None (drops_old_link r.source number) w (one_alone f (names_cell r.target) t) refl (old_link_goes r.source number h))
 
   moves_go : (r : Renaming) → HoldsAlone (holds_of f) r.source.parent → HoldsAlone (holds_of f) r.target → Goes f (moves v r)
-  moves_go r h t = change_goes f r.source.set _ 0 _ _ _ w
+  moves_go r h t = change_goes f r.source.set (both_names r.source.parent r.target) 0 (op.Move r.source.parent r.source.name r.target r.new_name) (Some (entry v 2)) (adds_link r) w
       (λ handed. both_alone (holds_of f ++ extensions handed) r.source.parent r.target (alone_front (holds_of f) (extensions handed) r.source.parent h) (alone_front (holds_of f) (extensions handed) r.target t))
       refl (λ number. adds_goes r number h t)
 
@@ -283,27 +288,28 @@ module _ (f : Fop) (w : is_lookup f ≡ false) (v : Volume) where
 
   replaces_go : (r : Renaming) (replaced : Option ℕ) (copy : Bool) → HoldsAlone (holds_of f) r.source.parent → HoldsAlone (holds_of f) r.target → Goes f (replaces v r replaced copy)
   replaces_go r None copy h t = bears_go r copy h t
-  replaces_go r (Some set) copy h t = change_goes f set _ 0 (op.DropName r.target r.new_name) _ _ w (one_alone f (names_cell r.target) t) refl (λ number. bears_go r copy h t)
+  replaces_go r (Some set) copy h t = change_goes f set (names_cell r.target ∷ []) 0 (op.DropName r.target r.new_name) (Some (entry v 1)) (λ number. bears v r copy) w (one_alone f (names_cell r.target) t) refl (λ number. bears_go r copy h t)
 
   names_change : (r : Renaming) (replaced : Option ℕ) (copy : Option Bool) → HoldsAlone (holds_of f) r.source.parent → HoldsAlone (holds_of f) r.target → Goes f (changes_names v r replaced copy)
   names_change r replaced (Some copy) h t = replaces_go r replaced copy h t
   names_change r replaced None h t = names_go f r.source.set r.target _ (alone_holds (holds_of f) r.target t) (λ shown. replaces_go r replaced shown.has_copy h t)
 
   target_ends : (r : Renaming) → HoldsAlone (holds_of f) r.source.parent → HoldsAlone (holds_of f) r.target → EndsWell f (target_found v r)
-  target_ends r h t (found.Item set gfid kind) seen = if_goes f _ _ (is_directory kind) (ends_goes f _ _) (names_change r (other_set set r.source.set) seen.copy h t)
+  target_ends r h t (found.Item set gfid k) seen = if_goes f _ _ (is_directory k) (ends_goes f _ _) (names_change r (other_set set r.source.set) seen.copy h t)
   target_ends r h t found.Absent seen = names_change r None seen.copy h t
   target_ends r h t (found.Io error) seen = ends_goes f _ _
 
   target_goes : (source : Source) (target : Gfid) (new_name : List ℕ) (names : List (List ℕ)) (second : Option ℕ) → HoldsAlone (holds_of f) source.parent → HoldsAlone (holds_of f) target → Goes f (looks_for_target v source target new_name names second)
   target_goes source target new_name names second h t =
-      finds_go f (length names) target second _ _ (alone_holds (holds_of f) target t)
+      finds_go f (length names) target second (looks_in target new_name names source.set (target_ending v source target new_name names))
+      (λ spans. looks_in target new_name names source.set (target_ending v source target new_name names) (hashed_set spans new_name)) (alone_holds (holds_of f) target t)
       (λ set. look_goes f target new_name names source.set (target_ending v source target new_name names) set (alone_holds (holds_of f) target t) (target_ends (renaming source target new_name names set) h t))
       (λ spans. look_goes f target new_name names source.set (target_ending v source target new_name names) (hashed_set spans new_name) (alone_holds (holds_of f) target t) (target_ends (renaming source target new_name names (hashed_set spans new_name)) h t))
 
   source_ends : (parent : Gfid) (name : List ℕ) (names : List (List ℕ)) (target : Object) (new_name : List ℕ) (second : Option ℕ) (hashed : ℕ) → HoldsAlone (holds_of f) parent → HoldsAlone (holds_of f) target.gfid
       → EndsWell f (source_found v parent name names target new_name second hashed)
-  source_ends parent name names target new_name second hashed h t (found.Item set gfid kind) seen =
-      if_goes f _ _ (is_directory kind) (ends_goes f _ _) (named_goes f target new_name (Some seen.place) _ (if_goes f _ _ (is_same_name parent name target.gfid new_name) (ends_goes f _ _) (target_goes (source_at parent name hashed seen.has_link set gfid) target.gfid new_name names second h t)))
+  source_ends parent name names target new_name second hashed h t (found.Item set gfid k) seen =
+      if_goes f _ _ (is_directory k) (ends_goes f _ _) (named_goes f target new_name (Some seen.place) _ (if_goes f _ _ (is_same_name parent name target.gfid new_name) (ends_goes f _ _) (target_goes (source_at parent name hashed seen.has_link set gfid) target.gfid new_name names second h t)))
   source_ends parent name names target new_name second hashed h t found.Absent seen = ends_goes f _ _
   source_ends parent name names target new_name second hashed h t (found.Io error) seen = ends_goes f _ _
 
