@@ -1,0 +1,3 @@
+-- Later lock phases and unsettled changes.
+pub mod Quiet
+pub mod Steps

@@ -1,0 +1,16 @@
+pub mod States
+pub mod TxnMoves
+pub mod PhaseMoves
+pub mod ChangeMoves
+pub mod Waits
+pub mod Deciding
+pub mod Takers
+pub mod Lines
+pub mod Replies
+pub mod Clears
+pub mod Runs
+pub mod Replaced
+pub mod Free
+pub mod Unsettled
+pub mod Later
+pub mod OwnFree

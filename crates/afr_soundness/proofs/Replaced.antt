@@ -1,0 +1,3 @@
+-- Replacements that were confirmed.
+pub mod Heard
+pub mod Steps

@@ -1,0 +1,17 @@
+pub mod Bounds
+pub mod EachTurn
+pub mod Encodings
+pub mod Entries
+pub mod FewCells
+pub mod Joins
+pub mod Moves
+pub mod Posts
+pub mod Quorums
+pub mod Turned
+pub mod Steps
+pub mod TurnsAnswers
+pub mod TurnsBase
+pub mod TurnsCopies
+pub mod TurnsLocked
+pub mod TurnsReads
+pub mod TurnsReady

@@ -1,0 +1,9 @@
+use Rattle.std.proofs.Common.{◌≡◌, drop}
+use Rattle.afr_transaction.specs.Parts.{is_split}
+use Rattle.afr_transaction.proofs.txn.Txn.is_split.Given as goal
+
+abbrev pub invariant-loop-cell : goal.invariant-loop-cell
+invariant-loop-cell l = record {
+  at : l.c ≡ l._cell-index;
+  rest : is_split l.self l.c (drop l._cell-index l.self.cells) ≡ is_split l.self 0 l.self.cells;
+}

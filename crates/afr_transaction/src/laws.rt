@@ -1,0 +1,49 @@
+ghost use Rattle.afr_transaction.specs.Encodings.{BeginsBound, AnswersBound, CopiesBound, RequestsAreEncoded};
+ghost use Rattle.afr_transaction.specs.Laws.{DecidesAtQuorum};
+ghost use Rattle.afr_transaction.specs.Moves.{AnswersMove, CopiesDraw};
+ghost use Rattle.afr_transaction.specs.Requests.{BeginsSend, AnswersSend, CopiesSend, PostsFollowOps};
+ghost use Rattle.afr_transaction.specs.Shapes.{BeginsGoOn, AnswersGoOn, CopiesGoOn};
+
+/// A change is decided exactly with the q-th confirmation of its post or its settle. The call does nothing: its contract
+/// exports this.
+pub fn quorums_decide()
+    ensures { DecidesAtQuorum }
+{}
+
+/// What a frame relies on that keeps a transaction and hands it answers and copies, whatever they are. An answer of a
+/// replica that is asked either leaves others asked, or it is the last one: then the transaction sends one request to each
+/// of some replicas of the set, asks for a copy that has something to do, or replies, with nobody asked. So do the begin
+/// and a copy that is done. The call does nothing: its contract exports this.
+pub fn transactions_go_on()
+    ensures begin { BeginsGoOn }
+    ensures answers { AnswersGoOn }
+    ensures copies { CopiesGoOn }
+{}
+
+/// What a turn sends. Each request is of the phase that begins, on the cells of the lock phase, and one under a lock goes
+/// only to a replica that has granted its lock; a settle accuses exactly the replicas outside its group. A post follows the
+/// op, and accuses exactly the replicas that have not confirmed it. The call does nothing: its contract exports this.
+pub fn requests_are_of_phases()
+    ensures begin { BeginsSend }
+    ensures answers { AnswersSend }
+    ensures copies { CopiesSend }
+    ensures posts { PostsFollowOps }
+{}
+
+/// What a turn does to the ledger: it draws one number, makes its own change unsettled once the mark is confirmed, decides the
+/// change of its post or its settle once a quorum has confirmed that, or leaves the ledger as it is. The call does nothing:
+/// its contract exports this.
+pub fn turns_move_the_ledger()
+    ensures answers { AnswersMove }
+    ensures copies { CopiesDraw }
+{}
+
+/// Every request has an encoding, where the job's values are within their bounds and each unsettled change has one to four
+/// cells: every turn keeps these bounds, and by them a request of its phase has an encoding. The call does nothing: its
+/// contract exports this.
+pub fn requests_are_encoded()
+    ensures begin { BeginsBound }
+    ensures answers { AnswersBound }
+    ensures copies { CopiesBound }
+    ensures requests { RequestsAreEncoded }
+{}

@@ -1,0 +1,84 @@
+use frame_driver::{Child, Wiring};
+use frame_trees::{Kind, Node, Tree};
+use std::alloc::{AllocError, Global};
+use xlator_law::WindNo;
+
+/// How many relays stand below one another; a fop opens as many frames on its way down.
+pub const DEPTH: u32 = 5;
+
+// What a fop costs below each relay, which is also the most winds that are open below it, and the child.
+const RELAYS: [(u32, Child); 5] = [
+    (4, Child::Node(1)),
+    (3, Child::Node(2)),
+    (2, Child::Node(3)),
+    (1, Child::Node(4)),
+    (0, Child::Outside),
+];
+
+// The relays, without frames.
+fn relays(alloc: Global) -> Result<Tree, AllocError> {
+    let mut nodes = Vec::new(alloc);
+    let mut below = Vec::new(alloc);
+    for (cost, child) in &RELAYS {
+        nodes.push(Node {
+            kind: Kind::Relay,
+            below: *cost,
+            breadth: *cost,
+        })?;
+        below.push(*child)?;
+    }
+    match Tree::new(alloc, nodes, Wiring { width: 1, below }) {
+        Some(tree) => Ok(tree),
+        None => Err(AllocError),
+    }
+}
+
+/// Relays with the frames of so many fops, which wait for answers from outside.
+pub fn filled(alloc: Global, fops: u32) -> Result<Tree, AllocError> {
+    let mut tree = relays(alloc)?;
+    for call in 0..fops {
+        tree = started(alloc, tree, call)?;
+        tree.sent();
+    }
+    Ok(tree)
+}
+
+/// So many fops go down, one after another, and their answers up.
+pub fn rounds(alloc: Global, filled: Tree, fops: u32) -> Result<Tree, AllocError> {
+    let mut tree = filled;
+    for call in 0..fops {
+        tree = round(alloc, tree, call)?;
+    }
+    Ok(tree)
+}
+
+fn round(alloc: Global, tree: Tree, call: u32) -> Result<Tree, AllocError> {
+    let mut down = started(alloc, tree, call)?;
+    let Some((wind, _)) = down.sent() else {
+        return Err(AllocError);
+    };
+    let mut up = answered(alloc, down, wind)?;
+    up.answer();
+    Ok(up)
+}
+
+// The lines of the winds are let go, so that they take no memory.
+fn started(alloc: Global, tree: Tree, call: u32) -> Result<Tree, AllocError> {
+    match tree.submit(alloc, call, 0) {
+        Ok(mut next) => {
+            next.lines();
+            Ok(next)
+        }
+        Err(_) => Err(AllocError),
+    }
+}
+
+fn answered(alloc: Global, tree: Tree, wind: WindNo) -> Result<Tree, AllocError> {
+    match tree.reply(alloc, wind, 0) {
+        Ok(mut next) => {
+            next.lines();
+            Ok(next)
+        }
+        Err(_) => Err(AllocError),
+    }
+}

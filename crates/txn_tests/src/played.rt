@@ -1,0 +1,270 @@
+use crate::summary::{Want, summary};
+use afr_ledger::{Ledger, Unsettled};
+use afr_transaction::Txn;
+use fop_types::{
+    Aspect, BrickRep, Cell, Content, CopyDone, DoneArm, Entry, Gfid, Job, Mask, Row, Seq, SetPlan,
+    StoreOp,
+};
+use std::alloc::{AllocError, Global};
+
+/// How many replicas, which are live, whether change 1 is unsettled, the job, what it asks first, and the turns.
+pub(crate) type Case = (u8, u8, bool, Work, Want, &'static [(Turn, Want)]);
+
+const LAST: [u32; 5] = [4; 5];
+
+/// What happens next: an answer of a replica; a copy that is done, with the sinks that have it; a connection that ends;
+/// or another transaction that settles change 1, or begins a change of the cell.
+#[derive(Clone, Copy)]
+pub(crate) enum Turn {
+    Done(u8),
+    /// The rows of one cell: who is accused, and the last change.
+    Rows(u8, u8, u64),
+    Absent(u8),
+    Bytes(u8),
+    Cells(u8),
+    Gone(u8),
+    Fault(u8),
+    Copied(u8),
+    Cut(u8),
+    Settled(bool),
+    Begun,
+}
+
+/// A job of one cell, the data of a file or, for the birth, a directory's names.
+#[derive(Clone, Copy)]
+pub(crate) enum Work {
+    Read,
+    ReadDir,
+    Change,
+    Birth,
+    Open,
+    Index,
+    Heal,
+}
+
+#[derive(Drop)]
+struct Play {
+    txn: Txn,
+    ledger: Ledger<Cell>,
+    live: u8,
+}
+
+fn cell() -> Cell {
+    Cell {
+        gfid: Gfid { hi: 0, lo: 2 },
+        aspect: Aspect::Data,
+    }
+}
+
+fn job_of(alloc: Global, work: Work) -> Result<Job, AllocError> {
+    let mut cells = Seq::new(alloc);
+    cells.push(cell())?;
+    let gfid = cell().gfid;
+    match work {
+        Work::Read => Ok(Job::Read {
+            cells,
+            fd: 0,
+            dir: false,
+        }),
+        Work::ReadDir => Ok(Job::Read {
+            cells,
+            fd: 0,
+            dir: true,
+        }),
+        Work::Change => Ok(Job::Change {
+            cells,
+            fd: 0,
+            op: StoreOp::Truncate { gfid, size: 0 },
+            effect: Some(Entry { call: 3, part: 1 }),
+        }),
+        Work::Birth => Ok(Job::Birth {
+            cells,
+            op: StoreOp::MakeCopy { gfid, span: None },
+        }),
+        Work::Open => Ok(Job::Open { fd: 1, gfid }),
+        Work::Index => Ok(Job::Index),
+        Work::Heal => Ok(Job::Heal(cell())),
+    }
+}
+
+// The second set of a plan, with `n` bricks.
+fn set_of(alloc: Global, n: u8) -> Result<SetPlan, AllocError> {
+    let mut bricks = Seq::new(alloc);
+    for k in 0..n {
+        bricks.push(k)?;
+    }
+    Ok(SetPlan {
+        number: 1,
+        name: Seq::new(alloc),
+        bricks,
+        clients: Seq::new(alloc),
+        q: n / 2 + 1,
+    })
+}
+
+// A ledger in which change 1 touches the cell, where it is unsettled.
+fn ledger_of(alloc: Global, unsettled: bool) -> Result<Ledger<Cell>, AllocError> {
+    let mut ledger = Ledger::new(alloc);
+    if !unsettled {
+        return Ok(ledger);
+    }
+    let change = ledger.draw();
+    let mut cells = Seq::new(alloc);
+    cells.push(cell())?;
+    let u = Unsettled {
+        change,
+        set: 1,
+        cells,
+        effect: Some(Entry { call: 2, part: 1 }),
+    };
+    ledger.begin(alloc, u)?;
+    Ok(ledger)
+}
+
+fn row(accused: u8, last: u64, present: bool) -> Row {
+    Row {
+        present,
+        dirty: 0,
+        pending: [
+            (accused % 2) as u32,
+            (accused / 2 % 2) as u32,
+            (accused / 4 % 2) as u32,
+            (accused / 8 % 2) as u32,
+            (accused / 16 % 2) as u32,
+        ],
+        last,
+    }
+}
+
+fn rows_of(alloc: Global, row: Row) -> Result<BrickRep, AllocError> {
+    let mut rows = Seq::new(alloc);
+    rows.push(row)?;
+    Ok(BrickRep::Done(DoneArm::Rows(rows)))
+}
+
+fn cells_of(alloc: Global) -> Result<BrickRep, AllocError> {
+    let mut cells = Seq::new(alloc);
+    cells.push(cell())?;
+    Ok(BrickRep::Done(DoneArm::Cells(cells)))
+}
+
+impl Play {
+    fn answer(&mut self, alloc: Global, k: u8, rep: BrickRep) -> Result<Want, AllocError> {
+        if k >= 5 || !self.txn.wave.is_asked(k) {
+            return Ok(Want::Other(k));
+        }
+        let need = self
+            .txn
+            .answer(alloc, k, rep, 9, Mask(self.live), &LAST, &mut self.ledger)?;
+        Ok(summary(&need))
+    }
+
+    fn copied(&mut self, alloc: Global, current: u8) -> Result<Want, AllocError> {
+        let done = CopyDone {
+            held: Mask(current),
+            current: Mask(current),
+            outs: Seq::new(alloc),
+            records: Seq::new(alloc),
+        };
+        let need = self
+            .txn
+            .copied(alloc, done, Mask(self.live), &LAST, &mut self.ledger)?;
+        Ok(summary(&need))
+    }
+
+    fn settled(&mut self, alloc: Global, adopted: bool) -> Result<Want, AllocError> {
+        if self.ledger.unsettled(1).is_none() || self.ledger.history().len() >= 9 {
+            return Ok(Want::Other(1));
+        }
+        self.ledger.decide(alloc, 1, adopted)?;
+        Ok(Want::Wait)
+    }
+
+    fn begun(&mut self, alloc: Global) -> Result<Want, AllocError> {
+        if self.ledger.drawn() >= 9 {
+            return Ok(Want::Other(9));
+        }
+        let change = self.ledger.draw();
+        let mut cells = Seq::new(alloc);
+        cells.push(cell())?;
+        if self.ledger.touching(1, cells.as_slice()).is_some()
+            || self.ledger.unsettled(change).is_some()
+        {
+            return Ok(Want::Other(1));
+        }
+        let u = Unsettled {
+            change,
+            set: 1,
+            cells,
+            effect: None,
+        };
+        self.ledger.begin(alloc, u)?;
+        Ok(Want::Wait)
+    }
+
+    fn turn(&mut self, alloc: Global, turn: Turn) -> Result<Want, AllocError> {
+        match turn {
+            Turn::Done(k) => self.answer(alloc, k, BrickRep::Done(DoneArm::Nothing)),
+            Turn::Rows(k, accused, last) => {
+                let rep = rows_of(alloc, row(accused, last, true))?;
+                self.answer(alloc, k, rep)
+            }
+            Turn::Absent(k) => {
+                let rep = rows_of(alloc, row(0, 0, false))?;
+                self.answer(alloc, k, rep)
+            }
+            Turn::Bytes(k) => {
+                let content = Content::Bytes(Seq::new(alloc));
+                self.answer(alloc, k, BrickRep::Done(DoneArm::Content(content, 1)))
+            }
+            Turn::Cells(k) => {
+                let rep = cells_of(alloc)?;
+                self.answer(alloc, k, rep)
+            }
+            Turn::Gone(k) => self.answer(alloc, k, BrickRep::Gone),
+            Turn::Fault(k) => self.answer(alloc, k, BrickRep::Fault),
+            Turn::Copied(current) => self.copied(alloc, current),
+            Turn::Cut(live) => {
+                self.live = live;
+                Ok(Want::Wait)
+            }
+            Turn::Settled(adopted) => self.settled(alloc, adopted),
+            Turn::Begun => self.begun(alloc),
+        }
+    }
+
+    // Whether the turns need these in order.
+    fn takes(&mut self, alloc: Global, turns: &[(Turn, Want)]) -> Result<bool, AllocError> {
+        for (turn, want) in turns {
+            if self.turn(alloc, *turn)? != *want {
+                return Ok(false);
+            }
+        }
+        Ok(true)
+    }
+}
+
+/// Whether a job on `n` replicas, of which these are live, asks first for this, and at each turn for that.
+pub(crate) fn is_played(
+    alloc: Global,
+    n: u8,
+    live: u8,
+    unsettled: bool,
+    work: Work,
+    first: Want,
+    turns: &[(Turn, Want)],
+) -> Result<bool, AllocError> {
+    let set = set_of(alloc, n)?;
+    let count = set.bricks.len();
+    if count % 2 != 1 || count > 5 || set.q as usize != (count + 1) / 2 {
+        return Ok(false);
+    }
+    let ledger = ledger_of(alloc, unsettled)?;
+    let job = job_of(alloc, work)?;
+    let (txn, need) = Txn::begin(alloc, &set, 3, job, Mask(live), &LAST, &ledger)?;
+    if summary(&need) != first {
+        return Ok(false);
+    }
+    let mut play = Play { txn, ledger, live };
+    play.takes(alloc, turns)
+}
