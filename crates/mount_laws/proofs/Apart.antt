@@ -5,7 +5,7 @@ use Rattle.afr_machine.specs.Replicas.{with_at}
 use Rattle.fop_types.specs.declared.cells.Gfid.{Gfid}
 use Rattle.mount_laws.specs.Guards.{Allowed, IsReached}
 use Rattle.mount_laws.specs.Holding.{HoldsApart}
-use Rattle.mount_laws.specs.Holds.{Hold, Holds, HoldsAlone, AreApart, holds_of, extensions}
+use Rattle.mount_laws.specs.Holds.{Hold, Holds, HoldsExclusively, AreApart, holds_of, extensions}
 use Rattle.mount_laws.specs.Runs.{Run, holds_in}
 use Rattle.mount_laws.specs.States.{State, Call, Status, Runs, held, holds_by}
 use Rattle.mount_laws.specs.States.Status.{Unsubmitted, Ready, Running, Answered}
@@ -30,23 +30,23 @@ split_holds (one ∷ hs) d es gfid (inr h) = by_case (split_holds hs d es gfid h
   by_case (inl k) = inl (inr k)
   by_case (inr k) = inr k
 
-split_alone : (hs : List Hold) (d : Hold) (es : List Hold) (gfid : Gfid) → HoldsAlone (hs ++ d ∷ es) gfid → HoldsAlone (hs ++ es) gfid ⊎ HoldsAlone (d ∷ []) gfid
+split_alone : (hs : List Hold) (d : Hold) (es : List Hold) (gfid : Gfid) → HoldsExclusively (hs ++ d ∷ es) gfid → HoldsExclusively (hs ++ es) gfid ⊎ HoldsExclusively (d ∷ []) gfid
 split_alone [] d es gfid (inl e) = inr (inl e)
 split_alone [] d es gfid (inr h) = inl h
 split_alone (one ∷ hs) d es gfid (inl e) = inl (inl e)
 split_alone (one ∷ hs) d es gfid (inr h) = by_case (split_alone hs d es gfid h) where
-  by_case : HoldsAlone (hs ++ es) gfid ⊎ HoldsAlone (d ∷ []) gfid → HoldsAlone (one ∷ hs ++ es) gfid ⊎ HoldsAlone (d ∷ []) gfid
+  by_case : HoldsExclusively (hs ++ es) gfid ⊎ HoldsExclusively (d ∷ []) gfid → HoldsExclusively (one ∷ hs ++ es) gfid ⊎ HoldsExclusively (d ∷ []) gfid
   by_case (inl k) = inl (inr k)
   by_case (inr k) = inr k
 
 extended_apart : (hs : List Hold) (d : Hold) (es ks : List Hold) → AreApart (hs ++ es) ks → AreApart (d ∷ []) ks → AreApart (hs ++ d ∷ es) ks
 extended_apart hs d es ks a b = record { first = λ gfid h k. first gfid k (split_alone hs d es gfid h); second = λ gfid h k. second gfid k (split_holds hs d es gfid h) }
   where
-    first : (gfid : Gfid) → Holds ks gfid → HoldsAlone (hs ++ es) gfid ⊎ HoldsAlone (d ∷ []) gfid → ⊥
+    first : (gfid : Gfid) → Holds ks gfid → HoldsExclusively (hs ++ es) gfid ⊎ HoldsExclusively (d ∷ []) gfid → ⊥
     first gfid k (inl h) = a.first gfid h k
     first gfid k (inr h) = b.first gfid h k
 
-    second : (gfid : Gfid) → HoldsAlone ks gfid → Holds (hs ++ es) gfid ⊎ Holds (d ∷ []) gfid → ⊥
+    second : (gfid : Gfid) → HoldsExclusively ks gfid → Holds (hs ++ es) gfid ⊎ Holds (d ∷ []) gfid → ⊥
     second gfid k (inl h) = a.second gfid h k
     second gfid k (inr h) = b.second gfid h k
 
@@ -81,7 +81,7 @@ free_apart m c call a h = one_apart m c call a (λ other ne. subst (λ (hs : Lis
 
 step_apart : (m : State) (step : Step) → Allowed m step → HoldsApart m → HoldsApart (after m step)
 step_apart m (Step.Submits draws) h a = free_apart m (m.submitted + 1) _ a (λ run e. absurd cc)
-step_apart m (Step.Leaves c) h a = free_apart m c _ a (λ run e. absurd cc)
+step_apart m (Step.Concludes c) h a = free_apart m c _ a (λ run e. absurd cc)
 step_apart m (Step.Switches names) h a = a
 step_apart m (Step.Begins c f kept) h a = one_apart m c _ a (λ other ne. subst (λ (hs : List Hold). AreApart hs (held m other)) (sym (no_more (holds_of f))) (h.apart other ne))
   where
@@ -90,11 +90,11 @@ step_apart m (Step.Begins c f kept) h a = one_apart m c _ a (λ other ne. subst 
     no_more (one ∷ hs) = ap (λ (ks : List Hold). one ∷ ks) (no_more hs)
 step_apart m (Step.Settles t u true) h a = same_apart m t.call t.run _ a h.under_way.runs refl
 step_apart m (Step.Settles t u false) h a = same_apart m t.call t.run _ a h.under_way.runs refl
-step_apart m (Step.Rests t) h a = same_apart m t.call t.run _ a h.under_way.runs refl
-step_apart m (Step.Unsettles t u) h a = same_apart m t.call t.run _ a h.under_way.runs refl
+step_apart m (Step.EndsSettling t) h a = same_apart m t.call t.run _ a h.under_way.runs refl
+step_apart m (Step.BeginsChange t u) h a = same_apart m t.call t.run _ a h.under_way.runs refl
 step_apart m (Step.Decides t u) h a = same_apart m t.call t.run _ a h.under_way.runs refl
-step_apart m (Step.Bears t) h a = same_apart m t.call t.run _ a h.under_way.runs refl
-step_apart m (Step.Confirms t) h a = same_apart m t.call t.run _ a h.under_way.runs refl
+step_apart m (Step.SendsBirths t) h a = same_apart m t.call t.run _ a h.under_way.runs refl
+step_apart m (Step.ConfirmsBirths t) h a = same_apart m t.call t.run _ a h.under_way.runs refl
 step_apart m (Step.HandsIn t shown) h a = same_apart m t.call t.run _ a h.under_way.runs refl
 step_apart m (Step.Extends c run dir next) h a =
     one_apart m c _ a

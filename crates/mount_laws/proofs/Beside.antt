@@ -16,9 +16,9 @@ use Rattle.fop_types.specs.declared.fops.Fop.{Fop}
 use Rattle.fop_types.specs.declared.jobs.Job.{Job}
 use Rattle.fop_types.specs.declared.jobs.Job.TheVariants as job
 use Rattle.fop_types.specs.declared.jobs.SetReply.{SetReply}
-use Rattle.mount_laws.specs.Guards.{Allowed, IsReached, IsUnderWay, IsUnsettledOn, IsChange, MaySettle, MayUnsettle, MayDecide}
-use Rattle.mount_laws.specs.Holding.{HoldsApart, HoldCovers, AreHeld, AreHeldAlone, IsCovered}
-use Rattle.mount_laws.specs.Holds.{Hold, HoldsAlone, holds_of, extensions}
+use Rattle.mount_laws.specs.Guards.{Allowed, IsReached, IsUnderWay, IsUnsettledOn, IsChange, MaySettle, MayBeginChange, MayDecide}
+use Rattle.mount_laws.specs.Holding.{HoldsApart, HoldCovers, AreHeld, AreHeldExclusively, IsCovered}
+use Rattle.mount_laws.specs.Holds.{Hold, HoldsExclusively, holds_of, extensions}
 use Rattle.mount_laws.specs.Runs.{Run, Stage, SettledJob, Sight, holds_in, begun, going_on}
 use Rattle.mount_laws.specs.Runs.Stage.{Waiting, Settled, Changing, Bearing, Decided}
 use Rattle.mount_laws.specs.Settling.{IsSettledJob, StandsBeside, EachStandsBeside, RunningIsAlone, AreNumbered}
@@ -60,7 +60,7 @@ record IsChangeOf (c set : ℕ) (asked : Job) (f : Fop) (hs : List Hold) : Type 
   pub unsettled : (change_by c set asked).verdict ≡ Unsettled
   pub on_set : (change_by c set asked).set ≡ set
   pub cells : (change_by c set asked).cells ≡ cells_of_job asked
-  pub alone : AreHeldAlone hs (cells_of_job asked)
+  pub alone : AreHeldExclusively hs (cells_of_job asked)
   pub no_lookup : is_lookup f ≡ false
   pub settles : settles_first asked ≡ true
 
@@ -74,11 +74,11 @@ change_of_job c set (job.Heal cell) f handed is h = absurd is
 
 -- ---- more holds
 
-more_alone : (hs : List Hold) (d : Hold) (es : List Hold) (cells : List Cell) → AreHeldAlone (hs ++ es) cells → AreHeldAlone (hs ++ d ∷ es) cells
+more_alone : (hs : List Hold) (d : Hold) (es : List Hold) (cells : List Cell) → AreHeldExclusively (hs ++ es) cells → AreHeldExclusively (hs ++ d ∷ es) cells
 more_alone hs d es [] h = tt
 more_alone hs d es (cell ∷ cells) h = (one hs h.0, more_alone hs d es cells h.1)
   where
-    one : (ks : List Hold) → HoldsAlone (ks ++ es) cell.gfid → HoldsAlone (ks ++ d ∷ es) cell.gfid
+    one : (ks : List Hold) → HoldsExclusively (ks ++ es) cell.gfid → HoldsExclusively (ks ++ d ∷ es) cell.gfid
     one [] k = inr k
     one (k ∷ ks) (inl e) = inl e
     one (k ∷ ks) (inr e) = inr (one ks e)
@@ -109,7 +109,7 @@ module _ (c : ℕ) (run : Run) (u : ℕ) (change : Change) (a : StandsBeside c r
   }
 
   -- it was handed a reply, or its hold was extended
-  gone_on : (handed : Handed) (course : Course) (saw : List Sight) → ((cells : List Cell) → AreHeldAlone (holds_in run) cells → AreHeldAlone (holds_of run.fop ++ extensions handed) cells) → StandsBeside c (going_on run handed course saw) u change
+  gone_on : (handed : Handed) (course : Course) (saw : List Sight) → ((cells : List Cell) → AreHeldExclusively (holds_in run) cells → AreHeldExclusively (holds_of run.fop ++ extensions handed) cells) → StandsBeside c (going_on run handed course saw) u change
   gone_on handed course saw more = record {
     own_is_held = λ by drawn. more change.cells (a.own_is_held by drawn);
     running_is_unsettled = λ e. absurd cc;
@@ -178,7 +178,7 @@ module _ (m : State) (apart : HoldsApart m) (cover : HoldCovers m) (numbered : A
       let running = (a c run runs u).running_is_unsettled stage in
       let other : t.call ≢ c = λ same. waits (subst (λ (i : ℕ). Runs m i t.run) same h.under_way.runs) in
       let own = (a c run runs u).own_is_held running.by (λ e. let clash : Unsettled ≡ Undrawn = sym running.unsettled ∙ e in absurd cc) in
-      let mine : AreHeldAlone (held m c) (m.changes u).cells = subst (λ (s : Status). AreHeldAlone (holds_by s) (m.changes u).cells) (sym runs) own in
+      let mine : AreHeldExclusively (held m c) (m.changes u).cells = subst (λ (s : Status). AreHeldExclusively (holds_by s) (m.changes u).cells) (sym runs) own in
       let theirs : AreHeld (held m t.call) (cells_of_job t.job) = subst (λ (s : Status). AreHeld (holds_by s) (cells_of_job t.job)) (sym h.under_way.runs)
       (covered_held t.run.fop t.run.handed t.set t.job h.settles (cover.asked t.call t.run t.set t.job t.next h.under_way.runs h.under_way.asks)) in
       let none = held_apart (held m c) (held m t.call) (m.changes u).cells (cells_of_job t.job) (apart c t.call (λ e. other (sym e))) mine theirs in
@@ -225,7 +225,7 @@ module _ (m : State) (apart : HoldsApart m) (cover : HoldCovers m) (numbered : A
       (λ e f. let one : run ≡ other = unwrap run other e in let moved : Decided number ≡ other.stage = ap (λ (r : Run). r.stage) one in let clash : Decided number ≡ Changing u = moved ∙ f in absurd cc) c
       (λ differ e f. differ (sym ((a c other e u).running_is_unsettled f).by ∙ mine.by)))
 
-  unsettles : (t : Task) (u : ℕ) → MayUnsettle m t u
+  unsettles : (t : Task) (u : ℕ) → MayBeginChange m t u
       → EachBeside (with_at m.calls t.call (record (m.calls t.call) { status = Running (at_stage t.run (Changing u)) })) (with_at m.changes u (change_by t.call t.set t.job))
       × NoneUnbegun (with_at m.calls t.call (record (m.calls t.call) { status = Running (at_stage t.run (Changing u)) })) (with_at m.changes u (change_by t.call t.set t.job))
   unsettles t u h = (
@@ -254,7 +254,7 @@ module _ (m : State) (apart : HoldsApart m) (cover : HoldCovers m) (numbered : A
       -- its own fop beside it
       mine : StandsBeside t.call run u new
       mine = record {
-        own_is_held = λ by drawn. subst (λ (cells : List Cell). AreHeldAlone (holds_in t.run) cells) (sym made.cells) made.alone;
+        own_is_held = λ by drawn. subst (λ (cells : List Cell). AreHeldExclusively (holds_in t.run) cells) (sym made.cells) made.alone;
         running_is_unsettled = λ e. record {
           by = made.by;
           unsettled = made.unsettled;
@@ -279,8 +279,8 @@ module _ (m : State) (apart : HoldsApart m) (cover : HoldCovers m) (numbered : A
       -- what an other call holds is apart from it
       no_share : (c : ℕ) → c ≢ t.call → (hs : List Hold) → held m c ≡ hs → (cells : List Cell) → AreHeld hs cells → share new.cells cells ≡ true → ⊥
       no_share c ne hs is cells h2 s =
-          let alone : AreHeldAlone (held m t.call) new.cells = subst (λ (st : Status). AreHeldAlone (holds_by st) new.cells) (sym h.under_way.runs)
-          (subst (λ (cs : List Cell). AreHeldAlone (holds_in t.run) cs) (sym made.cells) made.alone) in
+          let alone : AreHeldExclusively (held m t.call) new.cells = subst (λ (st : Status). AreHeldExclusively (holds_by st) new.cells) (sym h.under_way.runs)
+          (subst (λ (cs : List Cell). AreHeldExclusively (holds_in t.run) cs) (sym made.cells) made.alone) in
           let none = held_apart (held m t.call) (held m c) new.cells cells (apart t.call c (λ e. ne (sym e))) alone (subst (λ (ks : List Hold). AreHeld ks cells) (sym is) h2) in
           let clash : true ≡ false = sym s ∙ none in absurd cc
 
@@ -337,18 +337,18 @@ module _ (m : State) (apart : HoldsApart m) (cover : HoldCovers m) (numbered : A
 step_beside : (m : State) (step : Step) → Allowed m step → HoldsApart m → HoldCovers m → AreNumbered m → EachBeside m.calls m.changes → NoneUnbegun m.calls m.changes → BesideIn (after m step)
 step_beside m (Step.Submits draws) h apart cover numbered a b =
     stops m apart cover numbered a b (m.submitted + 1) _ (λ run e. absurd cc) (λ none. b (m.submitted + 1) (ap (λ (s : Status). has_begun s) (numbered (m.submitted + 1) (omega arith))))
-step_beside m (Step.Leaves c) h apart cover numbered a b = stops m apart cover numbered a b c _ (λ run e. absurd cc) (λ none. absurd cc)
+step_beside m (Step.Concludes c) h apart cover numbered a b = stops m apart cover numbered a b c _ (λ run e. absurd cc) (λ none. absurd cc)
 step_beside m (Step.Switches names) h apart cover numbered a b = (a, b)
 step_beside m (Step.Begins c f kept) h apart cover numbered a b = begins m apart cover numbered a b c (begun f (volume_of m c) (m.calls c).names kept) h.ready refl refl
 step_beside m (Step.Settles t u true) h apart cover numbered a b = settles m apart cover numbered a b t u Adopted _ (λ e. absurd cc) (λ e. absurd cc) h
 step_beside m (Step.Settles t u false) h apart cover numbered a b = settles m apart cover numbered a b t u Dropped _ (λ e. absurd cc) (λ e. absurd cc) h
-step_beside m (Step.Rests t) h apart cover numbered a b =
+step_beside m (Step.EndsSettling t) h apart cover numbered a b =
     goes m apart cover numbered a b t _ h.under_way.runs (λ u old. rested t.call t.run u (m.changes u) old t.set t.job t.next h.under_way.asks (h.none u) (length m.history))
-step_beside m (Step.Unsettles t u) h apart cover numbered a b = unsettles m apart cover numbered a b t u h
+step_beside m (Step.BeginsChange t u) h apart cover numbered a b = unsettles m apart cover numbered a b t u h
 step_beside m (Step.Decides t u) h apart cover numbered a b = decides_own m apart cover numbered a b t u _ _ h
-step_beside m (Step.Bears t) h apart cover numbered a b =
+step_beside m (Step.SendsBirths t) h apart cover numbered a b =
     goes m apart cover numbered a b t _ h.under_way.runs (λ u old. aside t.call t.run u (m.changes u) old Bearing (λ w e. absurd cc) (λ w e. absurd cc) t.run.saw)
-step_beside m (Step.Confirms t) h apart cover numbered a b =
+step_beside m (Step.ConfirmsBirths t) h apart cover numbered a b =
     goes m apart cover numbered a b t _ h.under_way.runs (λ u old. aside t.call t.run u (m.changes u) old (Decided None) (λ w e. absurd cc) (λ w e. absurd cc) t.run.saw)
 step_beside m (Step.HandsIn t shown) h apart cover numbered a b =
     goes m apart cover numbered a b t _ h.under_way.runs (λ u old. gone_on t.call t.run u (m.changes u) old (Replied t.set t.job shown ∷ t.run.handed) (t.next shown) _ (λ cells k. k))
@@ -383,16 +383,16 @@ number_run m t n h call = number_at m t.call call m.submitted n (omega arith) (c
 
 step_numbered : (m : State) (step : Step) → Allowed m step → AreNumbered m → AreNumbered (after m step)
 step_numbered m (Step.Submits draws) h n = number_at m (m.submitted + 1) _ (m.submitted + 1) n (omega arith) (omega arith)
-step_numbered m (Step.Leaves c) h n = number_at m c _ m.submitted n (omega arith) (counted m n c (λ e. let clash : Ready ≡ Unsubmitted = sym h ∙ e in absurd cc))
+step_numbered m (Step.Concludes c) h n = number_at m c _ m.submitted n (omega arith) (counted m n c (λ e. let clash : Ready ≡ Unsubmitted = sym h ∙ e in absurd cc))
 step_numbered m (Step.Switches names) h n = n
 step_numbered m (Step.Begins c f kept) h n = number_at m c _ m.submitted n (omega arith) (counted m n c (λ e. let clash : Ready ≡ Unsubmitted = sym h.ready ∙ e in absurd cc))
 step_numbered m (Step.Settles t u true) h n = number_run m t n h.under_way _
 step_numbered m (Step.Settles t u false) h n = number_run m t n h.under_way _
-step_numbered m (Step.Rests t) h n = number_run m t n h.under_way _
-step_numbered m (Step.Unsettles t u) h n = number_run m t n h.under_way _
+step_numbered m (Step.EndsSettling t) h n = number_run m t n h.under_way _
+step_numbered m (Step.BeginsChange t u) h n = number_run m t n h.under_way _
 step_numbered m (Step.Decides t u) h n = number_run m t n h.under_way _
-step_numbered m (Step.Bears t) h n = number_run m t n h.under_way _
-step_numbered m (Step.Confirms t) h n = number_run m t n h.under_way _
+step_numbered m (Step.SendsBirths t) h n = number_run m t n h.under_way _
+step_numbered m (Step.ConfirmsBirths t) h n = number_run m t n h.under_way _
 step_numbered m (Step.HandsIn t shown) h n = number_run m t n h.under_way _
 step_numbered m (Step.Extends c run dir next) h n = number_at m c _ m.submitted n (omega arith) (counted m n c (λ e. let clash : Running run ≡ Unsubmitted = sym h.runs ∙ e in absurd cc))
 step_numbered m (Step.Learns c run dir spans) h n = n

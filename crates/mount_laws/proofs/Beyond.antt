@@ -88,7 +88,7 @@ step_graphed : (m : State) (step : Step) → Allowed m step → BeyondOld m → 
 step_graphed m (Step.Submits draws) h b g =
     call_graphed m.root_sets m.names m.calls (m.submitted + 1) _ g (λ u. (g.first, omega arith))
     (λ u d run e. (g.unanswered d (ap (λ (s : Status). is_unanswered s) e)).1) (λ run e. absurd cc) (λ run e. absurd cc)
-step_graphed m (Step.Leaves c) h b g = status_graphed m.root_sets m.names m.calls c Answered g (ap (λ (s : Status). is_unanswered s) h) (λ run e. absurd cc) (λ run e. absurd cc)
+step_graphed m (Step.Concludes c) h b g = status_graphed m.root_sets m.names m.calls c Answered g (ap (λ (s : Status). is_unanswered s) h) (λ run e. absurd cc) (λ run e. absurd cc)
 step_graphed m (Step.Switches names) h b g = record {
   some = g.some;
   first = let more = h.enough in let few = g.first in omega arith;
@@ -110,11 +110,11 @@ step_graphed m (Step.Begins c f kept) h b g =
     (λ run e d u. h.in_turn d u)
 step_graphed m (Step.Settles t u true) h b g = run_graphed m.root_sets m.names m.calls t.call t.run _ g h.under_way.runs (λ p. p)
 step_graphed m (Step.Settles t u false) h b g = run_graphed m.root_sets m.names m.calls t.call t.run _ g h.under_way.runs (λ p. p)
-step_graphed m (Step.Rests t) h b g = run_graphed m.root_sets m.names m.calls t.call t.run _ g h.under_way.runs (λ p. p)
-step_graphed m (Step.Unsettles t u) h b g = run_graphed m.root_sets m.names m.calls t.call t.run _ g h.under_way.runs (λ p. p)
+step_graphed m (Step.EndsSettling t) h b g = run_graphed m.root_sets m.names m.calls t.call t.run _ g h.under_way.runs (λ p. p)
+step_graphed m (Step.BeginsChange t u) h b g = run_graphed m.root_sets m.names m.calls t.call t.run _ g h.under_way.runs (λ p. p)
 step_graphed m (Step.Decides t u) h b g = run_graphed m.root_sets m.names m.calls t.call t.run _ g h.under_way.runs (λ p. p)
-step_graphed m (Step.Bears t) h b g = run_graphed m.root_sets m.names m.calls t.call t.run _ g h.under_way.runs (λ p. p)
-step_graphed m (Step.Confirms t) h b g = run_graphed m.root_sets m.names m.calls t.call t.run _ g h.under_way.runs (λ p. p)
+step_graphed m (Step.SendsBirths t) h b g = run_graphed m.root_sets m.names m.calls t.call t.run _ g h.under_way.runs (λ p. p)
+step_graphed m (Step.ConfirmsBirths t) h b g = run_graphed m.root_sets m.names m.calls t.call t.run _ g h.under_way.runs (λ p. p)
 step_graphed m (Step.HandsIn t shown) h b g = run_graphed m.root_sets m.names m.calls t.call t.run _ g h.under_way.runs (λ p. p)
 step_graphed m (Step.Extends c run dir next) h b g = run_graphed m.root_sets m.names m.calls c run _ g h.runs (λ p. p)
 step_graphed m (Step.Learns c run dir spans) h b g = g
@@ -194,13 +194,13 @@ adopted_first m u count was a =
 -- each step of a fop whose sets are among the first
 step_first : (m : State) (step : Step) → Allowed m step → JobAsked m → InItsGraph m → (count : ℕ) → ((c : ℕ) (run : Run) → Runs m c run → run.volume.sets ≤ count) → FirstSets m count → FirstSets (after m step) count
 step_first m (Step.Submits draws) h asked g count few a = a
-step_first m (Step.Leaves c) h asked g count few a = a
+step_first m (Step.Concludes c) h asked g count few a = a
 step_first m (Step.Switches names) h asked g count few a = a
 step_first m (Step.Begins c f kept) h asked g count few a = a
 step_first m (Step.Settles t u true) h asked g count few a = adopted_first m u count h.unsettled.verdict a
 step_first m (Step.Settles t u false) h asked g count few a = record { answered = a.answered; begun = decided_begun m.changes u Dropped count h.unsettled.verdict a.begun; homed = a.homed; no_names = a.no_names }
-step_first m (Step.Rests t) h asked g count few a = a
-step_first m (Step.Unsettles t u) h asked g count few a = record {
+step_first m (Step.EndsSettling t) h asked g count few a = a
+step_first m (Step.BeginsChange t u) h asked g count few a = record {
   answered = a.answered;
   begun = λ w. at_case (λ i (one : Change). one.verdict ≢ Undrawn → one.set < count) m.changes u (change_by t.call t.set t.job)
       (λ drawn. made t.job h.is_change (job_within m asked g t.call t.run h.under_way.runs t.set t.job t.next h.under_way.asks)) w (λ differ. a.begun w);
@@ -216,7 +216,7 @@ step_first m (Step.Unsettles t u) h asked g count few a = record {
     made job.Index is k = absurd is
     made (job.Heal cell) is k = absurd is
 step_first m (Step.Decides t u) h asked g count few a = adopted_first m u count h.unsettled a
-step_first m (Step.Bears t) h asked g count few a = record {
+step_first m (Step.SendsBirths t) h asked g count few a = record {
   answered = a.answered;
   begun = a.begun;
   homed = a.homed;
@@ -230,7 +230,7 @@ step_first m (Step.Bears t) h asked g count few a = record {
     on (job.Open fd gfid) is k = absurd is
     on job.Index is k = absurd is
     on (job.Heal cell) is k = absurd is
-step_first m (Step.Confirms t) h asked g count few a = a
+step_first m (Step.ConfirmsBirths t) h asked g count few a = a
 step_first m (Step.HandsIn t shown) h asked g count few a = a
 step_first m (Step.Extends c run dir next) h asked g count few a = a
 step_first m (Step.Learns c run dir spans) h asked g count few a = a
@@ -293,7 +293,7 @@ step_beyond m step h asked g b = by_step step h
       unanswered = one_unanswered m (after m (Step.Submits draws)) (m.submitted + 1) _ (λ u. newest (Step.Submits draws) k) (rest (Step.Submits draws) k);
       newest = newest (Step.Submits draws) k;
     }
-    by_step (Step.Leaves c) k = record { unanswered = goes (Step.Leaves c) k c _ (ap (λ (s : Status). is_unanswered s) k); newest = newest (Step.Leaves c) k }
+    by_step (Step.Concludes c) k = record { unanswered = goes (Step.Concludes c) k c _ (ap (λ (s : Status). is_unanswered s) k); newest = newest (Step.Concludes c) k }
     by_step (Step.Switches names) k = record {
       unanswered = rest (Step.Switches names) k;
       newest = more_first (after m (Step.Switches names)) (set_count m) (length names) k.enough (newest (Step.Switches names) k);
@@ -301,11 +301,11 @@ step_beyond m step h asked g b = by_step step h
     by_step (Step.Begins c f kept) k = record { unanswered = goes (Step.Begins c f kept) k c _ (ap (λ (s : Status). is_unanswered s) k.ready); newest = newest (Step.Begins c f kept) k }
     by_step (Step.Settles t u true) k = record { unanswered = goes (Step.Settles t u true) k t.call _ (was_running t.call t.run k.under_way.runs); newest = newest (Step.Settles t u true) k }
     by_step (Step.Settles t u false) k = record { unanswered = goes (Step.Settles t u false) k t.call _ (was_running t.call t.run k.under_way.runs); newest = newest (Step.Settles t u false) k }
-    by_step (Step.Rests t) k = record { unanswered = goes (Step.Rests t) k t.call _ (was_running t.call t.run k.under_way.runs); newest = newest (Step.Rests t) k }
-    by_step (Step.Unsettles t u) k = record { unanswered = goes (Step.Unsettles t u) k t.call _ (was_running t.call t.run k.under_way.runs); newest = newest (Step.Unsettles t u) k }
+    by_step (Step.EndsSettling t) k = record { unanswered = goes (Step.EndsSettling t) k t.call _ (was_running t.call t.run k.under_way.runs); newest = newest (Step.EndsSettling t) k }
+    by_step (Step.BeginsChange t u) k = record { unanswered = goes (Step.BeginsChange t u) k t.call _ (was_running t.call t.run k.under_way.runs); newest = newest (Step.BeginsChange t u) k }
     by_step (Step.Decides t u) k = record { unanswered = goes (Step.Decides t u) k t.call _ (was_running t.call t.run k.under_way.runs); newest = newest (Step.Decides t u) k }
-    by_step (Step.Bears t) k = record { unanswered = goes (Step.Bears t) k t.call _ (was_running t.call t.run k.under_way.runs); newest = newest (Step.Bears t) k }
-    by_step (Step.Confirms t) k = record { unanswered = goes (Step.Confirms t) k t.call _ (was_running t.call t.run k.under_way.runs); newest = newest (Step.Confirms t) k }
+    by_step (Step.SendsBirths t) k = record { unanswered = goes (Step.SendsBirths t) k t.call _ (was_running t.call t.run k.under_way.runs); newest = newest (Step.SendsBirths t) k }
+    by_step (Step.ConfirmsBirths t) k = record { unanswered = goes (Step.ConfirmsBirths t) k t.call _ (was_running t.call t.run k.under_way.runs); newest = newest (Step.ConfirmsBirths t) k }
     by_step (Step.HandsIn t shown) k = record { unanswered = goes (Step.HandsIn t shown) k t.call _ (was_running t.call t.run k.under_way.runs); newest = newest (Step.HandsIn t shown) k }
     by_step (Step.Extends c run dir next) k = record { unanswered = goes (Step.Extends c run dir next) k c _ (was_running c run k.runs); newest = newest (Step.Extends c run dir next) k }
     by_step (Step.Learns c run dir spans) k = record { unanswered = rest (Step.Learns c run dir spans) k; newest = newest (Step.Learns c run dir spans) k }

@@ -51,8 +51,8 @@ use Rattle.fop_types.specs.declared.history.Entry.{Entry}
 use Rattle.fop_types.specs.declared.jobs.Job.TheVariants as job
 use Rattle.fop_types.specs.declared.store_ops.StoreOp.{StoreOp}
 use Rattle.fop_types.specs.declared.store_ops.StoreOp.TheVariants as op
-use Rattle.mount_laws.specs.Holding.{drawn_by, AreHeld, AreHeldAlone, IsCovered}
-use Rattle.mount_laws.specs.Holds.{Hold, Holds, HoldsAlone, holds_of, extensions}
+use Rattle.mount_laws.specs.Holding.{drawn_by, AreHeld, AreHeldExclusively, IsCovered}
+use Rattle.mount_laws.specs.Holds.{Hold, Holds, HoldsExclusively, holds_of, extensions}
 use Rattle.mount_laws.specs.Steps.{is_lookup}
 use Rattle.mount_laws.proofs.Arguments.{Seen, Source, Renaming, renaming}
 
@@ -63,7 +63,7 @@ holds_front [] ks gfid h = absurd h
 holds_front (one ∷ hs) ks gfid (inl e) = inl e
 holds_front (one ∷ hs) ks gfid (inr h) = inr (holds_front hs ks gfid h)
 
-pub alone_front : (hs ks : List Hold) (gfid : Gfid) → HoldsAlone hs gfid → HoldsAlone (hs ++ ks) gfid
+pub alone_front : (hs ks : List Hold) (gfid : Gfid) → HoldsExclusively hs gfid → HoldsExclusively (hs ++ ks) gfid
 alone_front [] ks gfid h = absurd h
 alone_front (one ∷ hs) ks gfid (inl e) = inl e
 alone_front (one ∷ hs) ks gfid (inr h) = inr (alone_front hs ks gfid h)
@@ -72,11 +72,11 @@ pub holds_back : (hs ks : List Hold) (gfid : Gfid) → Holds ks gfid → Holds (
 holds_back [] ks gfid h = h
 holds_back (one ∷ hs) ks gfid h = inr (holds_back hs ks gfid h)
 
-pub alone_back : (hs ks : List Hold) (gfid : Gfid) → HoldsAlone ks gfid → HoldsAlone (hs ++ ks) gfid
+pub alone_back : (hs ks : List Hold) (gfid : Gfid) → HoldsExclusively ks gfid → HoldsExclusively (hs ++ ks) gfid
 alone_back [] ks gfid h = h
 alone_back (one ∷ hs) ks gfid h = inr (alone_back hs ks gfid h)
 
-pub alone_holds : (hs : List Hold) (gfid : Gfid) → HoldsAlone hs gfid → Holds hs gfid
+pub alone_holds : (hs : List Hold) (gfid : Gfid) → HoldsExclusively hs gfid → Holds hs gfid
 alone_holds [] gfid h = absurd h
 alone_holds (one ∷ hs) gfid (inl e) = inl e.0
 alone_holds (one ∷ hs) gfid (inr h) = inr (alone_holds hs gfid h)
@@ -121,7 +121,7 @@ read_goes f set cells fd dir next h k = record {
 }
 
 -- a change of cells that are held exclusively
-change_goes : (f : Fop) (set : ℕ) (cells : List Cell) (fd : ℕ) (o : StoreOp) (effect : Option Entry) (next : Option ℕ → Course) → is_lookup f ≡ false → ((handed : Handed) → AreHeldAlone (holds_of f ++ extensions handed) cells) → cells ≡ needs o
+change_goes : (f : Fop) (set : ℕ) (cells : List Cell) (fd : ℕ) (o : StoreOp) (effect : Option Entry) (next : Option ℕ → Course) → is_lookup f ≡ false → ((handed : Handed) → AreHeldExclusively (holds_of f ++ extensions handed) cells) → cells ≡ needs o
     → ((number : Option ℕ) → Goes f (next number)) → Goes f (changes set cells fd o effect next)
 change_goes f set cells fd o effect next w h e k = record {
   at = λ handed. (
@@ -131,15 +131,15 @@ change_goes f set cells fd o effect next w h e k = record {
 }
 
 -- whatever the reply
-any_goes : (f : Fop) (set : ℕ) (cells : List Cell) (fd : ℕ) (o : StoreOp) (effect : Option Entry) (next : Course) → is_lookup f ≡ false → ((handed : Handed) → AreHeldAlone (holds_of f ++ extensions handed) cells) → cells ≡ needs o
+any_goes : (f : Fop) (set : ℕ) (cells : List Cell) (fd : ℕ) (o : StoreOp) (effect : Option Entry) (next : Course) → is_lookup f ≡ false → ((handed : Handed) → AreHeldExclusively (holds_of f ++ extensions handed) cells) → cells ≡ needs o
     → Goes f next → Goes f (Asks set (job.Change cells fd o effect) (after_any next))
 any_goes f set cells fd o effect next w h e k = record { at = λ handed. (record { alone = h handed; whole = e; no_lookup = w }, λ reply. k.at (Replied set (job.Change cells fd o effect) reply ∷ handed)) }
 
-born_held : (f : Fop) (handed : Handed) (gfid : Gfid) → HoldsAlone (holds_of f) gfid ⊎ (drawn_by f ≡ Some gfid) → HoldsAlone (holds_of f ++ extensions handed) gfid ⊎ (drawn_by f ≡ Some gfid)
+born_held : (f : Fop) (handed : Handed) (gfid : Gfid) → HoldsExclusively (holds_of f) gfid ⊎ (drawn_by f ≡ Some gfid) → HoldsExclusively (holds_of f ++ extensions handed) gfid ⊎ (drawn_by f ≡ Some gfid)
 born_held f handed gfid (inl alone) = inl (alone_front (holds_of f) (extensions handed) gfid alone)
 born_held f handed gfid (inr drawn) = inr drawn
 
-birth_goes : (f : Fop) (set : ℕ) (gfid : Gfid) (span : Option Span) (next : Option ℕ → Course) → HoldsAlone (holds_of f) gfid ⊎ (drawn_by f ≡ Some gfid) → ((number : Option ℕ) → Goes f (next number))
+birth_goes : (f : Fop) (set : ℕ) (gfid : Gfid) (span : Option Span) (next : Option ℕ → Course) → HoldsExclusively (holds_of f) gfid ⊎ (drawn_by f ≡ Some gfid) → ((number : Option ℕ) → Goes f (next number))
     → Goes f (Asks set (birth_job gfid span) (after_change next))
 birth_goes f set gfid span next h k = record {
   at = λ handed. (
@@ -152,13 +152,13 @@ birth_goes f set gfid span next h k = record {
 one_held : (f : Fop) (cell : Cell) → Holds (holds_of f) cell.gfid → (handed : Handed) → AreHeld (holds_of f ++ extensions handed) (cell ∷ [])
 one_held f cell h handed = (holds_front (holds_of f) (extensions handed) cell.gfid h, tt)
 
-one_alone : (f : Fop) (cell : Cell) → HoldsAlone (holds_of f) cell.gfid → (handed : Handed) → AreHeldAlone (holds_of f ++ extensions handed) (cell ∷ [])
+one_alone : (f : Fop) (cell : Cell) → HoldsExclusively (holds_of f) cell.gfid → (handed : Handed) → AreHeldExclusively (holds_of f ++ extensions handed) (cell ∷ [])
 one_alone f cell h handed = (alone_front (holds_of f) (extensions handed) cell.gfid h, tt)
 
-both_alone : (hs : List Hold) (a b : Gfid) → HoldsAlone hs a → HoldsAlone hs b → AreHeldAlone hs (both_names a b)
+both_alone : (hs : List Hold) (a b : Gfid) → HoldsExclusively hs a → HoldsExclusively hs b → AreHeldExclusively hs (both_names a b)
 both_alone hs a b h k = by_order (gfid_cmp a b)
   where
-    by_order : (o : Ordering) → AreHeldAlone hs (match_ordering o (names_cell a ∷ names_cell b ∷ []) (names_cell a ∷ []) (names_cell b ∷ names_cell a ∷ []))
+    by_order : (o : Ordering) → AreHeldExclusively hs (match_ordering o (names_cell a ∷ names_cell b ∷ []) (names_cell a ∷ []) (names_cell b ∷ names_cell a ∷ []))
     by_order Less = (h, (k, tt))
     by_order Equal = (h, tt)
     by_order Greater = (k, (h, tt))
@@ -218,26 +218,26 @@ lists_go : (f : Fop) (dir : Gfid) (sets : List ℕ) (names : List Item) (place :
 lists_go f dir [] names place h = ends_goes f _ _
 lists_go f dir (set ∷ sets) names place h = names_go f set dir _ h (λ shown. kept_goes f shown _ (lists_go f dir sets (merged names (real_items shown.items)) (Some shown.place) h))
 
-births_go : (f : Fop) (v : Volume) (parent : Gfid) (name : List ℕ) (mode : ℕ) (drawn : Gfid) (sets : List ℕ) → is_lookup f ≡ false → HoldsAlone (holds_of f) parent → drawn_by f ≡ Some drawn → Goes f (births_from v parent name mode drawn sets)
+births_go : (f : Fop) (v : Volume) (parent : Gfid) (name : List ℕ) (mode : ℕ) (drawn : Gfid) (sets : List ℕ) → is_lookup f ≡ false → HoldsExclusively (holds_of f) parent → drawn_by f ≡ Some drawn → Goes f (births_from v parent name mode drawn sets)
 births_go f v parent name mode drawn [] w h d =
     change_goes f 0 (names_cell parent ∷ []) 0 (op.AddName parent (item_of name drawn kind.Dir) mode (Some (even_span v.sets 0))) (Some (entry v 1)) (Ends (answers.Call answer.Done)) w (one_alone f (names_cell parent) h) refl (λ number. ends_goes f (answers.Call answer.Done) number)
 births_go f v parent name mode drawn (set ∷ sets) w h d = birth_goes f set drawn _ _ (inr d) (λ number. births_go f v parent name mode drawn sets w h d)
 
-mkdir_ends : (f : Fop) (v : Volume) (parent : Gfid) (name : List ℕ) (mode : ℕ) (drawn : Gfid) → is_lookup f ≡ false → HoldsAlone (holds_of f) parent → drawn_by f ≡ Some drawn → EndsWell f (mkdir_found v parent name mode drawn)
+mkdir_ends : (f : Fop) (v : Volume) (parent : Gfid) (name : List ℕ) (mode : ℕ) (drawn : Gfid) → is_lookup f ≡ false → HoldsExclusively (holds_of f) parent → drawn_by f ≡ Some drawn → EndsWell f (mkdir_found v parent name mode drawn)
 mkdir_ends f v parent name mode drawn w h d (found.Item set gfid k) seen = ends_goes f _ _
 mkdir_ends f v parent name mode drawn w h d found.Absent seen = births_go f v parent name mode drawn (sets_from v 1) w h d
 mkdir_ends f v parent name mode drawn w h d (found.Io error) seen = ends_goes f _ _
 
-create_ends : (f : Fop) (v : Volume) (parent : Gfid) (name : List ℕ) (mode : ℕ) (drawn : Gfid) (hashed : ℕ) → is_lookup f ≡ false → HoldsAlone (holds_of f) parent → EndsWell f (create_found v parent name mode drawn hashed)
+create_ends : (f : Fop) (v : Volume) (parent : Gfid) (name : List ℕ) (mode : ℕ) (drawn : Gfid) (hashed : ℕ) → is_lookup f ≡ false → HoldsExclusively (holds_of f) parent → EndsWell f (create_found v parent name mode drawn hashed)
 create_ends f v parent name mode drawn hashed w h (found.Item set gfid k) seen = ends_goes f _ _
 create_ends f v parent name mode drawn hashed w h found.Absent seen =
     change_goes f hashed (names_cell parent ∷ []) 0 (op.AddName parent (item_of name drawn kind.File) mode None) (Some (entry v 1)) (Ends (answers.Found hashed drawn kind.File)) w (one_alone f (names_cell parent) h) refl (λ number. ends_goes f (answers.Found hashed drawn kind.File) number)
 create_ends f v parent name mode drawn hashed w h (found.Io error) seen = ends_goes f _ _
 
-link_goes : (f : Fop) (parent : Gfid) (name : List ℕ) (hashed : ℕ) (has_link : Bool) (number : Option ℕ) → is_lookup f ≡ false → HoldsAlone (holds_of f) parent → Goes f (drops_link parent name hashed has_link number)
+link_goes : (f : Fop) (parent : Gfid) (name : List ℕ) (hashed : ℕ) (has_link : Bool) (number : Option ℕ) → is_lookup f ≡ false → HoldsExclusively (holds_of f) parent → Goes f (drops_link parent name hashed has_link number)
 link_goes f parent name hashed has_link number w h = if_goes f _ _ has_link (any_goes f hashed _ 0 (op.DropName parent name) _ _ w (one_alone f (names_cell parent) h) refl (ends_goes f _ _)) (ends_goes f _ _)
 
-unlink_ends : (f : Fop) (v : Volume) (parent : Gfid) (name : List ℕ) (hashed : ℕ) → is_lookup f ≡ false → HoldsAlone (holds_of f) parent → EndsWell f (unlink_found v parent name hashed)
+unlink_ends : (f : Fop) (v : Volume) (parent : Gfid) (name : List ℕ) (hashed : ℕ) → is_lookup f ≡ false → HoldsExclusively (holds_of f) parent → EndsWell f (unlink_found v parent name hashed)
 unlink_ends f v parent name hashed w h (found.Item set gfid k) seen =
     if_goes f _ _ (is_directory k) (ends_goes f _ _) (change_goes f set _ 0 (op.DropName parent name) _ _ w (one_alone f (names_cell parent) h) refl (λ number. link_goes f parent name hashed seen.has_link number w h))
 unlink_ends f v parent name hashed w h found.Absent seen = ends_goes f _ _
@@ -252,7 +252,7 @@ full_goes f later place next true k = tt
 full_goes f later place next false k = k
 
 -- the directory that is removed is held once the hold was extended by it
-empties_go : (f : Fop) (v : Volume) (parent : Gfid) (name : List ℕ) (gfid : Gfid) (sets : List ℕ) (handed : Handed) → is_lookup f ≡ false → HoldsAlone (holds_of f) parent → HoldsAlone (extensions handed) gfid → Always (IsCovered f) AnyAnswer handed (empties v parent name gfid sets)
+empties_go : (f : Fop) (v : Volume) (parent : Gfid) (name : List ℕ) (gfid : Gfid) (sets : List ℕ) (handed : Handed) → is_lookup f ≡ false → HoldsExclusively (holds_of f) parent → HoldsExclusively (extensions handed) gfid → Always (IsCovered f) AnyAnswer handed (empties v parent name gfid sets)
 empties_go f v parent name gfid [] handed w h e = (
   record { alone = both_alone (holds_of f ++ extensions handed) parent gfid (alone_front (holds_of f) (extensions handed) parent h) (alone_back (holds_of f) (extensions handed) gfid e); whole = refl; no_lookup = w },
   λ reply. number_leads f (Replied 0 (job.Change (both_names parent gfid) 0 (op.DropDir parent name gfid) (Some (entry v 1))) reply ∷ handed) (Ends (answers.Call answer.Done)) (number_in reply) (λ number. tt),
@@ -263,7 +263,7 @@ empties_go f v parent name gfid (set ∷ sets) handed w h e = (
       (λ shown. full_goes f (Replied set (names_job gfid) reply ∷ handed) shown.place (empties v parent name gfid sets) (has_real_name shown.items) (empties_go f v parent name gfid sets (Replied set (names_job gfid) reply ∷ handed) w h e)),
 )
 
-rmdir_ends : (f : Fop) (v : Volume) (parent : Gfid) (name : List ℕ) → is_lookup f ≡ false → HoldsAlone (holds_of f) parent → EndsWell f (rmdir_found v parent name)
+rmdir_ends : (f : Fop) (v : Volume) (parent : Gfid) (name : List ℕ) → is_lookup f ≡ false → HoldsExclusively (holds_of f) parent → EndsWell f (rmdir_found v parent name)
 rmdir_ends f v parent name w h (found.Item set gfid k) seen = if_goes f _ _ (is_directory k) (record { at = λ handed. empties_go f v parent name gfid (sets_from v 0) (Held gfid ∷ handed) w h (inl (refl, refl)) }) (ends_goes f _ _)
 rmdir_ends f v parent name w h found.Absent seen = ends_goes f _ _
 rmdir_ends f v parent name w h (found.Io error) seen = ends_goes f _ _
@@ -271,42 +271,42 @@ rmdir_ends f v parent name w h (found.Io error) seen = ends_goes f _ _
 -- ---- rename
 
 module _ (f : Fop) (w : is_lookup f ≡ false) (v : Volume) where
-  old_link_goes : (source : Source) (number : Option ℕ) → HoldsAlone (holds_of f) source.parent → Goes f (drops_old_link source number)
+  old_link_goes : (source : Source) (number : Option ℕ) → HoldsExclusively (holds_of f) source.parent → Goes f (drops_old_link source number)
   old_link_goes source number h = link_goes f source.parent source.name source.hashed source.has_link number w h
 
-  adds_goes : (r : Renaming) (number : Option ℕ) → HoldsAlone (holds_of f) r.source.parent → HoldsAlone (holds_of f) r.target → Goes f (adds_link r number)
+  adds_goes : (r : Renaming) (number : Option ℕ) → HoldsExclusively (holds_of f) r.source.parent → HoldsExclusively (holds_of f) r.target → Goes f (adds_link r number)
   adds_goes r number h t = if_goes f _ _ (r.hashed == r.source.set) (old_link_goes r.source number h) (any_goes f r.hashed (names_cell r.target ∷ []) 0 (op.AddName r.target (link_of r) 0 None) None (drops_old_link r.source number) w (one_alone f (names_cell r.target) t) refl (old_link_goes r.source number h))
 
-  moves_go : (r : Renaming) → HoldsAlone (holds_of f) r.source.parent → HoldsAlone (holds_of f) r.target → Goes f (moves v r)
+  moves_go : (r : Renaming) → HoldsExclusively (holds_of f) r.source.parent → HoldsExclusively (holds_of f) r.target → Goes f (moves v r)
   moves_go r h t = change_goes f r.source.set (both_names r.source.parent r.target) 0 (op.Move r.source.parent r.source.name r.target r.new_name) (Some (entry v 2)) (adds_link r) w
       (λ handed. both_alone (holds_of f ++ extensions handed) r.source.parent r.target (alone_front (holds_of f) (extensions handed) r.source.parent h) (alone_front (holds_of f) (extensions handed) r.target t))
       refl (λ number. adds_goes r number h t)
 
-  bears_go : (r : Renaming) (copy : Bool) → HoldsAlone (holds_of f) r.source.parent → HoldsAlone (holds_of f) r.target → Goes f (bears v r copy)
+  bears_go : (r : Renaming) (copy : Bool) → HoldsExclusively (holds_of f) r.source.parent → HoldsExclusively (holds_of f) r.target → Goes f (bears v r copy)
   bears_go r true h t = moves_go r h t
   bears_go r false h t = birth_goes f r.source.set r.target None _ (inl t) (λ number. moves_go r h t)
 
-  replaces_go : (r : Renaming) (replaced : Option ℕ) (copy : Bool) → HoldsAlone (holds_of f) r.source.parent → HoldsAlone (holds_of f) r.target → Goes f (replaces v r replaced copy)
+  replaces_go : (r : Renaming) (replaced : Option ℕ) (copy : Bool) → HoldsExclusively (holds_of f) r.source.parent → HoldsExclusively (holds_of f) r.target → Goes f (replaces v r replaced copy)
   replaces_go r None copy h t = bears_go r copy h t
   replaces_go r (Some set) copy h t = change_goes f set (names_cell r.target ∷ []) 0 (op.DropName r.target r.new_name) (Some (entry v 1)) (λ number. bears v r copy) w (one_alone f (names_cell r.target) t) refl (λ number. bears_go r copy h t)
 
-  names_change : (r : Renaming) (replaced : Option ℕ) (copy : Option Bool) → HoldsAlone (holds_of f) r.source.parent → HoldsAlone (holds_of f) r.target → Goes f (changes_names v r replaced copy)
+  names_change : (r : Renaming) (replaced : Option ℕ) (copy : Option Bool) → HoldsExclusively (holds_of f) r.source.parent → HoldsExclusively (holds_of f) r.target → Goes f (changes_names v r replaced copy)
   names_change r replaced (Some copy) h t = replaces_go r replaced copy h t
   names_change r replaced None h t = names_go f r.source.set r.target _ (alone_holds (holds_of f) r.target t) (λ shown. replaces_go r replaced shown.has_copy h t)
 
-  target_ends : (r : Renaming) → HoldsAlone (holds_of f) r.source.parent → HoldsAlone (holds_of f) r.target → EndsWell f (target_found v r)
+  target_ends : (r : Renaming) → HoldsExclusively (holds_of f) r.source.parent → HoldsExclusively (holds_of f) r.target → EndsWell f (target_found v r)
   target_ends r h t (found.Item set gfid k) seen = if_goes f _ _ (is_directory k) (ends_goes f _ _) (names_change r (other_set set r.source.set) seen.copy h t)
   target_ends r h t found.Absent seen = names_change r None seen.copy h t
   target_ends r h t (found.Io error) seen = ends_goes f _ _
 
-  target_goes : (source : Source) (target : Gfid) (new_name : List ℕ) (names : List (List ℕ)) (second : Option ℕ) → HoldsAlone (holds_of f) source.parent → HoldsAlone (holds_of f) target → Goes f (looks_for_target v source target new_name names second)
+  target_goes : (source : Source) (target : Gfid) (new_name : List ℕ) (names : List (List ℕ)) (second : Option ℕ) → HoldsExclusively (holds_of f) source.parent → HoldsExclusively (holds_of f) target → Goes f (looks_for_target v source target new_name names second)
   target_goes source target new_name names second h t =
       finds_go f (length names) target second (looks_in target new_name names source.set (target_ending v source target new_name names))
       (λ spans. looks_in target new_name names source.set (target_ending v source target new_name names) (hashed_set spans new_name)) (alone_holds (holds_of f) target t)
       (λ set. look_goes f target new_name names source.set (target_ending v source target new_name names) set (alone_holds (holds_of f) target t) (target_ends (renaming source target new_name names set) h t))
       (λ spans. look_goes f target new_name names source.set (target_ending v source target new_name names) (hashed_set spans new_name) (alone_holds (holds_of f) target t) (target_ends (renaming source target new_name names (hashed_set spans new_name)) h t))
 
-  source_ends : (parent : Gfid) (name : List ℕ) (names : List (List ℕ)) (target : Object) (new_name : List ℕ) (second : Option ℕ) (hashed : ℕ) → HoldsAlone (holds_of f) parent → HoldsAlone (holds_of f) target.gfid
+  source_ends : (parent : Gfid) (name : List ℕ) (names : List (List ℕ)) (target : Object) (new_name : List ℕ) (second : Option ℕ) (hashed : ℕ) → HoldsExclusively (holds_of f) parent → HoldsExclusively (holds_of f) target.gfid
       → EndsWell f (source_found v parent name names target new_name second hashed)
   source_ends parent name names target new_name second hashed h t (found.Item set gfid k) seen =
       if_goes f _ _ (is_directory k) (ends_goes f _ _) (named_goes f target new_name (Some seen.place) _ (if_goes f _ _ (is_same_name parent name target.gfid new_name) (ends_goes f _ _) (target_goes (source_at parent name hashed seen.has_link set gfid) target.gfid new_name names second h t)))
@@ -315,7 +315,7 @@ module _ (f : Fop) (w : is_lookup f ≡ false) (v : Volume) where
 
 -- ---- objects, and fops of the mount itself
 
-cell_goes : (f : Fop) (v : Volume) (set : ℕ) (cell : Cell) (fd : ℕ) (o : StoreOp) (answer : FopAnswer) → is_lookup f ≡ false → HoldsAlone (holds_of f) cell.gfid → (cell ∷ []) ≡ needs o → Goes f (changes_cell v set cell fd o answer)
+cell_goes : (f : Fop) (v : Volume) (set : ℕ) (cell : Cell) (fd : ℕ) (o : StoreOp) (answer : FopAnswer) → is_lookup f ≡ false → HoldsExclusively (holds_of f) cell.gfid → (cell ∷ []) ≡ needs o → Goes f (changes_cell v set cell fd o answer)
 cell_goes f v set cell fd o answer w h e = change_goes f set (cell ∷ []) fd o _ (Ends answer) w (one_alone f cell h) e (λ number. ends_goes f answer number)
 
 opens_again_goes : (f : Fop) (fds : List OpenFd) → Goes f (opens_again fds)

@@ -14,9 +14,9 @@ use Rattle.fop_types.specs.declared.cells.Cell.{Cell}
 use Rattle.fop_types.specs.declared.jobs.Job.{Job}
 use Rattle.fop_types.specs.declared.jobs.Job.TheVariants as job
 use Rattle.dht_fops.specs.Shown.{SetContents}
-use Rattle.mount_laws.specs.Guards.{Allowed, IsReached, IsChange, MayUnsettle}
+use Rattle.mount_laws.specs.Guards.{Allowed, IsReached, IsChange, MayBeginChange}
 use Rattle.mount_laws.specs.Holding.{HoldCovers, IsCovered}
-use Rattle.mount_laws.specs.Settling.{HasNoNames, FirmIsTouched, AreWhole}
+use Rattle.mount_laws.specs.Settling.{HasNoNames, TouchedIsFirm, AreWhole}
 use Rattle.mount_laws.specs.States.{State, Change, start}
 use Rattle.mount_laws.specs.Steps.{Step, Task, after, change_by, births_by}
 use Rattle.mount_laws.proofs.Contents.{births_leave, births_have_none, op_leaves, stays_nameless, HaveNoNames}
@@ -32,7 +32,7 @@ decided_whole m u verdict was a w =
     at_case (λ i (one : Change). one.verdict ≢ Undrawn → one.cells ≡ needs one.op) m.changes u (record (m.changes u) { verdict = verdict })
     (λ drawn. a u (λ e. let clash : Unsettled ≡ Undrawn = sym was ∙ e in absurd cc)) w (λ differ. a w)
 
-made_whole : (m : State) → HoldCovers m → (t : Task) (u : ℕ) → MayUnsettle m t u → (change_by t.call t.set t.job).cells ≡ needs (change_by t.call t.set t.job).op
+made_whole : (m : State) → HoldCovers m → (t : Task) (u : ℕ) → MayBeginChange m t u → (change_by t.call t.set t.job).cells ≡ needs (change_by t.call t.set t.job).op
 made_whole m cover t u h = of_job t.job h.is_change (cover.asked t.call t.run t.set t.job t.next h.under_way.runs h.under_way.asks)
   where
     of_job : (asked : Job) → IsChange asked → IsCovered t.run.fop t.run.handed t.set asked → (change_by t.call t.set asked).cells ≡ needs (change_by t.call t.set asked).op
@@ -44,18 +44,18 @@ made_whole m cover t u h = of_job t.job h.is_change (cover.asked t.call t.run t.
     of_job (job.Heal cell) is k = absurd is
 
 step_whole : (m : State) (step : Step) → Allowed m step → HoldCovers m → AreWhole m → AreWhole (after m step)
-step_whole m (Step.Unsettles t u) h cover a = λ w.
+step_whole m (Step.BeginsChange t u) h cover a = λ w.
     at_case (λ i (one : Change). one.verdict ≢ Undrawn → one.cells ≡ needs one.op) m.changes u (change_by t.call t.set t.job) (λ drawn. made_whole m cover t u h) w (λ differ. a w)
 step_whole m (Step.Settles t u true) h cover a = decided_whole m u Adopted h.unsettled.verdict a
 step_whole m (Step.Settles t u false) h cover a = decided_whole m u Dropped h.unsettled.verdict a
 step_whole m (Step.Decides t u) h cover a = decided_whole m u Adopted h.unsettled a
 step_whole m (Step.Submits draws) h cover a = a
-step_whole m (Step.Leaves c) h cover a = a
+step_whole m (Step.Concludes c) h cover a = a
 step_whole m (Step.Switches names) h cover a = a
 step_whole m (Step.Begins c f kept) h cover a = a
-step_whole m (Step.Rests t) h cover a = a
-step_whole m (Step.Bears t) h cover a = a
-step_whole m (Step.Confirms t) h cover a = a
+step_whole m (Step.EndsSettling t) h cover a = a
+step_whole m (Step.SendsBirths t) h cover a = a
+step_whole m (Step.ConfirmsBirths t) h cover a = a
 step_whole m (Step.HandsIn t shown) h cover a = a
 step_whole m (Step.Extends c run dir next) h cover a = a
 step_whole m (Step.Learns c run dir spans) h cover a = a
@@ -132,7 +132,7 @@ born_nameless m t a s cell =
     (λ soft. stays_nameless (m.adopted t.set cell) (after_births (m.adopted t.set) (births_by t.job) cell) (births_leave (births_by t.job) (m.adopted t.set) cell (jobs_have_none t.job)) (a t.set cell soft)) s (λ differ. a s cell)
 
 step_touched : (m : State) (step : Step) → Allowed m step → TouchedIn m.changes m.firm → TouchedIn (after m step).changes (after m step).firm
-step_touched m (Step.Unsettles t u) h a = λ w cell.
+step_touched m (Step.BeginsChange t u) h a = λ w cell.
     at_case (λ i (one : Change). one.verdict ≢ Undrawn → has_cell one.cells cell ≡ true → firm_with m.firm t.set (cells_of_job t.job) one.set cell ≡ true) m.changes u (change_by t.call t.set t.job)
     (λ drawn has. made t.job h.is_change cell has) w (λ differ drawn has. firm_grows m.firm t.set (cells_of_job t.job) (m.changes w).set cell (a w cell drawn has))
   where
@@ -146,30 +146,30 @@ step_touched m (Step.Unsettles t u) h a = λ w cell.
 step_touched m (Step.Settles t u true) h a = decided_touched m u Adopted h.unsettled.verdict a
 step_touched m (Step.Settles t u false) h a = decided_touched m u Dropped h.unsettled.verdict a
 step_touched m (Step.Decides t u) h a = decided_touched m u Adopted h.unsettled a
-step_touched m (Step.Confirms t) h a = λ w cell drawn has. firm_grows m.firm t.set (cells_of_job t.job) (m.changes w).set cell (a w cell drawn has)
+step_touched m (Step.ConfirmsBirths t) h a = λ w cell drawn has. firm_grows m.firm t.set (cells_of_job t.job) (m.changes w).set cell (a w cell drawn has)
 step_touched m (Step.Submits draws) h a = a
-step_touched m (Step.Leaves c) h a = a
+step_touched m (Step.Concludes c) h a = a
 step_touched m (Step.Switches names) h a = a
 step_touched m (Step.Begins c f kept) h a = a
-step_touched m (Step.Rests t) h a = a
-step_touched m (Step.Bears t) h a = a
+step_touched m (Step.EndsSettling t) h a = a
+step_touched m (Step.SendsBirths t) h a = a
 step_touched m (Step.HandsIn t shown) h a = a
 step_touched m (Step.Extends c run dir next) h a = a
 step_touched m (Step.Learns c run dir spans) h a = a
 step_touched m (Step.Answers c run answer) h a = a
 
 step_nameless : (m : State) (step : Step) → Allowed m step → AreWhole m → TouchedIn m.changes m.firm → NamelessIn m.firm m.adopted → NamelessIn (after m step).firm (after m step).adopted
-step_nameless m (Step.Unsettles t u) h whole touched a = λ s cell soft. a s cell (firm_was m.firm t.set (cells_of_job t.job) s cell soft)
-step_nameless m (Step.Confirms t) h whole touched a = λ s cell soft. a s cell (firm_was m.firm t.set (cells_of_job t.job) s cell soft)
+step_nameless m (Step.BeginsChange t u) h whole touched a = λ s cell soft. a s cell (firm_was m.firm t.set (cells_of_job t.job) s cell soft)
+step_nameless m (Step.ConfirmsBirths t) h whole touched a = λ s cell soft. a s cell (firm_was m.firm t.set (cells_of_job t.job) s cell soft)
 step_nameless m (Step.Settles t u true) h whole touched a = adopted_nameless m u h.unsettled.verdict whole touched a
 step_nameless m (Step.Settles t u false) h whole touched a = a
 step_nameless m (Step.Decides t u) h whole touched a = adopted_nameless m u h.unsettled whole touched a
-step_nameless m (Step.Bears t) h whole touched a = born_nameless m t a
+step_nameless m (Step.SendsBirths t) h whole touched a = born_nameless m t a
 step_nameless m (Step.Submits draws) h whole touched a = a
-step_nameless m (Step.Leaves c) h whole touched a = a
+step_nameless m (Step.Concludes c) h whole touched a = a
 step_nameless m (Step.Switches names) h whole touched a = a
 step_nameless m (Step.Begins c f kept) h whole touched a = a
-step_nameless m (Step.Rests t) h whole touched a = a
+step_nameless m (Step.EndsSettling t) h whole touched a = a
 step_nameless m (Step.HandsIn t shown) h whole touched a = a
 step_nameless m (Step.Extends c run dir next) h whole touched a = a
 step_nameless m (Step.Learns c run dir spans) h whole touched a = a
@@ -187,7 +187,7 @@ start_nameless first s cell = by_meta (is_cell cell (meta_cell root)) refl
     by_meta true e soft = absurd (let clash : true ≡ false = rw e at soft in cc)
     by_meta false e soft = by_names (is_cell cell (names_cell root)) e refl soft
 
-pub firm_touched : (first : List (List ℕ)) (m : State) → IsReached first m → FirmIsTouched m
+pub firm_touched : (first : List (List ℕ)) (m : State) → IsReached first m → TouchedIsFirm m
 firm_touched first _ (IsReached.Start planned) = record { touched = λ u cell drawn. absurd (drawn refl); no_names = start_nameless first }
 firm_touched first _ (IsReached.Further old step reached allowed) =
     let a = firm_touched first old reached in

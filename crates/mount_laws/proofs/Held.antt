@@ -13,14 +13,14 @@ use Rattle.fop_types.specs.declared.jobs.Job.{Job}
 use Rattle.fop_types.specs.declared.jobs.Job.TheVariants as job
 use Rattle.fop_types.specs.declared.jobs.SetReply.{SetReply}
 use Rattle.mount_laws.specs.Guards.{IsReached}
-use Rattle.mount_laws.specs.Holding.{JobAsked, AreHeld, AreHeldAlone, IsCovered, HoldCovers}
+use Rattle.mount_laws.specs.Holding.{JobAsked, AreHeld, AreHeldExclusively, IsCovered, HoldCovers}
 use Rattle.mount_laws.specs.Holds.{Hold, Holds, holds_of, extensions}
 use Rattle.mount_laws.specs.Runs.{Run, SettledJob, Leads, first_course, holds_in}
 use Rattle.mount_laws.specs.States.{State, Runs}
 use Rattle.mount_laws.proofs.Covering.{courses_covered, alone_holds}
 use Rattle.mount_laws.proofs.Leading.{led_always}
 use Rattle.mount_laws.proofs.Moving.{RunMove, run_moves}
-use Rattle.mount_laws.proofs.Moving.RunMove.{Stays, Begins, Settles, Rests, Unsettles, Decides, Bears, Confirms, HandsIn, Extends}
+use Rattle.mount_laws.proofs.Moving.RunMove.{Stays, Begins, Settles, EndsSettling, BeginsChange, Decides, SendsBirths, ConfirmsBirths, HandsIn, Extends}
 
 -- ---- the job that is asked
 
@@ -29,11 +29,11 @@ module _ (m : State) (a : JobAsked m) where
   move_asked _ _ (Stays c run runs) = a c run runs
   move_asked _ _ (Begins c f kept h) = Leads.Begun
   move_asked _ _ (Settles t u adopts h) = a t.call t.run h.under_way.runs
-  move_asked _ _ (Rests t h) = a t.call t.run h.under_way.runs
-  move_asked _ _ (Unsettles t u h) = a t.call t.run h.under_way.runs
+  move_asked _ _ (EndsSettling t h) = a t.call t.run h.under_way.runs
+  move_asked _ _ (BeginsChange t u h) = a t.call t.run h.under_way.runs
   move_asked _ _ (Decides t u h) = a t.call t.run h.under_way.runs
-  move_asked _ _ (Bears t h) = a t.call t.run h.under_way.runs
-  move_asked _ _ (Confirms t h) = a t.call t.run h.under_way.runs
+  move_asked _ _ (SendsBirths t h) = a t.call t.run h.under_way.runs
+  move_asked _ _ (ConfirmsBirths t h) = a t.call t.run h.under_way.runs
   move_asked _ _ (HandsIn t shown h) = Leads.Answered t.run.handed t.set t.job t.next shown (subst (λ (course : Course). Leads (first_course t.run) t.run.handed course) h.under_way.asks (a t.call t.run h.under_way.runs))
   move_asked _ _ (Extends c run dir next h) = Leads.Extended run.handed dir next (subst (λ (course : Course). Leads (first_course run) run.handed course) h.extends (a c run h.runs))
 
@@ -48,7 +48,7 @@ asked_covered m a c run set asked next runs asks =
     (subst (λ (course : Course). Always (IsCovered run.fop) AnyAnswer run.handed course) asks
     (led_always (IsCovered run.fop) AnyAnswer (first_course run) run.handed run.course (a c run runs) ((courses_covered run.volume run.names run.kept run.fop).at []))).0
 
-pub alone_held : (hs : List Hold) (cells : List Cell) → AreHeldAlone hs cells → AreHeld hs cells
+pub alone_held : (hs : List Hold) (cells : List Cell) → AreHeldExclusively hs cells → AreHeld hs cells
 alone_held hs [] h = tt
 alone_held hs (cell ∷ cells) h = (alone_holds hs cell.gfid h.0, alone_held hs cells h.1)
 
@@ -81,12 +81,12 @@ module _ (m : State) (a : HoldCovers m) where
   move_settled _ _ (Stays c run runs) = a.settled c run runs
   move_settled _ _ (Begins c f kept h) = tt
   move_settled _ _ (Settles t u adopts h) = a.settled t.call t.run h.under_way.runs
-  move_settled _ _ (Rests t h) =
+  move_settled _ _ (EndsSettling t h) =
       (covered_held t.run.fop t.run.handed t.set t.job h.settles (a.asked t.call t.run t.set t.job t.next h.under_way.runs h.under_way.asks), a.settled t.call t.run h.under_way.runs)
-  move_settled _ _ (Unsettles t u h) = a.settled t.call t.run h.under_way.runs
+  move_settled _ _ (BeginsChange t u h) = a.settled t.call t.run h.under_way.runs
   move_settled _ _ (Decides t u h) = a.settled t.call t.run h.under_way.runs
-  move_settled _ _ (Bears t h) = a.settled t.call t.run h.under_way.runs
-  move_settled _ _ (Confirms t h) = a.settled t.call t.run h.under_way.runs
+  move_settled _ _ (SendsBirths t h) = a.settled t.call t.run h.under_way.runs
+  move_settled _ _ (ConfirmsBirths t h) = a.settled t.call t.run h.under_way.runs
   move_settled _ _ (HandsIn t shown h) = a.settled t.call t.run h.under_way.runs
   move_settled _ _ (Extends c run dir next h) = more_settled (holds_of run.fop) (record { gfid = dir; shared = false }) (extensions run.handed) run.settled (a.settled c run h.runs)
 

@@ -10,7 +10,7 @@ use Rattle.fop_types.specs.declared.answers.FopAnswer.TheVariants as fop_answer
 use Rattle.fop_types.specs.declared.cells.Gfid.{Gfid}
 use Rattle.fop_types.specs.declared.fops.Fop.{Fop}
 use Rattle.fop_types.specs.declared.jobs.SetReply.{SetReply}
-use Rattle.mount_laws.specs.Guards.{Allowed, MayBegin, MaySettle, MayRest, MayUnsettle, MayDecide, MayBear, MayConfirm, MayHandIn, MayExtend}
+use Rattle.mount_laws.specs.Guards.{Allowed, MayBegin, MaySettle, MayEndSettling, MayBeginChange, MayDecide, MaySendBirths, MayConfirmBirths, MayHandIn, MayExtend}
 use Rattle.mount_laws.specs.Runs.{Run, begun, going_on}
 use Rattle.mount_laws.specs.Runs.Stage.{Settled, Changing, Bearing, Decided}
 use Rattle.mount_laws.specs.States.{State, Call, Runs}
@@ -22,11 +22,11 @@ pub data RunMove (m : State) : ℕ → Run → Type 0 where
   Stays : (c : ℕ) → (run : Run) → Runs m c run → RunMove m c run
   Begins : (c : ℕ) → (f : Fop) → (kept : Kept) → MayBegin m c f kept → RunMove m c (begun f (volume_of m c) (m.calls c).names kept)
   Settles : (t : Task) → (u : ℕ) → (adopts : Bool) → MaySettle m t u → RunMove m t.call (record t.run { saw = sees (deciding m u adopts).adopted (m.changes u) t.run.saw })
-  Rests : (t : Task) → MayRest m t → RunMove m t.call (record t.run { stage = Settled (length m.history); settled = record { set = t.set; cells = cells_of_job t.job } ∷ t.run.settled })
-  Unsettles : (t : Task) → (u : ℕ) → MayUnsettle m t u → RunMove m t.call (at_stage t.run (Changing u))
+  EndsSettling : (t : Task) → MayEndSettling m t → RunMove m t.call (record t.run { stage = Settled (length m.history); settled = record { set = t.set; cells = cells_of_job t.job } ∷ t.run.settled })
+  BeginsChange : (t : Task) → (u : ℕ) → MayBeginChange m t u → RunMove m t.call (at_stage t.run (Changing u))
   Decides : (t : Task) → (u : ℕ) → MayDecide m t u → RunMove m t.call (record t.run { stage = Decided (number_after m (m.changes u).effect); saw = sees (adopting m u).adopted (m.changes u) t.run.saw })
-  Bears : (t : Task) → MayBear m t → RunMove m t.call (at_stage t.run Bearing)
-  Confirms : (t : Task) → MayConfirm m t → RunMove m t.call (at_stage t.run (Decided None))
+  SendsBirths : (t : Task) → MaySendBirths m t → RunMove m t.call (at_stage t.run Bearing)
+  ConfirmsBirths : (t : Task) → MayConfirmBirths m t → RunMove m t.call (at_stage t.run (Decided None))
   HandsIn : (t : Task) → (shown : SetReply) → MayHandIn m t shown →
       RunMove m t.call (going_on t.run (Replied t.set t.job shown ∷ t.run.handed) (t.next shown) (sights_by t.set t.job shown ++ t.run.saw))
   Extends : (c : ℕ) → (run : Run) → (dir : Gfid) → (next : Course) → MayExtend m c run dir next → RunMove m c (going_on run (Held dir ∷ run.handed) next run.saw)
@@ -53,16 +53,16 @@ quiet false a run e = absurd cc
 
 pub run_moves : (m : State) (step : Step) → Allowed m step → (c : ℕ) (run : Run) → Runs (after m step) c run → RunMove m c run
 run_moves m (Step.Submits draws) h = one_call m (m.submitted + 1) _ (λ run e. absurd cc)
-run_moves m (Step.Leaves c) h = one_call m c _ (λ run e. absurd cc)
+run_moves m (Step.Concludes c) h = one_call m c _ (λ run e. absurd cc)
 run_moves m (Step.Switches names) h = λ c run e. Stays c run e
 run_moves m (Step.Begins c f kept) h = one_run m c _ (Begins c f kept h)
 run_moves m (Step.Settles t u true) h = one_run m t.call _ (Settles t u true h)
 run_moves m (Step.Settles t u false) h = one_run m t.call _ (Settles t u false h)
-run_moves m (Step.Rests t) h = one_run m t.call _ (Rests t h)
-run_moves m (Step.Unsettles t u) h = one_run m t.call _ (Unsettles t u h)
+run_moves m (Step.EndsSettling t) h = one_run m t.call _ (EndsSettling t h)
+run_moves m (Step.BeginsChange t u) h = one_run m t.call _ (BeginsChange t u h)
 run_moves m (Step.Decides t u) h = one_run m t.call _ (Decides t u h)
-run_moves m (Step.Bears t) h = one_run m t.call _ (Bears t h)
-run_moves m (Step.Confirms t) h = one_run m t.call _ (Confirms t h)
+run_moves m (Step.SendsBirths t) h = one_run m t.call _ (SendsBirths t h)
+run_moves m (Step.ConfirmsBirths t) h = one_run m t.call _ (ConfirmsBirths t h)
 run_moves m (Step.HandsIn t shown) h = one_run m t.call _ (HandsIn t shown h)
 run_moves m (Step.Extends c run dir next) h = one_run m c _ (Extends c run dir next h)
 run_moves m (Step.Learns c run dir spans) h = λ i other e. Stays i other e

@@ -9,8 +9,8 @@ use Rattle.afr_machine.specs.Transactions.{cells_of_job, settles_first}
 use Rattle.fop_types.specs.declared.cells.Cell.{Cell}
 use Rattle.fop_types.specs.declared.jobs.Job.{Job}
 use Rattle.fop_types.specs.declared.jobs.Job.TheVariants as job
-use Rattle.mount_laws.specs.Guards.{Allowed, IsReached, IsUnsettledOn, IsChange, MayUnsettle}
-use Rattle.mount_laws.specs.Holding.{HoldCovers, AreHeld, AreHeldAlone, IsCovered}
+use Rattle.mount_laws.specs.Guards.{Allowed, IsReached, IsUnsettledOn, IsChange, MayBeginChange}
+use Rattle.mount_laws.specs.Holding.{HoldCovers, AreHeld, AreHeldExclusively, IsCovered}
 use Rattle.mount_laws.specs.Runs.{Run, SettledJob, holds_in}
 use Rattle.mount_laws.specs.Settling.{OneUnsettled, SettlingEnds}
 use Rattle.mount_laws.specs.States.{State, Change, Status, Runs, holds_by, held}
@@ -58,7 +58,7 @@ of_job c set job.Index is = absurd is
 of_job c set (job.Heal cell) is = absurd is
 
 step_one : (first : List (List ℕ)) (m : State) (step : Step) → IsReached first m → Allowed m step → OneUnsettled m → OneUnsettled (after m step)
-step_one first m (Step.Unsettles t u) reached h a =
+step_one first m (Step.BeginsChange t u) reached h a =
     made_one m.changes u (change_by t.call t.set t.job)
     (λ w on. ((each_beside first m reached).running t.call t.run h.under_way.runs w).none_left h.place t.set t.job t.next h.settled h.under_way.asks made.settles
     (subst (λ (s : ℕ). IsUnsettledOn (m.changes w) s (cells_of_job t.job)) made.on_set (subst (λ (cells : List Cell). IsUnsettledOn (m.changes w) (change_by t.call t.set t.job).set cells) made.cells on)))
@@ -70,12 +70,12 @@ step_one first m (Step.Settles t u true) reached h a = decided_one m.changes u A
 step_one first m (Step.Settles t u false) reached h a = decided_one m.changes u Dropped (λ e. absurd cc) a
 step_one first m (Step.Decides t u) reached h a = decided_one m.changes u Adopted (λ e. absurd cc) a
 step_one first m (Step.Submits draws) reached h a = a
-step_one first m (Step.Leaves c) reached h a = a
+step_one first m (Step.Concludes c) reached h a = a
 step_one first m (Step.Switches names) reached h a = a
 step_one first m (Step.Begins c f kept) reached h a = a
-step_one first m (Step.Rests t) reached h a = a
-step_one first m (Step.Bears t) reached h a = a
-step_one first m (Step.Confirms t) reached h a = a
+step_one first m (Step.EndsSettling t) reached h a = a
+step_one first m (Step.SendsBirths t) reached h a = a
+step_one first m (Step.ConfirmsBirths t) reached h a = a
 step_one first m (Step.HandsIn t shown) reached h a = a
 step_one first m (Step.Extends c run dir next) reached h a = a
 step_one first m (Step.Learns c run dir spans) reached h a = a
@@ -87,12 +87,12 @@ one_unsettled first _ (IsReached.Further old step reached allowed) = step_one fi
 
 -- ---- settling ends
 
-change_alone : (m : State) → HoldCovers m → (t : Task) (u : ℕ) → MayUnsettle m t u → AreHeldAlone (held m t.call) (cells_of_job t.job)
+change_alone : (m : State) → HoldCovers m → (t : Task) (u : ℕ) → MayBeginChange m t u → AreHeldExclusively (held m t.call) (cells_of_job t.job)
 change_alone m cover t u h =
-    subst (λ (s : Status). AreHeldAlone (holds_by s) (cells_of_job t.job)) (sym h.under_way.runs)
+    subst (λ (s : Status). AreHeldExclusively (holds_by s) (cells_of_job t.job)) (sym h.under_way.runs)
     (alone t.job h.is_change (cover.asked t.call t.run t.set t.job t.next h.under_way.runs h.under_way.asks))
   where
-    alone : (asked : Job) → IsChange asked → IsCovered t.run.fop t.run.handed t.set asked → AreHeldAlone (holds_in t.run) (cells_of_job asked)
+    alone : (asked : Job) → IsChange asked → IsCovered t.run.fop t.run.handed t.set asked → AreHeldExclusively (holds_in t.run) (cells_of_job asked)
     alone (job.Change cells fd o effect) is k = k.alone
     alone (job.Read cells fd dir) is k = absurd is
     alone (job.Birth cells o) is k = absurd is
@@ -111,7 +111,7 @@ settling_ends first m reached = record {
     cover : HoldCovers m
     cover = holds_cover first m reached
 
-    apart_from : (c : ℕ) (run : Run) (t : Task) (u : ℕ) → c ≢ t.call → MayUnsettle m t u → Runs m c run → (cells : List Cell) → AreHeld (holds_in run) cells → share (cells_of_job t.job) cells ≡ false
+    apart_from : (c : ℕ) (run : Run) (t : Task) (u : ℕ) → c ≢ t.call → MayBeginChange m t u → Runs m c run → (cells : List Cell) → AreHeld (holds_in run) cells → share (cells_of_job t.job) cells ≡ false
     apart_from c run t u ne h runs cells k =
         held_apart (held m t.call) (held m c) (cells_of_job t.job) cells (holds_apart first m reached t.call c (λ e. ne (sym e))) (change_alone m cover t u h)
         (subst (λ (s : Status). AreHeld (holds_by s) cells) (sym runs) k)

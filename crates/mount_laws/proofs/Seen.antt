@@ -19,11 +19,11 @@ use Rattle.fop_types.specs.declared.jobs.SetReply.{SetReply}
 use Rattle.fop_types.specs.declared.jobs.SetReply.TheVariants as reply
 use Rattle.mount_laws.specs.Guards.{Allowed, IsReached, IsShown, AreShown, IsReply, MaySettle, MayHandIn, IsAside}
 use Rattle.mount_laws.specs.Guards.IsReply.{Shows, Enters, Fails, Aside}
-use Rattle.mount_laws.specs.Holding.{AreHeld, AreHeldAlone}
+use Rattle.mount_laws.specs.Holding.{AreHeld, AreHeldExclusively}
 use Rattle.mount_laws.specs.Runs.{Run, SettledJob, Sight}
 use Rattle.mount_laws.specs.Runs.Stage.{Settled, Decided}
-use Rattle.mount_laws.specs.Seeing.{IsListed, RestedIsListed, WasSettled, IsStill, StandsAsSeen, SawStill}
-use Rattle.mount_laws.specs.Settling.{HasNoNames, StaysOrBorn, FirmIsTouched, IsSettledJob, ReadIsAdopted, LeavesSettled, IsStepOf}
+use Rattle.mount_laws.specs.Seeing.{IsListed, SettledIsListed, WasSettled, IsStill, StandsAsSeen, SawStill}
+use Rattle.mount_laws.specs.Settling.{HasNoNames, StaysOrBorn, TouchedIsFirm, IsSettledJob, ReadIsAdopted, LeavesSettled, IsStepOf}
 use Rattle.mount_laws.specs.States.{State, Change, Call, Status, Runs, holds_by, held}
 use Rattle.mount_laws.specs.States.Status.{Running}
 use Rattle.mount_laws.specs.Steps.{Step, Task, after, is_lookup, adopting, births_by, is_of, sees_again, sees, sights, sights_by, contents_shown}
@@ -33,13 +33,13 @@ use Rattle.mount_laws.proofs.Contents.{births_leave, op_leaves, op_none}
 use Rattle.mount_laws.proofs.Firm.{are_whole, firm_touched, jobs_have_none}
 use Rattle.mount_laws.proofs.Held.{holds_cover, covered_held}
 use Rattle.mount_laws.proofs.Moving.{RunMove, run_moves, unwrap, quiet}
-use Rattle.mount_laws.proofs.Moving.RunMove.{Stays, Begins, Settles, Rests, Unsettles, Decides, Bears, Confirms, HandsIn, Extends}
+use Rattle.mount_laws.proofs.Moving.RunMove.{Stays, Begins, Settles, EndsSettling, BeginsChange, Decides, SendsBirths, ConfirmsBirths, HandsIn, Extends}
 use Rattle.mount_laws.proofs.Sharing.{is_cell_refl, or_right, shared_cell, held_apart}
 use Rattle.mount_laws.proofs.Tables.{at_case}
 
 -- ---- a job that has rested is listed
 
-module _ (m : State) (a : RestedIsListed m) where
+module _ (m : State) (a : SettledIsListed m) where
   abbrev ListedAt : Run → Type 0
   ListedAt run = (place set : ℕ) (asked : Job) (next : SetReply → Course) → run.stage ≡ Settled place → run.course ≡ Course.Asks set asked next → IsListed run.settled (record { set = set; cells = cells_of_job asked })
 
@@ -47,21 +47,21 @@ module _ (m : State) (a : RestedIsListed m) where
   move_listed _ _ (Stays c run runs) = λ place set asked next e f. a c run place set asked next runs e f
   move_listed _ _ (Begins c f kept h) = λ place set asked next e. absurd cc
   move_listed _ _ (Settles t u adopts h) = λ place set asked next e f. a t.call t.run place set asked next h.under_way.runs e f
-  move_listed _ _ (Rests t h) = λ place set asked next e f. let same = one_job t.run.course t.set set t.job asked t.next next h.under_way.asks f in inl (listed same.set_is same.job_is)
+  move_listed _ _ (EndsSettling t h) = λ place set asked next e f. let same = one_job t.run.course t.set set t.job asked t.next next h.under_way.asks f in inl (listed same.set_is same.job_is)
     where
       listed : {set : ℕ} {asked : Job} → t.set ≡ set → t.job ≡ asked → ◌≡◌ {A = SettledJob} (record { set = t.set; cells = cells_of_job t.job }) (record { set = set; cells = cells_of_job asked })
       listed e f = rw (e, f) refl
-  move_listed _ _ (Unsettles t u h) = λ place set asked next e. absurd cc
+  move_listed _ _ (BeginsChange t u h) = λ place set asked next e. absurd cc
   move_listed _ _ (Decides t u h) = λ place set asked next e. absurd cc
-  move_listed _ _ (Bears t h) = λ place set asked next e. absurd cc
-  move_listed _ _ (Confirms t h) = λ place set asked next e. absurd cc
+  move_listed _ _ (SendsBirths t h) = λ place set asked next e. absurd cc
+  move_listed _ _ (ConfirmsBirths t h) = λ place set asked next e. absurd cc
   move_listed _ _ (HandsIn t shown h) = λ place set asked next e. absurd cc
   move_listed _ _ (Extends c run dir next h) = λ place set asked other e. absurd cc
 
-pub rested_listed : (first : List (List ℕ)) (m : State) → IsReached first m → RestedIsListed m
-rested_listed first _ (IsReached.Start planned) = λ c run place set asked next runs. absurd cc
-rested_listed first _ (IsReached.Further old step reached allowed) =
-    λ c run place set asked next runs e f. move_listed old (rested_listed first old reached) c run (run_moves old step allowed c run runs) place set asked next e f
+pub settled_listed : (first : List (List ℕ)) (m : State) → IsReached first m → SettledIsListed m
+settled_listed first _ (IsReached.Start planned) = λ c run place set asked next runs. absurd cc
+settled_listed first _ (IsReached.Further old step reached allowed) =
+    λ c run place set asked next runs e f. move_listed old (settled_listed first old reached) c run (run_moves old step allowed c run runs) place set asked next e f
 
 -- ---- a change of another call
 
@@ -75,7 +75,7 @@ own_is_alone : (first : List (List ℕ)) (m : State) → IsReached first m → (
 own_is_alone first m reached c run t u ne runs by h =
     let cover = holds_cover first m reached in
     let own = ((each_beside first m reached).running c run runs u).own_is_held by (λ e. let clash : Unsettled ≡ Undrawn = sym h.unsettled.verdict ∙ e in absurd cc) in
-    let mine : AreHeldAlone (held m c) (m.changes u).cells = subst (λ (s : Status). AreHeldAlone (holds_by s) (m.changes u).cells) (sym runs) own in
+    let mine : AreHeldExclusively (held m c) (m.changes u).cells = subst (λ (s : Status). AreHeldExclusively (holds_by s) (m.changes u).cells) (sym runs) own in
     let theirs : AreHeld (held m t.call) (cells_of_job t.job) = subst (λ (s : Status). AreHeld (holds_by s) (cells_of_job t.job)) (sym h.under_way.runs)
     (covered_held t.run.fop t.run.handed t.set t.job h.settles (cover.asked t.call t.run t.set t.job t.next h.under_way.runs h.under_way.asks)) in
     let none = held_apart (held m c) (held m t.call) (m.changes u).cells (cells_of_job t.job) (holds_apart first m reached c t.call ne) mine theirs in
@@ -178,7 +178,7 @@ lacks_later : (set : ℕ) (dir : Bool) → may_lack set dir ≡ true → may_lac
 lacks_later set true h = h
 lacks_later set false h = absurd cc
 
-new_sights : (m : State) → FirmIsTouched m → (set : ℕ) (dir : Bool) (all : List Cell) (jobs : List SettledJob) → IsListed jobs (record { set = set; cells = all }) → (cells : List Cell) (contents : List (Option Content)) → Each (λ (cell : Cell). has_cell all cell ≡ true) cells
+new_sights : (m : State) → TouchedIsFirm m → (set : ℕ) (dir : Bool) (all : List Cell) (jobs : List SettledJob) → IsListed jobs (record { set = set; cells = all }) → (cells : List Cell) (contents : List (Option Content)) → Each (λ (cell : Cell). has_cell all cell ≡ true) cells
     → AreShown m set dir cells contents → AreContentsOf (may_lack set dir) cells contents → Each (StandsAsSeen m.adopted jobs) (sights set cells contents)
 new_sights m firm set dir all jobs listed [] contents within shown fitting = tt
 new_sights m firm set dir all jobs listed (cell ∷ cells) [] within shown fitting = tt
@@ -200,7 +200,7 @@ each_itself [] all h = tt
 each_itself (cell ∷ cells) all h = (h cell (ap (λ b. b || has_cell cells cell) (is_cell_refl cell)), each_itself cells all (λ other k. h other (or_right (is_cell other cell) (has_cell cells other) k)))
 
 -- what a reply shows of a job
-reply_sights : (m : State) → FirmIsTouched m → RestedIsListed m → (t : Task) (shown : SetReply) → MayHandIn m t shown → Each (StandsAsSeen m.adopted t.run.settled) (sights_by t.set t.job shown)
+reply_sights : (m : State) → TouchedIsFirm m → SettledIsListed m → (t : Task) (shown : SetReply) → MayHandIn m t shown → Each (StandsAsSeen m.adopted t.run.settled) (sights_by t.set t.job shown)
 reply_sights m firm rested t shown h = by_reply shown h.is_reply h.fitting.answered
   where
     nothing : (set : ℕ) (asked : Job) (one : SetReply) → contents_shown one ≡ [] → sights_by set asked one ≡ []
@@ -253,7 +253,7 @@ stop_sees m c call none a i =
 
 step_sees : (first : List (List ℕ)) (m : State) (step : Step) → IsReached first m → Allowed m step → SawStill m → SawStill (after m step)
 step_sees first m (Step.Submits draws) reached h a = stop_sees m (m.submitted + 1) _ (λ run e. absurd cc) a
-step_sees first m (Step.Leaves c) reached h a = stop_sees m c _ (λ run e. absurd cc) a
+step_sees first m (Step.Concludes c) reached h a = stop_sees m c _ (λ run e. absurd cc) a
 step_sees first m (Step.Switches names) reached h a = a
 step_sees first m (Step.Begins c f kept) reached h a = one_sees m m.adopted c _ tt (λ i other differ runs. a i other runs)
 step_sees first m (Step.Settles t u true) reached h a =
@@ -263,25 +263,25 @@ step_sees first m (Step.Settles t u true) reached h a =
     (λ sight w. adopted_leaves first m reached i other u runs h.unsettled.verdict (λ by. own_is_alone first m reached i other t u differ runs by h) sight.set sight.cell w) (a i other runs))
 step_sees first m (Step.Settles t u false) reached h a =
     one_sees m m.adopted t.call _ (dropped_sights m.adopted (m.changes u) t.run.settled t.run.saw (a t.call t.run h.under_way.runs)) (λ i other differ runs. a i other runs)
-step_sees first m (Step.Rests t) reached h a =
+step_sees first m (Step.EndsSettling t) reached h a =
     one_sees m m.adopted t.call _
     (each_map (StandsAsSeen m.adopted t.run.settled) (StandsAsSeen m.adopted (record { set = t.set; cells = cells_of_job t.job } ∷ t.run.settled)) t.run.saw
     (λ sight b. record { content = b.content; lacks = b.lacks; settled = more_listed t.run.settled (record { set = t.set; cells = cells_of_job t.job }) sight.set sight.cell b.settled }) (a t.call t.run h.under_way.runs))
     (λ i other differ runs. a i other runs)
-step_sees first m (Step.Unsettles t u) reached h a = one_sees m m.adopted t.call _ (a t.call t.run h.under_way.runs) (λ i other differ runs. a i other runs)
+step_sees first m (Step.BeginsChange t u) reached h a = one_sees m m.adopted t.call _ (a t.call t.run h.under_way.runs) (λ i other differ runs. a i other runs)
 step_sees first m (Step.Decides t u) reached h a =
     one_sees m (adopting m u).adopted t.call _
     (own_sights m u t.run.settled t.run.saw (are_whole first m reached u (λ e. let clash : Unsettled ≡ Undrawn = sym h.unsettled ∙ e in absurd cc)) (a t.call t.run h.under_way.runs))
     (λ i other differ runs. each_stays m.adopted (adopting m u).adopted other.settled other.saw
     (λ sight w. adopted_leaves first m reached i other u runs h.unsettled (λ by. differ (sym by ∙ (((each_beside first m reached).running t.call t.run h.under_way.runs u).running_is_unsettled h.turn).by)) sight.set sight.cell w) (a i other runs))
-step_sees first m (Step.Bears t) reached h a =
+step_sees first m (Step.SendsBirths t) reached h a =
     one_sees m (with_at m.adopted t.set (after_births (m.adopted t.set) (births_by t.job))) t.call _
     (each_stays m.adopted _ t.run.settled t.run.saw (λ sight w. born_leaves m t sight.set sight.cell) (a t.call t.run h.under_way.runs))
     (λ i other differ runs. each_stays m.adopted _ other.settled other.saw (λ sight w. born_leaves m t sight.set sight.cell) (a i other runs))
-step_sees first m (Step.Confirms t) reached h a = one_sees m m.adopted t.call _ (a t.call t.run h.under_way.runs) (λ i other differ runs. a i other runs)
+step_sees first m (Step.ConfirmsBirths t) reached h a = one_sees m m.adopted t.call _ (a t.call t.run h.under_way.runs) (λ i other differ runs. a i other runs)
 step_sees first m (Step.HandsIn t shown) reached h a =
     one_sees m m.adopted t.call _
-    (each_append (StandsAsSeen m.adopted t.run.settled) (sights_by t.set t.job shown) t.run.saw (reply_sights m (firm_touched first m reached) (rested_listed first m reached) t shown h) (a t.call t.run h.under_way.runs))
+    (each_append (StandsAsSeen m.adopted t.run.settled) (sights_by t.set t.job shown) t.run.saw (reply_sights m (firm_touched first m reached) (settled_listed first m reached) t shown h) (a t.call t.run h.under_way.runs))
     (λ i other differ runs. a i other runs)
 step_sees first m (Step.Extends c run dir next) reached h a = one_sees m m.adopted c _ (a c run h.runs) (λ i other differ runs. a i other runs)
 step_sees first m (Step.Learns c run dir spans) reached h a = a
@@ -302,15 +302,15 @@ step_leaves first m (Step.Settles t u true) reached h c run other runs done list
 step_leaves first m (Step.Decides t u) reached h c run other runs done listed = λ cell has.
     adopted_leaves first m reached c run u runs h.unsettled (λ by. other (sym (((each_beside first m reached).running t.call t.run h.under_way.runs u).running_is_unsettled h.turn).by ∙ by)) done.set cell
     (record { cells = done.cells; listed = listed; has = has })
-step_leaves first m (Step.Bears t) reached h c run other runs done listed = λ cell has. born_leaves m t done.set cell
+step_leaves first m (Step.SendsBirths t) reached h c run other runs done listed = λ cell has. born_leaves m t done.set cell
 step_leaves first m (Step.Settles t u false) reached h c run other runs done listed = leaves_all m _ done (λ cell. refl)
 step_leaves first m (Step.Submits draws) reached h c run other runs done listed = leaves_all m _ done (λ cell. refl)
-step_leaves first m (Step.Leaves d) reached h c run other runs done listed = leaves_all m _ done (λ cell. refl)
+step_leaves first m (Step.Concludes d) reached h c run other runs done listed = leaves_all m _ done (λ cell. refl)
 step_leaves first m (Step.Switches names) reached h c run other runs done listed = leaves_all m _ done (λ cell. refl)
 step_leaves first m (Step.Begins d f kept) reached h c run other runs done listed = leaves_all m _ done (λ cell. refl)
-step_leaves first m (Step.Rests t) reached h c run other runs done listed = leaves_all m _ done (λ cell. refl)
-step_leaves first m (Step.Unsettles t u) reached h c run other runs done listed = leaves_all m _ done (λ cell. refl)
-step_leaves first m (Step.Confirms t) reached h c run other runs done listed = leaves_all m _ done (λ cell. refl)
+step_leaves first m (Step.EndsSettling t) reached h c run other runs done listed = leaves_all m _ done (λ cell. refl)
+step_leaves first m (Step.BeginsChange t u) reached h c run other runs done listed = leaves_all m _ done (λ cell. refl)
+step_leaves first m (Step.ConfirmsBirths t) reached h c run other runs done listed = leaves_all m _ done (λ cell. refl)
 step_leaves first m (Step.HandsIn t shown) reached h c run other runs done listed = leaves_all m _ done (λ cell. refl)
 step_leaves first m (Step.Extends d one dir next) reached h c run other runs done listed = leaves_all m _ done (λ cell. refl)
 step_leaves first m (Step.Learns d one dir spans) reached h c run other runs done listed = leaves_all m _ done (λ cell. refl)

@@ -10,7 +10,7 @@ use Rattle.fop_types.proofs.MapLemmas.{cell_exact, cell_cmp_total}
 use Rattle.fop_types.specs.Bounds.{Each}
 use Rattle.fop_types.specs.Orders.{cell_cmp}
 use Rattle.fop_types.specs.declared.cells.Cell.{Cell}
-use Rattle.mount_laws.specs.Holding.{AreHeld, AreHeldAlone}
+use Rattle.mount_laws.specs.Holding.{AreHeld, AreHeldExclusively}
 use Rattle.mount_laws.specs.Holds.{Hold, Holds, AreApart}
 
 pub cells_are : (a b : Cell) → is_cell a b ≡ true → a ≡ b
@@ -46,7 +46,7 @@ shared_cell (c ∷ xs) ys x h k = by_case (is_cell x c) refl (λ m. shared_cell 
     by_case false other rest m = or_right (has_cell ys c) (share xs ys) (rest m)
 
 -- cells that one call holds exclusively and cells that another holds have none in common
-pub held_apart : (hs ks : List Hold) (xs ys : List Cell) → AreApart hs ks → AreHeldAlone hs xs → AreHeld ks ys → share xs ys ≡ false
+pub held_apart : (hs ks : List Hold) (xs ys : List Cell) → AreApart hs ks → AreHeldExclusively hs xs → AreHeld ks ys → share xs ys ≡ false
 held_apart hs ks [] ys a h k = refl
 held_apart hs ks (x ∷ xs) ys a h k = by_case (has_cell ys x) refl (held_apart hs ks xs ys a h.1 k)
   where

@@ -33,7 +33,7 @@ use Rattle.mount_laws.specs.Runs.Stage.{Waiting, Settled, Changing, Bearing, Dec
 use Rattle.mount_laws.specs.States.{State, Change, start, Runs, held, is_unanswered, set_count}
 use Rattle.mount_laws.specs.States.Status.{Ready}
 use Rattle.mount_laws.specs.Steps.{Step, Task, after}
-use Rattle.mount_laws.specs.Steps.Step.{Submits, Leaves, Switches, Begins, Settles, Rests, Unsettles, Decides, Bears, Confirms, HandsIn, Extends, Learns, Answers}
+use Rattle.mount_laws.specs.Steps.Step.{Submits, Concludes, Switches, Begins, Settles, EndsSettling, BeginsChange, Decides, SendsBirths, ConfirmsBirths, HandsIn, Extends, Learns, Answers}
 
 -- ---- fops
 
@@ -134,7 +134,7 @@ IsSettling Waiting = Unit {0}
 IsSettling (Settled place) = Unit {0}
 IsSettling other = ⊥
 
-pub record MayRest (m : State) (t : Task) : Type 0 where
+pub record MayEndSettling (m : State) (t : Task) : Type 0 where
   pub under_way : IsUnderWay m t
   pub turn : IsSettling t.run.stage
   pub settles : settles_first t.job ≡ true
@@ -156,7 +156,7 @@ IsAside (job.Birth cells op) = ⊥
 IsAside other = Unit {0}
 
 -- A change becomes unsettled after its job's settling, where the cells are present.
-pub record MayUnsettle (m : State) (t : Task) (u : ℕ) : Type 0 where
+pub record MayBeginChange (m : State) (t : Task) (u : ℕ) : Type 0 where
   pub under_way : IsUnderWay m t
   pub place : ℕ
   pub settled : t.run.stage ≡ Settled place
@@ -169,12 +169,12 @@ pub record MayDecide (m : State) (t : Task) (u : ℕ) : Type 0 where
   pub turn : t.run.stage ≡ Changing u
   pub unsettled : (m.changes u).verdict ≡ Unsettled
 
-pub record MayBear (m : State) (t : Task) : Type 0 where
+pub record MaySendBirths (m : State) (t : Task) : Type 0 where
   pub under_way : IsUnderWay m t
   pub waiting : t.run.stage ≡ Waiting
   pub is_birth : IsBirth t.job
 
-pub record MayConfirm (m : State) (t : Task) : Type 0 where
+pub record MayConfirmBirths (m : State) (t : Task) : Type 0 where
   pub under_way : IsUnderWay m t
   pub turn : t.run.stage ≡ Bearing
 
@@ -224,15 +224,15 @@ pub record ArePlanned (least : ℕ) (names : List (List ℕ)) : Type 0 where
 
 abbrev pub Allowed : State → Step → Type 0
 Allowed m (Submits draws) = Unit {0}
-Allowed m (Leaves c) = (m.calls c).status ≡ Ready
+Allowed m (Concludes c) = (m.calls c).status ≡ Ready
 Allowed m (Switches names) = ArePlanned (set_count m) names
 Allowed m (Begins c f kept) = MayBegin m c f kept
 Allowed m (Settles t u adopts) = MaySettle m t u
-Allowed m (Rests t) = MayRest m t
-Allowed m (Unsettles t u) = MayUnsettle m t u
+Allowed m (EndsSettling t) = MayEndSettling m t
+Allowed m (BeginsChange t u) = MayBeginChange m t u
 Allowed m (Decides t u) = MayDecide m t u
-Allowed m (Bears t) = MayBear m t
-Allowed m (Confirms t) = MayConfirm m t
+Allowed m (SendsBirths t) = MaySendBirths m t
+Allowed m (ConfirmsBirths t) = MayConfirmBirths m t
 Allowed m (HandsIn t shown) = MayHandIn m t shown
 Allowed m (Extends c run dir next) = MayExtend m c run dir next
 Allowed m (Learns c run dir spans) = MayLearn m c run dir spans

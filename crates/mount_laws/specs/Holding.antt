@@ -13,7 +13,7 @@ use Rattle.fop_types.specs.declared.jobs.Job.{Job}
 use Rattle.fop_types.specs.declared.jobs.Job.TheVariants as job
 use Rattle.fop_types.specs.declared.jobs.SetReply.{SetReply}
 use Rattle.fop_types.specs.declared.store_ops.StoreOp.{StoreOp}
-use Rattle.mount_laws.specs.Holds.{Hold, Holds, HoldsAlone, AreApart, holds_of, extensions}
+use Rattle.mount_laws.specs.Holds.{Hold, Holds, HoldsExclusively, AreApart, holds_of, extensions}
 use Rattle.mount_laws.specs.Runs.{Run, SettledJob, Leads, first_course, holds_in}
 use Rattle.mount_laws.specs.States.{State, Runs, held}
 use Rattle.mount_laws.specs.Steps.{is_lookup}
@@ -39,15 +39,15 @@ JobAsked m = (c : ℕ) (run : Run) → Runs m c run → Leads (first_course run)
 abbrev pub AreHeld : List Hold → List Cell → Type 0
 AreHeld hs cells = Each (λ (cell : Cell). Holds hs cell.gfid) cells
 
-abbrev pub AreHeldAlone : List Hold → List Cell → Type 0
-AreHeldAlone hs cells = Each (λ (cell : Cell). HoldsAlone hs cell.gfid) cells
+abbrev pub AreHeldExclusively : List Hold → List Cell → Type 0
+AreHeldExclusively hs cells = Each (λ (cell : Cell). HoldsExclusively hs cell.gfid) cells
 
 abbrev pub AreHeldOrDrawn : List Hold → Option Gfid → List Cell → Type 0
-AreHeldOrDrawn hs drawn cells = Each (λ (cell : Cell). HoldsAlone hs cell.gfid ⊎ (drawn ≡ Some cell.gfid)) cells
+AreHeldOrDrawn hs drawn cells = Each (λ (cell : Cell). HoldsExclusively hs cell.gfid ⊎ (drawn ≡ Some cell.gfid)) cells
 
 -- a change is of cells that are held exclusively, those that its op needs; a lookup makes none
 pub record IsHeldChange (hs : List Hold) (f : Fop) (cells : List Cell) (o : StoreOp) : Type 0 where
-  pub alone : AreHeldAlone hs cells
+  pub alone : AreHeldExclusively hs cells
   pub whole : cells ≡ needs o
   pub no_lookup : is_lookup f ≡ false
 

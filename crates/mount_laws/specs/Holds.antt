@@ -56,11 +56,11 @@ abbrev pub IsExclusive : Hold → Gfid → Type 0
 IsExclusive h gfid = (h.gfid ≡ gfid) × (h.shared ≡ false)
 
 -- one of the holds is of the object, and is exclusive
-abbrev pub HoldsAlone : List Hold → Gfid → Type 0
-HoldsAlone [] gfid = ⊥
-HoldsAlone (h ∷ hs) gfid = IsExclusive h gfid ⊎ HoldsAlone hs gfid
+abbrev pub HoldsExclusively : List Hold → Gfid → Type 0
+HoldsExclusively [] gfid = ⊥
+HoldsExclusively (h ∷ hs) gfid = IsExclusive h gfid ⊎ HoldsExclusively hs gfid
 
 -- of no object that both hold one of the two holds exclusively
 pub record AreApart (hs ks : List Hold) : Type 0 where
-  pub first : (gfid : Gfid) → HoldsAlone hs gfid → Holds ks gfid → ⊥
-  pub second : (gfid : Gfid) → Holds hs gfid → HoldsAlone ks gfid → ⊥
+  pub first : (gfid : Gfid) → HoldsExclusively hs gfid → Holds ks gfid → ⊥
+  pub second : (gfid : Gfid) → Holds hs gfid → HoldsExclusively ks gfid → ⊥

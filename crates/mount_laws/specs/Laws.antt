@@ -3,8 +3,8 @@ use Rattle.std.specs.Prelude.{ℕ, List}
 use Rattle.mount_laws.specs.Graphs.{BeyondOld, InItsGraph}
 use Rattle.mount_laws.specs.Guards.{IsReached}
 use Rattle.mount_laws.specs.Holding.{HoldsApart, JobAsked, HoldCovers}
-use Rattle.mount_laws.specs.Seeing.{RestedIsListed, SawStill}
-use Rattle.mount_laws.specs.Settling.{OneUnsettled, EachStandsBeside, RunningIsAlone, SettlingEnds, ReadIsAdopted, AreWhole, FirmIsTouched}
+use Rattle.mount_laws.specs.Seeing.{SettledIsListed, SawStill}
+use Rattle.mount_laws.specs.Settling.{OneUnsettled, EachStandsBeside, RunningIsAlone, SettlingEnds, ReadIsAdopted, AreWhole, TouchedIsFirm}
 use Rattle.mount_laws.specs.States.{State}
 
 -- of every mount, whatever the sets of its first graph
@@ -25,9 +25,9 @@ pub record KeepsSettled (m : State) : Type 0 where
 pub record KeepsSights (m : State) : Type 0 where
   pub saw : SawStill m
   pub adopted : ReadIsAdopted m
-  pub rested : RestedIsListed m
+  pub rested : SettledIsListed m
   pub whole : AreWhole m
-  pub firm : FirmIsTouched m
+  pub firm : TouchedIsFirm m
 
 pub record KeepsGraphs (m : State) : Type 0 where
   pub in_its_graph : InItsGraph m

@@ -39,8 +39,8 @@ IsListed [] done = ⊥
 IsListed (one ∷ more) done = (one ≡ done) ⊎ IsListed more done
 
 -- From the end of its settling until its change begins, a job is among the settled ones.
-abbrev pub RestedIsListed : State → Type 0
-RestedIsListed m = (c : ℕ) (run : Run) (place set : ℕ) (asked : Job) (next : SetReply → Course) → Runs m c run → run.stage ≡ Settled place → run.course ≡ Course.Asks set asked next
+abbrev pub SettledIsListed : State → Type 0
+SettledIsListed m = (c : ℕ) (run : Run) (place set : ℕ) (asked : Job) (next : SetReply → Course) → Runs m c run → run.stage ≡ Settled place → run.course ≡ Course.Asks set asked next
     → IsListed run.settled (record { set = set; cells = cells_of_job asked })
 
 -- one of the settled jobs was of the cell

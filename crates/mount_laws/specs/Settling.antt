@@ -12,8 +12,8 @@ use Rattle.fop_types.specs.declared.cells.Cell.{Cell}
 use Rattle.fop_types.specs.declared.contents.Content.{Content}
 use Rattle.fop_types.specs.declared.jobs.Job.{Job}
 use Rattle.fop_types.specs.declared.jobs.SetReply.{SetReply}
-use Rattle.mount_laws.specs.Guards.{Allowed, IsUnsettledOn, MaySettle, MayBear, MayUnsettle}
-use Rattle.mount_laws.specs.Holding.{AreHeldAlone}
+use Rattle.mount_laws.specs.Guards.{Allowed, IsUnsettledOn, MaySettle, MaySendBirths, MayBeginChange}
+use Rattle.mount_laws.specs.Holding.{AreHeldExclusively}
 use Rattle.mount_laws.specs.Runs.{Run, SettledJob, holds_in}
 use Rattle.mount_laws.specs.Runs.Stage.{Settled, Changing}
 use Rattle.mount_laws.specs.States.{State, Change, Status, Runs, has_begun}
@@ -42,7 +42,7 @@ IsSettledJob c change done = IsUnsettledOn change done.set done.cells → change
 -- `settled`: after a job's settling, each unsettled change on its cells is its own call's, until the hold is released; so
 -- no change of another call on them is decided. `lookup`: a lookup makes none.
 pub record StandsBeside (c : ℕ) (run : Run) (u : ℕ) (change : Change) : Type 0 where
-  pub own_is_held : change.by ≡ c → change.verdict ≢ Undrawn → AreHeldAlone (holds_in run) change.cells
+  pub own_is_held : change.by ≡ c → change.verdict ≢ Undrawn → AreHeldExclusively (holds_in run) change.cells
   pub running_is_unsettled : run.stage ≡ Changing u → IsRunning c run change
   pub none_left : (place set : ℕ) (asked : Job) (next : SetReply → Course) → run.stage ≡ Settled place → run.course ≡ Course.Asks set asked next → settles_first asked ≡ true
       → IsUnsettledOn change set (cells_of_job asked) → ⊥
@@ -75,8 +75,8 @@ pub record IsAtWork (m : State) (c : ℕ) (run : Run) (set : ℕ) (cells : List 
 
 -- From a job's asking to the end of its hold no other call's change becomes unsettled on its cells.
 pub record SettlingEnds (m : State) : Type 0 where
-  pub asked : (c : ℕ) (run : Run) (cells : List Cell) (t : Task) (u : ℕ) → c ≢ t.call → Allowed m (Step.Unsettles t u) → IsAtWork m c run t.set cells → share (cells_of_job t.job) cells ≡ false
-  pub settled : (c : ℕ) (run : Run) (t : Task) (u : ℕ) → c ≢ t.call → Allowed m (Step.Unsettles t u) → Runs m c run → Each (λ (done : SettledJob). share (cells_of_job t.job) done.cells ≡ false) run.settled
+  pub asked : (c : ℕ) (run : Run) (cells : List Cell) (t : Task) (u : ℕ) → c ≢ t.call → Allowed m (Step.BeginsChange t u) → IsAtWork m c run t.set cells → share (cells_of_job t.job) cells ≡ false
+  pub settled : (c : ℕ) (run : Run) (t : Task) (u : ℕ) → c ≢ t.call → Allowed m (Step.BeginsChange t u) → Runs m c run → Each (λ (done : SettledJob). share (cells_of_job t.job) done.cells ≡ false) run.settled
 
 -- no names, and not removed
 pub record HasNoNames (content : Option Content) : Type 0 where
@@ -109,7 +109,7 @@ AreWhole m = (u : ℕ) → (m.changes u).verdict ≢ Undrawn → (m.changes u).c
 
 -- Each cell of a change is firm from the moment on at which the change becomes unsettled. A cell that is not firm has no names
 -- and is not removed: to a fop, whether a read showed it or not says the same.
-pub record FirmIsTouched (m : State) : Type 0 where
+pub record TouchedIsFirm (m : State) : Type 0 where
   pub touched : (u : ℕ) (cell : Cell) → (m.changes u).verdict ≢ Undrawn → has_cell (m.changes u).cells cell ≡ true → m.firm (m.changes u).set cell ≡ true
   pub no_names : (set : ℕ) (cell : Cell) → m.firm set cell ≡ false → HasNoNames (m.adopted set cell)
 
@@ -120,5 +120,5 @@ pub record UnconfirmedIsBorn (m : State) : Type 0 where
 
 -- Each birth gives its cell the content of the first one.
 pub record OneBirth (m : State) : Type 0 where
-  pub births : (t : Task) → MayBear m t → AreAsFirst (m.born t.set) (births_by t.job)
-  pub changes : (t : Task) (u : ℕ) → MayUnsettle m t u → AreAsFirst (m.born t.set) (births_by t.job)
+  pub births : (t : Task) → MaySendBirths m t → AreAsFirst (m.born t.set) (births_by t.job)
+  pub changes : (t : Task) (u : ℕ) → MayBeginChange m t u → AreAsFirst (m.born t.set) (births_by t.job)

@@ -47,20 +47,20 @@ pub record Task : Type 0 where
   pub job : Job
   pub next : SetReply → Course
 
--- `draws`: the call would make an object. `Leaves`: the call is answered without a further fop. `Learns`: a layout that the
--- fop has read is kept. `Settles`: the job decides an unsettled change on its cells. `Rests`: it has settled them all.
--- `Decides`: the job's own change is adopted. `Confirms`: a quorum has the births.
+-- `draws`: the call would make an object. `Concludes`: the call is answered without a further fop. `Learns`: a layout that the
+-- fop has read is kept. `Settles`: the job decides an unsettled change on its cells. `EndsSettling`: it has settled them all.
+-- `Decides`: the job's own change is adopted. `ConfirmsBirths`: a quorum has the births.
 pub data Step : Type 0 where
   Submits : (draws : Bool) → Step
-  Leaves : (c : ℕ) → Step
+  Concludes : (c : ℕ) → Step
   Switches : (names : List (List ℕ)) → Step
   Begins : (c : ℕ) → (fop : Fop) → (kept : Kept) → Step
   Settles : (t : Task) → (u : ℕ) → (adopts : Bool) → Step
-  Rests : (t : Task) → Step
-  Unsettles : (t : Task) → (u : ℕ) → Step
+  EndsSettling : (t : Task) → Step
+  BeginsChange : (t : Task) → (u : ℕ) → Step
   Decides : (t : Task) → (u : ℕ) → Step
-  Bears : (t : Task) → Step
-  Confirms : (t : Task) → Step
+  SendsBirths : (t : Task) → Step
+  ConfirmsBirths : (t : Task) → Step
   HandsIn : (t : Task) → (reply : SetReply) → Step
   Extends : (c : ℕ) → (run : Run) → (dir : Gfid) → (next : Course) → Step
   Learns : (c : ℕ) → (run : Run) → (dir : Gfid) → (spans : List (Option Span)) → Step
@@ -185,8 +185,8 @@ abbrev pub settling : State → Task → ℕ → Bool → State
 settling m t u adopts =
     with_run (deciding m u adopts) t.call (record t.run { saw = sees (deciding m u adopts).adopted (m.changes u) t.run.saw })
 
-abbrev pub resting : State → Task → State
-resting m t =
+abbrev pub ending_settling : State → Task → State
+ending_settling m t =
     with_run m t.call (record t.run { stage = Settled (length m.history); settled = record { set = t.set; cells = cells_of_job t.job } ∷ t.run.settled })
 
 -- the change that a job makes
@@ -204,8 +204,8 @@ births_by other = []
 abbrev pub with_births : State → ℕ → List (Cell × Content) → State
 with_births m set bs = record m { born = with_at m.born set (after_births (m.born set) bs) }
 
-abbrev pub unsettling : State → Task → ℕ → State
-unsettling m t u =
+abbrev pub beginning_change : State → Task → ℕ → State
+beginning_change m t u =
     with_births
     (with_firm
     (with_change
@@ -222,8 +222,8 @@ deciding_own m t u =
     with_run (adopting m u) t.call
     (record t.run { stage = Decided (number_after m (m.changes u).effect); saw = sees (adopting m u).adopted (m.changes u) t.run.saw })
 
-abbrev pub bearing : State → Task → State
-bearing m t =
+abbrev pub sending_births : State → Task → State
+sending_births m t =
     with_births
     (with_contents
     (with_run m t.call (at_stage t.run Bearing))
@@ -257,15 +257,15 @@ extending m c run dir next = with_run m c (going_on run (Held dir ∷ run.handed
 
 abbrev pub after : State → Step → State
 after m (Submits draws) = submitted m draws
-after m (Leaves c) = with_status m c Answered
+after m (Concludes c) = with_status m c Answered
 after m (Switches names) = record m { names = names }
 after m (Begins c f kept) = beginning m c f kept
 after m (Settles t u adopts) = settling m t u adopts
-after m (Rests t) = resting m t
-after m (Unsettles t u) = unsettling m t u
+after m (EndsSettling t) = ending_settling m t
+after m (BeginsChange t u) = beginning_change m t u
 after m (Decides t u) = deciding_own m t u
-after m (Bears t) = bearing m t
-after m (Confirms t) = confirming m t
+after m (SendsBirths t) = sending_births m t
+after m (ConfirmsBirths t) = confirming m t
 after m (HandsIn t shown) = handing_in m t shown
 after m (Extends c run dir next) = extending m c run dir next
 after m (Learns c run dir spans) = record m { learnt = (dir, spans) ∷ m.learnt }
