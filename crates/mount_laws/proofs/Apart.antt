@@ -1,12 +1,13 @@
 -- Holds of different calls do not conflict.
-use Rattle.std.proofs.Common.{◌≡◌, ℕ, ◌+◌, ◌⊎◌, inl, inr, true, false, refl, sym, ap, subst, List, [], ◌∷◌, ◌++◌}
+use Rattle.std.proofs.Common.{◌≡◌, ℕ, ◌+◌, ◌⊎◌, inl, inr, true, false, refl, sym, subst, List, [], ◌∷◌}
 use Rattle.std.specs.Prelude.{◌≢◌}
 use Rattle.afr_machine.specs.Replicas.{with_at}
+use Rattle.fop_types.specs.declared.answers.FopAnswer.TheVariants as fop_answer
 use Rattle.fop_types.specs.declared.cells.Gfid.{Gfid}
 use Rattle.mount_laws.specs.Guards.{Allowed, IsReached}
 use Rattle.mount_laws.specs.Holding.{HoldsApart}
-use Rattle.mount_laws.specs.Holds.{Hold, Holds, HoldsExclusively, AreApart, holds_of, extensions}
-use Rattle.mount_laws.specs.Runs.{Run, holds_in}
+use Rattle.mount_laws.specs.Holds.{Hold, Holds, HoldsExclusively, AreApart}
+use Rattle.mount_laws.specs.Runs.{Run}
 use Rattle.mount_laws.specs.States.{State, Call, Status, Runs, held, holds_by}
 use Rattle.mount_laws.specs.States.Status.{Unsubmitted, Ready, Running, Answered}
 use Rattle.mount_laws.specs.Steps.{Step, after, is_lookup}
@@ -21,34 +22,16 @@ none_apart ks = record { first = λ gfid h k. h; second = λ gfid h k. h }
 
 -- ---- one more hold
 
-split_holds : (hs : List Hold) (d : Hold) (es : List Hold) (gfid : Gfid) → Holds (hs ++ d ∷ es) gfid → Holds (hs ++ es) gfid ⊎ Holds (d ∷ []) gfid
-split_holds [] d es gfid (inl e) = inr (inl e)
-split_holds [] d es gfid (inr h) = inl h
-split_holds (one ∷ hs) d es gfid (inl e) = inl (inl e)
-split_holds (one ∷ hs) d es gfid (inr h) = by_case (split_holds hs d es gfid h) where
-  by_case : Holds (hs ++ es) gfid ⊎ Holds (d ∷ []) gfid → Holds (one ∷ hs ++ es) gfid ⊎ Holds (d ∷ []) gfid
-  by_case (inl k) = inl (inr k)
-  by_case (inr k) = inr k
-
-split_alone : (hs : List Hold) (d : Hold) (es : List Hold) (gfid : Gfid) → HoldsExclusively (hs ++ d ∷ es) gfid → HoldsExclusively (hs ++ es) gfid ⊎ HoldsExclusively (d ∷ []) gfid
-split_alone [] d es gfid (inl e) = inr (inl e)
-split_alone [] d es gfid (inr h) = inl h
-split_alone (one ∷ hs) d es gfid (inl e) = inl (inl e)
-split_alone (one ∷ hs) d es gfid (inr h) = by_case (split_alone hs d es gfid h) where
-  by_case : HoldsExclusively (hs ++ es) gfid ⊎ HoldsExclusively (d ∷ []) gfid → HoldsExclusively (one ∷ hs ++ es) gfid ⊎ HoldsExclusively (d ∷ []) gfid
-  by_case (inl k) = inl (inr k)
-  by_case (inr k) = inr k
-
-extended_apart : (hs : List Hold) (d : Hold) (es ks : List Hold) → AreApart (hs ++ es) ks → AreApart (d ∷ []) ks → AreApart (hs ++ d ∷ es) ks
-extended_apart hs d es ks a b = record { first = λ gfid h k. first gfid k (split_alone hs d es gfid h); second = λ gfid h k. second gfid k (split_holds hs d es gfid h) }
+longer_apart : (d : Hold) (hs ks : List Hold) → AreApart hs ks → AreApart (d ∷ []) ks → AreApart (d ∷ hs) ks
+longer_apart d hs ks a b = record { first = λ gfid h k. first gfid k h; second = λ gfid h k. second gfid k h }
   where
-    first : (gfid : Gfid) → Holds ks gfid → HoldsExclusively (hs ++ es) gfid ⊎ HoldsExclusively (d ∷ []) gfid → ⊥
-    first gfid k (inl h) = a.first gfid h k
-    first gfid k (inr h) = b.first gfid h k
+    first : (gfid : Gfid) → Holds ks gfid → HoldsExclusively (d ∷ hs) gfid → ⊥
+    first gfid k (inl e) = b.first gfid (inl e) k
+    first gfid k (inr h) = a.first gfid h k
 
-    second : (gfid : Gfid) → HoldsExclusively ks gfid → Holds (hs ++ es) gfid ⊎ Holds (d ∷ []) gfid → ⊥
-    second gfid k (inl h) = a.second gfid h k
-    second gfid k (inr h) = b.second gfid h k
+    second : (gfid : Gfid) → HoldsExclusively ks gfid → Holds (d ∷ hs) gfid → ⊥
+    second gfid k (inl e) = b.second gfid (inl e) k
+    second gfid k (inr h) = a.second gfid h k
 
 -- ---- one call whose status changes
 
@@ -62,7 +45,7 @@ one_apart m c call old new a b =
     (λ first ne. at_case (λ j (y : Call). a ≢ j → AreApart (held m a) (holds_by y.status)) m.calls c call (λ same. flipped _ _ (new a first)) b (λ other same. old a b same) ne)
 
 -- a call that holds nothing more
-same_apart : (m : State) (c : ℕ) (old new : Run) → HoldsApart m → Runs m c old → holds_in new ≡ holds_in old → AreApartIn (with_at m.calls c (record (m.calls c) { status = Running new }))
+same_apart : (m : State) (c : ℕ) (old new : Run) → HoldsApart m → Runs m c old → new.holds ≡ old.holds → AreApartIn (with_at m.calls c (record (m.calls c) { status = Running new }))
 same_apart m c old new a runs same =
     one_apart m c (record (m.calls c) { status = Running new }) a
     (λ other ne. subst (λ (hs : List Hold). AreApart hs (held m other)) (sym same) (subst (λ (s : Status). AreApart (holds_by s) (held m other)) runs (a c other (λ e. ne (sym e)))))
@@ -83,11 +66,7 @@ step_apart : (m : State) (step : Step) → Allowed m step → HoldsApart m → H
 step_apart m (Step.Submits draws) h a = free_apart m (m.submitted + 1) _ a (λ run e. absurd cc)
 step_apart m (Step.Concludes c) h a = free_apart m c _ a (λ run e. absurd cc)
 step_apart m (Step.Switches names) h a = a
-step_apart m (Step.Begins c f kept) h a = one_apart m c _ a (λ other ne. subst (λ (hs : List Hold). AreApart hs (held m other)) (sym (no_more (holds_of f))) (h.apart other ne))
-  where
-    no_more : (hs : List Hold) → hs ++ [] ≡ hs
-    no_more [] = refl
-    no_more (one ∷ hs) = ap (λ (ks : List Hold). one ∷ ks) (no_more hs)
+step_apart m (Step.Begins c f kept) h a = one_apart m c _ a (λ other ne. h.apart other ne)
 step_apart m (Step.Settles t u true) h a = same_apart m t.call t.run _ a h.under_way.runs refl
 step_apart m (Step.Settles t u false) h a = same_apart m t.call t.run _ a h.under_way.runs refl
 step_apart m (Step.EndsSettling t) h a = same_apart m t.call t.run _ a h.under_way.runs refl
@@ -98,10 +77,11 @@ step_apart m (Step.ConfirmsBirths t) h a = same_apart m t.call t.run _ a h.under
 step_apart m (Step.HandsIn t shown) h a = same_apart m t.call t.run _ a h.under_way.runs refl
 step_apart m (Step.Extends c run dir next) h a =
     one_apart m c _ a
-    (λ other ne. extended_apart (holds_of run.fop) (record { gfid = dir; shared = false }) (extensions run.handed) (held m other)
+    (λ other ne. longer_apart (record { gfid = dir; shared = false }) run.holds (held m other)
     (subst (λ (s : Status). AreApart (holds_by s) (held m other)) h.runs (a c other (λ e. ne (sym e)))) (h.apart other ne))
 step_apart m (Step.Learns c run dir spans) h a = a
-step_apart m (Step.Answers c run answer) h a = free_apart m c _ a (λ other e. quiet (is_lookup run.fop) answer other e)
+step_apart m (Step.Answers c run answer place) h a = free_apart m c _ a (λ other e. quiet (is_lookup run.fop) answer other e)
+step_apart m (Step.AnswersAbove c run answer) h a = free_apart m c _ a (λ other e. quiet (is_lookup run.fop) (fop_answer.Call answer) other e)
 
 pub holds_apart : (first : List (List ℕ)) (m : State) → IsReached first m → HoldsApart m
 holds_apart first _ (IsReached.Start planned) = λ a b ne. none_apart []

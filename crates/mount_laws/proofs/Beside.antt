@@ -11,15 +11,17 @@ use Rattle.dht_fops.specs.Courses.{Course}
 use Rattle.dht_fops.specs.Handed.{Handed}
 use Rattle.dht_fops.specs.Handed.Event.{Replied, Held}
 use Rattle.fop_types.specs.Bounds.{Each}
+use Rattle.fop_types.specs.declared.answers.FopAnswer.TheVariants as fop_answer
 use Rattle.fop_types.specs.declared.cells.Cell.{Cell}
+use Rattle.fop_types.specs.declared.cells.Gfid.{Gfid}
 use Rattle.fop_types.specs.declared.fops.Fop.{Fop}
 use Rattle.fop_types.specs.declared.jobs.Job.{Job}
 use Rattle.fop_types.specs.declared.jobs.Job.TheVariants as job
 use Rattle.fop_types.specs.declared.jobs.SetReply.{SetReply}
 use Rattle.mount_laws.specs.Guards.{Allowed, IsReached, IsUnderWay, IsUnsettledOn, IsChange, MaySettle, MayBeginChange, MayDecide}
-use Rattle.mount_laws.specs.Holding.{HoldsApart, HoldCovers, AreHeld, AreHeldExclusively, IsCovered}
-use Rattle.mount_laws.specs.Holds.{Hold, HoldsExclusively, holds_of, extensions}
-use Rattle.mount_laws.specs.Runs.{Run, Stage, SettledJob, Sight, holds_in, begun, going_on}
+use Rattle.mount_laws.specs.Holding.{HoldsApart, HoldCovers, AreHeld, AreHeldExclusively, IsHeldFor}
+use Rattle.mount_laws.specs.Holds.{Hold}
+use Rattle.mount_laws.specs.Runs.{Run, Stage, SettledJob, Sight, begun, going_on, held_longer}
 use Rattle.mount_laws.specs.Runs.Stage.{Waiting, Settled, Changing, Bearing, Decided}
 use Rattle.mount_laws.specs.Settling.{IsSettledJob, StandsBeside, EachStandsBeside, RunningIsAlone, AreNumbered}
 use Rattle.mount_laws.specs.States.{State, Change, Call, Status, Runs, has_begun, holds_by, held}
@@ -64,24 +66,19 @@ record IsChangeOf (c set : ℕ) (asked : Job) (f : Fop) (hs : List Hold) : Type 
   pub no_lookup : is_lookup f ≡ false
   pub settles : settles_first asked ≡ true
 
-change_of_job : (c set : ℕ) (asked : Job) (f : Fop) (handed : Handed) → IsChange asked → IsCovered f handed set asked → IsChangeOf c set asked f (holds_of f ++ extensions handed)
-change_of_job c set (job.Change cells fd o effect) f handed is h = record { by = refl; unsettled = refl; on_set = refl; cells = refl; alone = h.alone; no_lookup = h.no_lookup; settles = refl }
-change_of_job c set (job.Read cells fd dir) f handed is h = absurd is
-change_of_job c set (job.Birth cells o) f handed is h = absurd is
-change_of_job c set (job.Open fd gfid) f handed is h = absurd is
-change_of_job c set job.Index f handed is h = absurd is
-change_of_job c set (job.Heal cell) f handed is h = absurd is
+change_of_job : (c set : ℕ) (asked : Job) (f : Fop) (hs : List Hold) → IsChange asked → IsHeldFor hs f asked → IsChangeOf c set asked f hs
+change_of_job c set (job.Change cells fd o effect) f hs is h = record { by = refl; unsettled = refl; on_set = refl; cells = refl; alone = h.alone; no_lookup = h.no_lookup; settles = refl }
+change_of_job c set (job.Read cells fd dir) f hs is h = absurd is
+change_of_job c set (job.Birth cells o) f hs is h = absurd is
+change_of_job c set (job.Open fd gfid) f hs is h = absurd is
+change_of_job c set job.Index f hs is h = absurd is
+change_of_job c set (job.Heal cell) f hs is h = absurd is
 
 -- ---- more holds
 
-more_alone : (hs : List Hold) (d : Hold) (es : List Hold) (cells : List Cell) → AreHeldExclusively (hs ++ es) cells → AreHeldExclusively (hs ++ d ∷ es) cells
-more_alone hs d es [] h = tt
-more_alone hs d es (cell ∷ cells) h = (one hs h.0, more_alone hs d es cells h.1)
-  where
-    one : (ks : List Hold) → HoldsExclusively (ks ++ es) cell.gfid → HoldsExclusively (ks ++ d ∷ es) cell.gfid
-    one [] k = inr k
-    one (k ∷ ks) (inl e) = inl e
-    one (k ∷ ks) (inr e) = inr (one ks e)
+longer_exclusive : (d : Hold) (hs : List Hold) (cells : List Cell) → AreHeldExclusively hs cells → AreHeldExclusively (d ∷ hs) cells
+longer_exclusive d hs [] h = tt
+longer_exclusive d hs (cell ∷ cells) h = (inr h.0, longer_exclusive d hs cells h.1)
 
 -- ---- a fop that goes on, beside a change that stays
 
@@ -108,10 +105,20 @@ module _ (c : ℕ) (run : Run) (u : ℕ) (change : Change) (a : StandsBeside c r
     lookup = a.lookup;
   }
 
-  -- it was handed a reply, or its hold was extended
-  gone_on : (handed : Handed) (course : Course) (saw : List Sight) → ((cells : List Cell) → AreHeldExclusively (holds_in run) cells → AreHeldExclusively (holds_of run.fop ++ extensions handed) cells) → StandsBeside c (going_on run handed course saw) u change
-  gone_on handed course saw more = record {
-    own_is_held = λ by drawn. more change.cells (a.own_is_held by drawn);
+  -- it was handed a reply
+  gone_on : (handed : Handed) (course : Course) (saw : List Sight) → StandsBeside c (going_on run handed course saw) u change
+  gone_on handed course saw = record {
+    own_is_held = a.own_is_held;
+    running_is_unsettled = λ e. absurd cc;
+    none_left = λ place set asked next e. absurd cc;
+    settled = a.settled;
+    lookup = a.lookup;
+  }
+
+  -- its hold was extended
+  held_on : (handed : Handed) (course : Course) (saw : List Sight) (dir : Gfid) → StandsBeside c (held_longer (going_on run handed course saw) dir) u change
+  held_on handed course saw dir = record {
+    own_is_held = λ by drawn. longer_exclusive (record { gfid = dir; shared = false }) run.holds change.cells (a.own_is_held by drawn);
     running_is_unsettled = λ e. absurd cc;
     none_left = λ place set asked next e. absurd cc;
     settled = a.settled;
@@ -180,7 +187,7 @@ module _ (m : State) (apart : HoldsApart m) (cover : HoldCovers m) (numbered : A
       let own = (a c run runs u).own_is_held running.by (λ e. let clash : Unsettled ≡ Undrawn = sym running.unsettled ∙ e in absurd cc) in
       let mine : AreHeldExclusively (held m c) (m.changes u).cells = subst (λ (s : Status). AreHeldExclusively (holds_by s) (m.changes u).cells) (sym runs) own in
       let theirs : AreHeld (held m t.call) (cells_of_job t.job) = subst (λ (s : Status). AreHeld (holds_by s) (cells_of_job t.job)) (sym h.under_way.runs)
-      (covered_held t.run.fop t.run.handed t.set t.job h.settles (cover.asked t.call t.run t.set t.job t.next h.under_way.runs h.under_way.asks)) in
+      (covered_held t.run.holds t.run.fop t.job h.settles (cover.asked t.call t.run t.set t.job t.next h.under_way.runs h.under_way.asks)) in
       let none = held_apart (held m c) (held m t.call) (m.changes u).cells (cells_of_job t.job) (apart c t.call (λ e. other (sym e))) mine theirs in
       let clash : true ≡ false = sym h.unsettled.touches ∙ none in absurd cc
     where
@@ -239,8 +246,8 @@ module _ (m : State) (apart : HoldsApart m) (cover : HoldCovers m) (numbered : A
       new : Change
       new = change_by t.call t.set t.job
 
-      made : IsChangeOf t.call t.set t.job t.run.fop (holds_in t.run)
-      made = change_of_job t.call t.set t.job t.run.fop t.run.handed h.is_change (cover.asked t.call t.run t.set t.job t.next h.under_way.runs h.under_way.asks)
+      made : IsChangeOf t.call t.set t.job t.run.fop (t.run.holds)
+      made = change_of_job t.call t.set t.job t.run.fop t.run.holds h.is_change (cover.asked t.call t.run t.set t.job t.next h.under_way.runs h.under_way.asks)
 
       was : StandsBeside t.call t.run u (m.changes u)
       was = a t.call t.run h.under_way.runs u
@@ -254,7 +261,7 @@ module _ (m : State) (apart : HoldsApart m) (cover : HoldCovers m) (numbered : A
       -- its own fop beside it
       mine : StandsBeside t.call run u new
       mine = record {
-        own_is_held = λ by drawn. subst (λ (cells : List Cell). AreHeldExclusively (holds_in t.run) cells) (sym made.cells) made.alone;
+        own_is_held = λ by drawn. subst (λ (cells : List Cell). AreHeldExclusively (t.run.holds) cells) (sym made.cells) made.alone;
         running_is_unsettled = λ e. record {
           by = made.by;
           unsettled = made.unsettled;
@@ -280,7 +287,7 @@ module _ (m : State) (apart : HoldsApart m) (cover : HoldCovers m) (numbered : A
       no_share : (c : ℕ) → c ≢ t.call → (hs : List Hold) → held m c ≡ hs → (cells : List Cell) → AreHeld hs cells → share new.cells cells ≡ true → ⊥
       no_share c ne hs is cells h2 s =
           let alone : AreHeldExclusively (held m t.call) new.cells = subst (λ (st : Status). AreHeldExclusively (holds_by st) new.cells) (sym h.under_way.runs)
-          (subst (λ (cs : List Cell). AreHeldExclusively (holds_in t.run) cs) (sym made.cells) made.alone) in
+          (subst (λ (cs : List Cell). AreHeldExclusively (t.run.holds) cs) (sym made.cells) made.alone) in
           let none = held_apart (held m t.call) (held m c) new.cells cells (apart t.call c (λ e. ne (sym e))) alone (subst (λ (ks : List Hold). AreHeld ks cells) (sym is) h2) in
           let clash : true ≡ false = sym s ∙ none in absurd cc
 
@@ -288,13 +295,13 @@ module _ (m : State) (apart : HoldsApart m) (cover : HoldCovers m) (numbered : A
       other_fop : (c : ℕ) (other : Run) → c ≢ t.call → Runs m c other → StandsBeside c other u new
       other_fop c other ne runs =
           let old = a c other runs u in
-          let holds : held m c ≡ holds_in other = ap (λ (s : Status). holds_by s) runs in
+          let holds : held m c ≡ other.holds = ap (λ (s : Status). holds_by s) runs in
           record {
             own_is_held = λ by drawn. absurd (not_mine c ne by);
             running_is_unsettled = λ e. let clash : Unsettled ≡ Undrawn = sym (old.running_is_unsettled e).unsettled ∙ h.fresh in absurd cc;
             none_left = λ place set asked next e f settles on.
-                no_share c ne (holds_in other) holds (cells_of_job asked) (covered_held other.fop other.handed set asked settles (cover.asked c other set asked next runs f)) on.touches;
-            settled = each_map (λ (done : SettledJob). AreHeld (holds_in other) done.cells) (IsSettledJob c new) other.settled (λ done held_cells on. absurd (no_share c ne (holds_in other) holds done.cells held_cells on.touches)) (cover.settled c other runs);
+                no_share c ne (other.holds) holds (cells_of_job asked) (covered_held other.holds other.fop asked settles (cover.asked c other set asked next runs f)) on.touches;
+            settled = each_map (λ (done : SettledJob). AreHeld (other.holds) done.cells) (IsSettledJob c new) other.settled (λ done held_cells on. absurd (no_share c ne (other.holds) holds done.cells held_cells on.touches)) (cover.settled c other runs);
             lookup = λ look by. absurd (not_mine c ne by);
           }
 
@@ -351,19 +358,26 @@ step_beside m (Step.SendsBirths t) h apart cover numbered a b =
 step_beside m (Step.ConfirmsBirths t) h apart cover numbered a b =
     goes m apart cover numbered a b t _ h.under_way.runs (λ u old. aside t.call t.run u (m.changes u) old (Decided None) (λ w e. absurd cc) (λ w e. absurd cc) t.run.saw)
 step_beside m (Step.HandsIn t shown) h apart cover numbered a b =
-    goes m apart cover numbered a b t _ h.under_way.runs (λ u old. gone_on t.call t.run u (m.changes u) old (Replied t.set t.job shown ∷ t.run.handed) (t.next shown) _ (λ cells k. k))
+    goes m apart cover numbered a b t _ h.under_way.runs (λ u old. gone_on t.call t.run u (m.changes u) old (Replied t.set t.job shown ∷ t.run.handed) (t.next shown) _)
 step_beside m (Step.Extends c run dir next) h apart cover numbered a b = (
   run_beside m.calls m.changes c _ a
-      (λ u. gone_on c run u (m.changes u) (a c run h.runs u) (Held dir ∷ run.handed) next run.saw (λ cells k. more_alone (holds_of run.fop) (record { gfid = dir; shared = false }) (extensions run.handed) cells k)),
+      (λ u. held_on c run u (m.changes u) (a c run h.runs u) (Held dir ∷ run.handed) next run.saw dir),
   one_unbegun m.calls m.changes c _ b (λ none. absurd cc),
 )
 step_beside m (Step.Learns c run dir spans) h apart cover numbered a b = (a, b)
-step_beside m (Step.Answers c run answer) h apart cover numbered a b =
+step_beside m (Step.Answers c run answer place) h apart cover numbered a b =
     stops m apart cover numbered a b c _ (λ other e. quiet (is_lookup run.fop) answer other e) (λ none u by. by_kind (is_lookup run.fop) refl none u by)
   where
     by_kind : (k : Bool) → is_lookup run.fop ≡ k → has_begun (status_after k answer) ≡ false → (u : ℕ) → (m.changes u).by ≡ c → (m.changes u).verdict ≡ Undrawn
     by_kind true e none u by = (a c run h.runs u).lookup e by
     by_kind false e none u by = absurd cc
+
+step_beside m (Step.AnswersAbove c run answer) h apart cover numbered a b =
+    stops m apart cover numbered a b c _ (λ other e. quiet (is_lookup run.fop) (fop_answer.Call answer) other e) (λ none u by. absurd (over (is_lookup run.fop) none))
+  where
+    over : (k : Bool) → has_begun (status_after k (fop_answer.Call answer)) ≡ false → ⊥
+    over true none = absurd cc
+    over false none = absurd cc
 
 -- ---- numbers of calls
 
@@ -396,7 +410,8 @@ step_numbered m (Step.ConfirmsBirths t) h n = number_run m t n h.under_way _
 step_numbered m (Step.HandsIn t shown) h n = number_run m t n h.under_way _
 step_numbered m (Step.Extends c run dir next) h n = number_at m c _ m.submitted n (omega arith) (counted m n c (λ e. let clash : Running run ≡ Unsubmitted = sym h.runs ∙ e in absurd cc))
 step_numbered m (Step.Learns c run dir spans) h n = n
-step_numbered m (Step.Answers c run answer) h n = number_at m c _ m.submitted n (omega arith) (counted m n c (λ e. let clash : Running run ≡ Unsubmitted = sym h.runs ∙ e in absurd cc))
+step_numbered m (Step.Answers c run answer place) h n = number_at m c _ m.submitted n (omega arith) (counted m n c (λ e. let clash : Running run ≡ Unsubmitted = sym h.runs ∙ e in absurd cc))
+step_numbered m (Step.AnswersAbove c run answer) h n = number_at m c _ m.submitted n (omega arith) (counted m n c (λ e. let clash : Running run ≡ Unsubmitted = sym h.runs ∙ e in absurd cc))
 
 pub numbered : (first : List (List ℕ)) (m : State) → IsReached first m → AreNumbered m
 numbered first _ (IsReached.Start planned) = λ c h. refl

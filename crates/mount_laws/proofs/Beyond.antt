@@ -48,14 +48,14 @@ use Rattle.mount_laws.proofs.Within.{courses_within}
 call_graphed : (roots : ℕ) (names : List (List ℕ)) (calls : ℕ → Call) (c0 : ℕ) (call : Call) → RunsInItsGraph roots names calls
     → (is_unanswered call.status ≡ true → (roots ≤ length call.names) × (length call.names ≤ length names))
     → (is_unanswered call.status ≡ true → (d : ℕ) (run : Run) → (calls d).status ≡ Running run → length (calls d).names ≤ length call.names)
-    → ((run : Run) → call.status ≡ Running run → IsPlanned roots call.names run.fop run.volume run.names)
+    → ((run : Run) → call.status ≡ Running run → IsPlanned c0 roots call.names run.fop run.volume run.names)
     → ((run : Run) → call.status ≡ Running run → (c : ℕ) → is_unanswered (calls c).status ≡ true → length call.names ≤ length (calls c).names)
     → RunsInItsGraph roots names (with_at calls c0 call)
 call_graphed roots names calls c0 call g within turn plan before = record {
   some = g.some;
   first = g.first;
   unanswered = λ c. at_case (λ i (one : Call). is_unanswered one.status ≡ true → (roots ≤ length one.names) × (length one.names ≤ length names)) calls c0 call within c (λ differ. g.unanswered c);
-  planned = λ c. at_case (λ i (one : Call). (run : Run) → one.status ≡ Running run → IsPlanned roots one.names run.fop run.volume run.names) calls c0 call plan c (λ differ. g.planned c);
+  planned = λ c. at_case (λ i (one : Call). (run : Run) → one.status ≡ Running run → IsPlanned i roots one.names run.fop run.volume run.names) calls c0 call plan c (λ differ. g.planned c);
   in_turn = λ c d. at_case (λ i (one : Call). (run : Run) → is_unanswered one.status ≡ true → (with_at calls c0 call d).status ≡ Running run → length (with_at calls c0 call d).names ≤ length one.names) calls c0 call
       (at_case (λ j (other : Call). (run : Run) → is_unanswered call.status ≡ true → other.status ≡ Running run → length other.names ≤ length call.names) calls c0 call (λ run u e. omega arith) d (λ differ run u e. turn u d run e)) c
       (λ differ. at_case (λ j (other : Call). (run : Run) → is_unanswered (calls c).status ≡ true → other.status ≡ Running run → length other.names ≤ length (calls c).names) calls c0 call (λ run u e. before run e c u) d
@@ -64,7 +64,7 @@ call_graphed roots names calls c0 call g within turn plan before = record {
 
 -- a call that was unanswered goes on, or is answered
 status_graphed : (roots : ℕ) (names : List (List ℕ)) (calls : ℕ → Call) (c : ℕ) (status : Status) → RunsInItsGraph roots names calls → is_unanswered (calls c).status ≡ true
-    → ((run : Run) → status ≡ Running run → IsPlanned roots (calls c).names run.fop run.volume run.names)
+    → ((run : Run) → status ≡ Running run → IsPlanned c roots (calls c).names run.fop run.volume run.names)
     → ((run : Run) → status ≡ Running run → (d : ℕ) → is_unanswered (calls d).status ≡ true → length (calls c).names ≤ length (calls d).names)
     → RunsInItsGraph roots names (with_at calls c (record (calls c) { status = status }))
 status_graphed roots names calls c status g was plan before =
@@ -72,10 +72,10 @@ status_graphed roots names calls c status g was plan before =
 
 -- a fop goes on
 run_graphed : (roots : ℕ) (names : List (List ℕ)) (calls : ℕ → Call) (c : ℕ) (old new : Run) → RunsInItsGraph roots names calls → (calls c).status ≡ Running old
-    → (IsPlanned roots (calls c).names old.fop old.volume old.names → IsPlanned roots (calls c).names new.fop new.volume new.names) → RunsInItsGraph roots names (with_at calls c (record (calls c) { status = Running new }))
+    → (IsPlanned c roots (calls c).names old.fop old.volume old.names → IsPlanned c roots (calls c).names new.fop new.volume new.names) → RunsInItsGraph roots names (with_at calls c (record (calls c) { status = Running new }))
 run_graphed roots names calls c old new g runs same =
     status_graphed roots names calls c (Running new) g (ap (λ (s : Status). is_unanswered s) runs)
-    (λ run e. subst (λ (r : Run). IsPlanned roots (calls c).names r.fop r.volume r.names) (unwrap new run e) (same (g.planned c old runs)))
+    (λ run e. subst (λ (r : Run). IsPlanned c roots (calls c).names r.fop r.volume r.names) (unwrap new run e) (same (g.planned c old runs)))
     (λ run e d u. g.in_turn d c old u runs)
 
 -- what is known of all is known of those that are among them
@@ -99,8 +99,9 @@ step_graphed m (Step.Switches names) h b g = record {
 step_graphed m (Step.Begins c f kept) h b g =
     let was : is_unanswered (m.calls c).status ≡ true = ap (λ (s : Status). is_unanswered s) h.ready in
     status_graphed m.root_sets m.names m.calls c (Running (begun f (volume_of m c) (m.calls c).names kept)) g was
-    (λ run e. subst (λ (r : Run). IsPlanned m.root_sets (m.calls c).names r.fop r.volume r.names) (unwrap (begun f (volume_of m c) (m.calls c).names kept) run e)
+    (λ run e. subst (λ (r : Run). IsPlanned c m.root_sets (m.calls c).names r.fop r.volume r.names) (unwrap (begun f (volume_of m c) (m.calls c).names kept) run e)
     (record {
+      call_is = refl;
       names_are = refl;
       sets = refl;
       roots = refl;
@@ -118,9 +119,13 @@ step_graphed m (Step.ConfirmsBirths t) h b g = run_graphed m.root_sets m.names m
 step_graphed m (Step.HandsIn t shown) h b g = run_graphed m.root_sets m.names m.calls t.call t.run _ g h.under_way.runs (λ p. p)
 step_graphed m (Step.Extends c run dir next) h b g = run_graphed m.root_sets m.names m.calls c run _ g h.runs (λ p. p)
 step_graphed m (Step.Learns c run dir spans) h b g = g
-step_graphed m (Step.Answers c run answer) h b g =
+step_graphed m (Step.Answers c run answer place) h b g =
     status_graphed m.root_sets m.names m.calls c (status_after (is_lookup run.fop) answer) g (ap (λ (s : Status). is_unanswered s) h.runs)
     (λ other e. absurd (quiet (is_lookup run.fop) answer other e)) (λ other e. absurd (quiet (is_lookup run.fop) answer other e))
+
+step_graphed m (Step.AnswersAbove c run answer) h b g =
+    status_graphed m.root_sets m.names m.calls c (status_after (is_lookup run.fop) (fop_answer.Call answer)) g (ap (λ (s : Status). is_unanswered s) h.runs)
+    (λ other e. absurd (quiet (is_lookup run.fop) (fop_answer.Call answer) other e)) (λ other e. absurd (quiet (is_lookup run.fop) (fop_answer.Call answer) other e))
 
 -- ---- where a fop works
 
@@ -234,14 +239,15 @@ step_first m (Step.ConfirmsBirths t) h asked g count few a = a
 step_first m (Step.HandsIn t shown) h asked g count few a = a
 step_first m (Step.Extends c run dir next) h asked g count few a = a
 step_first m (Step.Learns c run dir spans) h asked g count few a = a
-step_first m (Step.Answers c run answer) h asked g count few a = record {
-  answered = each_append (λ (object : Object). object.set < count) (object_in answer) m.known (named answer (answer_within m asked g c run h.runs answer h.place h.ends)) a.answered;
+step_first m (Step.AnswersAbove c run answer) h asked g count few a = a
+step_first m (Step.Answers c run answer place) h asked g count few a = record {
+  answered = each_append (λ (object : Object). object.set < count) (object_in answer) m.known (named answer (answer_within m asked g c run h.runs answer place h.ends)) a.answered;
   begun = a.begun;
   homed = a.homed;
   no_names = a.no_names;
 }
   where
-    named : (one : FopAnswer) → AnswersWithin run.volume.sets run.handed one h.place → Each (λ (object : Object). object.set < count) (object_in one)
+    named : (one : FopAnswer) → AnswersWithin run.volume.sets run.handed one place → Each (λ (object : Object). object.set < count) (object_in one)
     named (fop_answer.Found set gfid kind) k = (let most = few c run h.runs in omega (arith, most, k), tt)
     named (fop_answer.Call answer) k = tt
 
@@ -309,7 +315,8 @@ step_beyond m step h asked g b = by_step step h
     by_step (Step.HandsIn t shown) k = record { unanswered = goes (Step.HandsIn t shown) k t.call _ (was_running t.call t.run k.under_way.runs); newest = newest (Step.HandsIn t shown) k }
     by_step (Step.Extends c run dir next) k = record { unanswered = goes (Step.Extends c run dir next) k c _ (was_running c run k.runs); newest = newest (Step.Extends c run dir next) k }
     by_step (Step.Learns c run dir spans) k = record { unanswered = rest (Step.Learns c run dir spans) k; newest = newest (Step.Learns c run dir spans) k }
-    by_step (Step.Answers c run answer) k = record { unanswered = goes (Step.Answers c run answer) k c _ (was_running c run k.runs); newest = newest (Step.Answers c run answer) k }
+    by_step (Step.Answers c run answer place) k = record { unanswered = goes (Step.Answers c run answer place) k c _ (was_running c run k.runs); newest = newest (Step.Answers c run answer place) k }
+    by_step (Step.AnswersAbove c run answer) k = record { unanswered = goes (Step.AnswersAbove c run answer) k c _ (was_running c run k.runs); newest = newest (Step.AnswersAbove c run answer) k }
 
 -- the root alone, on the first set
 start_first : (first : List (List ℕ)) → 1 ≤ length first → FirstSets (start first) (length first)

@@ -51,7 +51,7 @@ use Rattle.fop_types.specs.declared.history.Entry.{Entry}
 use Rattle.fop_types.specs.declared.jobs.Job.TheVariants as job
 use Rattle.fop_types.specs.declared.store_ops.StoreOp.{StoreOp}
 use Rattle.fop_types.specs.declared.store_ops.StoreOp.TheVariants as op
-use Rattle.mount_laws.specs.Holding.{drawn_by, AreHeld, AreHeldExclusively, IsCovered}
+use Rattle.mount_laws.specs.Holding.{drawn_by, own_holds, AreHeld, AreHeldExclusively, IsCovered}
 use Rattle.mount_laws.specs.Holds.{Hold, Holds, HoldsExclusively, holds_of, extensions}
 use Rattle.mount_laws.specs.Steps.{is_lookup}
 use Rattle.mount_laws.proofs.Arguments.{Seen, Source, Renaming, renaming}
@@ -114,14 +114,14 @@ names_go f set dir next h k = record {
 }
 
 -- a read of cells of one object
-read_goes : (f : Fop) (set : ℕ) (cells : List Cell) (fd : ℕ) (dir : Bool) (next : List (Option Content) → ℕ → Course) → ((handed : Handed) → AreHeld (holds_of f ++ extensions handed) cells) → ((contents : List (Option Content)) (place : ℕ) → Goes f (next contents place))
+read_goes : (f : Fop) (set : ℕ) (cells : List Cell) (fd : ℕ) (dir : Bool) (next : List (Option Content) → ℕ → Course) → ((handed : Handed) → AreHeld (own_holds f handed) cells) → ((contents : List (Option Content)) (place : ℕ) → Goes f (next contents place))
     → Goes f (Asks set (job.Read cells fd dir) (after_read next))
 read_goes f set cells fd dir next h k = record {
   at = λ handed. (h handed, λ reply. contents_lead f (Replied set (job.Read cells fd dir) reply ∷ handed) next (contents_in reply) (λ contents place. (k contents place).at (Replied set (job.Read cells fd dir) reply ∷ handed)));
 }
 
 -- a change of cells that are held exclusively
-change_goes : (f : Fop) (set : ℕ) (cells : List Cell) (fd : ℕ) (o : StoreOp) (effect : Option Entry) (next : Option ℕ → Course) → is_lookup f ≡ false → ((handed : Handed) → AreHeldExclusively (holds_of f ++ extensions handed) cells) → cells ≡ needs o
+change_goes : (f : Fop) (set : ℕ) (cells : List Cell) (fd : ℕ) (o : StoreOp) (effect : Option Entry) (next : Option ℕ → Course) → is_lookup f ≡ false → ((handed : Handed) → AreHeldExclusively (own_holds f handed) cells) → cells ≡ needs o
     → ((number : Option ℕ) → Goes f (next number)) → Goes f (changes set cells fd o effect next)
 change_goes f set cells fd o effect next w h e k = record {
   at = λ handed. (
@@ -131,11 +131,11 @@ change_goes f set cells fd o effect next w h e k = record {
 }
 
 -- whatever the reply
-any_goes : (f : Fop) (set : ℕ) (cells : List Cell) (fd : ℕ) (o : StoreOp) (effect : Option Entry) (next : Course) → is_lookup f ≡ false → ((handed : Handed) → AreHeldExclusively (holds_of f ++ extensions handed) cells) → cells ≡ needs o
+any_goes : (f : Fop) (set : ℕ) (cells : List Cell) (fd : ℕ) (o : StoreOp) (effect : Option Entry) (next : Course) → is_lookup f ≡ false → ((handed : Handed) → AreHeldExclusively (own_holds f handed) cells) → cells ≡ needs o
     → Goes f next → Goes f (Asks set (job.Change cells fd o effect) (after_any next))
 any_goes f set cells fd o effect next w h e k = record { at = λ handed. (record { alone = h handed; whole = e; no_lookup = w }, λ reply. k.at (Replied set (job.Change cells fd o effect) reply ∷ handed)) }
 
-born_held : (f : Fop) (handed : Handed) (gfid : Gfid) → HoldsExclusively (holds_of f) gfid ⊎ (drawn_by f ≡ Some gfid) → HoldsExclusively (holds_of f ++ extensions handed) gfid ⊎ (drawn_by f ≡ Some gfid)
+born_held : (f : Fop) (handed : Handed) (gfid : Gfid) → HoldsExclusively (holds_of f) gfid ⊎ (drawn_by f ≡ Some gfid) → HoldsExclusively (own_holds f handed) gfid ⊎ (drawn_by f ≡ Some gfid)
 born_held f handed gfid (inl alone) = inl (alone_front (holds_of f) (extensions handed) gfid alone)
 born_held f handed gfid (inr drawn) = inr drawn
 
@@ -149,10 +149,10 @@ birth_goes f set gfid span next h k = record {
 }
 
 -- one cell of an object that is held
-one_held : (f : Fop) (cell : Cell) → Holds (holds_of f) cell.gfid → (handed : Handed) → AreHeld (holds_of f ++ extensions handed) (cell ∷ [])
+one_held : (f : Fop) (cell : Cell) → Holds (holds_of f) cell.gfid → (handed : Handed) → AreHeld (own_holds f handed) (cell ∷ [])
 one_held f cell h handed = (holds_front (holds_of f) (extensions handed) cell.gfid h, tt)
 
-one_alone : (f : Fop) (cell : Cell) → HoldsExclusively (holds_of f) cell.gfid → (handed : Handed) → AreHeldExclusively (holds_of f ++ extensions handed) (cell ∷ [])
+one_alone : (f : Fop) (cell : Cell) → HoldsExclusively (holds_of f) cell.gfid → (handed : Handed) → AreHeldExclusively (own_holds f handed) (cell ∷ [])
 one_alone f cell h handed = (alone_front (holds_of f) (extensions handed) cell.gfid h, tt)
 
 both_alone : (hs : List Hold) (a b : Gfid) → HoldsExclusively hs a → HoldsExclusively hs b → AreHeldExclusively hs (both_names a b)
@@ -254,11 +254,11 @@ full_goes f later place next false k = k
 -- the directory that is removed is held once the hold was extended by it
 empties_go : (f : Fop) (v : Volume) (parent : Gfid) (name : List ℕ) (gfid : Gfid) (sets : List ℕ) (handed : Handed) → is_lookup f ≡ false → HoldsExclusively (holds_of f) parent → HoldsExclusively (extensions handed) gfid → Always (IsCovered f) AnyAnswer handed (empties v parent name gfid sets)
 empties_go f v parent name gfid [] handed w h e = (
-  record { alone = both_alone (holds_of f ++ extensions handed) parent gfid (alone_front (holds_of f) (extensions handed) parent h) (alone_back (holds_of f) (extensions handed) gfid e); whole = refl; no_lookup = w },
+  record { alone = both_alone (own_holds f handed) parent gfid (alone_front (holds_of f) (extensions handed) parent h) (alone_back (holds_of f) (extensions handed) gfid e); whole = refl; no_lookup = w },
   λ reply. number_leads f (Replied 0 (job.Change (both_names parent gfid) 0 (op.DropDir parent name gfid) (Some (entry v 1))) reply ∷ handed) (Ends (answers.Call answer.Done)) (number_in reply) (λ number. tt),
 )
 empties_go f v parent name gfid (set ∷ sets) handed w h e = (
-  (alone_holds (holds_of f ++ extensions handed) gfid (alone_back (holds_of f) (extensions handed) gfid e), tt),
+  (alone_holds (own_holds f handed) gfid (alone_back (holds_of f) (extensions handed) gfid e), tt),
   λ reply. names_lead f (Replied set (names_job gfid) reply ∷ handed) (emptied v parent name gfid sets) (names_in reply)
       (λ shown. full_goes f (Replied set (names_job gfid) reply ∷ handed) shown.place (empties v parent name gfid sets) (has_real_name shown.items) (empties_go f v parent name gfid sets (Replied set (names_job gfid) reply ∷ handed) w h e)),
 )
@@ -279,7 +279,7 @@ module _ (f : Fop) (w : is_lookup f ≡ false) (v : Volume) where
 
   moves_go : (r : Renaming) → HoldsExclusively (holds_of f) r.source.parent → HoldsExclusively (holds_of f) r.target → Goes f (moves v r)
   moves_go r h t = change_goes f r.source.set (both_names r.source.parent r.target) 0 (op.Move r.source.parent r.source.name r.target r.new_name) (Some (entry v 2)) (adds_link r) w
-      (λ handed. both_alone (holds_of f ++ extensions handed) r.source.parent r.target (alone_front (holds_of f) (extensions handed) r.source.parent h) (alone_front (holds_of f) (extensions handed) r.target t))
+      (λ handed. both_alone (own_holds f handed) r.source.parent r.target (alone_front (holds_of f) (extensions handed) r.source.parent h) (alone_front (holds_of f) (extensions handed) r.target t))
       refl (λ number. adds_goes r number h t)
 
   bears_go : (r : Renaming) (copy : Bool) → HoldsExclusively (holds_of f) r.source.parent → HoldsExclusively (holds_of f) r.target → Goes f (bears v r copy)

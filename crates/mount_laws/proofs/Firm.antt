@@ -15,7 +15,7 @@ use Rattle.fop_types.specs.declared.jobs.Job.{Job}
 use Rattle.fop_types.specs.declared.jobs.Job.TheVariants as job
 use Rattle.dht_fops.specs.Shown.{SetContents}
 use Rattle.mount_laws.specs.Guards.{Allowed, IsReached, IsChange, MayBeginChange}
-use Rattle.mount_laws.specs.Holding.{HoldCovers, IsCovered}
+use Rattle.mount_laws.specs.Holding.{HoldCovers, IsHeldFor}
 use Rattle.mount_laws.specs.Settling.{HasNoNames, TouchedIsFirm, AreWhole}
 use Rattle.mount_laws.specs.States.{State, Change, start}
 use Rattle.mount_laws.specs.Steps.{Step, Task, after, change_by, births_by}
@@ -35,7 +35,7 @@ decided_whole m u verdict was a w =
 made_whole : (m : State) → HoldCovers m → (t : Task) (u : ℕ) → MayBeginChange m t u → (change_by t.call t.set t.job).cells ≡ needs (change_by t.call t.set t.job).op
 made_whole m cover t u h = of_job t.job h.is_change (cover.asked t.call t.run t.set t.job t.next h.under_way.runs h.under_way.asks)
   where
-    of_job : (asked : Job) → IsChange asked → IsCovered t.run.fop t.run.handed t.set asked → (change_by t.call t.set asked).cells ≡ needs (change_by t.call t.set asked).op
+    of_job : (asked : Job) → IsChange asked → IsHeldFor t.run.holds t.run.fop asked → (change_by t.call t.set asked).cells ≡ needs (change_by t.call t.set asked).op
     of_job (job.Change cells fd o effect) is k = k.whole
     of_job (job.Read cells fd dir) is k = absurd is
     of_job (job.Birth cells o) is k = absurd is
@@ -59,7 +59,8 @@ step_whole m (Step.ConfirmsBirths t) h cover a = a
 step_whole m (Step.HandsIn t shown) h cover a = a
 step_whole m (Step.Extends c run dir next) h cover a = a
 step_whole m (Step.Learns c run dir spans) h cover a = a
-step_whole m (Step.Answers c run answer) h cover a = a
+step_whole m (Step.Answers c run answer place) h cover a = a
+step_whole m (Step.AnswersAbove c run answer) h cover a = a
 
 pub are_whole : (first : List (List ℕ)) (m : State) → IsReached first m → AreWhole m
 are_whole first _ (IsReached.Start planned) = λ u drawn. absurd (drawn refl)
@@ -156,7 +157,8 @@ step_touched m (Step.SendsBirths t) h a = a
 step_touched m (Step.HandsIn t shown) h a = a
 step_touched m (Step.Extends c run dir next) h a = a
 step_touched m (Step.Learns c run dir spans) h a = a
-step_touched m (Step.Answers c run answer) h a = a
+step_touched m (Step.Answers c run answer place) h a = a
+step_touched m (Step.AnswersAbove c run answer) h a = a
 
 step_nameless : (m : State) (step : Step) → Allowed m step → AreWhole m → TouchedIn m.changes m.firm → NamelessIn m.firm m.adopted → NamelessIn (after m step).firm (after m step).adopted
 step_nameless m (Step.BeginsChange t u) h whole touched a = λ s cell soft. a s cell (firm_was m.firm t.set (cells_of_job t.job) s cell soft)
@@ -173,7 +175,8 @@ step_nameless m (Step.EndsSettling t) h whole touched a = a
 step_nameless m (Step.HandsIn t shown) h whole touched a = a
 step_nameless m (Step.Extends c run dir next) h whole touched a = a
 step_nameless m (Step.Learns c run dir spans) h whole touched a = a
-step_nameless m (Step.Answers c run answer) h whole touched a = a
+step_nameless m (Step.Answers c run answer place) h whole touched a = a
+step_nameless m (Step.AnswersAbove c run answer) h whole touched a = a
 
 -- each set begins with the root, whose cells are firm, and nothing else
 start_nameless : (first : List (List ℕ)) → NamelessIn (start first).firm (start first).adopted

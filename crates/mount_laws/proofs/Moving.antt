@@ -1,5 +1,6 @@
 -- What a step makes of the fops under way: each stays, begins, or goes on by the step of its call.
 use Rattle.std.proofs.Common.{◌≡◌, ℕ, ◌+◌, Bool, true, false, subst, ◌∷◌, ◌++◌, length, None}
+use Rattle.std.specs.Prelude.{◌≢◌}
 use Rattle.afr_machine.specs.Replicas.{with_at}
 use Rattle.afr_machine.specs.Transactions.{cells_of_job}
 use Rattle.dht_fops.specs.Courses.{Course}
@@ -11,7 +12,7 @@ use Rattle.fop_types.specs.declared.cells.Gfid.{Gfid}
 use Rattle.fop_types.specs.declared.fops.Fop.{Fop}
 use Rattle.fop_types.specs.declared.jobs.SetReply.{SetReply}
 use Rattle.mount_laws.specs.Guards.{Allowed, MayBegin, MaySettle, MayEndSettling, MayBeginChange, MayDecide, MaySendBirths, MayConfirmBirths, MayHandIn, MayExtend}
-use Rattle.mount_laws.specs.Runs.{Run, begun, going_on}
+use Rattle.mount_laws.specs.Runs.{Run, begun, going_on, held_longer}
 use Rattle.mount_laws.specs.Runs.Stage.{Settled, Changing, Bearing, Decided}
 use Rattle.mount_laws.specs.States.{State, Call, Runs}
 use Rattle.mount_laws.specs.States.Status.{Running}
@@ -29,7 +30,7 @@ pub data RunMove (m : State) : ℕ → Run → Type 0 where
   ConfirmsBirths : (t : Task) → MayConfirmBirths m t → RunMove m t.call (at_stage t.run (Decided None))
   HandsIn : (t : Task) → (shown : SetReply) → MayHandIn m t shown →
       RunMove m t.call (going_on t.run (Replied t.set t.job shown ∷ t.run.handed) (t.next shown) (sights_by t.set t.job shown ++ t.run.saw))
-  Extends : (c : ℕ) → (run : Run) → (dir : Gfid) → (next : Course) → MayExtend m c run dir next → RunMove m c (going_on run (Held dir ∷ run.handed) next run.saw)
+  Extends : (c : ℕ) → (run : Run) → (dir : Gfid) → (next : Course) → MayExtend m c run dir next → RunMove m c (held_longer (going_on run (Held dir ∷ run.handed) next run.saw) dir)
 
 -- ---- by the call whose status changes
 
@@ -42,6 +43,17 @@ one_call m c call new i =
 
 one_run : (m : State) (c : ℕ) (run : Run) → RunMove m c run → (i : ℕ) (other : Run) → (with_at m.calls c (record (m.calls c) { status = Running run }) i).status ≡ Running other → RunMove m i other
 one_run m c run move = one_call m c (record (m.calls c) { status = Running run }) (λ other e. subst (λ (r : Run). RunMove m c r) (unwrap run other e) move)
+
+-- what holds of each fop under way, where one call's fop goes on, or its status is another
+pub run_case : (P : ℕ → Run → Type 0) (calls : ℕ → Call) (c : ℕ) (run : Run) → P c run → ((i : ℕ) (other : Run) → i ≢ c → (calls i).status ≡ Running other → P i other)
+    → (i : ℕ) (other : Run) → (with_at calls c (record (calls c) { status = Running run }) i).status ≡ Running other → P i other
+run_case P calls c run new old i =
+    at_case (λ j (call : Call). (other : Run) → call.status ≡ Running other → P j other) calls c (record (calls c) { status = Running run })
+    (λ other e. subst (λ (r : Run). P c r) (unwrap run other e) new) i (λ differ other e. old i other differ e)
+
+pub stop_case : (P : ℕ → Run → Type 0) (calls : ℕ → Call) (c : ℕ) (call : Call) → ((run : Run) → call.status ≡ Running run → ⊥) → ((i : ℕ) (other : Run) → (calls i).status ≡ Running other → P i other)
+    → (i : ℕ) (other : Run) → (with_at calls c call i).status ≡ Running other → P i other
+stop_case P calls c call none old i = at_case (λ j (one : Call). (other : Run) → one.status ≡ Running other → P j other) calls c call (λ other e. absurd (none other e)) i (λ differ other e. old i other e)
 
 -- a call that was answered a fop has none
 pub quiet : (is_lookup : Bool) (a : FopAnswer) (run : Run) → status_after is_lookup a ≡ Running run → ⊥
@@ -66,4 +78,5 @@ run_moves m (Step.ConfirmsBirths t) h = one_run m t.call _ (ConfirmsBirths t h)
 run_moves m (Step.HandsIn t shown) h = one_run m t.call _ (HandsIn t shown h)
 run_moves m (Step.Extends c run dir next) h = one_run m c _ (Extends c run dir next h)
 run_moves m (Step.Learns c run dir spans) h = λ i other e. Stays i other e
-run_moves m (Step.Answers c run answer) h = one_call m c _ (λ other e. absurd (quiet (is_lookup run.fop) answer other e))
+run_moves m (Step.Answers c run answer place) h = one_call m c _ (λ other e. absurd (quiet (is_lookup run.fop) answer other e))
+run_moves m (Step.AnswersAbove c run answer) h = one_call m c _ (λ other e. absurd (quiet (is_lookup run.fop) (fop_answer.Call answer) other e))

@@ -11,14 +11,15 @@ use Rattle.dht_fops.specs.Shown.{SetContents}
 use Rattle.fop_types.specs.Bounds.{Each}
 use Rattle.fop_types.specs.Jobs.{may_lack, IsAnsweredBy, IsContentOf, AreContentsOf}
 use Rattle.fop_types.specs.StoreOps.{Contents, needs, after_births, contents_after}
+use Rattle.fop_types.specs.declared.answers.FopAnswer.TheVariants as fop_answer
 use Rattle.fop_types.specs.declared.cells.Cell.{Cell}
 use Rattle.fop_types.specs.declared.contents.Content.{Content}
 use Rattle.fop_types.specs.declared.jobs.Job.{Job}
 use Rattle.fop_types.specs.declared.jobs.Job.TheVariants as job
 use Rattle.fop_types.specs.declared.jobs.SetReply.{SetReply}
 use Rattle.fop_types.specs.declared.jobs.SetReply.TheVariants as reply
-use Rattle.mount_laws.specs.Guards.{Allowed, IsReached, IsShown, AreShown, IsReply, MaySettle, MayHandIn, IsAside}
-use Rattle.mount_laws.specs.Guards.IsReply.{Shows, Enters, Fails, Aside}
+use Rattle.mount_laws.specs.Guards.{Allowed, IsReached, IsShown, AreShown, IsReply, MaySettle, MayHandIn, IsOpen}
+use Rattle.mount_laws.specs.Guards.IsReply.{Shows, Enters, Fails, Opens}
 use Rattle.mount_laws.specs.Holding.{AreHeld, AreHeldExclusively}
 use Rattle.mount_laws.specs.Runs.{Run, SettledJob, Sight}
 use Rattle.mount_laws.specs.Runs.Stage.{Settled, Decided}
@@ -77,7 +78,7 @@ own_is_alone first m reached c run t u ne runs by h =
     let own = ((each_beside first m reached).running c run runs u).own_is_held by (λ e. let clash : Unsettled ≡ Undrawn = sym h.unsettled.verdict ∙ e in absurd cc) in
     let mine : AreHeldExclusively (held m c) (m.changes u).cells = subst (λ (s : Status). AreHeldExclusively (holds_by s) (m.changes u).cells) (sym runs) own in
     let theirs : AreHeld (held m t.call) (cells_of_job t.job) = subst (λ (s : Status). AreHeld (holds_by s) (cells_of_job t.job)) (sym h.under_way.runs)
-    (covered_held t.run.fop t.run.handed t.set t.job h.settles (cover.asked t.call t.run t.set t.job t.next h.under_way.runs h.under_way.asks)) in
+    (covered_held t.run.holds t.run.fop t.job h.settles (cover.asked t.call t.run t.set t.job t.next h.under_way.runs h.under_way.asks)) in
     let none = held_apart (held m c) (held m t.call) (m.changes u).cells (cells_of_job t.job) (holds_apart first m reached c t.call ne) mine theirs in
     let clash : true ≡ false = sym h.unsettled.touches ∙ none in absurd cc
 
@@ -215,13 +216,13 @@ reply_sights m firm rested t shown h = by_reply shown h.is_reply h.fitting.answe
     nothing set job.Index one e = refl
     nothing set (job.Heal cell) one e = refl
 
-    aside : (set : ℕ) (asked : Job) (one : SetReply) → IsAside asked → sights_by set asked one ≡ []
-    aside set (job.Read cells fd dir) one is = absurd is
-    aside set (job.Change cells fd o effect) one is = absurd is
-    aside set (job.Birth cells o) one is = absurd is
-    aside set (job.Open fd gfid) one is = refl
-    aside set job.Index one is = refl
-    aside set (job.Heal cell) one is = refl
+    opens : (set : ℕ) (asked : Job) (one : SetReply) → IsOpen asked → sights_by set asked one ≡ []
+    opens set (job.Read cells fd dir) one is = absurd is
+    opens set (job.Change cells fd o effect) one is = absurd is
+    opens set (job.Birth cells o) one is = absurd is
+    opens set (job.Open fd gfid) one is = refl
+    opens set job.Index one is = absurd is
+    opens set (job.Heal cell) one is = absurd is
 
     empty : (saw : List Sight) → saw ≡ [] → Each (StandsAsSeen m.adopted t.run.settled) saw
     empty saw e = subst (λ (s : List Sight). Each (StandsAsSeen m.adopted t.run.settled) s) (sym e) tt
@@ -235,7 +236,7 @@ reply_sights m firm rested t shown h = by_reply shown h.is_reply h.fitting.answe
         (subst (λ (asked : Job). IsAnsweredBy t.set h.fitting.quorum asked (reply.Contents contents place)) is fitting))
     by_reply _ (Enters number stage) fitting = empty _ (nothing t.set t.job (reply.Decided number) refl)
     by_reply _ (Fails error stage) fitting = empty _ (nothing t.set t.job (reply.Io error) refl)
-    by_reply one (Aside _ is) fitting = empty _ (aside t.set t.job one is)
+    by_reply one (Opens _ is) fitting = empty _ (opens t.set t.job one is)
 
 -- ---- each step
 
@@ -285,7 +286,8 @@ step_sees first m (Step.HandsIn t shown) reached h a =
     (λ i other differ runs. a i other runs)
 step_sees first m (Step.Extends c run dir next) reached h a = one_sees m m.adopted c _ (a c run h.runs) (λ i other differ runs. a i other runs)
 step_sees first m (Step.Learns c run dir spans) reached h a = a
-step_sees first m (Step.Answers c run answer) reached h a = stop_sees m c _ (λ other e. quiet (is_lookup run.fop) answer other e) a
+step_sees first m (Step.Answers c run answer place) reached h a = stop_sees m c _ (λ other e. quiet (is_lookup run.fop) answer other e) a
+step_sees first m (Step.AnswersAbove c run answer) reached h a = stop_sees m c _ (λ other e. quiet (is_lookup run.fop) (fop_answer.Call answer) other e) a
 
 pub saw_still : (first : List (List ℕ)) (m : State) → IsReached first m → SawStill m
 saw_still first _ (IsReached.Start planned) = λ c run runs. absurd cc
@@ -303,18 +305,19 @@ step_leaves first m (Step.Decides t u) reached h c run other runs done listed = 
     adopted_leaves first m reached c run u runs h.unsettled (λ by. other (sym (((each_beside first m reached).running t.call t.run h.under_way.runs u).running_is_unsettled h.turn).by ∙ by)) done.set cell
     (record { cells = done.cells; listed = listed; has = has })
 step_leaves first m (Step.SendsBirths t) reached h c run other runs done listed = λ cell has. born_leaves m t done.set cell
-step_leaves first m (Step.Settles t u false) reached h c run other runs done listed = leaves_all m _ done (λ cell. refl)
-step_leaves first m (Step.Submits draws) reached h c run other runs done listed = leaves_all m _ done (λ cell. refl)
-step_leaves first m (Step.Concludes d) reached h c run other runs done listed = leaves_all m _ done (λ cell. refl)
-step_leaves first m (Step.Switches names) reached h c run other runs done listed = leaves_all m _ done (λ cell. refl)
-step_leaves first m (Step.Begins d f kept) reached h c run other runs done listed = leaves_all m _ done (λ cell. refl)
-step_leaves first m (Step.EndsSettling t) reached h c run other runs done listed = leaves_all m _ done (λ cell. refl)
-step_leaves first m (Step.BeginsChange t u) reached h c run other runs done listed = leaves_all m _ done (λ cell. refl)
-step_leaves first m (Step.ConfirmsBirths t) reached h c run other runs done listed = leaves_all m _ done (λ cell. refl)
-step_leaves first m (Step.HandsIn t shown) reached h c run other runs done listed = leaves_all m _ done (λ cell. refl)
-step_leaves first m (Step.Extends d one dir next) reached h c run other runs done listed = leaves_all m _ done (λ cell. refl)
-step_leaves first m (Step.Learns d one dir spans) reached h c run other runs done listed = leaves_all m _ done (λ cell. refl)
-step_leaves first m (Step.Answers d one answer) reached h c run other runs done listed = leaves_all m _ done (λ cell. refl)
+step_leaves first m (Step.Settles t u false) reached h c run other runs done listed = leaves_all m (after m (Step.Settles t u false)) done (λ cell. refl)
+step_leaves first m (Step.Submits draws) reached h c run other runs done listed = leaves_all m (after m (Step.Submits draws)) done (λ cell. refl)
+step_leaves first m (Step.Concludes d) reached h c run other runs done listed = leaves_all m (after m (Step.Concludes d)) done (λ cell. refl)
+step_leaves first m (Step.Switches names) reached h c run other runs done listed = leaves_all m (after m (Step.Switches names)) done (λ cell. refl)
+step_leaves first m (Step.Begins d f kept) reached h c run other runs done listed = leaves_all m (after m (Step.Begins d f kept)) done (λ cell. refl)
+step_leaves first m (Step.EndsSettling t) reached h c run other runs done listed = leaves_all m (after m (Step.EndsSettling t)) done (λ cell. refl)
+step_leaves first m (Step.BeginsChange t u) reached h c run other runs done listed = leaves_all m (after m (Step.BeginsChange t u)) done (λ cell. refl)
+step_leaves first m (Step.ConfirmsBirths t) reached h c run other runs done listed = leaves_all m (after m (Step.ConfirmsBirths t)) done (λ cell. refl)
+step_leaves first m (Step.HandsIn t shown) reached h c run other runs done listed = leaves_all m (after m (Step.HandsIn t shown)) done (λ cell. refl)
+step_leaves first m (Step.Extends d one dir next) reached h c run other runs done listed = leaves_all m (after m (Step.Extends d one dir next)) done (λ cell. refl)
+step_leaves first m (Step.Learns d one dir spans) reached h c run other runs done listed = leaves_all m (after m (Step.Learns d one dir spans)) done (λ cell. refl)
+step_leaves first m (Step.Answers d one answer place) reached h c run other runs done listed = leaves_all m (after m (Step.Answers d one answer place)) done (λ cell. refl)
+step_leaves first m (Step.AnswersAbove d one answer) reached h c run other runs done listed = leaves_all m (after m (Step.AnswersAbove d one answer)) done (λ cell. refl)
 
 each_listed : (P : SettledJob → Type 0) (jobs : List SettledJob) → ((done : SettledJob) → IsListed jobs done → P done) → Each P jobs
 each_listed P [] h = tt

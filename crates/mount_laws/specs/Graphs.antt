@@ -33,8 +33,9 @@ pub record BeyondOld (m : State) : Type 0 where
   pub unanswered : (c : ℕ) → is_unanswered (m.calls c).status ≡ true → FirstSets m (length (m.calls c).names)
   pub newest : FirstSets m (set_count m)
 
--- a fop under way is on the volume of its call's graph, and names objects on its sets
-pub record IsPlanned (root_sets : ℕ) (names : List (List ℕ)) (fop : Fop) (volume : Volume) (run_names : List (List ℕ)) : Type 0 where
+-- a fop under way is its call's, on the volume of the call's graph, and names objects on its sets
+pub record IsPlanned (c : ℕ) (root_sets : ℕ) (names : List (List ℕ)) (fop : Fop) (volume : Volume) (run_names : List (List ℕ)) : Type 0 where
+  pub call_is : volume.call ≡ c
   pub names_are : run_names ≡ names
   pub sets : volume.sets ≡ length names
   pub roots : volume.root_sets ≡ root_sets
@@ -45,7 +46,7 @@ pub record RunsInItsGraph (root_sets : ℕ) (names : List (List ℕ)) (calls : �
   pub some : 1 ≤ root_sets
   pub first : root_sets ≤ length names
   pub unanswered : (c : ℕ) → is_unanswered (calls c).status ≡ true → (root_sets ≤ length (calls c).names) × (length (calls c).names ≤ length names)
-  pub planned : (c : ℕ) (run : Run) → (calls c).status ≡ Running run → IsPlanned root_sets (calls c).names run.fop run.volume run.names
+  pub planned : (c : ℕ) (run : Run) → (calls c).status ≡ Running run → IsPlanned c root_sets (calls c).names run.fop run.volume run.names
   pub in_turn : (c d : ℕ) (run : Run) → is_unanswered (calls c).status ≡ true → (calls d).status ≡ Running run → length (calls d).names ≤ length (calls c).names
 
 abbrev pub InItsGraph : State → Type 0

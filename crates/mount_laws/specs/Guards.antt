@@ -5,6 +5,7 @@ use Rattle.std.specs.Prelude.{◌≡◌, ◌≢◌, ◌⊎◌, ℕ, ◌≤◌, B
 use Rattle.afr_machine.specs.Changes.Verdict.{Undrawn, Unsettled}
 use Rattle.afr_machine.specs.Touching.{share}
 use Rattle.afr_machine.specs.Transactions.{cells_of_job, settles_first}
+use Rattle.dht_fops.specs.Answers.{flat_op, SaysFlat}
 use Rattle.dht_fops.specs.Courses.{Course}
 use Rattle.dht_fops.specs.Handed.{Handed, Event, IsAnswered}
 use Rattle.dht_fops.specs.Handed.Event.{Replied}
@@ -12,9 +13,13 @@ use Rattle.dht_fops.specs.Looks.{span_of, span_job}
 use Rattle.dht_fops.specs.Volumes.{Kept}
 use Rattle.dht_linkto.specs.DirNames.{first_content}
 use Rattle.fop_types.specs.Bounds.{Each, IsFop, IsVolumeName}
+use Rattle.fop_types.specs.Files.{first_files}
+use Rattle.fop_types.specs.History.{files_after}
 use Rattle.fop_types.specs.Jobs.{may_lack}
 use Rattle.fop_types.specs.StoreOps.{are_present}
+use Rattle.fop_types.specs.declared.answers.Answer.{Answer}
 use Rattle.fop_types.specs.declared.answers.FopAnswer.{FopAnswer}
+use Rattle.fop_types.specs.declared.answers.FopAnswer.TheVariants as fop_answer
 use Rattle.fop_types.specs.declared.answers.IoError.{IoError}
 use Rattle.fop_types.specs.declared.cells.Cell.{Cell}
 use Rattle.fop_types.specs.declared.cells.Gfid.{Gfid}
@@ -33,7 +38,7 @@ use Rattle.mount_laws.specs.Runs.Stage.{Waiting, Settled, Changing, Bearing, Dec
 use Rattle.mount_laws.specs.States.{State, Change, start, Runs, held, is_unanswered, set_count}
 use Rattle.mount_laws.specs.States.Status.{Ready}
 use Rattle.mount_laws.specs.Steps.{Step, Task, after}
-use Rattle.mount_laws.specs.Steps.Step.{Submits, Concludes, Switches, Begins, Settles, EndsSettling, BeginsChange, Decides, SendsBirths, ConfirmsBirths, HandsIn, Extends, Learns, Answers}
+use Rattle.mount_laws.specs.Steps.Step.{Submits, Concludes, Switches, Begins, Settles, EndsSettling, BeginsChange, Decides, SendsBirths, ConfirmsBirths, HandsIn, Extends, Learns, Answers, AnswersAbove}
 
 -- ---- fops
 
@@ -57,6 +62,12 @@ objects_of (fop.Write fd object offset bytes) = object ∷ []
 objects_of (fop.Migrate fds) = []
 objects_of (fop.Heal count) = []
 
+-- a fop that a call asks; the mount's own come with a rebalance and a heal, which this machine has not
+abbrev pub IsOfCall : Fop → Type 0
+IsOfCall (fop.Migrate fds) = ⊥
+IsOfCall (fop.Heal count) = ⊥
+IsOfCall other = Unit {0}
+
 -- one of the list is the object
 abbrev pub IsKnown : List Object → Object → Type 0
 IsKnown [] object = ⊥
@@ -76,6 +87,7 @@ IsLearnt (one ∷ learnt) layout = (one ≡ layout) ⊎ IsLearnt learnt layout
 -- The objects are known, and no granted hold of another call conflicts.
 pub record MayBegin (m : State) (c : ℕ) (f : Fop) (kept : Kept) : Type 0 where
   pub ready : (m.calls c).status ≡ Ready
+  pub of_call : IsOfCall f
   pub within : IsFop f
   pub known : Each (IsKnown m.known) (objects_of f)
   pub drawn : DrawsOwn (m.calls c).drawn f
@@ -103,10 +115,22 @@ pub record MayLearn (m : State) (c : ℕ) (run : Run) (dir : Gfid) (spans : List
   pub whole : length spans ≡ length run.names
   pub read : (set : ℕ) (span : Option Span) → slice_get spans set ≡ Some span → WasSpanRead run.handed dir set span
 
-pub record MayAnswer (m : State) (c : ℕ) (run : Run) (answer : FopAnswer) : Type 0 where
+pub record MayAnswer (m : State) (c : ℕ) (run : Run) (answer : FopAnswer) (place : Option ℕ) : Type 0 where
   pub runs : Runs m c run
-  pub place : Option ℕ
   pub ends : run.course ≡ Course.Ends answer place
+
+-- a fop that a cache may answer
+abbrev pub IsRead : Fop → Type 0
+IsRead (fop.Read fd object offset count) = Unit {0}
+IsRead other = ⊥
+
+-- A read that has asked for no job is answered as the flat file system answers now. That a cache has what it would answer is
+-- for the cache to show.
+pub record MayAnswerAbove (m : State) (c : ℕ) (run : Run) (answer : Answer) : Type 0 where
+  pub runs : Runs m c run
+  pub reads : IsRead run.fop
+  pub unasked : run.handed ≡ []
+  pub as_flat : SaysFlat (files_after first_files m.ops) (flat_op run.fop) (fop_answer.Call answer)
 
 -- ---- jobs
 
@@ -148,12 +172,10 @@ abbrev pub IsBirth : Job → Type 0
 IsBirth (job.Birth cells op) = Unit {0}
 IsBirth other = ⊥
 
--- jobs that neither show nor change the files: an open, an index, a heal
-abbrev pub IsAside : Job → Type 0
-IsAside (job.Read cells fd dir) = ⊥
-IsAside (job.Change cells fd op effect) = ⊥
-IsAside (job.Birth cells op) = ⊥
-IsAside other = Unit {0}
+-- the job of a call that neither shows nor changes the files
+abbrev pub IsOpen : Job → Type 0
+IsOpen (job.Open fd gfid) = Unit {0}
+IsOpen other = ⊥
 
 -- A change becomes unsettled after its job's settling, where the cells are present.
 pub record MayBeginChange (m : State) (t : Task) (u : ℕ) : Type 0 where
@@ -208,7 +230,7 @@ pub data IsReply (m : State) (t : Task) : SetReply → Type 0 where
       AreShown m t.set dir cells contents → IsReply m t (reply.Contents contents place)
   Enters : (number : Option ℕ) → t.run.stage ≡ Decided number → IsReply m t (reply.Decided number)
   Fails : (error : IoError) → MayFail t.run.stage → IsReply m t (reply.Io error)
-  Aside : (shown : SetReply) → IsAside t.job → IsReply m t shown
+  Opens : (shown : SetReply) → IsOpen t.job → IsReply m t shown
 
 pub record MayHandIn (m : State) (t : Task) (shown : SetReply) : Type 0 where
   pub under_way : IsUnderWay m t
@@ -236,7 +258,8 @@ Allowed m (ConfirmsBirths t) = MayConfirmBirths m t
 Allowed m (HandsIn t shown) = MayHandIn m t shown
 Allowed m (Extends c run dir next) = MayExtend m c run dir next
 Allowed m (Learns c run dir spans) = MayLearn m c run dir spans
-Allowed m (Answers c run answer) = MayAnswer m c run answer
+Allowed m (Answers c run answer place) = MayAnswer m c run answer place
+Allowed m (AnswersAbove c run answer) = MayAnswerAbove m c run answer
 
 -- the states that allowed steps lead to, from a mount whose first graph has these sets
 pub data IsReached (first : List (List ℕ)) : State → Type 0 where

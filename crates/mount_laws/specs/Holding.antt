@@ -14,14 +14,26 @@ use Rattle.fop_types.specs.declared.jobs.Job.TheVariants as job
 use Rattle.fop_types.specs.declared.jobs.SetReply.{SetReply}
 use Rattle.fop_types.specs.declared.store_ops.StoreOp.{StoreOp}
 use Rattle.mount_laws.specs.Holds.{Hold, Holds, HoldsExclusively, AreApart, holds_of, extensions}
-use Rattle.mount_laws.specs.Runs.{Run, SettledJob, Leads, first_course, holds_in}
+use Rattle.mount_laws.specs.Runs.{Run, SettledJob, Leads, first_course}
 use Rattle.mount_laws.specs.States.{State, Runs, held}
 use Rattle.mount_laws.specs.Steps.{is_lookup}
 
--- Holds of different calls do not conflict. What a call holds is what its fop's kind says, and the directories by which it
--- was extended: so it is by the definition of the holds.
+-- Holds of different calls do not conflict.
 abbrev pub HoldsApart : State → Type 0
 HoldsApart m = (a b : ℕ) → a ≢ b → AreApart (held m a) (held m b)
+
+-- what a fop holds by its kind, and the directories by which its hold was extended
+abbrev pub own_holds : Fop → Handed → List Hold
+own_holds f handed = holds_of f ++ extensions handed
+
+-- the first holds are of all objects of the others, and exclusive where those are
+pub record AreAmong (hs ks : List Hold) : Type 0 where
+  pub held : (gfid : Gfid) → Holds ks gfid → Holds hs gfid
+  pub exclusively : (gfid : Gfid) → HoldsExclusively ks gfid → HoldsExclusively hs gfid
+
+-- A call holds what its fop's kind says, and the directories by which it was extended, until its fop is answered.
+abbrev pub HoldsOwn : State → Type 0
+HoldsOwn m = (c : ℕ) (run : Run) → Runs m c run → AreAmong run.holds (own_holds run.fop run.handed) × AreAmong (own_holds run.fop run.handed) run.holds
 
 -- ---- jobs
 
@@ -63,10 +75,10 @@ IsHeldFor hs f (job.Heal cell) = Unit {0}
 
 -- each job of a fop, after what was handed in before it
 abbrev pub IsCovered : Fop → Handed → ℕ → Job → Type 0
-IsCovered f handed set asked = IsHeldFor (holds_of f ++ extensions handed) f asked
+IsCovered f handed set asked = IsHeldFor (own_holds f handed) f asked
 
 -- The job that a fop asks for is covered by its call's hold, from the asking on, and so is each job whose settling has ended
 -- under it.
 pub record HoldCovers (m : State) : Type 0 where
-  pub asked : (c : ℕ) (run : Run) (set : ℕ) (asked : Job) (next : SetReply → Course) → Runs m c run → run.course ≡ Course.Asks set asked next → IsCovered run.fop run.handed set asked
-  pub settled : (c : ℕ) (run : Run) → Runs m c run → Each (λ (done : SettledJob). AreHeld (holds_in run) done.cells) run.settled
+  pub asked : (c : ℕ) (run : Run) (set : ℕ) (asked : Job) (next : SetReply → Course) → Runs m c run → run.course ≡ Course.Asks set asked next → IsHeldFor run.holds run.fop asked
+  pub settled : (c : ℕ) (run : Run) → Runs m c run → Each (λ (done : SettledJob). AreHeld run.holds done.cells) run.settled

@@ -1,6 +1,6 @@
 -- What a fop may conclude of a name from what it saw: the three sentences that every fop rests on. They follow from the facts
 -- of sights, of the files and of unsettled changes. Ours.
-use Rattle.std.specs.Prelude.{◌≡◌, ◌≢◌, ◌⊎◌, ℕ, ◌<◌, true, false, List, [], ◌∷◌, Option, Some, None}
+use Rattle.std.specs.Prelude.{◌≡◌, ◌≢◌, ◌⊎◌, ℕ, ◌<◌, true, false, List, [], ◌∷◌, length, Option, Some, None}
 use Rattle.afr_machine.specs.Changes.Verdict.{Unsettled}
 use Rattle.dht_linkto.specs.Known.{is_no_object}
 use Rattle.fop_types.specs.Cells.{names_cell}
@@ -12,7 +12,7 @@ use Rattle.fop_types.specs.declared.contents.Content.{Content}
 use Rattle.fop_types.specs.declared.contents.Item.{Item}
 use Rattle.mount_laws.specs.Naming.{flat_files}
 use Rattle.mount_laws.specs.Runs.{Run, Sight}
-use Rattle.mount_laws.specs.States.{State, Runs, set_count}
+use Rattle.mount_laws.specs.States.{State, Runs}
 use Rattle.mount_laws.specs.Touched.{touches, Names, NamesInside, Removes}
 
 -- the fop saw this content of the directory's names on the set
@@ -47,7 +47,7 @@ pub record IsHere (m : State) (c : ℕ) (dir : Gfid) (name : List ℕ) (item : I
 abbrev pub NameHere : State → Type 0
 NameHere m = (c : ℕ) (run : Run) (dir : Gfid) (name : List ℕ) (set : ℕ) (item : Item) → Runs m c run → SawItem run dir name set item → IsHere m c dir name item
 
--- A name that was seen on no set is not in the flat file system, the directory is not removed, and nobody else's unsettled
+-- A name that was seen on none of the sets that the fop reads, those of its call's graph, is not in the flat file system, the directory is not removed, and nobody else's unsettled
 -- change touches a name in it or removes it.
 pub record IsNowhere (m : State) (c : ℕ) (dir : Gfid) (name : List ℕ) : Type 0 where
   pub absent : item_named (names_at (flat_files m) dir) name ≡ None
@@ -55,7 +55,7 @@ pub record IsNowhere (m : State) (c : ℕ) (dir : Gfid) (name : List ℕ) : Type
   pub untouched : (u : ℕ) → (m.changes u).verdict ≡ Unsettled → (m.changes u).by ≢ c → (NamesInside (touches (m.changes u)) dir ⊎ Removes (m.changes u).op dir) → ⊥
 
 abbrev pub NameNowhere : State → Type 0
-NameNowhere m = (c : ℕ) (run : Run) (dir : Gfid) (name : List ℕ) → Runs m c run → ((set : ℕ) → set < set_count m → SawNoItem run dir name set) → IsNowhere m c dir name
+NameNowhere m = (c : ℕ) (run : Run) (dir : Gfid) (name : List ℕ) → Runs m c run → ((set : ℕ) → set < length run.names → SawNoItem run dir name set) → IsNowhere m c dir name
 
 -- A directory in which a name was seen is not removed, and no unsettled change removes it, though the first set may not have
 -- been read.

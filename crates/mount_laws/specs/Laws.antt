@@ -2,7 +2,7 @@
 use Rattle.std.specs.Prelude.{ℕ, List}
 use Rattle.mount_laws.specs.Graphs.{BeyondOld, InItsGraph}
 use Rattle.mount_laws.specs.Guards.{IsReached}
-use Rattle.mount_laws.specs.Holding.{HoldsApart, JobAsked, HoldCovers}
+use Rattle.mount_laws.specs.Holding.{HoldsApart, HoldsOwn, JobAsked, HoldCovers}
 use Rattle.mount_laws.specs.Seeing.{SettledIsListed, SawStill}
 use Rattle.mount_laws.specs.Settling.{OneUnsettled, EachStandsBeside, RunningIsAlone, SettlingEnds, ReadIsAdopted, AreWhole, TouchedIsFirm}
 use Rattle.mount_laws.specs.States.{State}
@@ -13,6 +13,7 @@ EveryState Fact = (first : List (List ℕ)) (m : State) → IsReached first m �
 
 pub record KeepsHolds (m : State) : Type 0 where
   pub apart : HoldsApart m
+  pub own : HoldsOwn m
   pub asked : JobAsked m
   pub covers : HoldCovers m
 

@@ -1,6 +1,6 @@
 -- A fop of a call under way: how it stands to what it was handed in, how far its job is, and what it has seen since it
 -- began. Ours.
-use Rattle.std.specs.Prelude.{ℕ, List, [], ◌∷◌, ◌++◌, Option}
+use Rattle.std.specs.Prelude.{ℕ, false, List, [], ◌∷◌, Option}
 use Rattle.dht_fops.specs.Courses.{Course}
 use Rattle.dht_fops.specs.Courses.Course.{Asks, Extends}
 use Rattle.dht_fops.specs.Fops.{fop_course}
@@ -14,7 +14,7 @@ use Rattle.fop_types.specs.declared.contents.Content.{Content}
 use Rattle.fop_types.specs.declared.fops.Fop.{Fop}
 use Rattle.fop_types.specs.declared.jobs.Job.{Job}
 use Rattle.fop_types.specs.declared.jobs.SetReply.{SetReply}
-use Rattle.mount_laws.specs.Holds.{Hold, holds_of, extensions}
+use Rattle.mount_laws.specs.Holds.{Hold, holds_of}
 
 -- ---- what was handed in
 
@@ -48,12 +48,14 @@ pub record Sight : Type 0 where
   pub cell : Cell
   pub content : Option Content
 
--- `names` are the names of the sets of the call's graph, `kept` the layouts that the graph had read when the fop began
+-- `names` are the names of the sets of the call's graph, `kept` the layouts that the graph had read when the fop began, and
+-- `holds` what the call holds now
 pub record Run : Type 0 where
   pub fop : Fop
   pub volume : Volume
   pub names : List (List ℕ)
   pub kept : Kept
+  pub holds : List Hold
   pub handed : Handed
   pub course : Course
   pub stage : Stage
@@ -63,16 +65,13 @@ pub record Run : Type 0 where
 abbrev pub first_course : Run → Course
 first_course run = fop_course run.volume run.names run.kept run.fop
 
--- what the fop holds now
-abbrev pub holds_in : Run → List Hold
-holds_in run = holds_of run.fop ++ extensions run.handed
-
 abbrev pub begun : Fop → Volume → List (List ℕ) → Kept → Run
 begun fop volume names kept = record {
   fop = fop;
   volume = volume;
   names = names;
   kept = kept;
+  holds = holds_of fop;
   handed = [];
   course = fop_course volume names kept fop;
   stage = Waiting;
@@ -83,3 +82,7 @@ begun fop volume names kept = record {
 -- it goes on with one more event
 abbrev pub going_on : Run → Handed → Course → List Sight → Run
 going_on run handed next saw = record run { handed = handed; course = next; stage = Waiting; saw = saw }
+
+-- its hold is extended by a directory
+abbrev pub held_longer : Run → Gfid → Run
+held_longer run dir = record run { holds = record { gfid = dir; shared = false } ∷ run.holds }

@@ -3,7 +3,7 @@
 use Rattle.std.specs.Prelude.{◌≡◌, ◌≢◌, ◌⊎◌, ℕ, true, List, [], ◌∷◌, Some, None}
 use Rattle.afr_machine.specs.Changes.Verdict.{Undrawn}
 use Rattle.afr_machine.specs.Touching.{has_cell}
-use Rattle.afr_machine.specs.Transactions.{cells_of_job}
+use Rattle.afr_machine.specs.Transactions.{cells_of_job, settles_first}
 use Rattle.dht_fops.specs.Answers.{AreMade}
 use Rattle.dht_fops.specs.Courses.{Course}
 use Rattle.dht_fops.specs.Handed.{Handed, Event}
@@ -70,9 +70,9 @@ pub record ObjectsMade (m : State) : Type 0 where
   pub known : Each (IsMade (volumes m)) m.known
   pub fops : (c : ℕ) (run : Run) → Runs m c run → AreMade (volumes m) run.fop
 
--- A job over a file's cells is on the file's home.
+-- A job that settles first, over a file's cells, is on the file's home.
 abbrev pub JobHome : State → Type 0
-JobHome m = (c : ℕ) (run : Run) (set : ℕ) (asked : Job) (next : SetReply → Course) → Runs m c run → run.course ≡ Course.Asks set asked next
+JobHome m = (c : ℕ) (run : Run) (set : ℕ) (asked : Job) (next : SetReply → Course) → Runs m c run → run.course ≡ Course.Asks set asked next → settles_first asked ≡ true
     → Each (λ (cell : Cell). m.kinds cell.gfid ≡ Some kind.File → m.homes cell.gfid ≡ set) (cells_of_job asked)
 
 -- ---- the drawn object

@@ -14,7 +14,7 @@ use Rattle.fop_types.specs.declared.jobs.Job.{Job}
 use Rattle.fop_types.specs.declared.jobs.SetReply.{SetReply}
 use Rattle.mount_laws.specs.Guards.{Allowed, IsUnsettledOn, MaySettle, MaySendBirths, MayBeginChange}
 use Rattle.mount_laws.specs.Holding.{AreHeldExclusively}
-use Rattle.mount_laws.specs.Runs.{Run, SettledJob, holds_in}
+use Rattle.mount_laws.specs.Runs.{Run, SettledJob}
 use Rattle.mount_laws.specs.Runs.Stage.{Settled, Changing}
 use Rattle.mount_laws.specs.States.{State, Change, Status, Runs, has_begun}
 use Rattle.mount_laws.specs.Steps.{Step, Task, is_lookup, change_by, births_by, after}
@@ -42,7 +42,7 @@ IsSettledJob c change done = IsUnsettledOn change done.set done.cells → change
 -- `settled`: after a job's settling, each unsettled change on its cells is its own call's, until the hold is released; so
 -- no change of another call on them is decided. `lookup`: a lookup makes none.
 pub record StandsBeside (c : ℕ) (run : Run) (u : ℕ) (change : Change) : Type 0 where
-  pub own_is_held : change.by ≡ c → change.verdict ≢ Undrawn → AreHeldExclusively (holds_in run) change.cells
+  pub own_is_held : change.by ≡ c → change.verdict ≢ Undrawn → AreHeldExclusively (run.holds) change.cells
   pub running_is_unsettled : run.stage ≡ Changing u → IsRunning c run change
   pub none_left : (place set : ℕ) (asked : Job) (next : SetReply → Course) → run.stage ≡ Settled place → run.course ≡ Course.Asks set asked next → settles_first asked ≡ true
       → IsUnsettledOn change set (cells_of_job asked) → ⊥

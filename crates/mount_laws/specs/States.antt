@@ -17,12 +17,13 @@ use Rattle.fop_types.specs.declared.cells.Kind.{Kind}
 use Rattle.fop_types.specs.declared.cells.Kind.TheVariants as kind
 use Rattle.fop_types.specs.declared.contents.Item.{Item}
 use Rattle.fop_types.specs.declared.flat.FlatOp.{FlatOp}
+use Rattle.fop_types.specs.declared.fops.Fop.{Fop}
 use Rattle.fop_types.specs.declared.fops.Object.{Object}
 use Rattle.fop_types.specs.declared.history.Entry.{Entry}
 use Rattle.fop_types.specs.declared.store_ops.StoreOp.{StoreOp}
 use Rattle.fop_types.specs.declared.store_ops.StoreOp.TheVariants as op
 use Rattle.mount_laws.specs.Holds.{Hold}
-use Rattle.mount_laws.specs.Runs.{Run, holds_in}
+use Rattle.mount_laws.specs.Runs.{Run}
 
 -- ---- changes
 
@@ -72,7 +73,7 @@ has_begun Answered = true
 abbrev pub holds_by : Status → List Hold
 holds_by Unsubmitted = []
 holds_by Ready = []
-holds_by (Running run) = holds_in run
+holds_by (Running run) = run.holds
 holds_by Answered = []
 
 -- ---- the state
@@ -88,7 +89,8 @@ pub record Owed : Type 0 where
 -- made, and the set of each file. `known`: the objects that lookups and creates were answered. `learnt`: the layouts that
 -- fops have read. `ops` and `history`: the entries and their operations. `names` are the names of the sets of the newest
 -- graph, `root_sets` is the number of sets of the first. Calls are numbered from 1 as far as `submitted`; `draws` of them drew
--- a gfid.
+-- a gfid. Of each call, `since` is the length of the history at its submission, `places` are those of its fops that were
+-- answered by something else than an I/O error, and `began` is the fop that it began last.
 pub record State : Type 0 where
   pub adopted : SetContents
   pub firm : ℕ → Cell → Bool
@@ -106,6 +108,9 @@ pub record State : Type 0 where
   pub calls : ℕ → Call
   pub submitted : ℕ
   pub draws : ℕ
+  pub since : ℕ → ℕ
+  pub places : ℕ → List ℕ
+  pub began : ℕ → Option Fop
 
 abbrev pub root_object : Object
 root_object = record { gfid = root; kind = kind.Dir; set = 0 }
@@ -129,6 +134,9 @@ start names = record {
   calls = λ c. no_call;
   submitted = 0;
   draws = 0;
+  since = λ c. 0;
+  places = λ c. [];
+  began = λ c. None;
 }
 
 -- ---- parts that are read often

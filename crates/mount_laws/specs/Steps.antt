@@ -16,6 +16,8 @@ use Rattle.dht_fops.specs.Volumes.{Kept}
 use Rattle.dht_fops.specs.declared.volume.Volume.{Volume}
 use Rattle.fop_types.specs.Orders.{gfid_cmp}
 use Rattle.fop_types.specs.StoreOps.{Contents, births, after_births, contents_after}
+use Rattle.fop_types.specs.declared.answers.Answer.{Answer}
+use Rattle.fop_types.specs.declared.answers.Answer.TheVariants as answers
 use Rattle.fop_types.specs.declared.answers.FopAnswer.{FopAnswer}
 use Rattle.fop_types.specs.declared.answers.FopAnswer.TheVariants as fop_answer
 use Rattle.fop_types.specs.declared.cells.Cell.{Cell}
@@ -34,7 +36,7 @@ use Rattle.fop_types.specs.declared.jobs.SetReply.{SetReply}
 use Rattle.fop_types.specs.declared.jobs.SetReply.TheVariants as reply
 use Rattle.fop_types.specs.declared.store_ops.StoreOp.{StoreOp}
 use Rattle.fop_types.specs.declared.store_ops.StoreOp.TheVariants as op
-use Rattle.mount_laws.specs.Runs.{Run, Stage, Sight, begun, going_on}
+use Rattle.mount_laws.specs.Runs.{Run, Stage, Sight, begun, going_on, held_longer}
 use Rattle.mount_laws.specs.Runs.Stage.{Settled, Changing, Bearing, Decided}
 use Rattle.mount_laws.specs.States.{State, Change, no_change, Status, Call, with_status, with_run, with_change, with_firm}
 use Rattle.mount_laws.specs.States.Status.{Ready, Answered}
@@ -47,7 +49,8 @@ pub record Task : Type 0 where
   pub job : Job
   pub next : SetReply → Course
 
--- `draws`: the call would make an object. `Concludes`: the call is answered without a further fop. `Learns`: a layout that the
+-- `draws`: the call would make an object. `Concludes`: the call is answered without a further fop. `AnswersAbove`: a fop is
+-- answered by what was read before, as a cache above distribute does, and asks for no job. `Learns`: a layout that the
 -- fop has read is kept. `Settles`: the job decides an unsettled change on its cells. `EndsSettling`: it has settled them all.
 -- `Decides`: the job's own change is adopted. `ConfirmsBirths`: a quorum has the births.
 pub data Step : Type 0 where
@@ -64,7 +67,8 @@ pub data Step : Type 0 where
   HandsIn : (t : Task) → (reply : SetReply) → Step
   Extends : (c : ℕ) → (run : Run) → (dir : Gfid) → (next : Course) → Step
   Learns : (c : ℕ) → (run : Run) → (dir : Gfid) → (spans : List (Option Span)) → Step
-  Answers : (c : ℕ) → (run : Run) → (answer : FopAnswer) → Step
+  Answers : (c : ℕ) → (run : Run) → (answer : FopAnswer) → (place : Option ℕ) → Step
+  AnswersAbove : (c : ℕ) → (run : Run) → (answer : Answer) → Step
 
 -- ---- calls
 
@@ -77,13 +81,14 @@ submitted m draws = record m {
   calls = with_at m.calls (m.submitted + 1) (record { names = m.names; drawn = if draws then Some (nth_gfid (m.draws + 1)) else None; status = Ready });
   submitted = m.submitted + 1;
   draws = if draws then m.draws + 1 else m.draws;
+  since = with_at m.since (m.submitted + 1) (length m.history);
 }
 
 abbrev pub volume_of : State → ℕ → Volume
 volume_of m c = record { call = c; sets = length (m.calls c).names; root_sets = m.root_sets }
 
 abbrev pub beginning : State → ℕ → Fop → Kept → State
-beginning m c fop kept = with_run m c (begun fop (volume_of m c) (m.calls c).names kept)
+beginning m c fop kept = record (with_run m c (begun fop (volume_of m c) (m.calls c).names kept)) { began = with_at m.began c (Some fop) }
 
 -- the object that an answer names
 abbrev pub object_in : FopAnswer → List Object
@@ -103,8 +108,17 @@ abbrev pub status_after : Bool → FopAnswer → Status
 status_after true answer = status_found answer
 status_after false answer = Answered
 
-abbrev pub answering : State → ℕ → Run → FopAnswer → State
-answering m c run answer = record (with_status m c (status_after (is_lookup run.fop) answer)) { known = object_in answer ++ m.known }
+-- the place of a fop's answer: where no lock was needed it is the length of the history now; an I/O error has none
+abbrev pub place_of : ℕ → FopAnswer → Option ℕ → List ℕ
+place_of now (fop_answer.Call (answers.Io error)) place = []
+place_of now other (Some place) = place ∷ []
+place_of now other None = now ∷ []
+
+abbrev pub answering : State → ℕ → Run → FopAnswer → Option ℕ → State
+answering m c run answer place = record (with_status m c (status_after (is_lookup run.fop) answer)) {
+  known = object_in answer ++ m.known;
+  places = with_at m.places c (m.places c ++ place_of (length m.history) answer place);
+}
 
 -- ---- changes that are adopted
 
@@ -251,7 +265,7 @@ handing_in m t shown =
     with_run m t.call (going_on t.run (Replied t.set t.job shown ∷ t.run.handed) (t.next shown) (sights_by t.set t.job shown ++ t.run.saw))
 
 abbrev pub extending : State → ℕ → Run → Gfid → Course → State
-extending m c run dir next = with_run m c (going_on run (Held dir ∷ run.handed) next run.saw)
+extending m c run dir next = with_run m c (held_longer (going_on run (Held dir ∷ run.handed) next run.saw) dir)
 
 -- ---- all
 
@@ -269,4 +283,5 @@ after m (ConfirmsBirths t) = confirming m t
 after m (HandsIn t shown) = handing_in m t shown
 after m (Extends c run dir next) = extending m c run dir next
 after m (Learns c run dir spans) = record m { learnt = (dir, spans) ∷ m.learnt }
-after m (Answers c run answer) = answering m c run answer
+after m (Answers c run answer place) = answering m c run answer place
+after m (AnswersAbove c run answer) = answering m c run (fop_answer.Call answer) None
