@@ -4,11 +4,13 @@ pub mod Beside
 pub mod Beyond
 pub mod Contents
 pub mod Covering
+pub mod Entering
 pub mod Firm
 pub mod Held
 pub mod Leading
 pub mod Moving
 pub mod One
+pub mod Owning
 pub mod Seen
 pub mod Sharing
 pub mod Tables

@@ -1,5 +1,6 @@
 -- What every state of the mount keeps that allowed steps lead to. Ours.
 use Rattle.std.specs.Prelude.{ℕ, List}
+use Rattle.mount_laws.specs.Effects.{EffectIsOwn, PartsInOrder, EnteredOnce}
 use Rattle.mount_laws.specs.Graphs.{BeyondOld, InItsGraph}
 use Rattle.mount_laws.specs.Guards.{IsReached}
 use Rattle.mount_laws.specs.Holding.{HoldsApart, HoldsOwn, JobAsked, HoldCovers}
@@ -34,6 +35,11 @@ pub record KeepsGraphs (m : State) : Type 0 where
   pub in_its_graph : InItsGraph m
   pub beyond : BeyondOld m
 
+pub record KeepsEffects (m : State) : Type 0 where
+  pub own : EffectIsOwn m
+  pub order : PartsInOrder m
+  pub entered : EnteredOnce m
+
 abbrev pub EveryStateKeepsHolds : Type 0
 EveryStateKeepsHolds = EveryState KeepsHolds
 
@@ -45,3 +51,6 @@ EveryStateKeepsSights = EveryState KeepsSights
 
 abbrev pub EveryStateKeepsGraphs : Type 0
 EveryStateKeepsGraphs = EveryState KeepsGraphs
+
+abbrev pub EveryStateKeepsEffects : Type 0
+EveryStateKeepsEffects = EveryState KeepsEffects

@@ -1,3 +1,4 @@
+pub mod Effects
 pub mod Graphs
 pub mod Guards
 pub mod Holding

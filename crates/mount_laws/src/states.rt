@@ -1,4 +1,4 @@
-ghost use Rattle.mount_laws.specs.Laws.{EveryStateKeepsHolds, EveryStateKeepsSettled, EveryStateKeepsSights, EveryStateKeepsGraphs};
+ghost use Rattle.mount_laws.specs.Laws.{EveryStateKeepsHolds, EveryStateKeepsSettled, EveryStateKeepsSights, EveryStateKeepsGraphs, EveryStateKeepsEffects};
 
 /// The law of holds, of every state that allowed steps lead to. Holds of different calls do not conflict. The job
 /// under way is what the fop's course asks for after what was handed in. It is covered by the hold, and so is each
@@ -31,4 +31,12 @@ pub fn every_state_keeps_sights()
 /// is beyond the sets of the newest graph.
 pub fn every_state_keeps_graphs()
     ensures { EveryStateKeepsGraphs }
+{}
+
+/// The law of effects, of every state that allowed steps lead to. A change with an effect is an entry of its call,
+/// and its op is that part of the fop that the call began last; a change without one adds or drops a link. A call
+/// begins each part at most once, and the second after the first was adopted. The history has the effects of the
+/// adopted changes, each once and with its operation, and a call's parts in their order.
+pub fn every_state_keeps_effects()
+    ensures { EveryStateKeepsEffects }
 {}
