@@ -6,12 +6,13 @@ use Rattle.fop_types.specs.declared.answers.FopAnswer.TheVariants as fop_answer
 use Rattle.fop_types.specs.declared.cells.Gfid.{Gfid}
 use Rattle.mount_laws.specs.Guards.{Allowed, IsReached}
 use Rattle.mount_laws.specs.Holding.{HoldsApart}
-use Rattle.mount_laws.specs.Holds.{Hold, Holds, HoldsExclusively, AreApart}
+use Rattle.mount_laws.specs.Holds.{Hold, Holds, HoldsExclusively, AreApart, holds_without}
 use Rattle.mount_laws.specs.Runs.{Run}
 use Rattle.mount_laws.specs.States.{State, Call, Status, Runs, held, holds_by}
 use Rattle.mount_laws.specs.States.Status.{Unsubmitted, Ready, Running, Answered}
 use Rattle.mount_laws.specs.Steps.{Step, after, is_lookup}
 use Rattle.mount_laws.proofs.Moving.{quiet}
+use Rattle.mount_laws.proofs.Releasing.{fewer_holds, fewer_exclusive}
 use Rattle.mount_laws.proofs.Tables.{at_case}
 
 pub flipped : (hs ks : List Hold) → AreApart hs ks → AreApart ks hs
@@ -32,6 +33,10 @@ longer_apart d hs ks a b = record { first = λ gfid h k. first gfid k h; second 
     second : (gfid : Gfid) → HoldsExclusively ks gfid → Holds (d ∷ hs) gfid → ⊥
     second gfid k (inl e) = b.second gfid (inl e) k
     second gfid k (inr h) = a.second gfid h k
+
+-- one hold less
+fewer_apart : (gfid : Gfid) (hs ks : List Hold) → AreApart hs ks → AreApart (holds_without gfid hs) ks
+fewer_apart gfid hs ks a = record { first = λ x h k. a.first x (fewer_exclusive gfid hs x h) k; second = λ x h k. a.second x (fewer_holds gfid hs x h) k }
 
 -- ---- one call whose status changes
 
@@ -79,6 +84,8 @@ step_apart m (Step.Extends c run dir next) h a =
     one_apart m c _ a
     (λ other ne. longer_apart (record { gfid = dir; shared = false }) run.holds (held m other)
     (subst (λ (s : Status). AreApart (holds_by s) (held m other)) h.runs (a c other (λ e. ne (sym e)))) (h.apart other ne))
+step_apart m (Step.Releases c run gfid) h a =
+    one_apart m c _ a (λ other ne. fewer_apart gfid run.holds (held m other) (subst (λ (s : Status). AreApart (holds_by s) (held m other)) h.runs (a c other (λ e. ne (sym e)))))
 step_apart m (Step.Learns c run dir spans) h a = a
 step_apart m (Step.Answers c run answer place) h a = free_apart m c _ a (λ other e. quiet (is_lookup run.fop) answer other e)
 step_apart m (Step.AnswersAbove c run answer) h a = free_apart m c _ a (λ other e. quiet (is_lookup run.fop) (fop_answer.Call answer) other e)

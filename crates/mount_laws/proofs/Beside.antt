@@ -21,7 +21,7 @@ use Rattle.fop_types.specs.declared.jobs.SetReply.{SetReply}
 use Rattle.mount_laws.specs.Guards.{Allowed, IsReached, IsUnderWay, IsUnsettledOn, IsChange, MaySettle, MayBeginChange, MayDecide}
 use Rattle.mount_laws.specs.Holding.{HoldsApart, HoldCovers, AreHeld, AreHeldExclusively, IsHeldFor}
 use Rattle.mount_laws.specs.Holds.{Hold}
-use Rattle.mount_laws.specs.Runs.{Run, Stage, SettledJob, Sight, begun, going_on, held_longer}
+use Rattle.mount_laws.specs.Runs.{Run, Stage, SettledJob, Sight, begun, going_on, held_longer, released}
 use Rattle.mount_laws.specs.Runs.Stage.{Waiting, Settled, Changing, Bearing, Decided}
 use Rattle.mount_laws.specs.Settling.{IsSettledJob, StandsBeside, EachStandsBeside, RunningIsAlone, AreNumbered}
 use Rattle.mount_laws.specs.States.{State, Change, Call, Status, Runs, has_begun, holds_by, held}
@@ -30,6 +30,7 @@ use Rattle.mount_laws.specs.Steps.{Step, Task, after, is_lookup, status_after, v
 use Rattle.mount_laws.proofs.Apart.{holds_apart}
 use Rattle.mount_laws.proofs.Held.{holds_cover, covered_held}
 use Rattle.mount_laws.proofs.Moving.{unwrap, quiet}
+use Rattle.mount_laws.proofs.Releasing.{each_without, fewer_share, held_without}
 use Rattle.mount_laws.proofs.Sharing.{held_apart}
 use Rattle.mount_laws.proofs.Tables.{at_case}
 
@@ -125,10 +126,20 @@ module _ (c : ℕ) (run : Run) (u : ℕ) (change : Change) (a : StandsBeside c r
     lookup = a.lookup;
   }
 
+  -- it lets go of an object on which the change is not unsettled as its own
+  let_go : (gfid : Gfid) → (change.by ≡ c → change.verdict ≡ Unsettled → Each (λ (cell : Cell). cell.gfid ≢ gfid) change.cells) → StandsBeside c (released run gfid) u change
+  let_go gfid others = record {
+    own_is_held = λ by was. held_without gfid run.holds change.cells (a.own_is_held by was) (others by was);
+    running_is_unsettled = λ e. let r = a.running_is_unsettled e in record { by = r.by; unsettled = r.unsettled; asked = r.asked };
+    none_left = a.none_left;
+    settled = each_without (IsSettledJob c change) (IsSettledJob c change) gfid run.settled (λ done k on. k (record { verdict = on.verdict; on_set = on.on_set; touches = fewer_share gfid change.cells done.cells on.touches })) a.settled;
+    lookup = a.lookup;
+  }
+
   -- the change is decided
   decided : (verdict : Verdict) → verdict ≢ Undrawn → verdict ≢ Unsettled → change.verdict ≡ Unsettled → run.stage ≢ Changing u → StandsBeside c run u (record change { verdict = verdict })
   decided verdict drawn settled was other = record {
-    own_is_held = λ by d. a.own_is_held by (λ e. let clash : Unsettled ≡ Undrawn = sym was ∙ e in absurd cc);
+    own_is_held = λ by d. absurd (settled d);
     running_is_unsettled = λ e. absurd (other e);
     none_left = λ place set asked next e f g on. settled on.verdict;
     settled = each_of (IsSettledJob c (record change { verdict = verdict })) run.settled (λ done on. absurd (settled on.verdict));
@@ -184,7 +195,7 @@ module _ (m : State) (apart : HoldsApart m) (cover : HoldCovers m) (numbered : A
   settling_is_alone c run t u runs stage h =
       let running = (a c run runs u).running_is_unsettled stage in
       let other : t.call ≢ c = λ same. waits (subst (λ (i : ℕ). Runs m i t.run) same h.under_way.runs) in
-      let own = (a c run runs u).own_is_held running.by (λ e. let clash : Unsettled ≡ Undrawn = sym running.unsettled ∙ e in absurd cc) in
+      let own = (a c run runs u).own_is_held running.by running.unsettled in
       let mine : AreHeldExclusively (held m c) (m.changes u).cells = subst (λ (s : Status). AreHeldExclusively (holds_by s) (m.changes u).cells) (sym runs) own in
       let theirs : AreHeld (held m t.call) (cells_of_job t.job) = subst (λ (s : Status). AreHeld (holds_by s) (cells_of_job t.job)) (sym h.under_way.runs)
       (covered_held t.run.holds t.run.fop t.job h.settles (cover.asked t.call t.run t.set t.job t.next h.under_way.runs h.under_way.asks)) in
@@ -246,7 +257,7 @@ module _ (m : State) (apart : HoldsApart m) (cover : HoldCovers m) (numbered : A
       new : Change
       new = change_by t.call t.set t.job
 
-      made : IsChangeOf t.call t.set t.job t.run.fop (t.run.holds)
+      made : IsChangeOf t.call t.set t.job t.run.fop t.run.holds
       made = change_of_job t.call t.set t.job t.run.fop t.run.holds h.is_change (cover.asked t.call t.run t.set t.job t.next h.under_way.runs h.under_way.asks)
 
       was : StandsBeside t.call t.run u (m.changes u)
@@ -261,7 +272,7 @@ module _ (m : State) (apart : HoldsApart m) (cover : HoldCovers m) (numbered : A
       -- its own fop beside it
       mine : StandsBeside t.call run u new
       mine = record {
-        own_is_held = λ by drawn. subst (λ (cells : List Cell). AreHeldExclusively (t.run.holds) cells) (sym made.cells) made.alone;
+        own_is_held = λ by drawn. subst (λ (cells : List Cell). AreHeldExclusively t.run.holds cells) (sym made.cells) made.alone;
         running_is_unsettled = λ e. record {
           by = made.by;
           unsettled = made.unsettled;
@@ -287,7 +298,7 @@ module _ (m : State) (apart : HoldsApart m) (cover : HoldCovers m) (numbered : A
       no_share : (c : ℕ) → c ≢ t.call → (hs : List Hold) → held m c ≡ hs → (cells : List Cell) → AreHeld hs cells → share new.cells cells ≡ true → ⊥
       no_share c ne hs is cells h2 s =
           let alone : AreHeldExclusively (held m t.call) new.cells = subst (λ (st : Status). AreHeldExclusively (holds_by st) new.cells) (sym h.under_way.runs)
-          (subst (λ (cs : List Cell). AreHeldExclusively (t.run.holds) cs) (sym made.cells) made.alone) in
+          (subst (λ (cs : List Cell). AreHeldExclusively t.run.holds cs) (sym made.cells) made.alone) in
           let none = held_apart (held m t.call) (held m c) new.cells cells (apart t.call c (λ e. ne (sym e))) alone (subst (λ (ks : List Hold). AreHeld ks cells) (sym is) h2) in
           let clash : true ≡ false = sym s ∙ none in absurd cc
 
@@ -300,8 +311,8 @@ module _ (m : State) (apart : HoldsApart m) (cover : HoldCovers m) (numbered : A
             own_is_held = λ by drawn. absurd (not_mine c ne by);
             running_is_unsettled = λ e. let clash : Unsettled ≡ Undrawn = sym (old.running_is_unsettled e).unsettled ∙ h.fresh in absurd cc;
             none_left = λ place set asked next e f settles on.
-                no_share c ne (other.holds) holds (cells_of_job asked) (covered_held other.holds other.fop asked settles (cover.asked c other set asked next runs f)) on.touches;
-            settled = each_map (λ (done : SettledJob). AreHeld (other.holds) done.cells) (IsSettledJob c new) other.settled (λ done held_cells on. absurd (no_share c ne (other.holds) holds done.cells held_cells on.touches)) (cover.settled c other runs);
+                no_share c ne other.holds holds (cells_of_job asked) (covered_held other.holds other.fop asked settles (cover.asked c other set asked next runs f)) on.touches;
+            settled = each_map (λ (done : SettledJob). AreHeld other.holds done.cells) (IsSettledJob c new) other.settled (λ done held_cells on. absurd (no_share c ne other.holds holds done.cells held_cells on.touches)) (cover.settled c other runs);
             lookup = λ look by. absurd (not_mine c ne by);
           }
 
@@ -330,7 +341,7 @@ module _ (m : State) (apart : HoldsApart m) (cover : HoldCovers m) (numbered : A
 
       new : (u : ℕ) → StandsBeside c run u (m.changes u)
       new u = record {
-        own_is_held = λ by drawn. absurd (drawn (undrawn u by));
+        own_is_held = λ by was. let clash : Unsettled ≡ Undrawn = sym was ∙ undrawn u by in absurd cc;
         running_is_unsettled = λ e. let clash : Waiting ≡ Changing u = sym waiting ∙ e in absurd cc;
         none_left = λ place set asked next e. let clash : Waiting ≡ Settled place = sym waiting ∙ e in absurd cc;
         settled = subst (λ (jobs : List SettledJob). Each (IsSettledJob c (m.changes u)) jobs) (sym nothing) tt;
@@ -362,6 +373,10 @@ step_beside m (Step.HandsIn t shown) h apart cover numbered a b =
 step_beside m (Step.Extends c run dir next) h apart cover numbered a b = (
   run_beside m.calls m.changes c _ a
       (λ u. held_on c run u (m.changes u) (a c run h.runs u) (Held dir ∷ run.handed) next run.saw dir),
+  one_unbegun m.calls m.changes c _ b (λ none. absurd cc),
+)
+step_beside m (Step.Releases c run gfid) h apart cover numbered a b = (
+  run_beside m.calls m.changes c _ a (λ u. let_go c run u (m.changes u) (a c run h.runs u) gfid (h.settled u)),
   one_unbegun m.calls m.changes c _ b (λ none. absurd cc),
 )
 step_beside m (Step.Learns c run dir spans) h apart cover numbered a b = (a, b)
@@ -409,6 +424,7 @@ step_numbered m (Step.SendsBirths t) h n = number_run m t n h.under_way _
 step_numbered m (Step.ConfirmsBirths t) h n = number_run m t n h.under_way _
 step_numbered m (Step.HandsIn t shown) h n = number_run m t n h.under_way _
 step_numbered m (Step.Extends c run dir next) h n = number_at m c _ m.submitted n (omega arith) (counted m n c (λ e. let clash : Running run ≡ Unsubmitted = sym h.runs ∙ e in absurd cc))
+step_numbered m (Step.Releases c run gfid) h n = number_at m c _ m.submitted n (omega arith) (counted m n c (λ e. let clash : Running run ≡ Unsubmitted = sym h.runs ∙ e in absurd cc))
 step_numbered m (Step.Learns c run dir spans) h n = n
 step_numbered m (Step.Answers c run answer place) h n = number_at m c _ m.submitted n (omega arith) (counted m n c (λ e. let clash : Running run ≡ Unsubmitted = sym h.runs ∙ e in absurd cc))
 step_numbered m (Step.AnswersAbove c run answer) h n = number_at m c _ m.submitted n (omega arith) (counted m n c (λ e. let clash : Running run ≡ Unsubmitted = sym h.runs ∙ e in absurd cc))

@@ -118,6 +118,7 @@ step_graphed m (Step.SendsBirths t) h b g = run_graphed m.root_sets m.names m.ca
 step_graphed m (Step.ConfirmsBirths t) h b g = run_graphed m.root_sets m.names m.calls t.call t.run _ g h.under_way.runs (λ p. p)
 step_graphed m (Step.HandsIn t shown) h b g = run_graphed m.root_sets m.names m.calls t.call t.run _ g h.under_way.runs (λ p. p)
 step_graphed m (Step.Extends c run dir next) h b g = run_graphed m.root_sets m.names m.calls c run _ g h.runs (λ p. p)
+step_graphed m (Step.Releases c run gfid) h b g = run_graphed m.root_sets m.names m.calls c run _ g h.runs (λ p. p)
 step_graphed m (Step.Learns c run dir spans) h b g = g
 step_graphed m (Step.Answers c run answer place) h b g =
     status_graphed m.root_sets m.names m.calls c (status_after (is_lookup run.fop) answer) g (ap (λ (s : Status). is_unanswered s) h.runs)
@@ -238,6 +239,7 @@ step_first m (Step.SendsBirths t) h asked g count few a = record {
 step_first m (Step.ConfirmsBirths t) h asked g count few a = a
 step_first m (Step.HandsIn t shown) h asked g count few a = a
 step_first m (Step.Extends c run dir next) h asked g count few a = a
+step_first m (Step.Releases c run gfid) h asked g count few a = a
 step_first m (Step.Learns c run dir spans) h asked g count few a = a
 step_first m (Step.AnswersAbove c run answer) h asked g count few a = a
 step_first m (Step.Answers c run answer place) h asked g count few a = record {
@@ -314,6 +316,7 @@ step_beyond m step h asked g b = by_step step h
     by_step (Step.ConfirmsBirths t) k = record { unanswered = goes (Step.ConfirmsBirths t) k t.call _ (was_running t.call t.run k.under_way.runs); newest = newest (Step.ConfirmsBirths t) k }
     by_step (Step.HandsIn t shown) k = record { unanswered = goes (Step.HandsIn t shown) k t.call _ (was_running t.call t.run k.under_way.runs); newest = newest (Step.HandsIn t shown) k }
     by_step (Step.Extends c run dir next) k = record { unanswered = goes (Step.Extends c run dir next) k c _ (was_running c run k.runs); newest = newest (Step.Extends c run dir next) k }
+    by_step (Step.Releases c run gfid) k = record { unanswered = goes (Step.Releases c run gfid) k c _ (was_running c run k.runs); newest = newest (Step.Releases c run gfid) k }
     by_step (Step.Learns c run dir spans) k = record { unanswered = rest (Step.Learns c run dir spans) k; newest = newest (Step.Learns c run dir spans) k }
     by_step (Step.Answers c run answer place) k = record { unanswered = goes (Step.Answers c run answer place) k c _ (was_running c run k.runs); newest = newest (Step.Answers c run answer place) k }
     by_step (Step.AnswersAbove c run answer) k = record { unanswered = goes (Step.AnswersAbove c run answer) k c _ (was_running c run k.runs); newest = newest (Step.AnswersAbove c run answer) k }

@@ -13,6 +13,7 @@ use Rattle.dht_fops.specs.Founded.{AnyAnswer}
 use Rattle.dht_fops.specs.Handed.{Handed, Event, Always}
 use Rattle.dht_fops.specs.Handed.Event.{Replied, Held}
 use Rattle.fop_types.specs.declared.answers.FopAnswer.TheVariants as fop_answer
+use Rattle.fop_types.specs.declared.cells.Gfid.{Gfid}
 use Rattle.fop_types.specs.declared.flat.FlatOp.{FlatOp}
 use Rattle.fop_types.specs.declared.fops.Fop.{Fop}
 use Rattle.fop_types.specs.declared.history.Entry.{Entry}
@@ -24,7 +25,7 @@ use Rattle.fop_types.specs.declared.store_ops.StoreOp.{StoreOp}
 use Rattle.mount_laws.specs.Effects.{DidNotFail, IsEarlier, AreEarlier, IsOwnPart, IsOwnJob, IsOwnEntry, IsOwnEffect, EffectIsOwn, HasEffect, PartsInOrder, IsEntered, AreEntered, EnteredOnce, IsReplyTo, WasReplied, IsAt, IsJobOf, IsOfRun, OwnIsOfRun, BeganIsRun}
 use Rattle.mount_laws.specs.Guards.{Allowed, IsReached, IsChange, IsReply, IsSettling, IsOpen, MaySettle, MayBeginChange, MayDecide, MayHandIn}
 use Rattle.mount_laws.specs.Guards.IsReply.{Shows, Enters, Fails, Opens}
-use Rattle.mount_laws.specs.Runs.{Run, Stage, Sight, first_course, begun, going_on, held_longer}
+use Rattle.mount_laws.specs.Runs.{Run, Stage, Sight, first_course, begun, going_on, held_longer, released}
 use Rattle.mount_laws.specs.Runs.Stage.{Waiting, Settled, Changing, Bearing, Decided}
 use Rattle.mount_laws.specs.States.{State, Change, Call, Runs, has_begun}
 use Rattle.mount_laws.specs.States.Status.{Running}
@@ -59,6 +60,7 @@ step_began m (Step.SendsBirths t) h a = run_case (BeganAt m.began) m.calls t.cal
 step_began m (Step.ConfirmsBirths t) h a = run_case (BeganAt m.began) m.calls t.call _ (a t.call t.run h.under_way.runs) (λ i other differ e. a i other e)
 step_began m (Step.HandsIn t shown) h a = run_case (BeganAt m.began) m.calls t.call _ (a t.call t.run h.under_way.runs) (λ i other differ e. a i other e)
 step_began m (Step.Extends c run dir next) h a = run_case (BeganAt m.began) m.calls c _ (a c run h.runs) (λ i other differ e. a i other e)
+step_began m (Step.Releases c run gfid) h a = run_case (BeganAt m.began) m.calls c _ (a c run h.runs) (λ i other differ e. a i other e)
 step_began m (Step.Learns c run dir spans) h a = a
 step_began m (Step.Answers c run answer place) h a = stop_case (BeganAt m.began) m.calls c _ (λ other e. quiet (is_lookup run.fop) answer other e) a
 step_began m (Step.AnswersAbove c run answer) h a = stop_case (BeganAt m.began) m.calls c _ (λ other e. quiet (is_lookup run.fop) (fop_answer.Call answer) other e) a
@@ -130,6 +132,7 @@ step_own first m (Step.SendsBirths t) reached h a = a
 step_own first m (Step.ConfirmsBirths t) reached h a = a
 step_own first m (Step.HandsIn t shown) reached h a = a
 step_own first m (Step.Extends c run dir next) reached h a = a
+step_own first m (Step.Releases c run gfid) reached h a = a
 step_own first m (Step.Learns c run dir spans) reached h a = a
 step_own first m (Step.Answers c run answer place) reached h a = a
 step_own first m (Step.AnswersAbove c run answer) reached h a = a
@@ -175,6 +178,14 @@ of_saw : (c : ℕ) (run : Run) (u : ℕ) (change : Change) (saw : List Sight) �
 of_saw c run u change saw a = λ entry by h. by_case entry (a entry by h)
   where
     by_case : (entry : Entry) → WasReplied run.handed entry change.verdict ⊎ IsJobOf run u entry change.verdict → WasReplied run.handed entry change.verdict ⊎ IsJobOf (record run { saw = saw }) u entry change.verdict
+    by_case entry (inl w) = inl w
+    by_case entry (inr j) = inr (record { set = j.set; cells = j.cells; fd = j.fd; op = j.op; next = j.next; asks = j.asks; at = j.at })
+
+-- the fop lets go of an object
+of_released : (c : ℕ) (run : Run) (u : ℕ) (change : Change) (gfid : Gfid) → IsOfRun c run u change → IsOfRun c (released run gfid) u change
+of_released c run u change gfid a = λ entry by h. by_case entry (a entry by h)
+  where
+    by_case : (entry : Entry) → WasReplied run.handed entry change.verdict ⊎ IsJobOf run u entry change.verdict → WasReplied run.handed entry change.verdict ⊎ IsJobOf (released run gfid) u entry change.verdict
     by_case entry (inl w) = inl w
     by_case entry (inr j) = inr (record { set = j.set; cells = j.cells; fd = j.fd; op = j.op; next = j.next; asks = j.asks; at = j.at })
 
@@ -302,6 +313,8 @@ step_of_run first m (Step.Extends c run dir next) reached h a =
         → WasReplied (Held dir ∷ run.handed) entry (m.changes u).verdict ⊎ IsJobOf (held_longer (going_on run (Held dir ∷ run.handed) next run.saw) dir) u entry (m.changes u).verdict
     by_case u entry (inl r) = inl (inr r)
     by_case u entry (inr j) = let clash : Course.Extends dir next ≡ Course.Asks j.set (job.Change j.cells j.fd j.op (Some entry)) j.next = sym h.extends ∙ j.asks in absurd cc
+step_of_run first m (Step.Releases c run gfid) reached h a =
+    run_case (λ c (run : Run). (u : ℕ) → IsOfRun c run u (m.changes u)) m.calls c (released run gfid) (λ u. of_released c run u (m.changes u) gfid (a c run h.runs u)) (λ i other differ e. a i other e)
 step_of_run first m (Step.Learns c run dir spans) reached h a = a
 step_of_run first m (Step.Answers c run answer place) reached h a = stop_case (λ c (run : Run). (u : ℕ) → IsOfRun c run u (m.changes u)) m.calls c _ (λ other e. quiet (is_lookup run.fop) answer other e) a
 step_of_run first m (Step.AnswersAbove c run answer) reached h a = stop_case (λ c (run : Run). (u : ℕ) → IsOfRun c run u (m.changes u)) m.calls c _ (λ other e. quiet (is_lookup run.fop) (fop_answer.Call answer) other e) a
@@ -422,6 +435,7 @@ step_order first m (Step.SendsBirths t) reached h a = same_order m (after m (Ste
 step_order first m (Step.ConfirmsBirths t) reached h a = same_order m (after m (Step.ConfirmsBirths t)) refl a
 step_order first m (Step.HandsIn t shown) reached h a = same_order m (after m (Step.HandsIn t shown)) refl a
 step_order first m (Step.Extends c run dir next) reached h a = same_order m (after m (Step.Extends c run dir next)) refl a
+step_order first m (Step.Releases c run gfid) reached h a = same_order m (after m (Step.Releases c run gfid)) refl a
 step_order first m (Step.Learns c run dir spans) reached h a = same_order m (after m (Step.Learns c run dir spans)) refl a
 step_order first m (Step.Answers c run answer place) reached h a = same_order m (after m (Step.Answers c run answer place)) refl a
 step_order first m (Step.AnswersAbove c run answer) reached h a = same_order m (after m (Step.AnswersAbove c run answer)) refl a
@@ -547,6 +561,7 @@ step_entered first m (Step.SendsBirths t) reached h a = a
 step_entered first m (Step.ConfirmsBirths t) reached h a = a
 step_entered first m (Step.HandsIn t shown) reached h a = a
 step_entered first m (Step.Extends c run dir next) reached h a = a
+step_entered first m (Step.Releases c run gfid) reached h a = a
 step_entered first m (Step.Learns c run dir spans) reached h a = a
 step_entered first m (Step.Answers c run answer place) reached h a = a
 step_entered first m (Step.AnswersAbove c run answer) reached h a = a

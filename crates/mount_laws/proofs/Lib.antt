@@ -11,6 +11,7 @@ pub mod Leading
 pub mod Moving
 pub mod One
 pub mod Owning
+pub mod Releasing
 pub mod Seen
 pub mod Sharing
 pub mod Tables

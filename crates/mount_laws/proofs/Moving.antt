@@ -11,8 +11,8 @@ use Rattle.fop_types.specs.declared.answers.FopAnswer.TheVariants as fop_answer
 use Rattle.fop_types.specs.declared.cells.Gfid.{Gfid}
 use Rattle.fop_types.specs.declared.fops.Fop.{Fop}
 use Rattle.fop_types.specs.declared.jobs.SetReply.{SetReply}
-use Rattle.mount_laws.specs.Guards.{Allowed, MayBegin, MaySettle, MayEndSettling, MayBeginChange, MayDecide, MaySendBirths, MayConfirmBirths, MayHandIn, MayExtend}
-use Rattle.mount_laws.specs.Runs.{Run, begun, going_on, held_longer}
+use Rattle.mount_laws.specs.Guards.{Allowed, MayBegin, MaySettle, MayEndSettling, MayBeginChange, MayDecide, MaySendBirths, MayConfirmBirths, MayHandIn, MayExtend, MayRelease}
+use Rattle.mount_laws.specs.Runs.{Run, begun, going_on, held_longer, released}
 use Rattle.mount_laws.specs.Runs.Stage.{Settled, Changing, Bearing, Decided}
 use Rattle.mount_laws.specs.States.{State, Call, Runs}
 use Rattle.mount_laws.specs.States.Status.{Running}
@@ -31,6 +31,7 @@ pub data RunMove (m : State) : ℕ → Run → Type 0 where
   HandsIn : (t : Task) → (shown : SetReply) → MayHandIn m t shown →
       RunMove m t.call (going_on t.run (Replied t.set t.job shown ∷ t.run.handed) (t.next shown) (sights_by t.set t.job shown ++ t.run.saw))
   Extends : (c : ℕ) → (run : Run) → (dir : Gfid) → (next : Course) → MayExtend m c run dir next → RunMove m c (held_longer (going_on run (Held dir ∷ run.handed) next run.saw) dir)
+  Releases : (c : ℕ) → (run : Run) → (gfid : Gfid) → MayRelease m c run gfid → RunMove m c (released run gfid)
 
 -- ---- by the call whose status changes
 
@@ -77,6 +78,7 @@ run_moves m (Step.SendsBirths t) h = one_run m t.call _ (SendsBirths t h)
 run_moves m (Step.ConfirmsBirths t) h = one_run m t.call _ (ConfirmsBirths t h)
 run_moves m (Step.HandsIn t shown) h = one_run m t.call _ (HandsIn t shown h)
 run_moves m (Step.Extends c run dir next) h = one_run m c _ (Extends c run dir next h)
+run_moves m (Step.Releases c run gfid) h = one_run m c _ (Releases c run gfid h)
 run_moves m (Step.Learns c run dir spans) h = λ i other e. Stays i other e
 run_moves m (Step.Answers c run answer place) h = one_call m c _ (λ other e. absurd (quiet (is_lookup run.fop) answer other e))
 run_moves m (Step.AnswersAbove c run answer) h = one_call m c _ (λ other e. absurd (quiet (is_lookup run.fop) (fop_answer.Call answer) other e))

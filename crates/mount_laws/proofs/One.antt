@@ -78,6 +78,7 @@ step_one first m (Step.SendsBirths t) reached h a = a
 step_one first m (Step.ConfirmsBirths t) reached h a = a
 step_one first m (Step.HandsIn t shown) reached h a = a
 step_one first m (Step.Extends c run dir next) reached h a = a
+step_one first m (Step.Releases c run gfid) reached h a = a
 step_one first m (Step.Learns c run dir spans) reached h a = a
 step_one first m (Step.Answers c run answer place) reached h a = a
 step_one first m (Step.AnswersAbove c run answer) reached h a = a
@@ -93,7 +94,7 @@ change_alone m cover t u h =
     subst (λ (s : Status). AreHeldExclusively (holds_by s) (cells_of_job t.job)) (sym h.under_way.runs)
     (alone t.job h.is_change (cover.asked t.call t.run t.set t.job t.next h.under_way.runs h.under_way.asks))
   where
-    alone : (asked : Job) → IsChange asked → IsHeldFor t.run.holds t.run.fop asked → AreHeldExclusively (t.run.holds) (cells_of_job asked)
+    alone : (asked : Job) → IsChange asked → IsHeldFor t.run.holds t.run.fop asked → AreHeldExclusively t.run.holds (cells_of_job asked)
     alone (job.Change cells fd o effect) is k = k.alone
     alone (job.Read cells fd dir) is k = absurd is
     alone (job.Birth cells o) is k = absurd is
@@ -105,14 +106,14 @@ pub settling_ends : (first : List (List ℕ)) (m : State) → IsReached first m 
 settling_ends first m reached = record {
   asked = λ c run cells t u ne h w. subst (λ (cs : List Cell). share (cells_of_job t.job) cs ≡ false) (sym w.cells_are)
       (apart_from c run t u ne h w.runs (cells_of_job w.asked) (covered_held run.holds run.fop w.asked w.settles (cover.asked c run t.set w.asked w.next w.runs w.asks)));
-  settled = λ c run t u ne h runs. each_map (λ (done : SettledJob). AreHeld (run.holds) done.cells) (λ (done : SettledJob). share (cells_of_job t.job) done.cells ≡ false) run.settled
+  settled = λ c run t u ne h runs. each_map (λ (done : SettledJob). AreHeld run.holds done.cells) (λ (done : SettledJob). share (cells_of_job t.job) done.cells ≡ false) run.settled
       (λ done k. apart_from c run t u ne h runs done.cells k) (cover.settled c run runs);
 }
   where
     cover : HoldCovers m
     cover = holds_cover first m reached
 
-    apart_from : (c : ℕ) (run : Run) (t : Task) (u : ℕ) → c ≢ t.call → MayBeginChange m t u → Runs m c run → (cells : List Cell) → AreHeld (run.holds) cells → share (cells_of_job t.job) cells ≡ false
+    apart_from : (c : ℕ) (run : Run) (t : Task) (u : ℕ) → c ≢ t.call → MayBeginChange m t u → Runs m c run → (cells : List Cell) → AreHeld run.holds cells → share (cells_of_job t.job) cells ≡ false
     apart_from c run t u ne h runs cells k =
         held_apart (held m t.call) (held m c) (cells_of_job t.job) cells (holds_apart first m reached t.call c (λ e. ne (sym e))) (change_alone m cover t u h)
         (subst (λ (s : Status). AreHeld (holds_by s) cells) (sym runs) k)

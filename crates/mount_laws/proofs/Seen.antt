@@ -18,10 +18,10 @@ use Rattle.fop_types.specs.declared.jobs.Job.{Job}
 use Rattle.fop_types.specs.declared.jobs.Job.TheVariants as job
 use Rattle.fop_types.specs.declared.jobs.SetReply.{SetReply}
 use Rattle.fop_types.specs.declared.jobs.SetReply.TheVariants as reply
-use Rattle.mount_laws.specs.Guards.{Allowed, IsReached, IsShown, AreShown, IsReply, MaySettle, MayHandIn, IsOpen}
+use Rattle.mount_laws.specs.Guards.{Allowed, IsReached, IsShown, AreShown, IsReply, MaySettle, MayHandIn, IsOpen, NeedsNoMore}
 use Rattle.mount_laws.specs.Guards.IsReply.{Shows, Enters, Fails, Opens}
 use Rattle.mount_laws.specs.Holding.{AreHeld, AreHeldExclusively}
-use Rattle.mount_laws.specs.Runs.{Run, SettledJob, Sight}
+use Rattle.mount_laws.specs.Runs.{Run, SettledJob, Sight, jobs_without}
 use Rattle.mount_laws.specs.Runs.Stage.{Settled, Decided}
 use Rattle.mount_laws.specs.Seeing.{IsListed, SettledIsListed, WasSettled, IsStill, StandsAsSeen, SawStill}
 use Rattle.mount_laws.specs.Settling.{HasNoNames, StaysOrBorn, TouchedIsFirm, IsSettledJob, ReadIsAdopted, LeavesSettled, IsStepOf}
@@ -34,7 +34,8 @@ use Rattle.mount_laws.proofs.Contents.{births_leave, op_leaves, op_none}
 use Rattle.mount_laws.proofs.Firm.{are_whole, firm_touched, jobs_have_none}
 use Rattle.mount_laws.proofs.Held.{holds_cover, covered_held}
 use Rattle.mount_laws.proofs.Moving.{RunMove, run_moves, unwrap, quiet}
-use Rattle.mount_laws.proofs.Moving.RunMove.{Stays, Begins, Settles, EndsSettling, BeginsChange, Decides, SendsBirths, ConfirmsBirths, HandsIn, Extends}
+use Rattle.mount_laws.proofs.Moving.RunMove.{Stays, Begins, Settles, EndsSettling, BeginsChange, Decides, SendsBirths, ConfirmsBirths, HandsIn, Extends, Releases}
+use Rattle.mount_laws.proofs.Releasing.{all_left, listed_without, sights_stand}
 use Rattle.mount_laws.proofs.Sharing.{is_cell_refl, or_right, shared_cell, held_apart}
 use Rattle.mount_laws.proofs.Tables.{at_case}
 
@@ -57,6 +58,9 @@ module _ (m : State) (a : SettledIsListed m) where
   move_listed _ _ (SendsBirths t h) = λ place set asked next e. absurd cc
   move_listed _ _ (ConfirmsBirths t h) = λ place set asked next e. absurd cc
   move_listed _ _ (HandsIn t shown h) = λ place set asked next e. absurd cc
+  move_listed _ _ (Releases c run gfid h) = λ place set asked next e f.
+      subst (λ (cells : List Cell). IsListed (jobs_without gfid run.settled) (record { set = set; cells = cells })) (all_left gfid (cells_of_job asked) (subst (λ (course : Course). NeedsNoMore gfid run.handed course) f h.unneeded).0)
+      (listed_without gfid run.settled (record { set = set; cells = cells_of_job asked }) (a c run place set asked next h.runs e f))
   move_listed _ _ (Extends c run dir next h) = λ place set asked other e. absurd cc
 
 pub settled_listed : (first : List (List ℕ)) (m : State) → IsReached first m → SettledIsListed m
@@ -75,7 +79,7 @@ listed_each P (one ∷ jobs) done e (inr l) = listed_each P jobs done e.1 l
 own_is_alone : (first : List (List ℕ)) (m : State) → IsReached first m → (c : ℕ) (run : Run) (t : Task) (u : ℕ) → c ≢ t.call → Runs m c run → (m.changes u).by ≡ c → MaySettle m t u → ⊥
 own_is_alone first m reached c run t u ne runs by h =
     let cover = holds_cover first m reached in
-    let own = ((each_beside first m reached).running c run runs u).own_is_held by (λ e. let clash : Unsettled ≡ Undrawn = sym h.unsettled.verdict ∙ e in absurd cc) in
+    let own = ((each_beside first m reached).running c run runs u).own_is_held by h.unsettled.verdict in
     let mine : AreHeldExclusively (held m c) (m.changes u).cells = subst (λ (s : Status). AreHeldExclusively (holds_by s) (m.changes u).cells) (sym runs) own in
     let theirs : AreHeld (held m t.call) (cells_of_job t.job) = subst (λ (s : Status). AreHeld (holds_by s) (cells_of_job t.job)) (sym h.under_way.runs)
     (covered_held t.run.holds t.run.fop t.job h.settles (cover.asked t.call t.run t.set t.job t.next h.under_way.runs h.under_way.asks)) in
@@ -285,6 +289,7 @@ step_sees first m (Step.HandsIn t shown) reached h a =
     (each_append (StandsAsSeen m.adopted t.run.settled) (sights_by t.set t.job shown) t.run.saw (reply_sights m (firm_touched first m reached) (settled_listed first m reached) t shown h) (a t.call t.run h.under_way.runs))
     (λ i other differ runs. a i other runs)
 step_sees first m (Step.Extends c run dir next) reached h a = one_sees m m.adopted c _ (a c run h.runs) (λ i other differ runs. a i other runs)
+step_sees first m (Step.Releases c run gfid) reached h a = one_sees m m.adopted c _ (sights_stand m.adopted gfid run.settled run.saw (a c run h.runs)) (λ i other differ runs. a i other runs)
 step_sees first m (Step.Learns c run dir spans) reached h a = a
 step_sees first m (Step.Answers c run answer place) reached h a = stop_sees m c _ (λ other e. quiet (is_lookup run.fop) answer other e) a
 step_sees first m (Step.AnswersAbove c run answer) reached h a = stop_sees m c _ (λ other e. quiet (is_lookup run.fop) (fop_answer.Call answer) other e) a
@@ -315,6 +320,7 @@ step_leaves first m (Step.BeginsChange t u) reached h c run other runs done list
 step_leaves first m (Step.ConfirmsBirths t) reached h c run other runs done listed = leaves_all m (after m (Step.ConfirmsBirths t)) done (λ cell. refl)
 step_leaves first m (Step.HandsIn t shown) reached h c run other runs done listed = leaves_all m (after m (Step.HandsIn t shown)) done (λ cell. refl)
 step_leaves first m (Step.Extends d one dir next) reached h c run other runs done listed = leaves_all m (after m (Step.Extends d one dir next)) done (λ cell. refl)
+step_leaves first m (Step.Releases d one gfid) reached h c run other runs done listed = leaves_all m (after m (Step.Releases d one gfid)) done (λ cell. refl)
 step_leaves first m (Step.Learns d one dir spans) reached h c run other runs done listed = leaves_all m (after m (Step.Learns d one dir spans)) done (λ cell. refl)
 step_leaves first m (Step.Answers d one answer place) reached h c run other runs done listed = leaves_all m (after m (Step.Answers d one answer place)) done (λ cell. refl)
 step_leaves first m (Step.AnswersAbove d one answer) reached h c run other runs done listed = leaves_all m (after m (Step.AnswersAbove d one answer)) done (λ cell. refl)

@@ -7,7 +7,8 @@ use Rattle.afr_machine.specs.Touching.{share}
 use Rattle.afr_machine.specs.Transactions.{cells_of_job, settles_first}
 use Rattle.dht_fops.specs.Answers.{flat_op, SaysFlat}
 use Rattle.dht_fops.specs.Courses.{Course}
-use Rattle.dht_fops.specs.Handed.{Handed, Event, IsAnswered}
+use Rattle.dht_fops.specs.Founded.{AnyAnswer}
+use Rattle.dht_fops.specs.Handed.{Handed, Event, Always, IsAnswered}
 use Rattle.dht_fops.specs.Handed.Event.{Replied}
 use Rattle.dht_fops.specs.Looks.{span_of, span_job}
 use Rattle.dht_fops.specs.Volumes.{Kept}
@@ -38,7 +39,7 @@ use Rattle.mount_laws.specs.Runs.Stage.{Waiting, Settled, Changing, Bearing, Dec
 use Rattle.mount_laws.specs.States.{State, Change, start, Runs, held, is_unanswered, set_count}
 use Rattle.mount_laws.specs.States.Status.{Ready}
 use Rattle.mount_laws.specs.Steps.{Step, Task, after}
-use Rattle.mount_laws.specs.Steps.Step.{Submits, Concludes, Switches, Begins, Settles, EndsSettling, BeginsChange, Decides, SendsBirths, ConfirmsBirths, HandsIn, Extends, Learns, Answers, AnswersAbove}
+use Rattle.mount_laws.specs.Steps.Step.{Submits, Concludes, Switches, Begins, Settles, EndsSettling, BeginsChange, Decides, SendsBirths, ConfirmsBirths, HandsIn, Extends, Releases, Learns, Answers, AnswersAbove}
 
 -- ---- fops
 
@@ -99,6 +100,20 @@ pub record MayExtend (m : State) (c : ℕ) (run : Run) (dir : Gfid) (next : Cour
   pub runs : Runs m c run
   pub extends : run.course ≡ Course.Extends dir next
   pub apart : (other : ℕ) → other ≢ c → AreApart (record { gfid = dir; shared = false } ∷ []) (held m other)
+
+-- no job is on a cell of the object, wherever the replies lead
+abbrev pub IsWithout : Gfid → Job → Type 0
+IsWithout gfid asked = Each (λ (cell : Cell). cell.gfid ≢ gfid) (cells_of_job asked)
+
+abbrev pub NeedsNoMore : Gfid → Handed → Course → Type 0
+NeedsNoMore gfid handed course = Always (λ (later : Handed) (set : ℕ) (asked : Job). IsWithout gfid asked) AnyAnswer handed course
+
+-- A fop may let go of an object that it needs no more, where no change of its call on the object is unsettled. A call's fop
+-- keeps its holds until it is answered; a rebalance does not.
+pub record MayRelease (m : State) (c : ℕ) (run : Run) (gfid : Gfid) : Type 0 where
+  pub runs : Runs m c run
+  pub unneeded : NeedsNoMore gfid run.handed run.course
+  pub settled : (u : ℕ) → (m.changes u).by ≡ c → (m.changes u).verdict ≡ Unsettled → Each (λ (cell : Cell). cell.gfid ≢ gfid) (m.changes u).cells
 
 -- a read of the directory's metadata on the set showed this range
 abbrev pub IsSpanRead : Gfid → ℕ → Option Span → Event → Type 0
@@ -257,6 +272,7 @@ Allowed m (SendsBirths t) = MaySendBirths m t
 Allowed m (ConfirmsBirths t) = MayConfirmBirths m t
 Allowed m (HandsIn t shown) = MayHandIn m t shown
 Allowed m (Extends c run dir next) = MayExtend m c run dir next
+Allowed m (Releases c run gfid) = MayRelease m c run gfid
 Allowed m (Learns c run dir spans) = MayLearn m c run dir spans
 Allowed m (Answers c run answer place) = MayAnswer m c run answer place
 Allowed m (AnswersAbove c run answer) = MayAnswerAbove m c run answer

@@ -13,6 +13,7 @@ use Rattle.fop_types.specs.declared.jobs.Job.{Job}
 use Rattle.fop_types.specs.declared.jobs.Job.TheVariants as job
 use Rattle.fop_types.specs.declared.jobs.SetReply.{SetReply}
 use Rattle.fop_types.specs.declared.store_ops.StoreOp.{StoreOp}
+use Rattle.mount_laws.specs.Guards.{NeedsNoMore}
 use Rattle.mount_laws.specs.Holds.{Hold, Holds, HoldsExclusively, AreApart, holds_of, extensions}
 use Rattle.mount_laws.specs.Runs.{Run, SettledJob, Leads, first_course}
 use Rattle.mount_laws.specs.States.{State, Runs, held}
@@ -31,9 +32,16 @@ pub record AreAmong (hs ks : List Hold) : Type 0 where
   pub held : (gfid : Gfid) → Holds ks gfid → Holds hs gfid
   pub exclusively : (gfid : Gfid) → HoldsExclusively ks gfid → HoldsExclusively hs gfid
 
--- A call holds what its fop's kind says, and the directories by which it was extended, until its fop is answered.
+-- an object that is held by its kind is held, or no further job of the fop needs it; and nothing else is held
+abbrev pub HoldsEnough : Run → List Hold → Type 0
+HoldsEnough run own =
+    ((gfid : Gfid) → Holds own gfid → Holds run.holds gfid ⊎ NeedsNoMore gfid run.handed run.course)
+    × (((gfid : Gfid) → HoldsExclusively own gfid → HoldsExclusively run.holds gfid ⊎ NeedsNoMore gfid run.handed run.course)
+    × AreAmong own run.holds)
+
+-- A call holds what its fop's kind says, and the directories by which it was extended, as long as its fop needs them.
 abbrev pub HoldsOwn : State → Type 0
-HoldsOwn m = (c : ℕ) (run : Run) → Runs m c run → AreAmong run.holds (own_holds run.fop run.handed) × AreAmong (own_holds run.fop run.handed) run.holds
+HoldsOwn m = (c : ℕ) (run : Run) → Runs m c run → HoldsEnough run (own_holds run.fop run.handed)
 
 -- ---- jobs
 

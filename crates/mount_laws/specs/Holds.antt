@@ -1,8 +1,10 @@
 -- What a fop holds from its start to its answer: directories and files by their gfids, each exclusively or shared. Two holds
 -- of one object agree where both are shared. Ours.
-use Rattle.std.specs.Prelude.{◌≡◌, ◌⊎◌, Bool, true, false, List, [], ◌∷◌}
+use Rattle.std.specs.Prelude.{◌≡◌, ◌⊎◌, Bool, true, false, List, [], ◌∷◌, if◌then◌else◌}
+use Rattle.std.specs.Ordering.{is_eq}
 use Rattle.dht_fops.specs.Handed.{Handed}
 use Rattle.dht_fops.specs.Handed.Event.{Replied, Held}
+use Rattle.fop_types.specs.Orders.{gfid_cmp}
 use Rattle.fop_types.specs.declared.cells.Gfid.{Gfid}
 use Rattle.fop_types.specs.declared.fops.Fop.{Fop}
 use Rattle.fop_types.specs.declared.fops.Fop.TheVariants as fop
@@ -59,6 +61,11 @@ IsExclusive h gfid = (h.gfid ≡ gfid) × (h.shared ≡ false)
 abbrev pub HoldsExclusively : List Hold → Gfid → Type 0
 HoldsExclusively [] gfid = ⊥
 HoldsExclusively (h ∷ hs) gfid = IsExclusive h gfid ⊎ HoldsExclusively hs gfid
+
+-- the holds but those of an object
+abbrev pub holds_without : Gfid → List Hold → List Hold
+holds_without gfid [] = []
+holds_without gfid (h ∷ hs) = if is_eq (gfid_cmp h.gfid gfid) then holds_without gfid hs else h ∷ holds_without gfid hs
 
 -- of no object that both hold one of the two holds exclusively
 pub record AreApart (hs ks : List Hold) : Type 0 where

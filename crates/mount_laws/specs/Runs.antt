@@ -1,6 +1,7 @@
 -- A fop of a call under way: how it stands to what it was handed in, how far its job is, and what it has seen since it
 -- began. Ours.
-use Rattle.std.specs.Prelude.{ℕ, false, List, [], ◌∷◌, Option}
+use Rattle.std.specs.Prelude.{ℕ, false, List, [], ◌∷◌, Option, if◌then◌else◌}
+use Rattle.std.specs.Ordering.{is_eq}
 use Rattle.dht_fops.specs.Courses.{Course}
 use Rattle.dht_fops.specs.Courses.Course.{Asks, Extends}
 use Rattle.dht_fops.specs.Fops.{fop_course}
@@ -8,13 +9,14 @@ use Rattle.dht_fops.specs.Handed.{Handed}
 use Rattle.dht_fops.specs.Handed.Event.{Replied, Held}
 use Rattle.dht_fops.specs.Volumes.{Kept}
 use Rattle.dht_fops.specs.declared.volume.Volume.{Volume}
+use Rattle.fop_types.specs.Orders.{gfid_cmp}
 use Rattle.fop_types.specs.declared.cells.Cell.{Cell}
 use Rattle.fop_types.specs.declared.cells.Gfid.{Gfid}
 use Rattle.fop_types.specs.declared.contents.Content.{Content}
 use Rattle.fop_types.specs.declared.fops.Fop.{Fop}
 use Rattle.fop_types.specs.declared.jobs.Job.{Job}
 use Rattle.fop_types.specs.declared.jobs.SetReply.{SetReply}
-use Rattle.mount_laws.specs.Holds.{Hold, holds_of}
+use Rattle.mount_laws.specs.Holds.{Hold, holds_of, holds_without}
 
 -- ---- what was handed in
 
@@ -86,3 +88,21 @@ going_on run handed next saw = record run { handed = handed; course = next; stag
 -- its hold is extended by a directory
 abbrev pub held_longer : Run → Gfid → Run
 held_longer run dir = record run { holds = record { gfid = dir; shared = false } ∷ run.holds }
+
+-- ---- an object that the fop needs no more
+
+abbrev pub cells_without : Gfid → List Cell → List Cell
+cells_without gfid [] = []
+cells_without gfid (cell ∷ cells) = if is_eq (gfid_cmp cell.gfid gfid) then cells_without gfid cells else cell ∷ cells_without gfid cells
+
+abbrev pub jobs_without : Gfid → List SettledJob → List SettledJob
+jobs_without gfid [] = []
+jobs_without gfid (done ∷ jobs) = record done { cells = cells_without gfid done.cells } ∷ jobs_without gfid jobs
+
+abbrev pub sights_without : Gfid → List Sight → List Sight
+sights_without gfid [] = []
+sights_without gfid (sight ∷ saw) = if is_eq (gfid_cmp sight.cell.gfid gfid) then sights_without gfid saw else sight ∷ sights_without gfid saw
+
+-- its hold is released, and with it goes what is known of its cells
+abbrev pub released : Run → Gfid → Run
+released run gfid = record run { holds = holds_without gfid run.holds; settled = jobs_without gfid run.settled; saw = sights_without gfid run.saw }

@@ -36,13 +36,13 @@ pub record IsRunning (c : ℕ) (run : Run) (change : Change) : Type 0 where
 abbrev pub IsSettledJob : ℕ → Change → SettledJob → Type 0
 IsSettledJob c change done = IsUnsettledOn change done.set done.cells → change.by ≡ c
 
--- A fop under way beside a change. `own_is_held`: the fop's own change is of cells that its call holds exclusively.
+-- A fop under way beside a change. `own_is_held`: the fop's own unsettled change is of cells that its call holds exclusively.
 -- `running_is_unsettled`: from its beginning to its decision the change of the fop's job is unsettled. `none_left`: from the end
 -- of a job's settling until its change begins, none is unsettled on its cells, the call's own earlier ones among them.
 -- `settled`: after a job's settling, each unsettled change on its cells is its own call's, until the hold is released; so
 -- no change of another call on them is decided. `lookup`: a lookup makes none.
 pub record StandsBeside (c : ℕ) (run : Run) (u : ℕ) (change : Change) : Type 0 where
-  pub own_is_held : change.by ≡ c → change.verdict ≢ Undrawn → AreHeldExclusively (run.holds) change.cells
+  pub own_is_held : change.by ≡ c → change.verdict ≡ Unsettled → AreHeldExclusively run.holds change.cells
   pub running_is_unsettled : run.stage ≡ Changing u → IsRunning c run change
   pub none_left : (place set : ℕ) (asked : Job) (next : SetReply → Course) → run.stage ≡ Settled place → run.course ≡ Course.Asks set asked next → settles_first asked ≡ true
       → IsUnsettledOn change set (cells_of_job asked) → ⊥

@@ -36,7 +36,7 @@ use Rattle.fop_types.specs.declared.jobs.SetReply.{SetReply}
 use Rattle.fop_types.specs.declared.jobs.SetReply.TheVariants as reply
 use Rattle.fop_types.specs.declared.store_ops.StoreOp.{StoreOp}
 use Rattle.fop_types.specs.declared.store_ops.StoreOp.TheVariants as op
-use Rattle.mount_laws.specs.Runs.{Run, Stage, Sight, begun, going_on, held_longer}
+use Rattle.mount_laws.specs.Runs.{Run, Stage, Sight, begun, going_on, held_longer, released}
 use Rattle.mount_laws.specs.Runs.Stage.{Settled, Changing, Bearing, Decided}
 use Rattle.mount_laws.specs.States.{State, Change, no_change, Status, Call, with_status, with_run, with_change, with_firm}
 use Rattle.mount_laws.specs.States.Status.{Ready, Answered}
@@ -50,8 +50,8 @@ pub record Task : Type 0 where
   pub next : SetReply → Course
 
 -- `draws`: the call would make an object. `Concludes`: the call is answered without a further fop. `AnswersAbove`: a fop is
--- answered by what was read before, as a cache above distribute does, and asks for no job. `Learns`: a layout that the
--- fop has read is kept. `Settles`: the job decides an unsettled change on its cells. `EndsSettling`: it has settled them all.
+-- answered by what was read before, as a cache above distribute does, and asks for no job. `Releases`: the fop lets go of an
+-- object. `Learns`: a layout that the fop has read is kept. `Settles`: the job decides an unsettled change on its cells. `EndsSettling`: it has settled them all.
 -- `Decides`: the job's own change is adopted. `ConfirmsBirths`: a quorum has the births.
 pub data Step : Type 0 where
   Submits : (draws : Bool) → Step
@@ -66,6 +66,7 @@ pub data Step : Type 0 where
   ConfirmsBirths : (t : Task) → Step
   HandsIn : (t : Task) → (reply : SetReply) → Step
   Extends : (c : ℕ) → (run : Run) → (dir : Gfid) → (next : Course) → Step
+  Releases : (c : ℕ) → (run : Run) → (gfid : Gfid) → Step
   Learns : (c : ℕ) → (run : Run) → (dir : Gfid) → (spans : List (Option Span)) → Step
   Answers : (c : ℕ) → (run : Run) → (answer : FopAnswer) → (place : Option ℕ) → Step
   AnswersAbove : (c : ℕ) → (run : Run) → (answer : Answer) → Step
@@ -282,6 +283,7 @@ after m (SendsBirths t) = sending_births m t
 after m (ConfirmsBirths t) = confirming m t
 after m (HandsIn t shown) = handing_in m t shown
 after m (Extends c run dir next) = extending m c run dir next
+after m (Releases c run gfid) = with_run m c (released run gfid)
 after m (Learns c run dir spans) = record m { learnt = (dir, spans) ∷ m.learnt }
 after m (Answers c run answer place) = answering m c run answer place
 after m (AnswersAbove c run answer) = answering m c run (fop_answer.Call answer) None
