@@ -396,7 +396,7 @@ step_beside m (Step.AnswersAbove c run answer) h apart cover numbered a b =
 
 -- ---- numbers of calls
 
-counted : (m : State) → AreNumbered m → (c : ℕ) → (m.calls c).status ≢ Unsubmitted → c ≤ m.submitted
+pub counted : (m : State) → AreNumbered m → (c : ℕ) → (m.calls c).status ≢ Unsubmitted → c ≤ m.submitted
 counted m numbered c known = by_order (nat_lt m.submitted c) refl
   where
     by_order : (b : Bool) → nat_lt m.submitted c ≡ b → c ≤ m.submitted

@@ -79,7 +79,7 @@ run_graphed roots names calls c old new g runs same =
     (λ run e d u. g.in_turn d c old u runs)
 
 -- what is known of all is known of those that are among them
-each_known : (P : Object → Type 0) (known : List Object) (object : Object) → Each P known → IsKnown known object → P object
+pub each_known : (P : Object → Type 0) (known : List Object) (object : Object) → Each P known → IsKnown known object → P object
 each_known P [] object e k = absurd k
 each_known P (one ∷ known) object e (inl same) = subst P same e.0
 each_known P (one ∷ known) object e (inr k) = each_known P known object e.1 k
@@ -142,7 +142,7 @@ module _ (m : State) (asked : JobAsked m) (g : InItsGraph m) (c : ℕ) (run : Ru
   job_within : (set : ℕ) (wanted : Job) (next : SetReply → Course) → run.course ≡ Course.Asks set wanted next → IsWithin run.volume.sets run.handed set wanted
   job_within set wanted next e = (subst (λ (course : Course). Always (IsWithin run.volume.sets) (AnswersWithin run.volume.sets) run.handed course) e always_within).0
 
-  answer_within : (answer : FopAnswer) (place : Option ℕ) → run.course ≡ Course.Ends answer place → AnswersWithin run.volume.sets run.handed answer place
+  pub answer_within : (answer : FopAnswer) (place : Option ℕ) → run.course ≡ Course.Ends answer place → AnswersWithin run.volume.sets run.handed answer place
   answer_within answer place e = subst (λ (course : Course). Always (IsWithin run.volume.sets) (AnswersWithin run.volume.sets) run.handed course) e always_within
 
 -- ---- what is on the first sets
@@ -250,7 +250,7 @@ step_first m (Step.Answers c run answer place) h asked g count few a = record {
 }
   where
     named : (one : FopAnswer) → AnswersWithin run.volume.sets run.handed one place → Each (λ (object : Object). object.set < count) (object_in one)
-    named (fop_answer.Found set gfid kind) k = (let most = few c run h.runs in omega (arith, most, k), tt)
+    named (fop_answer.Found set gfid kind) k = (let most = few c run h.runs in let within = k.0 in omega (arith, most, within), tt)
     named (fop_answer.Call answer) k = tt
 
 -- ---- all

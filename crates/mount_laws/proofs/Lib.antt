@@ -4,10 +4,13 @@ pub mod Beside
 pub mod Beyond
 pub mod Contents
 pub mod Covering
+pub mod Drawing
 pub mod Entering
 pub mod Firm
 pub mod Held
+pub mod Items
 pub mod Leading
+pub mod Making
 pub mod Moving
 pub mod One
 pub mod Owning

@@ -1,6 +1,6 @@
 -- A fop changes contents on sets of its graph alone, and answers with such sets, where the objects that it names are on such
 -- sets.
-use Rattle.std.proofs.Common.{◌≡◌, ℕ, ◌+◌, ◌<◌, ◌≤◌, ◌==◌, Bool, true, false, List, [], ◌∷◌, Option, Some, None, IfSome, Result, Ok, Err, if◌then◌else◌, length, nat_lt, arith}
+use Rattle.std.proofs.Common.{◌≡◌, inl, inr, refl, ℕ, ◌+◌, ◌<◌, ◌≤◌, ◌==◌, Bool, true, false, List, [], ◌∷◌, Option, Some, None, IfSome, Result, Ok, Err, if◌then◌else◌, length, nat_lt, arith}
 use Rattle.dht_linkto.proofs.Knowing.{Below}
 use Rattle.dht_linkto.specs.DirNames.{names_job, names_in, first_content}
 use Rattle.dht_linkto.specs.Search.{hashed_set}
@@ -13,7 +13,7 @@ use Rattle.dht_fops.proofs.Known.{hashed_below, known_below}
 use Rattle.dht_fops.proofs.Looking.{Reading, EndsRight, IsFoundIn, looks_in_goes, finds_go}
 use Rattle.dht_fops.specs.Courses.{Course, on_names, after_names, on_contents, after_read, contents_in, on_number, after_change, number_in, after_any, changes}
 use Rattle.dht_fops.specs.Courses.Course.{Asks, Ends}
-use Rattle.dht_fops.specs.Entries.{birth_job, lookup_found, lists_from, mkdir_found, births_from, create_found, drops_link, unlink_found, rmdir_found, empties}
+use Rattle.dht_fops.specs.Entries.{birth_job, lookup_found, lists_from, mkdir_found, births_from, adds_file, create_found, drops_link, unlink_found, rmdir_found, empties}
 use Rattle.dht_fops.specs.Fops.{fop_course, on_name}
 use Rattle.dht_fops.specs.Handed.{Handed, Always}
 use Rattle.dht_fops.specs.Handed.Event.{Replied, Held}
@@ -22,11 +22,12 @@ use Rattle.dht_fops.specs.Looks.{Ending, finds, looks_in, where_named, where_kep
 use Rattle.dht_fops.specs.Merges.{merged, real_items}
 use Rattle.dht_fops.specs.Objects.{home, changes_cell, opened, dir_stat, file_stat, attr_read, attr_value, attr_seen, drops_attr, bytes_read, writes_some}
 use Rattle.dht_fops.specs.Renames.{source_found, source_at, looks_for_target, target_ending, target_found, changes_names, replaces, bears, moves, adds_link, drops_old_link, second_set, other_set}
-use Rattle.dht_fops.specs.Volumes.{Kept, known_set, sets_from}
+use Rattle.dht_fops.specs.Volumes.{Kept, known_set, sets_from, entry}
 use Rattle.dht_fops.specs.declared.volume.Volume.{Volume}
 use Rattle.fop_types.specs.Bounds.{Each}
-use Rattle.fop_types.specs.Cells.{data_cell, meta_cell}
+use Rattle.fop_types.specs.Cells.{data_cell, meta_cell, names_cell}
 use Rattle.fop_types.specs.FileBytes.{file_limit}
+use Rattle.fop_types.specs.Flat.{item_of}
 use Rattle.fop_types.specs.Limits.{max_item_name}
 use Rattle.fop_types.specs.Names.{is_directory, is_same_name, attr_named, has_real_name}
 use Rattle.fop_types.specs.StoreOps.{attrs_of}
@@ -36,6 +37,7 @@ use Rattle.fop_types.specs.declared.answers.IoError.{IoError}
 use Rattle.fop_types.specs.declared.cells.Cell.{Cell}
 use Rattle.fop_types.specs.declared.cells.Gfid.{Gfid}
 use Rattle.fop_types.specs.declared.cells.Kind.{Kind}
+use Rattle.fop_types.specs.declared.cells.Kind.TheVariants as kind
 use Rattle.fop_types.specs.declared.contents.Attr.{Attr}
 use Rattle.fop_types.specs.declared.contents.Content.{Content}
 use Rattle.fop_types.specs.declared.contents.Item.{Item}
@@ -45,8 +47,13 @@ use Rattle.fop_types.specs.declared.fops.Fop.TheVariants as fop
 use Rattle.fop_types.specs.declared.fops.Object.{Object}
 use Rattle.fop_types.specs.declared.fops.OpenFd.{OpenFd}
 use Rattle.fop_types.specs.declared.history.Entry.{Entry}
+use Rattle.fop_types.specs.declared.jobs.Job.{Job}
 use Rattle.fop_types.specs.declared.jobs.Job.TheVariants as job
+use Rattle.fop_types.specs.declared.jobs.SetReply.{SetReply}
+use Rattle.fop_types.specs.declared.jobs.SetReply.TheVariants as reply
 use Rattle.fop_types.specs.declared.store_ops.StoreOp.{StoreOp}
+use Rattle.fop_types.specs.declared.store_ops.StoreOp.TheVariants as op
+use Rattle.mount_laws.specs.Effects.{DidNotFail}
 use Rattle.mount_laws.specs.Guards.{objects_of}
 use Rattle.mount_laws.specs.Within.{IsWithin, AnswersWithin}
 use Rattle.mount_laws.proofs.Arguments.{Seen, Source, Renaming, renaming}
@@ -142,8 +149,14 @@ by_found n dir name ending item absent io handed = λ result seen later l f. by_
     by_result found.Absent seen later f = (absent seen).at later
     by_result (found.Io error) seen later f = (io error seen).at later
 
+-- a lookup answers what the name showed
 lookup_ends : (n : ℕ) (dir : Gfid) (name : List ℕ) → EndsWell n dir name lookup_found
-lookup_ends n dir name = by_found n dir name lookup_found (λ set gfid k seen h. record { at = λ handed. h }) (λ seen. says n _ _) (λ error seen. says n _ _)
+lookup_ends n dir name handed = λ result seen later l f. by_result result seen later f
+  where
+    by_result : (result : Found) (seen : Seen) (later : Handed) → IsFoundIn n later dir name result → Always (IsWithin n) (AnswersWithin n) later (lookup_found result seen)
+    by_result (found.Item set gfid k) seen later f = (f.0, inl (record { dir = dir; name = name; saw = f.1 }))
+    by_result found.Absent seen later f = tt
+    by_result (found.Io error) seen later f = tt
 
 lists_stay : (n : ℕ) (dir : Gfid) (sets : List ℕ) (names : List Item) (place : Option ℕ) → Stays n (lists_from dir sets names place)
 lists_stay n dir [] names place = says n _ _
@@ -157,9 +170,28 @@ mkdir_ends : (v : Volume) (parent : Gfid) (name : List ℕ) (mode : ℕ) (drawn 
 mkdir_ends v parent name mode drawn some =
     by_found v.sets parent name (mkdir_found v parent name mode drawn) (λ set gfid k seen h. says v.sets _ _) (λ seen. births_stay v parent name mode drawn (sets_from v 1) some (below_from v.sets 1)) (λ error seen. says v.sets _ _)
 
+-- a create answers what it added
+adds_stay_file : (v : Volume) (parent : Gfid) (name : List ℕ) (mode : ℕ) (drawn : Gfid) (hashed : ℕ) → hashed < v.sets → Stays v.sets (adds_file v parent name mode drawn hashed)
+adds_stay_file v parent name mode drawn hashed h = record { at = λ handed. (h, λ shown. leads handed shown) }
+  where
+    add : Job
+    add = job.Change (names_cell parent ∷ []) 0 (op.AddName parent (item_of name drawn kind.File) mode None) (Some (entry v 1))
+
+    answered : (handed : Handed) (shown : SetReply) → DidNotFail shown → (number : Option ℕ) → AnswersWithin v.sets (Replied hashed add shown ∷ handed) (fop_answer.Found hashed drawn kind.File) number
+    answered handed shown ok number = (h, inr (inl (refl, (ok, record { item = item_of name drawn kind.File; added = refl; gfid_is = refl; kind_is = refl; no_link = refl }))))
+
+    leads : (handed : Handed) (shown : SetReply) → Always (IsWithin v.sets) (AnswersWithin v.sets) (Replied hashed add shown ∷ handed) (after_change (Ends (fop_answer.Found hashed drawn kind.File)) shown)
+    leads handed (reply.Contents contents place) = answered handed (reply.Contents contents place) tt None
+    leads handed (reply.Decided number) = answered handed (reply.Decided number) tt number
+    leads handed reply.Opened = answered handed reply.Opened tt None
+    leads handed (reply.Listed cells answered2 short) = answered handed (reply.Listed cells answered2 short) tt None
+    leads handed (reply.Healed records) = answered handed (reply.Healed records) tt None
+    leads handed (reply.Skipped cause) = answered handed (reply.Skipped cause) tt None
+    leads handed (reply.Io error) = tt
+
 create_ends : (v : Volume) (parent : Gfid) (name : List ℕ) (mode : ℕ) (drawn : Gfid) (hashed : ℕ) → hashed < v.sets → EndsWell v.sets parent name (create_found v parent name mode drawn hashed)
 create_ends v parent name mode drawn hashed h =
-    by_found v.sets parent name (create_found v parent name mode drawn hashed) (λ set gfid k seen i. says v.sets _ _) (λ seen. change_stays v.sets hashed _ 0 _ _ _ h (λ number. record { at = λ handed. h })) (λ error seen. says v.sets _ _)
+    by_found v.sets parent name (create_found v parent name mode drawn hashed) (λ set gfid k seen i. says v.sets _ _) (λ seen. adds_stay_file v parent name mode drawn hashed h) (λ error seen. says v.sets _ _)
 
 link_stays : (n : ℕ) (parent : Gfid) (name : List ℕ) (hashed : ℕ) (has_link : Bool) (number : Option ℕ) → hashed < n → Stays n (drops_link parent name hashed has_link number)
 link_stays n parent name hashed has_link number h = if_stays n _ _ has_link (any_stays n hashed _ 0 _ _ _ h (says n _ _)) (says n _ _)

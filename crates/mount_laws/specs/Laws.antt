@@ -4,6 +4,7 @@ use Rattle.mount_laws.specs.Effects.{EffectIsOwn, PartsInOrder, EnteredOnce}
 use Rattle.mount_laws.specs.Graphs.{BeyondOld, InItsGraph}
 use Rattle.mount_laws.specs.Guards.{IsReached}
 use Rattle.mount_laws.specs.Holding.{HoldsApart, HoldsOwn, JobAsked, HoldCovers}
+use Rattle.mount_laws.specs.Objects.{DrawnApart, MadeByChange, NamesAreMade, HandedIsMade, ObjectsMade}
 use Rattle.mount_laws.specs.Seeing.{SettledIsListed, SawStill}
 use Rattle.mount_laws.specs.Settling.{OneUnsettled, EachStandsBeside, RunningIsAlone, SettlingEnds, ReadIsAdopted, AreWhole, TouchedIsFirm}
 use Rattle.mount_laws.specs.States.{State}
@@ -40,6 +41,13 @@ pub record KeepsEffects (m : State) : Type 0 where
   pub order : PartsInOrder m
   pub entered : EnteredOnce m
 
+pub record KeepsObjects (m : State) : Type 0 where
+  pub drawn : DrawnApart m
+  pub made : MadeByChange m
+  pub names : NamesAreMade m
+  pub handed : HandedIsMade m
+  pub objects : ObjectsMade m
+
 abbrev pub EveryStateKeepsHolds : Type 0
 EveryStateKeepsHolds = EveryState KeepsHolds
 
@@ -54,3 +62,6 @@ EveryStateKeepsGraphs = EveryState KeepsGraphs
 
 abbrev pub EveryStateKeepsEffects : Type 0
 EveryStateKeepsEffects = EveryState KeepsEffects
+
+abbrev pub EveryStateKeepsObjects : Type 0
+EveryStateKeepsObjects = EveryState KeepsObjects

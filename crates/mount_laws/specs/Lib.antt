@@ -6,6 +6,7 @@ pub mod Holds
 pub mod Knowing
 pub mod Laws
 pub mod Naming
+pub mod Objects
 pub mod Runs
 pub mod Seeing
 pub mod Settling

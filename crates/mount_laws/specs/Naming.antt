@@ -18,7 +18,7 @@ use Rattle.fop_types.specs.declared.contents.Span.{Span}
 use Rattle.fop_types.specs.declared.history.Entry.{Entry}
 use Rattle.fop_types.specs.declared.store_ops.StoreOp.{StoreOp}
 use Rattle.mount_laws.specs.Guards.{IsLearnt}
-use Rattle.mount_laws.specs.Seeing.{volumes}
+use Rattle.mount_laws.specs.Objects.{volumes}
 use Rattle.mount_laws.specs.States.{State, Change, set_count}
 use Rattle.mount_laws.specs.Steps.{adopting}
 use Rattle.mount_laws.specs.Touched.{touches, Names, NamesInside, Removes}

@@ -4,15 +4,11 @@ use Rattle.std.specs.Prelude.{◌≡◌, ◌≢◌, ◌⊎◌, ℕ, true, List, 
 use Rattle.afr_machine.specs.Changes.Verdict.{Undrawn}
 use Rattle.afr_machine.specs.Touching.{has_cell}
 use Rattle.afr_machine.specs.Transactions.{cells_of_job, settles_first}
-use Rattle.dht_fops.specs.Answers.{AreMade}
 use Rattle.dht_fops.specs.Courses.{Course}
 use Rattle.dht_fops.specs.Handed.{Handed, Event}
 use Rattle.dht_fops.specs.Handed.Event.{Replied, Held}
 use Rattle.dht_fops.specs.Shown.{SetContents}
-use Rattle.dht_fops.specs.Standing.{Volumes, IsMade}
 use Rattle.fop_types.specs.Bounds.{Each}
-use Rattle.fop_types.specs.Files.{first_files}
-use Rattle.fop_types.specs.History.{files_after}
 use Rattle.fop_types.specs.Jobs.{may_lack}
 use Rattle.fop_types.specs.StoreOps.{births}
 use Rattle.fop_types.specs.declared.cells.Cell.{Cell}
@@ -26,10 +22,6 @@ use Rattle.mount_laws.specs.Runs.Stage.{Settled, Bearing, Changing}
 use Rattle.mount_laws.specs.Settling.{HasNoNames}
 use Rattle.mount_laws.specs.States.{State, Status, Runs}
 use Rattle.mount_laws.specs.Steps.{births_by}
-
--- the sets, with the flat file system after the history
-abbrev pub volumes : State → Volumes
-volumes m = record { contents = m.adopted; homes = m.homes; kinds = m.kinds; files = files_after first_files m.ops }
 
 -- ---- what was seen
 
@@ -63,12 +55,7 @@ pub record StandsAsSeen (adopted : SetContents) (jobs : List SettledJob) (sight 
 abbrev pub SawStill : State → Type 0
 SawStill m = (c : ℕ) (run : Run) → Runs m c run → Each (StandsAsSeen m.adopted run.settled) run.saw
 
--- ---- objects
-
--- Each object that was answered, or that a fop under way names, was made, with its kind, and a file's set is its home.
-pub record ObjectsMade (m : State) : Type 0 where
-  pub known : Each (IsMade (volumes m)) m.known
-  pub fops : (c : ℕ) (run : Run) → Runs m c run → AreMade (volumes m) run.fop
+-- ---- homes
 
 -- A job that settles first, over a file's cells, is on the file's home.
 abbrev pub JobHome : State → Type 0

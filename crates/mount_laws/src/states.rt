@@ -1,4 +1,4 @@
-ghost use Rattle.mount_laws.specs.Laws.{EveryStateKeepsHolds, EveryStateKeepsSettled, EveryStateKeepsSights, EveryStateKeepsGraphs, EveryStateKeepsEffects};
+ghost use Rattle.mount_laws.specs.Laws.{EveryStateKeepsHolds, EveryStateKeepsSettled, EveryStateKeepsSights, EveryStateKeepsGraphs, EveryStateKeepsEffects, EveryStateKeepsObjects};
 
 /// The law of holds, of every state that allowed steps lead to. Holds of different calls do not conflict. The job
 /// under way is what the fop's course asks for after what was handed in. It is covered by the hold, and so is each
@@ -39,4 +39,13 @@ pub fn every_state_keeps_graphs()
 /// adopted changes, each once and with its operation, and a call's parts in their order.
 pub fn every_state_keeps_effects()
     ensures { EveryStateKeepsEffects }
+{}
+
+/// The law of objects, of every state that allowed steps lead to. No two calls drew one gfid. Each object that was
+/// made is the root, or was made by one change that was adopted, on its home. Each name on a set is a link, or of an
+/// object that was made, and a file's name is on its home; so are the names that a fop was shown or has added. The
+/// objects that calls were answered, and that fops under way name, were made with the kind and on the set that were
+/// answered.
+pub fn every_state_keeps_objects()
+    ensures { EveryStateKeepsObjects }
 {}
