@@ -13,7 +13,7 @@ use Rattle.dht_fops.specs.Shown.{SetContents, Homes}
 use Rattle.fop_types.specs.Bounds.{Each}
 use Rattle.fop_types.specs.Cells.{root, meta_cell, names_cell}
 use Rattle.fop_types.specs.Orders.{gfid_cmp}
-use Rattle.fop_types.specs.StoreOps.{Contents, items_of, after_births, contents_after}
+use Rattle.fop_types.specs.StoreOps.{Contents, items_of, after_births}
 use Rattle.fop_types.specs.declared.answers.FopAnswer.{FopAnswer}
 use Rattle.fop_types.specs.declared.answers.FopAnswer.TheVariants as fop_answer
 use Rattle.fop_types.specs.declared.cells.Cell.{Cell}
@@ -33,7 +33,7 @@ use Rattle.mount_laws.specs.Holding.{JobAsked}
 use Rattle.mount_laws.specs.Runs.{Run, begun, first_course}
 use Rattle.mount_laws.specs.States.{State, Change, Call, Status, Runs, is_unanswered, set_count, start}
 use Rattle.mount_laws.specs.States.Status.{Running, Answered}
-use Rattle.mount_laws.specs.Steps.{Step, after, is_lookup, status_after, volume_of, object_in, change_by, births_by, by_effect, kinds_after, homes_after, with_kind, with_home}
+use Rattle.mount_laws.specs.Steps.{Step, after, is_lookup, status_after, volume_of, object_in, change_by, births_by, by_effect, kinds_after, homes_after, with_kind, with_home, applied}
 use Rattle.mount_laws.specs.Within.{IsWithin, AnswersWithin}
 use Rattle.mount_laws.proofs.Beside.{each_map, each_append}
 use Rattle.mount_laws.proofs.Held.{jobs_asked}
@@ -187,14 +187,14 @@ set_nameless adopted set count new h a s dir =
 adopted_first : (m : State) (u count : ℕ) → (m.changes u).verdict ≡ Unsettled → FirstSets m count
     → AreOnFirst m.known (with_at m.changes u (record (m.changes u) { verdict = Adopted })) (by_effect (m.changes u).effect m.kinds (kinds_after m.kinds (m.changes u).op))
     (by_effect (m.changes u).effect m.homes (homes_after m.homes (m.changes u).set (m.changes u).op))
-    (with_at m.adopted (m.changes u).set (contents_after (m.adopted (m.changes u).set) (m.changes u).op)) count
+    (with_at m.adopted (m.changes u).set (applied (m.adopted (m.changes u).set) (m.changes u).op)) count
 adopted_first m u count was a =
     let on = a.begun u (λ e. let clash : Unsettled ≡ Undrawn = sym was ∙ e in absurd cc) in
     record {
       answered = a.answered;
       begun = decided_begun m.changes u Adopted count was a.begun;
       homed = effect_homed m.kinds m.homes (m.changes u).set count (m.changes u).op (m.changes u).effect on a.homed;
-      no_names = set_nameless m.adopted (m.changes u).set count (contents_after (m.adopted (m.changes u).set) (m.changes u).op) on a.no_names;
+      no_names = set_nameless m.adopted (m.changes u).set count (applied (m.adopted (m.changes u).set) (m.changes u).op) on a.no_names;
     }
 
 -- each step of a fop whose sets are among the first

@@ -9,7 +9,7 @@ use Rattle.fop_types.proofs.MapLemmas.{gfid_exact}
 use Rattle.fop_types.specs.Bounds.{Each}
 use Rattle.fop_types.specs.Cells.{data_cell, meta_cell, names_cell}
 use Rattle.fop_types.specs.Orders.{gfid_cmp}
-use Rattle.fop_types.specs.StoreOps.{Contents, Edit, needs, both_names, born, births, item_in, edits, moved_in, with_content, edited_if_present, after_edits, born_if_absent, after_births, contents_after}
+use Rattle.fop_types.specs.StoreOps.{Contents, Edit, needs, both_names, born, births, item_in, edits, moved_in, with_content, edited_if_present, after_edits, born_if_absent, after_births, fits, contents_after}
 use Rattle.fop_types.specs.declared.cells.Cell.{Cell}
 use Rattle.fop_types.specs.declared.cells.Gfid.{Gfid}
 use Rattle.fop_types.specs.declared.cells.Kind.{Kind}
@@ -19,6 +19,7 @@ use Rattle.fop_types.specs.declared.contents.Item.{Item}
 use Rattle.fop_types.specs.declared.store_ops.StoreOp.{StoreOp}
 use Rattle.fop_types.specs.declared.store_ops.StoreOp.TheVariants as op
 use Rattle.mount_laws.specs.Settling.{HasNoNames, StaysOrBorn}
+use Rattle.mount_laws.specs.Steps.{applied}
 use Rattle.mount_laws.proofs.Sharing.{cells_are, is_cell_refl}
 
 -- ---- edits
@@ -148,12 +149,12 @@ births_none cell (b ∷ bs) contents h = by_case (is_cell cell b.0) (births_none
     by_case true k = one (contents b.0) k
     by_case false k = k
 
-pub op_none : (contents : Contents) (o : StoreOp) (cell : Cell) → contents_after contents o cell ≡ None → contents cell ≡ None
+op_none : (contents : Contents) (o : StoreOp) (cell : Cell) → contents_after contents o cell ≡ None → contents cell ≡ None
 op_none contents o cell h = edits_none cell (edits contents o) contents (births_none cell (births o) (after_edits contents (edits contents o)) h)
 
 -- ---- both
 
-pub op_leaves : (contents : Contents) (o : StoreOp) (cell : Cell) → has_cell (needs o) cell ≡ false → StaysOrBorn (contents cell) (contents_after contents o cell)
+op_leaves : (contents : Contents) (o : StoreOp) (cell : Cell) → has_cell (needs o) cell ≡ false → StaysOrBorn (contents cell) (contents_after contents o cell)
 op_leaves contents o cell none =
     stays_then (contents cell) (after_edits contents (edits contents o) cell) (contents_after contents o cell)
     (inl (edits_leave (needs o) cell none (edits contents o) contents (edits_are_of contents o)))
@@ -163,3 +164,19 @@ op_leaves contents o cell none =
 pub stays_nameless : (old new : Option Content) → StaysOrBorn old new → HasNoNames old → HasNoNames new
 stays_nameless old new (inl e) h = subst HasNoNames (sym e) h
 stays_nameless old new (inr g) h = g.1
+
+-- ---- an op that is applied where it fits
+
+pub applied_leaves : (contents : Contents) (o : StoreOp) (cell : Cell) → has_cell (needs o) cell ≡ false → StaysOrBorn (contents cell) (applied contents o cell)
+applied_leaves contents o cell none = by_case (fits contents o)
+  where
+    by_case : (b : Bool) → StaysOrBorn (contents cell) ((if b then contents_after contents o else contents) cell)
+    by_case true = op_leaves contents o cell none
+    by_case false = inl refl
+
+pub applied_none : (contents : Contents) (o : StoreOp) (cell : Cell) → applied contents o cell ≡ None → contents cell ≡ None
+applied_none contents o cell h = by_case (fits contents o) h
+  where
+    by_case : (b : Bool) → (if b then contents_after contents o else contents) cell ≡ None → contents cell ≡ None
+    by_case true k = op_none contents o cell k
+    by_case false k = k

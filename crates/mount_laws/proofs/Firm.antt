@@ -9,7 +9,7 @@ use Rattle.afr_machine.specs.Touching.{is_cell, has_cell}
 use Rattle.afr_machine.specs.Transactions.{cells_of_job}
 use Rattle.afr_machine.proofs.Tables.{at_same}
 use Rattle.fop_types.specs.Cells.{root, meta_cell, names_cell}
-use Rattle.fop_types.specs.StoreOps.{Contents, needs, after_births, contents_after}
+use Rattle.fop_types.specs.StoreOps.{Contents, needs, after_births}
 use Rattle.fop_types.specs.declared.cells.Cell.{Cell}
 use Rattle.fop_types.specs.declared.jobs.Job.{Job}
 use Rattle.fop_types.specs.declared.jobs.Job.TheVariants as job
@@ -18,8 +18,8 @@ use Rattle.mount_laws.specs.Guards.{Allowed, IsReached, IsChange, MayBeginChange
 use Rattle.mount_laws.specs.Holding.{HoldCovers, IsHeldFor}
 use Rattle.mount_laws.specs.Settling.{HasNoNames, TouchedIsFirm, AreWhole}
 use Rattle.mount_laws.specs.States.{State, Change, start}
-use Rattle.mount_laws.specs.Steps.{Step, Task, after, change_by, births_by}
-use Rattle.mount_laws.proofs.Contents.{births_leave, births_have_none, op_leaves, stays_nameless, HaveNoNames}
+use Rattle.mount_laws.specs.Steps.{Step, Task, after, change_by, births_by, applied}
+use Rattle.mount_laws.proofs.Contents.{births_leave, births_have_none, applied_leaves, stays_nameless, HaveNoNames}
 use Rattle.mount_laws.proofs.Held.{holds_cover}
 use Rattle.mount_laws.proofs.Sharing.{or_right}
 use Rattle.mount_laws.proofs.Tables.{at_case}
@@ -104,11 +104,11 @@ decided_touched m u verdict was a w cell =
 
 -- what a change that is adopted leaves nameless
 adopted_nameless : (m : State) (u : ℕ) → (m.changes u).verdict ≡ Unsettled → AreWhole m → TouchedIn m.changes m.firm → NamelessIn m.firm m.adopted
-    → NamelessIn m.firm (with_at m.adopted (m.changes u).set (contents_after (m.adopted (m.changes u).set) (m.changes u).op))
+    → NamelessIn m.firm (with_at m.adopted (m.changes u).set (applied (m.adopted (m.changes u).set) (m.changes u).op))
 adopted_nameless m u was whole touched a s cell =
-    at_case (λ i (one : Contents). m.firm i cell ≡ false → HasNoNames (one cell)) m.adopted (m.changes u).set (contents_after (m.adopted (m.changes u).set) (m.changes u).op)
-    (λ soft. stays_nameless (m.adopted (m.changes u).set cell) (contents_after (m.adopted (m.changes u).set) (m.changes u).op cell)
-    (op_leaves (m.adopted (m.changes u).set) (m.changes u).op cell (outside soft)) (a (m.changes u).set cell soft)) s (λ differ. a s cell)
+    at_case (λ i (one : Contents). m.firm i cell ≡ false → HasNoNames (one cell)) m.adopted (m.changes u).set (applied (m.adopted (m.changes u).set) (m.changes u).op)
+    (λ soft. stays_nameless (m.adopted (m.changes u).set cell) (applied (m.adopted (m.changes u).set) (m.changes u).op cell)
+    (applied_leaves (m.adopted (m.changes u).set) (m.changes u).op cell (outside soft)) (a (m.changes u).set cell soft)) s (λ differ. a s cell)
   where
     drawn : (m.changes u).verdict ≢ Undrawn
     drawn e = let clash : Unsettled ≡ Undrawn = sym was ∙ e in absurd cc

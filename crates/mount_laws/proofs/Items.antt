@@ -9,7 +9,7 @@ use Rattle.fop_types.specs.Bounds.{Each}
 use Rattle.fop_types.specs.Cells.{names_cell}
 use Rattle.fop_types.specs.Names.{item_named, with_item, without_item, renamed}
 use Rattle.fop_types.specs.Orders.{cell_cmp}
-use Rattle.fop_types.specs.StoreOps.{Contents, Edit, with_bytes_by, with_mode, with_attrs_by, as_removed, edited, items_of, item_in, moved_in, edits, births, with_content, edited_if_present, after_edits, born_if_absent, after_births, contents_after}
+use Rattle.fop_types.specs.StoreOps.{Contents, Edit, with_bytes_by, with_mode, with_attrs_by, as_removed, edited, items_of, item_in, moved_in, edits, births, with_content, edited_if_present, after_edits, born_if_absent, after_births, fits, contents_after}
 use Rattle.fop_types.specs.StoreOps.Edit.{PutBytes, Resize, PutMode, PutAttr, DropAttr, PutItem, DropItem, MarkRemoved}
 use Rattle.fop_types.specs.declared.cells.Cell.{Cell}
 use Rattle.fop_types.specs.declared.cells.Gfid.{Gfid}
@@ -20,6 +20,7 @@ use Rattle.fop_types.specs.declared.contents.Item.{Item}
 use Rattle.fop_types.specs.declared.contents.Span.{Span}
 use Rattle.fop_types.specs.declared.store_ops.StoreOp.{StoreOp}
 use Rattle.fop_types.specs.declared.store_ops.StoreOp.TheVariants as op
+use Rattle.mount_laws.specs.Steps.{applied}
 use Rattle.mount_laws.proofs.Contents.{HaveNoNames, births_have_none}
 
 -- ---- edits that leave the names
@@ -123,7 +124,7 @@ module _ (P : Item → Type 0) where
 
   -- ---- ops
 
-  pub op_all : (contents : Contents) (o : StoreOp) → ((item : Item) (name : List ℕ) → P item → P (renamed item name)) → ((parent : Gfid) (item : Item) (mode : ℕ) (span : Option Span) → o ≡ op.AddName parent item mode span → P item)
+  op_all : (contents : Contents) (o : StoreOp) → ((item : Item) (name : List ℕ) → P item → P (renamed item name)) → ((parent : Gfid) (item : Item) (mode : ℕ) (span : Option Span) → o ≡ op.AddName parent item mode span → P item)
       → ((cell : Cell) → Each P (items_of (contents cell))) → (cell : Cell) → Each P (items_of (contents_after contents o cell))
   op_all contents o again added h cell = births_all (births o) (after_edits contents (edits contents o)) (births_have_none o) (edits_all (edits contents o) contents (puts o refl) h) cell
     where
@@ -142,3 +143,11 @@ module _ (P : Item → Type 0) where
       puts (op.DropDir parent name gfid) e = (tt, (tt, tt))
       puts (op.Move parent name target new_name) e = (tt, moved (item_in contents parent name) target new_name (λ one k. found_is (items_of (contents (names_cell parent))) name one (h (names_cell parent)) k))
       puts (op.MakeCopy gfid span) e = tt
+
+  pub applied_all : (contents : Contents) (o : StoreOp) → ((item : Item) (name : List ℕ) → P item → P (renamed item name)) → ((parent : Gfid) (item : Item) (mode : ℕ) (span : Option Span) → o ≡ op.AddName parent item mode span → P item)
+      → ((cell : Cell) → Each P (items_of (contents cell))) → (cell : Cell) → Each P (items_of (applied contents o cell))
+  applied_all contents o again added h cell = by_case (fits contents o)
+    where
+      by_case : (b : Bool) → Each P (items_of ((if b then contents_after contents o else contents) cell))
+      by_case true = op_all contents o again added h cell
+      by_case false = h cell

@@ -20,7 +20,7 @@ use Rattle.fop_types.specs.Bounds.{Each}
 use Rattle.fop_types.specs.Cells.{root, meta_cell, names_cell}
 use Rattle.fop_types.specs.Names.{is_link, renamed}
 use Rattle.fop_types.specs.Orders.{gfid_cmp}
-use Rattle.fop_types.specs.StoreOps.{Contents, items_of, after_births, contents_after}
+use Rattle.fop_types.specs.StoreOps.{Contents, items_of, after_births}
 use Rattle.fop_types.specs.declared.answers.FopAnswer.{FopAnswer}
 use Rattle.fop_types.specs.declared.answers.FopAnswer.TheVariants as fop_answer
 use Rattle.fop_types.specs.declared.answers.IoError.{IoError}
@@ -48,7 +48,7 @@ use Rattle.mount_laws.specs.Objects.{volumes, IsMadeBy, MadeByChange, IsMadeOn, 
 use Rattle.mount_laws.specs.Runs.{Run, Stage}
 use Rattle.mount_laws.specs.Runs.Stage.{Waiting, Settled, Changing, Bearing, Decided}
 use Rattle.mount_laws.specs.States.{State, Change, Runs, start}
-use Rattle.mount_laws.specs.Steps.{Step, Task, after, is_lookup, change_by, births_by, by_effect, kinds_after, homes_after, with_kind, with_home, object_in}
+use Rattle.mount_laws.specs.Steps.{Step, Task, after, is_lookup, change_by, births_by, by_effect, kinds_after, homes_after, with_kind, with_home, object_in, applied}
 use Rattle.mount_laws.specs.Within.{SawObject, IsAddOf, WasAdded, AnswersWithin}
 use Rattle.mount_laws.proofs.Beside.{each_map, each_append, each_beside, one_job}
 use Rattle.mount_laws.proofs.Beyond.{each_known, answer_within, in_its_graph}
@@ -56,7 +56,7 @@ use Rattle.mount_laws.proofs.Drawing.{drawn_apart, adds_drawn}
 use Rattle.mount_laws.proofs.Entering.{effect_own, parts_in_order}
 use Rattle.mount_laws.proofs.Firm.{jobs_have_none}
 use Rattle.mount_laws.proofs.Held.{jobs_asked}
-use Rattle.mount_laws.proofs.Items.{found_is, op_all, births_all}
+use Rattle.mount_laws.proofs.Items.{found_is, applied_all, births_all}
 use Rattle.mount_laws.proofs.Moving.{RunMove, run_moves, quiet, run_case, stop_case}
 use Rattle.mount_laws.proofs.Moving.RunMove.{Stays, Begins, Settles, EndsSettling, BeginsChange, Decides, SendsBirths, ConfirmsBirths, HandsIn, Extends, Releases}
 use Rattle.mount_laws.proofs.Releasing.{gfids_are, gfid_itself}
@@ -309,10 +309,10 @@ adds_made first m reached u was parent item mode span is = of_effect (m.changes 
     of_effect (Some entry) e own = new_name m u entry parent item mode span e is
 
 adopted_names : (first : List (List ℕ)) (m : State) → IsReached first m → (u : ℕ) → (m.changes u).verdict ≡ Unsettled → NamesAreMade m
-    → (set : ℕ) (cell : Cell) → AreNamesMade (NewKinds m u) (NewHomes m u) set (items_of (with_at m.adopted (m.changes u).set (contents_after (m.adopted (m.changes u).set) (m.changes u).op) set cell))
+    → (set : ℕ) (cell : Cell) → AreNamesMade (NewKinds m u) (NewHomes m u) set (items_of (with_at m.adopted (m.changes u).set (applied (m.adopted (m.changes u).set) (m.changes u).op) set cell))
 adopted_names first m reached u was a set =
-    at_case (λ i (one : Contents). (cell : Cell) → AreNamesMade (NewKinds m u) (NewHomes m u) i (items_of (one cell))) m.adopted (m.changes u).set (contents_after (m.adopted (m.changes u).set) (m.changes u).op)
-    (op_all (IsNameMade (NewKinds m u) (NewHomes m u) (m.changes u).set) (m.adopted (m.changes u).set) (m.changes u).op (λ item name made. made) (λ parent item mode span is. adds_made first m reached u was parent item mode span is)
+    at_case (λ i (one : Contents). (cell : Cell) → AreNamesMade (NewKinds m u) (NewHomes m u) i (items_of (one cell))) m.adopted (m.changes u).set (applied (m.adopted (m.changes u).set) (m.changes u).op)
+    (applied_all (IsNameMade (NewKinds m u) (NewHomes m u) (m.changes u).set) (m.adopted (m.changes u).set) (m.changes u).op (λ item name made. made) (λ parent item mode span is. adds_made first m reached u was parent item mode span is)
     (λ cell. grown (m.changes u).set (m.adopted (m.changes u).set cell) (a (m.changes u).set cell))) set (λ differ cell. grown set (m.adopted set cell) (a set cell))
   where
     grown : (s : ℕ) (content : Option Content) → AreNamesMade m.kinds m.homes s (items_of content) → AreNamesMade (NewKinds m u) (NewHomes m u) s (items_of content)

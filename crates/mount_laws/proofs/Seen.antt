@@ -10,7 +10,7 @@ use Rattle.dht_fops.specs.Courses.{Course}
 use Rattle.dht_fops.specs.Shown.{SetContents}
 use Rattle.fop_types.specs.Bounds.{Each}
 use Rattle.fop_types.specs.Jobs.{may_lack, IsAnsweredBy, IsContentOf, AreContentsOf}
-use Rattle.fop_types.specs.StoreOps.{Contents, needs, after_births, contents_after}
+use Rattle.fop_types.specs.StoreOps.{Contents, needs, after_births}
 use Rattle.fop_types.specs.declared.answers.FopAnswer.TheVariants as fop_answer
 use Rattle.fop_types.specs.declared.cells.Cell.{Cell}
 use Rattle.fop_types.specs.declared.contents.Content.{Content}
@@ -27,10 +27,10 @@ use Rattle.mount_laws.specs.Seeing.{IsListed, SettledIsListed, WasSettled, IsSti
 use Rattle.mount_laws.specs.Settling.{HasNoNames, StaysOrBorn, TouchedIsFirm, IsSettledJob, ReadIsAdopted, LeavesSettled, IsStepOf}
 use Rattle.mount_laws.specs.States.{State, Change, Call, Status, Runs, holds_by, held}
 use Rattle.mount_laws.specs.States.Status.{Running}
-use Rattle.mount_laws.specs.Steps.{Step, Task, after, is_lookup, adopting, births_by, is_of, sees_again, sees, sights, sights_by, contents_shown}
+use Rattle.mount_laws.specs.Steps.{Step, Task, after, is_lookup, adopting, births_by, is_of, sees_again, sees, sights, sights_by, contents_shown, applied}
 use Rattle.mount_laws.proofs.Apart.{holds_apart}
 use Rattle.mount_laws.proofs.Beside.{each_map, each_append, each_beside, one_job}
-use Rattle.mount_laws.proofs.Contents.{births_leave, op_leaves, op_none}
+use Rattle.mount_laws.proofs.Contents.{births_leave, applied_leaves, applied_none}
 use Rattle.mount_laws.proofs.Firm.{are_whole, firm_touched, jobs_have_none}
 use Rattle.mount_laws.proofs.Held.{holds_cover, covered_held}
 use Rattle.mount_laws.proofs.Moving.{RunMove, run_moves, unwrap, quiet}
@@ -90,8 +90,8 @@ own_is_alone first m reached c run t u ne runs by h =
 adopted_leaves : (first : List (List ℕ)) (m : State) → IsReached first m → (c : ℕ) (run : Run) (u : ℕ) → Runs m c run → (m.changes u).verdict ≡ Unsettled → ((m.changes u).by ≡ c → ⊥)
     → (set : ℕ) (cell : Cell) → WasSettled run.settled set cell → StaysOrBorn (m.adopted set cell) ((adopting m u).adopted set cell)
 adopted_leaves first m reached c run u runs was other set cell seen =
-    at_case (λ i (one : Contents). i ≡ set → StaysOrBorn (m.adopted i cell) (one cell)) m.adopted (m.changes u).set (contents_after (m.adopted (m.changes u).set) (m.changes u).op)
-    (λ same. op_leaves (m.adopted (m.changes u).set) (m.changes u).op cell (outside same)) set (λ differ same. inl refl) refl
+    at_case (λ i (one : Contents). i ≡ set → StaysOrBorn (m.adopted i cell) (one cell)) m.adopted (m.changes u).set (applied (m.adopted (m.changes u).set) (m.changes u).op)
+    (λ same. applied_leaves (m.adopted (m.changes u).set) (m.changes u).op cell (outside same)) set (λ differ same. inl refl) refl
   where
     drawn : (m.changes u).verdict ≢ Undrawn
     drawn e = let clash : Unsettled ≡ Undrawn = sym was ∙ e in absurd cc
@@ -145,8 +145,8 @@ own_sight m u jobs sight whole a = by_case (is_of (m.changes u) sight) refl
     by_case true e = record { content = inl refl; lacks = λ none. a.lacks (was (none_before none)); settled = a.settled }
       where
         none_before : (adopting m u).adopted sight.set sight.cell ≡ None → m.adopted sight.set sight.cell ≡ None
-        none_before = at_case (λ i (one : Contents). one sight.cell ≡ None → m.adopted i sight.cell ≡ None) m.adopted (m.changes u).set (contents_after (m.adopted (m.changes u).set) (m.changes u).op)
-            (λ k. op_none (m.adopted (m.changes u).set) (m.changes u).op sight.cell k) sight.set (λ differ k. k)
+        none_before = at_case (λ i (one : Contents). one sight.cell ≡ None → m.adopted i sight.cell ≡ None) m.adopted (m.changes u).set (applied (m.adopted (m.changes u).set) (m.changes u).op)
+            (λ k. applied_none (m.adopted (m.changes u).set) (m.changes u).op sight.cell k) sight.set (λ differ k. k)
 
         was : m.adopted sight.set sight.cell ≡ None → sight.content ≡ None
         was none = of_content a.content
@@ -155,8 +155,8 @@ own_sight m u jobs sight whole a = by_case (is_of (m.changes u) sight) refl
             of_content (inl f) = sym f ∙ none
             of_content (inr g) = g.0
     by_case false e = sight_stays m.adopted (adopting m u).adopted jobs sight
-        (at_case (λ i (one : Contents). i ≡ sight.set → StaysOrBorn (m.adopted i sight.cell) (one sight.cell)) m.adopted (m.changes u).set (contents_after (m.adopted (m.changes u).set) (m.changes u).op)
-        (λ same. op_leaves (m.adopted (m.changes u).set) (m.changes u).op sight.cell
+        (at_case (λ i (one : Contents). i ≡ sight.set → StaysOrBorn (m.adopted i sight.cell) (one sight.cell)) m.adopted (m.changes u).set (applied (m.adopted (m.changes u).set) (m.changes u).op)
+        (λ same. applied_leaves (m.adopted (m.changes u).set) (m.changes u).op sight.cell
         (subst (λ (cells : List Cell). has_cell cells sight.cell ≡ false) whole (is_part ((m.changes u).set == sight.set) (has_cell (m.changes u).cells sight.cell) e (eq-eqb (m.changes u).set sight.set same))))
         sight.set (λ differ same. inl refl) refl) a
 

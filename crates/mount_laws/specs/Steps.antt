@@ -15,7 +15,7 @@ use Rattle.dht_fops.specs.Shown.{SetContents, Homes}
 use Rattle.dht_fops.specs.Volumes.{Kept}
 use Rattle.dht_fops.specs.declared.volume.Volume.{Volume}
 use Rattle.fop_types.specs.Orders.{gfid_cmp}
-use Rattle.fop_types.specs.StoreOps.{Contents, births, after_births, contents_after}
+use Rattle.fop_types.specs.StoreOps.{Contents, births, after_births, fits, contents_after}
 use Rattle.fop_types.specs.declared.answers.Answer.{Answer}
 use Rattle.fop_types.specs.declared.answers.Answer.TheVariants as answers
 use Rattle.fop_types.specs.declared.answers.FopAnswer.{FopAnswer}
@@ -161,6 +161,10 @@ entering m set o effect = record m {
   history = history_with m.history effect;
 }
 
+-- a set applies an op where it fits
+abbrev pub applied : Contents → StoreOp → Contents
+applied contents o = if fits contents o then contents_after contents o else contents
+
 abbrev pub with_contents : State → ℕ → Contents → State
 with_contents m set contents = record m { adopted = with_at m.adopted set contents }
 
@@ -168,7 +172,7 @@ abbrev pub adopting : State → ℕ → State
 adopting m u =
     let change = m.changes u in
     entering
-    (with_contents (with_change m u (record change { verdict = Adopted })) change.set (contents_after (m.adopted change.set) change.op))
+    (with_contents (with_change m u (record change { verdict = Adopted })) change.set (applied (m.adopted change.set) change.op))
     change.set change.op change.effect
 
 abbrev pub dropping : State → ℕ → State
