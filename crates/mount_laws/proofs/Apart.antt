@@ -1,5 +1,5 @@
 -- Holds of different calls do not conflict.
-use Rattle.std.proofs.Common.{◌≡◌, ℕ, ◌+◌, ◌⊎◌, inl, inr, true, false, refl, sym, subst, List, [], ◌∷◌}
+use Rattle.std.proofs.Common.{◌≡◌, ℕ, ◌+◌, inl, inr, true, false, refl, sym, subst, List, [], ◌∷◌}
 use Rattle.std.specs.Prelude.{◌≢◌}
 use Rattle.afr_machine.specs.Replicas.{with_at}
 use Rattle.fop_types.specs.declared.answers.FopAnswer.TheVariants as fop_answer

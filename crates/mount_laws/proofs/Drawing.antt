@@ -1,5 +1,5 @@
 -- The gfid of an object that a call makes is the one that it drew, and no other call's.
-use Rattle.std.proofs.Common.{◌≡◌, ◌∙◌, ℕ, ◌+◌, ◌<◌, ◌≤◌, ◌==◌, inl, inr, Bool, true, false, refl, sym, ap, subst, List, [], ◌∷◌, Option, Some, None, if◌then◌else◌, arith}
+use Rattle.std.proofs.Common.{◌≡◌, ◌∙◌, ℕ, ◌+◌, ◌<◌, ◌≤◌, ◌==◌, Bool, true, false, refl, sym, ap, subst, List, [], Option, Some, None, if◌then◌else◌, arith}
 use Rattle.std.specs.Prelude.{◌≢◌}
 use Rattle.std.proofs.lemmas.Bool.{eqb-true}
 use Rattle.afr_machine.specs.Changes.Verdict.{Undrawn}
@@ -18,7 +18,6 @@ use Rattle.fop_types.specs.declared.flat.FlatOp.TheVariants as flat
 use Rattle.fop_types.specs.declared.fops.Fop.{Fop}
 use Rattle.fop_types.specs.declared.fops.Fop.TheVariants as fop
 use Rattle.fop_types.specs.declared.history.Entry.{Entry}
-use Rattle.fop_types.specs.declared.store_ops.StoreOp.{StoreOp}
 use Rattle.fop_types.specs.declared.store_ops.StoreOp.TheVariants as op
 use Rattle.mount_laws.specs.Effects.{is_rename, part_of, IsOwnEntry, IsOwnEffect}
 use Rattle.mount_laws.specs.Guards.{Allowed, IsReached, DrawsOwn}
@@ -26,7 +25,7 @@ use Rattle.mount_laws.specs.Objects.{DrawnApart}
 use Rattle.mount_laws.specs.Runs.{begun}
 use Rattle.mount_laws.specs.States.{State, Call, Status}
 use Rattle.mount_laws.specs.States.Status.{Unsubmitted, Ready, Running, Answered}
-use Rattle.mount_laws.specs.Steps.{Step, after, is_lookup, status_after, nth_gfid, volume_of}
+use Rattle.mount_laws.specs.Steps.{Step, after, nth_gfid, volume_of}
 use Rattle.mount_laws.proofs.Beside.{counted, numbered}
 use Rattle.mount_laws.proofs.Entering.{effect_own}
 use Rattle.mount_laws.proofs.Tables.{at_case, at_both}
@@ -168,12 +167,12 @@ began_in first _ (IsReached.Further old step reached allowed) = step_began_in fi
 
 -- ---- operations that make an object
 
-is_make : FlatOp → Bool
+abbrev is_make : FlatOp → Bool
 is_make (flat.Mkdir parent name mode drawn) = true
 is_make (flat.Create parent name mode drawn) = true
 is_make other = false
 
-gfid_made : FlatOp → Option Gfid
+abbrev gfid_made : FlatOp → Option Gfid
 gfid_made (flat.Mkdir parent name mode drawn) = Some drawn
 gfid_made (flat.Create parent name mode drawn) = Some drawn
 gfid_made other = None

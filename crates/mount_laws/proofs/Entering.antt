@@ -1,5 +1,5 @@
 -- Each part of a call is begun once and in order, and the history has the effects of the adopted changes, each once.
-use Rattle.std.proofs.Common.{◌≡◌, ◌∙◌, ℕ, zero, suc, ◌+◌, ◌<◌, ◌⊎◌, inl, inr, Bool, true, false, refl, sym, ap, subst, List, [], ◌∷◌, ◌++◌, length, Option, Some, None, arith}
+use Rattle.std.proofs.Common.{◌≡◌, ◌∙◌, ℕ, zero, suc, ◌+◌, ◌<◌, ◌⊎◌, inl, inr, true, false, refl, sym, ap, subst, List, [], ◌∷◌, ◌++◌, length, Option, Some, None, arith}
 use Rattle.std.specs.Prelude.{◌≢◌, slice_get}
 use Rattle.std.proofs.lemmas.List.{length_push}
 use Rattle.std.proofs.lemmas.Option.{slice_get_within}
@@ -20,10 +20,9 @@ use Rattle.fop_types.specs.declared.history.Entry.{Entry}
 use Rattle.fop_types.specs.declared.jobs.Job.{Job}
 use Rattle.fop_types.specs.declared.jobs.Job.TheVariants as job
 use Rattle.fop_types.specs.declared.jobs.SetReply.{SetReply}
-use Rattle.fop_types.specs.declared.jobs.SetReply.TheVariants as reply
 use Rattle.fop_types.specs.declared.store_ops.StoreOp.{StoreOp}
-use Rattle.mount_laws.specs.Effects.{DidNotFail, IsEarlier, AreEarlier, IsOwnPart, IsOwnJob, IsOwnEntry, IsOwnEffect, EffectIsOwn, HasEffect, PartsInOrder, IsEntered, AreEntered, EnteredOnce, IsReplyTo, WasReplied, IsAt, IsJobOf, IsOfRun, OwnIsOfRun, BeganIsRun}
-use Rattle.mount_laws.specs.Guards.{Allowed, IsReached, IsChange, IsReply, IsSettling, IsOpen, MaySettle, MayBeginChange, MayDecide, MayHandIn}
+use Rattle.mount_laws.specs.Effects.{DidNotFail, IsEarlier, AreEarlier, IsOwnPart, IsOwnJob, IsOwnEffect, EffectIsOwn, HasEffect, PartsInOrder, IsEntered, AreEntered, EnteredOnce, IsReplyTo, WasReplied, IsAt, IsJobOf, IsOfRun, OwnIsOfRun, BeganIsRun}
+use Rattle.mount_laws.specs.Guards.{Allowed, IsReached, IsChange, IsReply, IsSettling, IsOpen, MayBeginChange, MayHandIn}
 use Rattle.mount_laws.specs.Guards.IsReply.{Shows, Enters, Fails, Opens}
 use Rattle.mount_laws.specs.Runs.{Run, Stage, Sight, first_course, begun, going_on, held_longer, released}
 use Rattle.mount_laws.specs.Runs.Stage.{Waiting, Settled, Changing, Bearing, Decided}

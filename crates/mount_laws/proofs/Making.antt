@@ -1,8 +1,7 @@
 -- The objects that were made: by one change each; all names on the sets, and all objects that calls know, are of such objects.
-use Rattle.std.proofs.Common.{◌≡◌, ◌∙◌, ℕ, ◌+◌, ◌⊎◌, inl, inr, Bool, true, false, refl, sym, ap, subst, List, [], ◌∷◌, Option, Some, None, if◌then◌else◌, Result, Ok, Err}
+use Rattle.std.proofs.Common.{◌≡◌, ◌∙◌, ℕ, ◌+◌, ◌⊎◌, inl, inr, Bool, true, false, refl, sym, ap, subst, List, [], ◌∷◌, Option, Some, None, if◌then◌else◌, Result, Ok}
 use Rattle.std.specs.Prelude.{◌≢◌}
 use Rattle.std.specs.Ordering.{is_eq}
-use Rattle.afr_machine.specs.Changes.{Verdict}
 use Rattle.afr_machine.specs.Changes.Verdict.{Undrawn, Unsettled, Adopted, Dropped}
 use Rattle.afr_machine.specs.Copies.{root_alone, contents_of}
 use Rattle.afr_machine.specs.Replicas.{with_at}
@@ -10,15 +9,15 @@ use Rattle.afr_machine.specs.Touching.{is_cell}
 use Rattle.afr_machine.proofs.Tables.{at_same, at_other}
 use Rattle.dht_fops.specs.Answers.{AreMade}
 use Rattle.dht_fops.specs.Courses.{Course}
-use Rattle.dht_fops.specs.Handed.{Handed, Event, Saw, SawName, IsNamesOf}
+use Rattle.dht_fops.specs.Handed.{Handed, Event, Saw, IsNamesOf}
 use Rattle.dht_fops.specs.Handed.Event.{Replied, Held}
-use Rattle.dht_fops.specs.Shown.{SetContents, Homes}
-use Rattle.dht_fops.specs.Standing.{Volumes, IsMade}
+use Rattle.dht_fops.specs.Shown.{Homes}
+use Rattle.dht_fops.specs.Standing.{IsMade}
 use Rattle.dht_linkto.specs.DirNames.{names_job, names_shown, names_in, first_content}
 use Rattle.dht_linkto.specs.declared.names.DirNames.{DirNames}
 use Rattle.fop_types.specs.Bounds.{Each}
 use Rattle.fop_types.specs.Cells.{root, meta_cell, names_cell}
-use Rattle.fop_types.specs.Names.{is_link, renamed}
+use Rattle.fop_types.specs.Names.{is_link}
 use Rattle.fop_types.specs.Orders.{gfid_cmp}
 use Rattle.fop_types.specs.StoreOps.{Contents, items_of, after_births}
 use Rattle.fop_types.specs.declared.answers.FopAnswer.{FopAnswer}
@@ -41,12 +40,12 @@ use Rattle.fop_types.specs.declared.jobs.SetReply.{SetReply}
 use Rattle.fop_types.specs.declared.jobs.SetReply.TheVariants as reply
 use Rattle.fop_types.specs.declared.store_ops.StoreOp.{StoreOp}
 use Rattle.fop_types.specs.declared.store_ops.StoreOp.TheVariants as op
-use Rattle.mount_laws.specs.Effects.{DidNotFail, IsOfLink, IsOwnEffect, HasEffect}
-use Rattle.mount_laws.specs.Guards.{Allowed, IsReached, IsKnown, objects_of, IsReply, IsShown, AreShown, IsOpen, IsBirth, MayHandIn, MayDecide}
+use Rattle.mount_laws.specs.Effects.{IsOfLink, IsOwnEffect}
+use Rattle.mount_laws.specs.Guards.{Allowed, IsReached, IsKnown, objects_of, IsReply, IsShown, AreShown, IsOpen, IsBirth}
 use Rattle.mount_laws.specs.Guards.IsReply.{Shows, Enters, Fails, Opens}
 use Rattle.mount_laws.specs.Objects.{volumes, IsMadeBy, MadeByChange, IsMadeOn, IsNameMade, AreNamesMade, NamesAreMade, item_added, added_by, contents_read, IsEventMade, AreEventsMade, IsRunMade, HandedIsMade, ObjectsMade}
-use Rattle.mount_laws.specs.Runs.{Run, Stage}
-use Rattle.mount_laws.specs.Runs.Stage.{Waiting, Settled, Changing, Bearing, Decided}
+use Rattle.mount_laws.specs.Runs.{Run}
+use Rattle.mount_laws.specs.Runs.Stage.{Bearing, Decided}
 use Rattle.mount_laws.specs.States.{State, Change, Runs, start}
 use Rattle.mount_laws.specs.Steps.{Step, Task, after, is_lookup, change_by, births_by, by_effect, kinds_after, homes_after, with_kind, with_home, object_in, applied}
 use Rattle.mount_laws.specs.Within.{SawObject, IsAddOf, WasAdded, AnswersWithin}
@@ -95,6 +94,12 @@ still_made changes kinds homes u new unadopted a gfid k e = by_case (a gfid k e)
     by_case (inl r) = inl r
     by_case (inr b) = inr (made_still changes homes u new unadopted gfid k b)
 
+abbrev entry_of : ℕ → ℕ → Entry
+entry_of call part = record { call = call; part = part }
+
+entries_are : (one other : Entry) → one.call ≡ other.call → one.part ≡ other.part → one ≡ other
+entries_are one other e f = ap (λ (c : ℕ). entry_of c one.part) e ∙ ap (λ (p : ℕ). entry_of other.call p) f
+
 -- an unsettled change adds an object that was not made before
 fresh : (first : List (List ℕ)) (m : State) → IsReached first m → MadeByChange m → (u : ℕ) (entry : Entry) (parent : Gfid) (item : Item) (mode : ℕ) (span : Option Span) → (m.changes u).verdict ≡ Unsettled → (m.changes u).effect ≡ Some entry
     → (m.changes u).op ≡ op.AddName parent item mode span → m.kinds item.gfid ≡ None
@@ -105,9 +110,6 @@ fresh first m reached a u entry parent item mode span was effect is = by_kind (m
 
     mine : ((m.calls (m.changes u).by).drawn ≡ Some item.gfid) × ((entry.part ≡ 1) × (entry.call ≡ (m.changes u).by))
     mine = adds_drawn first m reached u entry parent item mode span drawn effect is
-
-    entries_are : (one other : Entry) → one.call ≡ other.call → one.part ≡ other.part → one ≡ other
-    entries_are one other e f = cc
 
     twice : (k : Kind) → IsMadeBy m.changes m.homes item.gfid k → ⊥
     twice k b =
@@ -614,9 +616,9 @@ module _ (kinds : Gfid → Option Kind) (homes : Homes) where
     where
       one : (e : Event) → IsEventMade kinds homes e → IsNamesOf e dir set shown → AreNamesMade kinds homes set shown.items
       one (Replied other asked answer) k s =
-          names_of_reply set dir answer shown s.1.1
+          names_of_reply set dir answer shown s.2
           (subst (λ (x : ℕ). Each (λ (content : Option Content). AreNamesMade kinds homes x (items_of content)) (contents_read (names_job dir) answer)) s.0
-          (subst (λ (j : Job). Each (λ (content : Option Content). AreNamesMade kinds homes other (items_of content)) (contents_read j answer)) s.1.0 k.0))
+          (subst (λ (j : Job). Each (λ (content : Option Content). AreNamesMade kinds homes other (items_of content)) (contents_read j answer)) s.1 k.0))
       one (Held other) k s = absurd s
 
   record IsFoundMade (set : ℕ) (gfid : Gfid) (k : Kind) : Type 0 where

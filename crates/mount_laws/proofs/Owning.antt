@@ -1,6 +1,6 @@
 -- A fop changes by its own parts: wherever the replies lead, a change with an effect is a part that was not asked for before,
 -- after the earlier parts were entered, and a change without one adds or drops a link.
-use Rattle.std.proofs.Common.{◌≡◌, ℕ, ◌+◌, ◌<◌, ◌≤◌, ◌==◌, Bool, true, false, refl, List, [], ◌∷◌, Option, Some, None, Result, Ok, Err, if◌then◌else◌, length, nat_lt, arith}
+use Rattle.std.proofs.Common.{◌≡◌, ℕ, ◌+◌, ◌≤◌, ◌==◌, Bool, true, false, refl, List, [], ◌∷◌, Option, Some, None, Result, Ok, Err, if◌then◌else◌, length, nat_lt, arith}
 use Rattle.std.specs.List.{range_with_len}
 use Rattle.dht_layout.specs.Layouts.{even_span}
 use Rattle.dht_linkto.specs.DirNames.{names_job, names_in, first_content}
@@ -53,7 +53,7 @@ use Rattle.fop_types.specs.declared.jobs.SetReply.{SetReply}
 use Rattle.fop_types.specs.declared.jobs.SetReply.TheVariants as reply
 use Rattle.fop_types.specs.declared.store_ops.StoreOp.{StoreOp}
 use Rattle.fop_types.specs.declared.store_ops.StoreOp.TheVariants as op
-use Rattle.mount_laws.specs.Effects.{part_of, DidNotFail, IsEarlier, AreEarlier, IsOwnPart, IsOfLink, IsOwnJob}
+use Rattle.mount_laws.specs.Effects.{part_of, DidNotFail, AreEarlier, IsOfLink, IsOwnJob}
 use Rattle.mount_laws.proofs.Arguments.{Seen, Source, Renaming, renaming}
 
 -- ---- earlier parts

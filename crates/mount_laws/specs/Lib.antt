@@ -3,14 +3,11 @@ pub mod Graphs
 pub mod Guards
 pub mod Holding
 pub mod Holds
-pub mod Knowing
 pub mod Laws
-pub mod Naming
 pub mod Objects
 pub mod Runs
 pub mod Seeing
 pub mod Settling
 pub mod States
 pub mod Steps
-pub mod Touched
 pub mod Within

@@ -1,23 +1,22 @@
 -- What makes a set one atomic store to a fop: at most one unsettled change touches a cell; once a job has settled its cells,
 -- nobody but its own call changes them until the hold is released; what a read shows is what was adopted. Ours.
-use Rattle.std.specs.Prelude.{◌≡◌, ◌≢◌, ◌⊎◌, ℕ, ◌<◌, true, false, List, [], Option, Some, None}
-use Rattle.afr_machine.specs.Births.{AreAsFirst}
+use Rattle.std.specs.Prelude.{◌≡◌, ◌≢◌, ◌⊎◌, ℕ, ◌<◌, true, false, List, [], Option, None}
 use Rattle.afr_machine.specs.Changes.Verdict.{Undrawn, Unsettled}
 use Rattle.afr_machine.specs.Touching.{has_cell, share}
 use Rattle.afr_machine.specs.Transactions.{cells_of_job, settles_first}
 use Rattle.dht_fops.specs.Courses.{Course}
 use Rattle.fop_types.specs.Bounds.{Each}
-use Rattle.fop_types.specs.StoreOps.{items_of, is_removed, holds, needs}
+use Rattle.fop_types.specs.StoreOps.{items_of, is_removed, needs}
 use Rattle.fop_types.specs.declared.cells.Cell.{Cell}
 use Rattle.fop_types.specs.declared.contents.Content.{Content}
 use Rattle.fop_types.specs.declared.jobs.Job.{Job}
 use Rattle.fop_types.specs.declared.jobs.SetReply.{SetReply}
-use Rattle.mount_laws.specs.Guards.{Allowed, IsUnsettledOn, MaySettle, MaySendBirths, MayBeginChange}
+use Rattle.mount_laws.specs.Guards.{Allowed, IsUnsettledOn, MaySettle}
 use Rattle.mount_laws.specs.Holding.{AreHeldExclusively}
 use Rattle.mount_laws.specs.Runs.{Run, SettledJob}
 use Rattle.mount_laws.specs.Runs.Stage.{Settled, Changing}
 use Rattle.mount_laws.specs.States.{State, Change, Status, Runs, has_begun}
-use Rattle.mount_laws.specs.Steps.{Step, Task, is_lookup, change_by, births_by, after}
+use Rattle.mount_laws.specs.Steps.{Step, Task, is_lookup, change_by, after}
 
 -- ---- unsettled changes
 
@@ -101,7 +100,7 @@ LeavesSettled m new done = (cell : Cell) → has_cell done.cells cell ≡ true �
 abbrev pub ReadIsAdopted : State → Type 0
 ReadIsAdopted m = (c : ℕ) (run : Run) (step : Step) → Allowed m step → (IsStepOf c step → ⊥) → Runs m c run → Each (LeavesSettled m (after m step)) run.settled
 
--- ---- births
+-- ---- firm cells
 
 -- A change is of the cells that its op needs.
 abbrev pub AreWhole : State → Type 0
@@ -112,13 +111,3 @@ AreWhole m = (u : ℕ) → (m.changes u).verdict ≢ Undrawn → (m.changes u).c
 pub record TouchedIsFirm (m : State) : Type 0 where
   pub touched : (u : ℕ) (cell : Cell) → (m.changes u).verdict ≢ Undrawn → has_cell (m.changes u).cells cell ≡ true → m.firm (m.changes u).set cell ≡ true
   pub no_names : (set : ℕ) (cell : Cell) → m.firm set cell ≡ false → HasNoNames (m.adopted set cell)
-
--- A firm cell is born, with a content of its aspect; one that is born and not firm has the content of its first birth.
-pub record UnconfirmedIsBorn (m : State) : Type 0 where
-  pub firm : (set : ℕ) (cell : Cell) → m.firm set cell ≡ true → holds cell.aspect (m.adopted set cell) ≡ true
-  pub as_born : (set : ℕ) (cell : Cell) (content : Content) → m.firm set cell ≡ false → m.adopted set cell ≡ Some content → m.born set cell ≡ Some content
-
--- Each birth gives its cell the content of the first one.
-pub record OneBirth (m : State) : Type 0 where
-  pub births : (t : Task) → MaySendBirths m t → AreAsFirst (m.born t.set) (births_by t.job)
-  pub changes : (t : Task) (u : ℕ) → MayBeginChange m t u → AreAsFirst (m.born t.set) (births_by t.job)
