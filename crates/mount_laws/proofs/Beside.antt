@@ -386,7 +386,6 @@ step_beside m (Step.Answers c run answer place) h apart cover numbered a b =
     by_kind : (k : Bool) → is_lookup run.fop ≡ k → has_begun (status_after k answer) ≡ false → (u : ℕ) → (m.changes u).by ≡ c → (m.changes u).verdict ≡ Undrawn
     by_kind true e none u by = (a c run h.runs u).lookup e by
     by_kind false e none u by = absurd cc
-
 step_beside m (Step.AnswersAbove c run answer) h apart cover numbered a b =
     stops m apart cover numbered a b c _ (λ other e. quiet (is_lookup run.fop) (fop_answer.Call answer) other e) (λ none u by. absurd (over (is_lookup run.fop) none))
   where

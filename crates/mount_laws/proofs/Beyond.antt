@@ -123,7 +123,6 @@ step_graphed m (Step.Learns c run dir spans) h b g = g
 step_graphed m (Step.Answers c run answer place) h b g =
     status_graphed m.root_sets m.names m.calls c (status_after (is_lookup run.fop) answer) g (ap (λ (s : Status). is_unanswered s) h.runs)
     (λ other e. absurd (quiet (is_lookup run.fop) answer other e)) (λ other e. absurd (quiet (is_lookup run.fop) answer other e))
-
 step_graphed m (Step.AnswersAbove c run answer) h b g =
     status_graphed m.root_sets m.names m.calls c (status_after (is_lookup run.fop) (fop_answer.Call answer)) g (ap (λ (s : Status). is_unanswered s) h.runs)
     (λ other e. absurd (quiet (is_lookup run.fop) (fop_answer.Call answer) other e)) (λ other e. absurd (quiet (is_lookup run.fop) (fop_answer.Call answer) other e))

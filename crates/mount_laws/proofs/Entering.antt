@@ -71,15 +71,15 @@ began_is first _ (IsReached.Further old step reached allowed) = step_began old s
 -- ---- effects are the fop's own
 
 -- the job under way is the fop's own part, or changes a link
-own_job : (first : List (List ℕ)) (m : State) → IsReached first m → (c : ℕ) (run : Run) (set : ℕ) (asked : Job) (next : SetReply → Course) → Runs m c run → run.course ≡ Course.Asks set asked next → IsOwnJob c run.fop run.handed asked
+own_job : (first : List (List ℕ)) (m : State) → IsReached first m → (c : ℕ) (run : Run) (set : ℕ) (asked : Job) (next : SetReply → Course) → Runs m c run → run.course ≡ Course.Asks set asked next → IsOwnJob c run.fop run.handed set asked
 own_job first m reached c run set asked next runs asks =
-    subst (λ (call : ℕ). IsOwnJob call run.fop run.handed asked) ((in_its_graph first m reached).planned c run runs).call_is
+    subst (λ (call : ℕ). IsOwnJob call run.fop run.handed set asked) ((in_its_graph first m reached).planned c run runs).call_is
     ((subst (λ (course : Course). Always (IsOwn run.volume.call run.fop) AnyAnswer run.handed course) asks
     (led_always (IsOwn run.volume.call run.fop) AnyAnswer (first_course run) run.handed run.course (jobs_asked first m reached c run runs) ((courses_own run.volume run.names run.kept run.fop).at [] tt))).0)
 
 own_decided : (began : ℕ → Option Fop) (change : Change) (verdict : Verdict) (effect : Option Entry) → IsOwnEffect began change effect → IsOwnEffect began (record change { verdict = verdict }) effect
 own_decided began change verdict None k = k
-own_decided began change verdict (Some entry) k = record { call_is = k.call_is; fop = k.fop; began_is = k.began_is; part = k.part; part_is = k.part_is; makes = k.makes }
+own_decided began change verdict (Some entry) k = record { call_is = k.call_is; fop = k.fop; began_is = k.began_is; part = k.part; part_is = k.part_is; makes = k.makes; on_first = k.on_first }
 
 decided_own : (m : State) (u : ℕ) (verdict : Verdict) → (m.changes u).verdict ≡ Unsettled → EffectIsOwn m → (w : ℕ) → (with_at m.changes u (record (m.changes u) { verdict = verdict }) w).verdict ≢ Undrawn
     → IsOwnEffect m.began (with_at m.changes u (record (m.changes u) { verdict = verdict }) w) (with_at m.changes u (record (m.changes u) { verdict = verdict }) w).effect
@@ -87,12 +87,12 @@ decided_own m u verdict was a w =
     at_case (λ i (one : Change). one.verdict ≢ Undrawn → IsOwnEffect m.began one one.effect) m.changes u (record (m.changes u) { verdict = verdict })
     (λ drawn. own_decided m.began (m.changes u) verdict (m.changes u).effect (a u (λ e. let clash : Unsettled ≡ Undrawn = sym was ∙ e in absurd cc))) w (λ differ. a w)
 
-made_own : (m : State) (t : Task) → IsChange t.job → IsOwnJob t.call t.run.fop t.run.handed t.job → m.began t.call ≡ Some t.run.fop → IsOwnEffect m.began (change_by t.call t.set t.job) (change_by t.call t.set t.job).effect
+made_own : (m : State) (t : Task) → IsChange t.job → IsOwnJob t.call t.run.fop t.run.handed t.set t.job → m.began t.call ≡ Some t.run.fop → IsOwnEffect m.began (change_by t.call t.set t.job) (change_by t.call t.set t.job).effect
 made_own m t is k began = of_job t.job is k
   where
-    of_job : (asked : Job) → IsChange asked → IsOwnJob t.call t.run.fop t.run.handed asked → IsOwnEffect m.began (change_by t.call t.set asked) (change_by t.call t.set asked).effect
+    of_job : (asked : Job) → IsChange asked → IsOwnJob t.call t.run.fop t.run.handed t.set asked → IsOwnEffect m.began (change_by t.call t.set asked) (change_by t.call t.set asked).effect
     of_job (job.Change cells fd o None) is k = k
-    of_job (job.Change cells fd o (Some entry)) is k = record { call_is = k.call_is; fop = t.run.fop; began_is = began; part = k.part; part_is = k.part_is; makes = k.makes }
+    of_job (job.Change cells fd o (Some entry)) is k = record { call_is = k.call_is; fop = t.run.fop; began_is = began; part = k.part; part_is = k.part_is; makes = k.makes; on_first = k.on_first }
     of_job (job.Read cells fd dir) is k = absurd is
     of_job (job.Birth cells o) is k = absurd is
     of_job (job.Open fd gfid) is k = absurd is
@@ -113,6 +113,7 @@ begun_own m c f none a u drawn = of_effect (m.changes u).effect (a u drawn)
       part = k.part;
       part_is = k.part_is;
       makes = k.makes;
+      on_first = k.on_first;
     }
 
 step_own : (first : List (List ℕ)) (m : State) (step : Step) → IsReached first m → Allowed m step → EffectIsOwn m → EffectIsOwn (after m step)
@@ -364,12 +365,12 @@ same_order m n is a = record {
 
 -- the part that a job begins
 module _ (first : List (List ℕ)) (m : State) (reached : IsReached first m) (t : Task) (u : ℕ) (h : MayBeginChange m t u) where
-  made_part : (entry : Entry) → (change_by t.call t.set t.job).effect ≡ Some entry → IsOwnPart t.call t.run.fop t.run.handed (change_by t.call t.set t.job).op entry
+  made_part : (entry : Entry) → (change_by t.call t.set t.job).effect ≡ Some entry → IsOwnPart t.call t.run.fop t.run.handed t.set (change_by t.call t.set t.job).op entry
   made_part = of_job t.job h.is_change (own_job first m reached t.call t.run t.set t.job t.next h.under_way.runs h.under_way.asks)
     where
-      of_job : (asked : Job) → IsChange asked → IsOwnJob t.call t.run.fop t.run.handed asked → (entry : Entry) → (change_by t.call t.set asked).effect ≡ Some entry → IsOwnPart t.call t.run.fop t.run.handed (change_by t.call t.set asked).op entry
+      of_job : (asked : Job) → IsChange asked → IsOwnJob t.call t.run.fop t.run.handed t.set asked → (entry : Entry) → (change_by t.call t.set asked).effect ≡ Some entry → IsOwnPart t.call t.run.fop t.run.handed t.set (change_by t.call t.set asked).op entry
       of_job (job.Change cells fd o None) is k entry e = absurd cc
-      of_job (job.Change cells fd o (Some one)) is k entry e = subst (λ (x : Entry). IsOwnPart t.call t.run.fop t.run.handed o x) (unwrap_some one entry e) k
+      of_job (job.Change cells fd o (Some one)) is k entry e = subst (λ (x : Entry). IsOwnPart t.call t.run.fop t.run.handed t.set o x) (unwrap_some one entry e) k
         where
           unwrap_some : (a b : Entry) → ◌≡◌ {A = Option Entry} (Some a) (Some b) → a ≡ b
           unwrap_some a b e = cc
@@ -389,10 +390,10 @@ module _ (first : List (List ℕ)) (m : State) (reached : IsReached first m) (t 
       own None e i = absurd cc
       own (Some one) e i = let is : one ≡ old = cc in sym (ap (λ (x : Entry). x.call) is) ∙ i.call_is
 
-      by : IsOwnPart t.call t.run.fop t.run.handed (change_by t.call t.set t.job).op new → (m.changes w).by ≡ t.call
+      by : IsOwnPart t.call t.run.fop t.run.handed t.set (change_by t.call t.set t.job).op new → (m.changes w).by ≡ t.call
       by part = sym (own (m.changes w).effect k.effect (effect_own first m reached w k.begun)) ∙ same ∙ part.call_is
 
-      by_case : IsOwnPart t.call t.run.fop t.run.handed (change_by t.call t.set t.job).op new → WasReplied t.run.handed old (m.changes w).verdict ⊎ IsJobOf t.run w old (m.changes w).verdict → (old.part < new.part) × ((m.changes w).verdict ≡ Adopted)
+      by_case : IsOwnPart t.call t.run.fop t.run.handed t.set (change_by t.call t.set t.job).op new → WasReplied t.run.handed old (m.changes w).verdict ⊎ IsJobOf t.run w old (m.changes w).verdict → (old.part < new.part) × ((m.changes w).verdict ≡ Adopted)
       by_case part (inl r) = of_earlier t.run.handed old (m.changes w).verdict new.part part.earlier r
       by_case part (inr j) = absurd (at_other_stage t.run.stage (Settled h.place) w (m.changes w).verdict h.settled (λ none. none) j.at)
 

@@ -40,7 +40,7 @@ use Rattle.fop_types.specs.declared.jobs.SetReply.{SetReply}
 use Rattle.fop_types.specs.declared.jobs.SetReply.TheVariants as reply
 use Rattle.fop_types.specs.declared.store_ops.StoreOp.{StoreOp}
 use Rattle.fop_types.specs.declared.store_ops.StoreOp.TheVariants as op
-use Rattle.mount_laws.specs.Effects.{IsOfLink, IsOwnEffect}
+use Rattle.mount_laws.specs.Effects.{IsOnFirst, IsOfLink, IsOwnEffect}
 use Rattle.mount_laws.specs.Guards.{Allowed, IsReached, IsKnown, objects_of, IsReply, IsShown, AreShown, IsOpen, IsBirth}
 use Rattle.mount_laws.specs.Guards.IsReply.{Shows, Enters, Fails, Opens}
 use Rattle.mount_laws.specs.Objects.{volumes, IsMadeBy, MadeByChange, IsMadeOn, IsNameMade, AreNamesMade, NamesAreMade, item_added, added_by, contents_read, IsEventMade, AreEventsMade, IsRunMade, HandedIsMade, ObjectsMade}
@@ -287,7 +287,7 @@ step_grows first m (Step.AnswersAbove c run answer) reached h = λ set gfid k ma
 
 names_grow : (kinds : Gfid → Option Kind) (homes : Homes) (new_kinds : Gfid → Option Kind) (new_homes : Homes) → Grows kinds homes new_kinds new_homes → (set : ℕ) (items : List Item) → AreNamesMade kinds homes set items → AreNamesMade new_kinds new_homes set items
 names_grow kinds homes new_kinds new_homes grows set items a =
-    each_map (λ (item : Item). IsNameMade kinds homes set item) (λ (item : Item). IsNameMade new_kinds new_homes set item) items (λ item made real. grows set item.gfid item.kind (made real)) a
+    each_map (λ (item : Item). IsNameMade kinds homes set item) (λ (item : Item). IsNameMade new_kinds new_homes set item) items (λ item made real. (grows set item.gfid item.kind (made real).0, (made real).1)) a
 
 -- the item that a change adds
 abbrev NewKinds : State → ℕ → Gfid → Option Kind
@@ -296,11 +296,12 @@ NewKinds m u = by_effect (m.changes u).effect m.kinds (kinds_after m.kinds (m.ch
 abbrev NewHomes : State → ℕ → Homes
 NewHomes m u = by_effect (m.changes u).effect m.homes (homes_after m.homes (m.changes u).set (m.changes u).op)
 
-new_name : (m : State) (u : ℕ) (entry : Entry) (parent : Gfid) (item : Item) (mode : ℕ) (span : Option Span) → (m.changes u).effect ≡ Some entry → (m.changes u).op ≡ op.AddName parent item mode span → IsNameMade (NewKinds m u) (NewHomes m u) (m.changes u).set item
-new_name m u entry parent item mode span effect is =
+new_name : (m : State) (u : ℕ) (entry : Entry) (parent : Gfid) (item : Item) (mode : ℕ) (span : Option Span) → (m.changes u).effect ≡ Some entry → (m.changes u).op ≡ op.AddName parent item mode span → (item.kind ≡ kind.Dir → (m.changes u).set ≡ 0)
+    → IsNameMade (NewKinds m u) (NewHomes m u) (m.changes u).set item
+new_name m u entry parent item mode span effect is on_first =
     subst (λ (e : Option Entry). IsNameMade (by_effect e m.kinds (kinds_after m.kinds (m.changes u).op)) (by_effect e m.homes (homes_after m.homes (m.changes u).set (m.changes u).op)) (m.changes u).set item) (sym effect)
     (subst (λ (o : StoreOp). IsNameMade (kinds_after m.kinds o) (homes_after m.homes (m.changes u).set o) (m.changes u).set item) (sym is)
-    (λ real. (ap (λ (b : Bool). if b then Some item.kind else m.kinds item.gfid) (gfid_itself item.gfid), λ file. ap (λ (b : Bool). if b then (m.changes u).set else m.homes item.gfid) (gfid_itself item.gfid))))
+    (λ real. ((ap (λ (b : Bool). if b then Some item.kind else m.kinds item.gfid) (gfid_itself item.gfid), λ file. ap (λ (b : Bool). if b then (m.changes u).set else m.homes item.gfid) (gfid_itself item.gfid)), on_first)))
 
 -- a change that is adopted adds a link, or a name of the object that it makes
 adds_made : (first : List (List ℕ)) (m : State) → IsReached first m → (u : ℕ) → (m.changes u).verdict ≡ Unsettled → (parent : Gfid) (item : Item) (mode : ℕ) (span : Option Span) → (m.changes u).op ≡ op.AddName parent item mode span → IsNameMade (NewKinds m u) (NewHomes m u) (m.changes u).set item
@@ -308,7 +309,7 @@ adds_made first m reached u was parent item mode span is = of_effect (m.changes 
   where
     of_effect : (effect : Option Entry) → (m.changes u).effect ≡ effect → IsOwnEffect m.began (m.changes u) effect → IsNameMade (NewKinds m u) (NewHomes m u) (m.changes u).set item
     of_effect None e own = λ real. let clash : true ≡ false = sym (subst IsOfLink is own) ∙ real in absurd cc
-    of_effect (Some entry) e own = new_name m u entry parent item mode span e is
+    of_effect (Some entry) e own = new_name m u entry parent item mode span e is (subst (λ (o : StoreOp). IsOnFirst (m.changes u).set o) is own.on_first)
 
 adopted_names : (first : List (List ℕ)) (m : State) → IsReached first m → (u : ℕ) → (m.changes u).verdict ≡ Unsettled → NamesAreMade m
     → (set : ℕ) (cell : Cell) → AreNamesMade (NewKinds m u) (NewHomes m u) set (items_of (with_at m.adopted (m.changes u).set (applied (m.adopted (m.changes u).set) (m.changes u).op) set cell))
@@ -407,12 +408,12 @@ birth_adds set job.Index is = absurd is
 birth_adds set (job.Heal cell) is = absurd is
 
 -- the job's own change makes what it adds
-job_made : (m : State) (t : Task) (u : ℕ) → m.changes u ≡ change_by t.call t.set t.job → AreNamesMade (NewKinds m u) (NewHomes m u) t.set (added_by t.job)
-job_made m t u is = of_job t.job is
+job_made : (first : List (List ℕ)) (m : State) → IsReached first m → (t : Task) (u : ℕ) → (m.changes u).verdict ≡ Unsettled → m.changes u ≡ change_by t.call t.set t.job → AreNamesMade (NewKinds m u) (NewHomes m u) t.set (added_by t.job)
+job_made first m reached t u was is = of_job t.job is
   where
     of_op : (cells : List Cell) (fd : ℕ) (entry : Entry) (o : StoreOp) → m.changes u ≡ change_by t.call t.set (job.Change cells fd o (Some entry)) → AreNamesMade (NewKinds m u) (NewHomes m u) t.set (item_added o)
     of_op cells fd entry (op.AddName parent item mode span) e =
-        (subst (λ (s : ℕ). IsNameMade (NewKinds m u) (NewHomes m u) s item) (ap (λ (x : Change). x.set) e) (new_name m u entry parent item mode span (ap (λ (x : Change). x.effect) e) (ap (λ (x : Change). x.op) e)), tt)
+        (subst (λ (s : ℕ). IsNameMade (NewKinds m u) (NewHomes m u) s item) (ap (λ (x : Change). x.set) e) (adds_made first m reached u was parent item mode span (ap (λ (x : Change). x.op) e)), tt)
     of_op cells fd entry (op.Write gfid offset bytes) e = tt
     of_op cells fd entry (op.Truncate gfid size) e = tt
     of_op cells fd entry (op.SetMode gfid mode) e = tt
@@ -489,11 +490,10 @@ step_handed first m (Step.Settles t u false) reached h a = run_case (λ d (run :
 step_handed first m (Step.EndsSettling t) reached h a = run_case (λ d (run : Run). IsRunMade m.kinds m.homes run) m.calls t.call _ ((a t.call t.run h.under_way.runs).0, λ number set asked next e. absurd cc) (λ i other differ e. a i other e)
 step_handed first m (Step.BeginsChange t u) reached h a = run_case (λ d (run : Run). IsRunMade m.kinds m.homes run) m.calls t.call _ ((a t.call t.run h.under_way.runs).0, λ number set asked next e. absurd cc) (λ i other differ e. a i other e)
 step_handed first m (Step.Decides t u) reached h a =
-    run_case (λ d (run : Run). IsRunMade (NewKinds m u) (NewHomes m u) run) m.calls t.call _
-    (
+    run_case (λ d (run : Run). IsRunMade (NewKinds m u) (NewHomes m u) run) m.calls t.call _ (
       (grown t.run (a t.call t.run h.under_way.runs)).0,
       λ number set asked next e f. let same = one_job t.run.course t.set set t.job asked t.next next h.under_way.asks f in
-          subst (λ (s : ℕ). AreNamesMade (NewKinds m u) (NewHomes m u) s (added_by asked)) same.set_is (subst (λ (j : Job). AreNamesMade (NewKinds m u) (NewHomes m u) t.set (added_by j)) same.job_is (job_made m t u running)),
+          subst (λ (s : ℕ). AreNamesMade (NewKinds m u) (NewHomes m u) s (added_by asked)) same.set_is (subst (λ (j : Job). AreNamesMade (NewKinds m u) (NewHomes m u) t.set (added_by j)) same.job_is (job_made first m reached t u h.unsettled running)),
     )
     (λ i other differ e. grown other (a i other e))
   where
@@ -504,8 +504,7 @@ step_handed first m (Step.Decides t u) reached h a =
     grown run k = run_grows m.kinds m.homes (NewKinds m u) (NewHomes m u) (adopted_grows first m reached (made_by_change first m reached) u h.unsettled) run k
 step_handed first m (Step.SendsBirths t) reached h a = run_case (λ d (run : Run). IsRunMade m.kinds m.homes run) m.calls t.call _ ((a t.call t.run h.under_way.runs).0, λ number set asked next e. absurd cc) (λ i other differ e. a i other e)
 step_handed first m (Step.ConfirmsBirths t) reached h a =
-    run_case (λ d (run : Run). IsRunMade m.kinds m.homes run) m.calls t.call _
-    (
+    run_case (λ d (run : Run). IsRunMade m.kinds m.homes run) m.calls t.call _ (
       (a t.call t.run h.under_way.runs).0,
       λ number set asked next e f. subst (λ (items : List Item). AreNamesMade m.kinds m.homes set items) (sym (birth_adds set asked (bearing_is_birth first m reached t.call t.run h.under_way.runs set asked next h.turn f))) tt,
     )
@@ -628,7 +627,7 @@ module _ (kinds : Gfid → Option Kind) (homes : Homes) where
   item_made : (set : ℕ) (item : Item) (gfid : Gfid) (k : Kind) → IsNameMade kinds homes set item → is_link item.kind ≡ false → item.gfid ≡ gfid → item.kind ≡ k → IsFoundMade set gfid k
   item_made set item gfid k made real gfid_is kind_is = record {
     no_link = subst (λ (x : Kind). is_link x ≡ false) kind_is real;
-    made = subst (λ (x : Kind). IsMadeOn kinds homes set gfid x) kind_is (subst (λ (g : Gfid). IsMadeOn kinds homes set g item.kind) gfid_is (made real));
+    made = subst (λ (x : Kind). IsMadeOn kinds homes set gfid x) kind_is (subst (λ (g : Gfid). IsMadeOn kinds homes set g item.kind) gfid_is (made real).0);
   }
 
   added_made : (handed : Handed) (set : ℕ) (gfid : Gfid) (k : Kind) → AreEventsMade kinds homes handed → WasAdded handed set gfid k → IsFoundMade set gfid k

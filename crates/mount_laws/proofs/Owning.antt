@@ -53,13 +53,13 @@ use Rattle.fop_types.specs.declared.jobs.SetReply.{SetReply}
 use Rattle.fop_types.specs.declared.jobs.SetReply.TheVariants as reply
 use Rattle.fop_types.specs.declared.store_ops.StoreOp.{StoreOp}
 use Rattle.fop_types.specs.declared.store_ops.StoreOp.TheVariants as op
-use Rattle.mount_laws.specs.Effects.{part_of, DidNotFail, AreEarlier, IsOfLink, IsOwnJob}
+use Rattle.mount_laws.specs.Effects.{part_of, DidNotFail, AreEarlier, IsOfLink, IsOnFirst, IsOwnJob}
 use Rattle.mount_laws.proofs.Arguments.{Seen, Source, Renaming, renaming}
 
 -- ---- earlier parts
 
 abbrev pub IsOwn : ℕ → Fop → Handed → ℕ → Job → Type 0
-IsOwn call f handed set asked = IsOwnJob call f handed asked
+IsOwn call f handed set asked = IsOwnJob call f handed set asked
 
 -- wherever the replies lead, where only earlier parts than this were asked for, and did not fail
 pub record Owns (call : ℕ) (f : Fop) (part : ℕ) (course : Course) : Type 0 where
@@ -118,10 +118,10 @@ module _ (call : ℕ) (f : Fop) where
   link_changes k set cells fd o next link w = record { at = λ handed e. (link, λ shown. w.at (Replied set (job.Change cells fd o None) shown ∷ handed) (tt, e)) }
 
   -- a part, which the parts so far are before
-  part_changes : (set : ℕ) (cells : List Cell) (fd : ℕ) (o : StoreOp) (one : Entry) (part : FlatOp) (next : Option ℕ → Course) → one.call ≡ call → part_of (flat_op f) one.part ≡ Some part → change_of o ≡ Some part
+  part_changes : (set : ℕ) (cells : List Cell) (fd : ℕ) (o : StoreOp) (one : Entry) (part : FlatOp) (next : Option ℕ → Course) → one.call ≡ call → part_of (flat_op f) one.part ≡ Some part → change_of o ≡ Some part → IsOnFirst set o
       → ((number : Option ℕ) → Owns call f (one.part + 1) (next number)) → Owns call f one.part (changes set cells fd o (Some one) next)
-  part_changes set cells fd o one part next call_is part_is makes w = record {
-    at = λ handed e. (record { call_is = call_is; part = part; part_is = part_is; makes = makes; earlier = e }, λ shown. leads handed e shown);
+  part_changes set cells fd o one part next call_is part_is makes on_first w = record {
+    at = λ handed e. (record { call_is = call_is; part = part; part_is = part_is; makes = makes; on_first = on_first; earlier = e }, λ shown. leads handed e shown);
   }
     where
       later : (handed : Handed) → AreEarlier handed one.part → (shown : SetReply) → DidNotFail shown → (number : Option ℕ) → Always (IsOwn call f) AnyAnswer (Replied set (job.Change cells fd o (Some one)) shown ∷ handed) (next number)
@@ -196,7 +196,7 @@ module _ (call : ℕ) (f : Fop) where
 
   births_own : (v : Volume) (parent : Gfid) (name : List ℕ) (mode : ℕ) (drawn : Gfid) (sets : List ℕ) → v.call ≡ call → part_of (flat_op f) 1 ≡ Some (flat.Mkdir parent name mode drawn) → Owns call f 1 (births_from v parent name mode drawn sets)
   births_own v parent name mode drawn [] c h =
-      part_changes 0 (names_cell parent ∷ []) 0 (op.AddName parent (item_of name drawn kind.Dir) mode (Some (even_span v.sets 0))) (entry v 1) (flat.Mkdir parent name mode drawn) (Ends (answers.Call answer.Done)) c h refl (λ number. ends 2 _ _)
+      part_changes 0 (names_cell parent ∷ []) 0 (op.AddName parent (item_of name drawn kind.Dir) mode (Some (even_span v.sets 0))) (entry v 1) (flat.Mkdir parent name mode drawn) (Ends (answers.Call answer.Done)) c h refl (λ dir. refl) (λ number. ends 2 _ _)
   births_own v parent name mode drawn (set ∷ sets) c h = births 1 set drawn _ _ (λ number. births_own v parent name mode drawn sets c h)
 
   mkdir_ends : (v : Volume) (parent : Gfid) (name : List ℕ) (mode : ℕ) (drawn : Gfid) → v.call ≡ call → part_of (flat_op f) 1 ≡ Some (flat.Mkdir parent name mode drawn) → EndsOwn (mkdir_found v parent name mode drawn)
@@ -207,19 +207,19 @@ module _ (call : ℕ) (f : Fop) where
   create_ends : (v : Volume) (parent : Gfid) (name : List ℕ) (mode : ℕ) (drawn : Gfid) (hashed : ℕ) → v.call ≡ call → part_of (flat_op f) 1 ≡ Some (flat.Create parent name mode drawn) → EndsOwn (create_found v parent name mode drawn hashed)
   create_ends v parent name mode drawn hashed c h (found.Item set gfid k) seen = ends 1 _ _
   create_ends v parent name mode drawn hashed c h found.Absent seen =
-      part_changes hashed (names_cell parent ∷ []) 0 (op.AddName parent (item_of name drawn kind.File) mode None) (entry v 1) (flat.Create parent name mode drawn) (Ends (answers.Found hashed drawn kind.File)) c h refl (λ number. ends 2 _ _)
+      part_changes hashed (names_cell parent ∷ []) 0 (op.AddName parent (item_of name drawn kind.File) mode None) (entry v 1) (flat.Create parent name mode drawn) (Ends (answers.Found hashed drawn kind.File)) c h refl (λ dir. absurd cc) (λ number. ends 2 _ _)
   create_ends v parent name mode drawn hashed c h (found.Io error) seen = ends 1 _ _
 
   unlink_ends : (v : Volume) (parent : Gfid) (name : List ℕ) (hashed : ℕ) → v.call ≡ call → part_of (flat_op f) 1 ≡ Some (flat.Unlink parent name) → EndsOwn (unlink_found v parent name hashed)
   unlink_ends v parent name hashed c h (found.Item set gfid k) seen =
       if_owns 1 _ _ (is_directory k) (ends 1 _ _)
-      (part_changes set (names_cell parent ∷ []) 0 (op.DropName parent name) (entry v 1) (flat.Unlink parent name) (drops_link parent name hashed seen.has_link) c h refl (λ number. link_drops 2 parent name hashed seen.has_link number))
+      (part_changes set (names_cell parent ∷ []) 0 (op.DropName parent name) (entry v 1) (flat.Unlink parent name) (drops_link parent name hashed seen.has_link) c h refl tt (λ number. link_drops 2 parent name hashed seen.has_link number))
   unlink_ends v parent name hashed c h found.Absent seen = ends 1 _ _
   unlink_ends v parent name hashed c h (found.Io error) seen = ends 1 _ _
 
   empties_own : (v : Volume) (parent : Gfid) (name : List ℕ) (gfid : Gfid) (sets : List ℕ) → v.call ≡ call → part_of (flat_op f) 1 ≡ Some (flat.Rmdir parent name) → Owns call f 1 (empties v parent name gfid sets)
   empties_own v parent name gfid [] c h =
-      part_changes 0 (both_names parent gfid) 0 (op.DropDir parent name gfid) (entry v 1) (flat.Rmdir parent name) (Ends (answers.Call answer.Done)) c h refl (λ number. ends 2 _ _)
+      part_changes 0 (both_names parent gfid) 0 (op.DropDir parent name gfid) (entry v 1) (flat.Rmdir parent name) (Ends (answers.Call answer.Done)) c h refl tt (λ number. ends 2 _ _)
   empties_own v parent name gfid (set ∷ sets) c h = names 1 set gfid _ (λ shown. if_owns 1 _ _ (has_real_name shown.items) (ends 1 _ _) (empties_own v parent name gfid sets c h))
 
   rmdir_ends : (v : Volume) (parent : Gfid) (name : List ℕ) → v.call ≡ call → part_of (flat_op f) 1 ≡ Some (flat.Rmdir parent name) → EndsOwn (rmdir_found v parent name)
@@ -241,7 +241,7 @@ module _ (call : ℕ) (f : Fop) where
 
   moves_own : (v : Volume) (r : Renaming) → v.call ≡ call → IsRenamed r → Owns call f 2 (moves v r)
   moves_own v r c h =
-      part_changes r.source.set (both_names r.source.parent r.target) 0 (op.Move r.source.parent r.source.name r.target r.new_name) (entry v 2) (flat.Rename r.source.parent r.source.name r.target r.new_name) (adds_link r) c (rw h refl) refl
+      part_changes r.source.set (both_names r.source.parent r.target) 0 (op.Move r.source.parent r.source.name r.target r.new_name) (entry v 2) (flat.Rename r.source.parent r.source.name r.target r.new_name) (adds_link r) c (rw h refl) refl tt
       (λ number. adds_own r number)
 
   bears_own : (v : Volume) (r : Renaming) (copy : Bool) → v.call ≡ call → IsRenamed r → Owns call f 2 (bears v r copy)
@@ -251,7 +251,7 @@ module _ (call : ℕ) (f : Fop) where
   replaces_own : (v : Volume) (r : Renaming) (replaced : Option ℕ) (copy : Bool) → v.call ≡ call → IsRenamed r → is_same_name r.source.parent r.source.name r.target r.new_name ≡ false → Owns call f 1 (replaces v r replaced copy)
   replaces_own v r None copy c h other = more 1 2 (bears v r copy) (omega arith) (bears_own v r copy c h)
   replaces_own v r (Some set) copy c h other =
-      part_changes set (names_cell r.target ∷ []) 0 (op.DropName r.target r.new_name) (entry v 1) (flat.Unlink r.target r.new_name) (λ number. bears v r copy) c (rw (h, other) refl) refl (λ number. bears_own v r copy c h)
+      part_changes set (names_cell r.target ∷ []) 0 (op.DropName r.target r.new_name) (entry v 1) (flat.Unlink r.target r.new_name) (λ number. bears v r copy) c (rw (h, other) refl) refl tt (λ number. bears_own v r copy c h)
 
   names_change : (v : Volume) (r : Renaming) (replaced : Option ℕ) (copy : Option Bool) → v.call ≡ call → IsRenamed r → is_same_name r.source.parent r.source.name r.target r.new_name ≡ false → Owns call f 1 (changes_names v r replaced copy)
   names_change v r replaced (Some copy) c h other = replaces_own v r replaced copy c h other
@@ -286,8 +286,8 @@ module _ (call : ℕ) (f : Fop) where
 
   -- ---- objects, and fops of the mount itself
 
-  cell_owns : (v : Volume) (set : ℕ) (cell : Cell) (fd : ℕ) (o : StoreOp) (part : FlatOp) (a : FopAnswer) → v.call ≡ call → part_of (flat_op f) 1 ≡ Some part → change_of o ≡ Some part → Owns call f 1 (changes_cell v set cell fd o a)
-  cell_owns v set cell fd o part a c h e = part_changes set (cell ∷ []) fd o (entry v 1) part (Ends a) c h e (λ number. ends 2 a number)
+  cell_owns : (v : Volume) (set : ℕ) (cell : Cell) (fd : ℕ) (o : StoreOp) (part : FlatOp) (a : FopAnswer) → v.call ≡ call → part_of (flat_op f) 1 ≡ Some part → change_of o ≡ Some part → IsOnFirst set o → Owns call f 1 (changes_cell v set cell fd o a)
+  cell_owns v set cell fd o part a c h e k = part_changes set (cell ∷ []) fd o (entry v 1) part (Ends a) c h e k (λ number. ends 2 a number)
 
   opens_again_owns : (fds : List OpenFd) → Owns call f 1 (opens_again fds)
   opens_again_owns [] = ends 1 _ _
@@ -330,12 +330,12 @@ courses_own v sets kept (fop.Stat object) =
     if_owns v.call f 1 _ _ (is_directory object.kind) (reads v.call f 1 0 (meta_cell object.gfid ∷ []) 0 _ dir_stat (λ contents place. ends v.call f 1 _ _))
     (reads v.call f 1 object.set (data_cell object.gfid ∷ meta_cell object.gfid ∷ []) 0 false file_stat (λ contents place. ends v.call f 1 _ _))
 courses_own v sets kept (fop.List object) = let f = fop.List object in if_owns v.call f 1 _ _ (is_directory object.kind) (lists_own v.call f object.gfid (sets_from v 0) [] None) (ends v.call f 1 _ _)
-courses_own v sets kept (fop.Chmod object mode) = cell_owns v.call (fop.Chmod object mode) v (home object) (meta_cell object.gfid) 0 (op.SetMode object.gfid mode) (flat.Chmod object.gfid mode) _ refl refl refl
+courses_own v sets kept (fop.Chmod object mode) = cell_owns v.call (fop.Chmod object mode) v (home object) (meta_cell object.gfid) 0 (op.SetMode object.gfid mode) (flat.Chmod object.gfid mode) _ refl refl refl tt
 courses_own v sets kept (fop.Truncate object size) =
     let f = fop.Truncate object size in
     if_owns v.call f 1 _ _ (is_directory object.kind) (ends v.call f 1 _ _)
-    (if_owns v.call f 1 _ _ (nat_lt file_limit size) (ends v.call f 1 _ _) (cell_owns v.call f v object.set (data_cell object.gfid) 0 (op.Truncate object.gfid size) (flat.Truncate object.gfid size) _ refl refl refl))
-courses_own v sets kept (fop.SetAttr object attr) = cell_owns v.call (fop.SetAttr object attr) v (home object) (meta_cell object.gfid) 0 (op.SetAttr object.gfid attr) (flat.SetAttr object.gfid attr) _ refl refl refl
+    (if_owns v.call f 1 _ _ (nat_lt file_limit size) (ends v.call f 1 _ _) (cell_owns v.call f v object.set (data_cell object.gfid) 0 (op.Truncate object.gfid size) (flat.Truncate object.gfid size) _ refl refl refl tt))
+courses_own v sets kept (fop.SetAttr object attr) = cell_owns v.call (fop.SetAttr object attr) v (home object) (meta_cell object.gfid) 0 (op.SetAttr object.gfid attr) (flat.SetAttr object.gfid attr) _ refl refl refl tt
 courses_own v sets kept (fop.GetAttr object name) =
     reads v.call (fop.GetAttr object name) 1 (home object) (meta_cell object.gfid ∷ []) 0 _ (attr_read name) (λ contents place. got (attr_named (attrs_of (first_content contents)) name) place)
   where
@@ -347,7 +347,7 @@ courses_own v sets kept (fop.DelAttr object name) =
   where
     dropped : (attr : Option Attr) (place : ℕ) → Owns v.call (fop.DelAttr object name) 1 (drops_attr v object name attr place)
     dropped None place = ends _ _ 1 _ _
-    dropped (Some attr) place = cell_owns v.call (fop.DelAttr object name) v (home object) (meta_cell object.gfid) 0 (op.DelAttr object.gfid name) (flat.DelAttr object.gfid name) _ refl refl refl
+    dropped (Some attr) place = cell_owns v.call (fop.DelAttr object name) v (home object) (meta_cell object.gfid) 0 (op.DelAttr object.gfid name) (flat.DelAttr object.gfid name) _ refl refl refl tt
 courses_own v sets kept (fop.Read fd object offset count) =
     let f = fop.Read fd object offset count in
     if_owns v.call f 1 _ _ (is_directory object.kind) (ends v.call f 1 _ _) (reads v.call f 1 object.set (data_cell object.gfid ∷ []) fd false (bytes_read offset count) (λ contents place. ends v.call f 1 _ _))
@@ -357,6 +357,6 @@ courses_own v sets kept (fop.Write fd object offset bytes) =
   where
     some_bytes : (written : List ℕ) → bytes ≡ written → Owns v.call (fop.Write fd object offset bytes) 1 (writes_some v object fd offset written)
     some_bytes [] e = ends _ _ 1 _ _
-    some_bytes (first ∷ rest) e = cell_owns v.call (fop.Write fd object offset bytes) v object.set (data_cell object.gfid) fd (op.Write object.gfid offset (first ∷ rest)) (flat.Write object.gfid offset (first ∷ rest)) _ refl (rw e refl) refl
+    some_bytes (first ∷ rest) e = cell_owns v.call (fop.Write fd object offset bytes) v object.set (data_cell object.gfid) fd (op.Write object.gfid offset (first ∷ rest)) (flat.Write object.gfid offset (first ∷ rest)) _ refl (rw e refl) refl tt
 courses_own v sets kept (fop.Migrate fds) = opens_again_owns v.call (fop.Migrate fds) fds
 courses_own v sets kept (fop.Heal count) = indexes_own v.call (fop.Heal count) count (sets_from v 0) []

@@ -10,6 +10,7 @@ use Rattle.dht_fops.specs.Handed.Event.{Replied}
 use Rattle.fop_types.specs.Calls.{first_op}
 use Rattle.fop_types.specs.Names.{is_link}
 use Rattle.fop_types.specs.declared.cells.Cell.{Cell}
+use Rattle.fop_types.specs.declared.cells.Kind.TheVariants as kind
 use Rattle.fop_types.specs.declared.flat.FlatOp.{FlatOp}
 use Rattle.fop_types.specs.declared.flat.FlatOp.TheVariants as flat
 use Rattle.fop_types.specs.declared.fops.Fop.{Fop}
@@ -51,12 +52,18 @@ abbrev pub AreEarlier : Handed → ℕ → Type 0
 AreEarlier [] part = Unit {0}
 AreEarlier (event ∷ handed) part = IsEarlier event part × AreEarlier handed part
 
+-- a directory's name is added on the first set
+abbrev pub IsOnFirst : ℕ → StoreOp → Type 0
+IsOnFirst set (op.AddName parent item mode span) = item.kind ≡ kind.Dir → set ≡ 0
+IsOnFirst set other = Unit {0}
+
 -- a part of the fop that its call has not asked for, after the earlier ones were entered
-pub record IsOwnPart (call : ℕ) (f : Fop) (handed : Handed) (o : StoreOp) (entry : Entry) : Type 0 where
+pub record IsOwnPart (call : ℕ) (f : Fop) (handed : Handed) (set : ℕ) (o : StoreOp) (entry : Entry) : Type 0 where
   pub call_is : entry.call ≡ call
   pub part : FlatOp
   pub part_is : part_of (flat_op f) entry.part ≡ Some part
   pub makes : change_of o ≡ Some part
+  pub on_first : IsOnFirst set o
   pub earlier : AreEarlier handed entry.part
 
 -- an op that adds or drops a link
@@ -65,15 +72,15 @@ IsOfLink (op.AddName parent item mode span) = is_link item.kind ≡ true
 IsOfLink (op.DropName parent name) = Unit {0}
 IsOfLink other = ⊥
 
-abbrev pub IsOwnJob : ℕ → Fop → Handed → Job → Type 0
-IsOwnJob call f handed (job.Change cells fd o None) = IsOfLink o
-IsOwnJob call f handed (job.Change cells fd o (Some entry)) = IsOwnPart call f handed o entry
-IsOwnJob call f handed other = Unit {0}
+abbrev pub IsOwnJob : ℕ → Fop → Handed → ℕ → Job → Type 0
+IsOwnJob call f handed set (job.Change cells fd o None) = IsOfLink o
+IsOwnJob call f handed set (job.Change cells fd o (Some entry)) = IsOwnPart call f handed set o entry
+IsOwnJob call f handed set other = Unit {0}
 
 -- ---- changes of a call
 
--- The entry of an effect is its call's, and its op is that part of the fop that the call began last; a change without an effect
--- adds or drops a link.
+-- The entry of an effect is its call's, and its op is that part of the fop that the call began last, a directory's name added
+-- on the first set; a change without an effect adds or drops a link.
 pub record IsOwnEntry (began : ℕ → Option Fop) (change : Change) (entry : Entry) : Type 0 where
   pub call_is : entry.call ≡ change.by
   pub fop : Fop
@@ -81,6 +88,7 @@ pub record IsOwnEntry (began : ℕ → Option Fop) (change : Change) (entry : En
   pub part : FlatOp
   pub part_is : part_of (flat_op fop) entry.part ≡ Some part
   pub makes : change_of change.op ≡ Some part
+  pub on_first : IsOnFirst change.set change.op
 
 abbrev pub IsOwnEffect : (ℕ → Option Fop) → Change → Option Entry → Type 0
 IsOwnEffect began change None = IsOfLink change.op

@@ -70,14 +70,14 @@ MadeByChange m = (gfid : Gfid) (k : Kind) → m.kinds gfid ≡ Some k → ((gfid
 abbrev pub IsMadeOn : (Gfid → Option Kind) → Homes → ℕ → Gfid → Kind → Type 0
 IsMadeOn kinds homes set gfid k = (kinds gfid ≡ Some k) × (k ≡ kind.File → homes gfid ≡ set)
 
--- an item is a link, or names such an object
+-- an item is a link, or names such an object; a directory's name is on the first set
 abbrev pub IsNameMade : (Gfid → Option Kind) → Homes → ℕ → Item → Type 0
-IsNameMade kinds homes set item = is_link item.kind ≡ false → IsMadeOn kinds homes set item.gfid item.kind
+IsNameMade kinds homes set item = is_link item.kind ≡ false → IsMadeOn kinds homes set item.gfid item.kind × (item.kind ≡ kind.Dir → set ≡ 0)
 
 abbrev pub AreNamesMade : (Gfid → Option Kind) → Homes → ℕ → List Item → Type 0
 AreNamesMade kinds homes set items = Each (λ (item : Item). IsNameMade kinds homes set item) items
 
--- Each name on a set is a link, or of an object that was made; a file's name is on its home.
+-- Each name on a set is a link, or of an object that was made; a file's name is on its home, a directory's on the first set.
 abbrev pub NamesAreMade : State → Type 0
 NamesAreMade m = (set : ℕ) (cell : Cell) → AreNamesMade m.kinds m.homes set (items_of (m.adopted set cell))
 
