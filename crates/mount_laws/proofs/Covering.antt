@@ -143,7 +143,7 @@ birth_goes : (f : Fop) (set : ℕ) (gfid : Gfid) (span : Option Span) (next : Op
     → Goes f (Asks set (birth_job gfid span) (after_change next))
 birth_goes f set gfid span next h k = record {
   at = λ handed. (
-    (born_held f handed gfid h, (born_held f handed gfid h, tt)),
+    ((born_held f handed gfid h, (born_held f handed gfid h, tt)), refl),
     λ reply. number_leads f (Replied set (birth_job gfid span) reply ∷ handed) next (number_in reply) (λ number. (k number).at (Replied set (birth_job gfid span) reply ∷ handed)),
   );
 }

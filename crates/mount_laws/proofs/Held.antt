@@ -227,7 +227,7 @@ module _ (own hs : List Hold) (Over : Gfid → Type 0) (keep : (gfid : Gfid) →
   needed_for : (f : Fop) (asked : Job) → AreNeeded Over (cells_of_job asked) → IsHeldFor own f asked → IsHeldFor hs f asked
   needed_for f (job.Read cells fd dir) clear h = needed_held cells clear h
   needed_for f (job.Change cells fd o effect) clear h = record { alone = needed_exclusive cells clear h.alone; whole = h.whole; no_lookup = h.no_lookup }
-  needed_for f (job.Birth cells o) clear h = needed_drawn (drawn_by f) cells clear h
+  needed_for f (job.Birth cells o) clear h = (needed_drawn (drawn_by f) cells clear h.0, h.1)
   needed_for f (job.Open fd gfid) clear h = tt
   needed_for f job.Index clear h = tt
   needed_for f (job.Heal cell) clear h = tt

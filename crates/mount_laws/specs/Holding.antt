@@ -4,7 +4,8 @@ use Rattle.std.specs.Prelude.{◌≡◌, ◌≢◌, ◌⊎◌, ℕ, false, List,
 use Rattle.dht_fops.specs.Courses.{Course}
 use Rattle.dht_fops.specs.Handed.{Handed}
 use Rattle.fop_types.specs.Bounds.{Each}
-use Rattle.fop_types.specs.StoreOps.{needs}
+use Rattle.fop_types.specs.Jobs.{cells_of}
+use Rattle.fop_types.specs.StoreOps.{needs, births}
 use Rattle.fop_types.specs.declared.cells.Cell.{Cell}
 use Rattle.fop_types.specs.declared.cells.Gfid.{Gfid}
 use Rattle.fop_types.specs.declared.fops.Fop.{Fop}
@@ -72,11 +73,11 @@ pub record IsHeldChange (hs : List Hold) (f : Fop) (cells : List Cell) (o : Stor
   pub no_lookup : is_lookup f ≡ false
 
 -- A read's cells are of objects that are held; those of a change or a birth are held exclusively, births of the drawn
--- object apart.
+-- object apart. A birth's are those to which its op gives a content.
 abbrev pub IsHeldFor : List Hold → Fop → Job → Type 0
 IsHeldFor hs f (job.Read cells fd dir) = AreHeld hs cells
 IsHeldFor hs f (job.Change cells fd o effect) = IsHeldChange hs f cells o
-IsHeldFor hs f (job.Birth cells o) = AreHeldOrDrawn hs (drawn_by f) cells
+IsHeldFor hs f (job.Birth cells o) = AreHeldOrDrawn hs (drawn_by f) cells × (cells ≡ cells_of (births o))
 IsHeldFor hs f (job.Open fd gfid) = Unit {0}
 IsHeldFor hs f job.Index = Unit {0}
 IsHeldFor hs f (job.Heal cell) = Unit {0}

@@ -1,9 +1,11 @@
 ghost use Rattle.mount_laws.specs.Laws.{EveryStateKeepsHolds, EveryStateKeepsSettled, EveryStateKeepsSights, EveryStateKeepsGraphs, EveryStateKeepsEffects, EveryStateKeepsObjects};
 
-/// The law of holds, of every state that allowed steps lead to. Holds of different calls do not conflict. The job
+/// The law of holds, of every state that allowed steps lead to. Holds of different calls do not conflict. A call holds
+/// what its fop's kind says, and the directories by which it was extended, as long as the fop needs them. The job
 /// under way is what the fop's course asks for after what was handed in. It is covered by the hold, and so is each
 /// job that has settled under it: a read is of objects that are held, a change of objects that are held
-/// exclusively and of the cells that its op needs, a birth of such objects or of the one that the fop makes.
+/// exclusively and of the cells that its op needs, a birth of such objects or of the one that the fop makes, and of
+/// the cells to which its op gives a content.
 pub fn every_state_keeps_holds()
     ensures { EveryStateKeepsHolds }
 {}
@@ -20,7 +22,8 @@ pub fn every_state_keeps_settled()
 /// The law of sights, of every state that allowed steps lead to. What a fop has read is what is adopted now, with
 /// its own changes since; of a cell that was not shown, which is a directory's on a set after the first, there are
 /// no names. No step of another call changes what is adopted on the cells of a settled job, but for the birth of an
-/// absent cell. A change is of the cells that its op needs, and they are firm; a cell that is not firm has no names.
+/// absent cell. A change is of the cells that its op needs, and they are firm; a firm cell is present, and a cell
+/// that is not firm has no names.
 pub fn every_state_keeps_sights()
     ensures { EveryStateKeepsSights }
 {}
@@ -43,9 +46,9 @@ pub fn every_state_keeps_effects()
 
 /// The law of objects, of every state that allowed steps lead to. No two calls drew one gfid. Each object that was
 /// made is the root, or was made by one change that was adopted, on its home. Each name on a set is a link, or of an
-/// object that was made, and a file's name is on its home; so are the names that a fop was shown or has added. The
-/// objects that calls were answered, and that fops under way name, were made with the kind and on the set that were
-/// answered.
+/// object that was made; a file's name is on its home, a directory's on the first set. So are the names that a fop
+/// was shown or has added. The objects that calls were answered, and that fops under way name, were made with the
+/// kind that was answered, a file on the set.
 pub fn every_state_keeps_objects()
     ensures { EveryStateKeepsObjects }
 {}
