@@ -14,7 +14,6 @@ pub mod Making
 pub mod Moving
 pub mod One
 pub mod Owning
-pub mod Presence
 pub mod Releasing
 pub mod Seen
 pub mod Sharing

@@ -6,7 +6,7 @@ use Rattle.mount_laws.specs.Guards.{IsReached}
 use Rattle.mount_laws.specs.Holding.{HoldsApart, HoldsOwn, JobAsked, HoldCovers}
 use Rattle.mount_laws.specs.Objects.{DrawnApart, MadeByChange, NamesAreMade, HandedIsMade, ObjectsMade}
 use Rattle.mount_laws.specs.Seeing.{SettledIsListed, SawStill}
-use Rattle.mount_laws.specs.Settling.{OneUnsettled, EachStandsBeside, RunningIsAlone, SettlingEnds, ReadIsAdopted, AreWhole, TouchedIsFirm, FirmIsPresent}
+use Rattle.mount_laws.specs.Settling.{OneUnsettled, EachStandsBeside, RunningIsAlone, SettlingEnds, ReadIsAdopted, AreWhole, TouchedIsFirm}
 use Rattle.mount_laws.specs.States.{State}
 
 -- of every mount, whatever the sets of its first graph
@@ -31,7 +31,6 @@ pub record KeepsSights (m : State) : Type 0 where
   pub rested : SettledIsListed m
   pub whole : AreWhole m
   pub firm : TouchedIsFirm m
-  pub present : FirmIsPresent m
 
 pub record KeepsGraphs (m : State) : Type 0 where
   pub in_its_graph : InItsGraph m

@@ -6,7 +6,7 @@ use Rattle.afr_machine.specs.Touching.{has_cell, share}
 use Rattle.afr_machine.specs.Transactions.{cells_of_job, settles_first}
 use Rattle.dht_fops.specs.Courses.{Course}
 use Rattle.fop_types.specs.Bounds.{Each}
-use Rattle.fop_types.specs.StoreOps.{items_of, is_removed, holds, needs}
+use Rattle.fop_types.specs.StoreOps.{items_of, is_removed, needs}
 use Rattle.fop_types.specs.declared.cells.Cell.{Cell}
 use Rattle.fop_types.specs.declared.contents.Content.{Content}
 use Rattle.fop_types.specs.declared.jobs.Job.{Job}
@@ -111,7 +111,3 @@ AreWhole m = (u : ℕ) → (m.changes u).verdict ≢ Undrawn → (m.changes u).c
 pub record TouchedIsFirm (m : State) : Type 0 where
   pub touched : (u : ℕ) (cell : Cell) → (m.changes u).verdict ≢ Undrawn → has_cell (m.changes u).cells cell ≡ true → m.firm (m.changes u).set cell ≡ true
   pub no_names : (set : ℕ) (cell : Cell) → m.firm set cell ≡ false → HasNoNames (m.adopted set cell)
-
--- A firm cell is present, with a content of its aspect.
-abbrev pub FirmIsPresent : State → Type 0
-FirmIsPresent m = (set : ℕ) (cell : Cell) → m.firm set cell ≡ true → holds cell.aspect (m.adopted set cell) ≡ true

@@ -22,8 +22,8 @@ pub fn every_state_keeps_settled()
 /// The law of sights, of every state that allowed steps lead to. What a fop has read is what is adopted now, with
 /// its own changes since; of a cell that was not shown, which is a directory's on a set after the first, there are
 /// no names. No step of another call changes what is adopted on the cells of a settled job, but for the birth of an
-/// absent cell. A change is of the cells that its op needs, and they are firm; a firm cell is present, and a cell
-/// that is not firm has no names.
+/// absent cell. A change is of the cells that its op needs, and they are firm; a cell that is not firm has no
+/// names.
 pub fn every_state_keeps_sights()
     ensures { EveryStateKeepsSights }
 {}
