@@ -14,6 +14,7 @@ pub mod Making
 pub mod Moving
 pub mod One
 pub mod Owning
+pub mod Presence
 pub mod Releasing
 pub mod Seen
 pub mod Sharing

@@ -1,5 +1,5 @@
 -- At most one unsettled change touches a cell; none of another call begins on the cells of a job.
-use Rattle.std.proofs.Common.{◌≡◌, ℕ, true, false, refl, sym, subst, List}
+use Rattle.std.proofs.Common.{◌≡◌, ℕ, ◌⊎◌, inl, inr, true, false, refl, sym, subst, List, Some}
 use Rattle.std.specs.Prelude.{◌≢◌}
 use Rattle.afr_machine.specs.Changes.{Verdict}
 use Rattle.afr_machine.specs.Changes.Verdict.{Unsettled, Adopted, Dropped}
@@ -9,16 +9,17 @@ use Rattle.afr_machine.specs.Transactions.{cells_of_job, settles_first}
 use Rattle.fop_types.specs.declared.cells.Cell.{Cell}
 use Rattle.fop_types.specs.declared.jobs.Job.{Job}
 use Rattle.fop_types.specs.declared.jobs.Job.TheVariants as job
-use Rattle.mount_laws.specs.Guards.{Allowed, IsReached, IsUnsettledOn, IsChange, MayBeginChange}
-use Rattle.mount_laws.specs.Holding.{HoldCovers, AreHeld, AreHeldExclusively, IsHeldFor}
+use Rattle.mount_laws.specs.Guards.{Allowed, IsReached, IsUnsettledOn, IsChange, IsBirth, MayBeginChange}
+use Rattle.mount_laws.specs.Holding.{HoldCovers, AreHeld, AreHeldExclusively, IsHeldFor, drawn_by}
+use Rattle.mount_laws.specs.Holds.{Holds, HoldsExclusively}
 use Rattle.mount_laws.specs.Runs.{Run, SettledJob}
-use Rattle.mount_laws.specs.Settling.{OneUnsettled, SettlingEnds}
+use Rattle.mount_laws.specs.Settling.{OneUnsettled, SettlingEnds, BirthsApart}
 use Rattle.mount_laws.specs.States.{State, Change, Status, Runs, holds_by, held}
 use Rattle.mount_laws.specs.Steps.{Step, Task, after, change_by}
 use Rattle.mount_laws.proofs.Apart.{holds_apart}
 use Rattle.mount_laws.proofs.Beside.{each_map, each_beside}
 use Rattle.mount_laws.proofs.Held.{holds_cover, covered_held}
-use Rattle.mount_laws.proofs.Sharing.{shared_cell, held_apart}
+use Rattle.mount_laws.proofs.Sharing.{each_has, shared_cell, held_apart}
 use Rattle.mount_laws.proofs.Tables.{at_case}
 
 abbrev OneIn : (ℕ → Change) → Type 0
@@ -117,3 +118,25 @@ settling_ends first m reached = record {
     apart_from c run t u ne h runs cells k =
         held_apart (held m t.call) (held m c) (cells_of_job t.job) cells (holds_apart first m reached t.call c (λ e. ne (sym e))) (change_alone m cover t u h)
         (subst (λ (s : Status). AreHeld (holds_by s) cells) (sym runs) k)
+
+-- ---- births
+
+pub births_apart : (first : List (List ℕ)) (m : State) → IsReached first m → BirthsApart m
+births_apart first m reached c run t cell ne runs holds h has =
+    of_job t.job h.is_birth ((holds_cover first m reached).asked t.call t.run t.set t.job t.next h.under_way.runs h.under_way.asks) has
+  where
+    apart : HoldsExclusively t.run.holds cell.gfid → ⊥
+    apart own =
+        (holds_apart first m reached t.call c (λ e. ne (sym e))).first cell.gfid (subst (λ (s : Status). HoldsExclusively (holds_by s) cell.gfid) (sym h.under_way.runs) own) (subst (λ (s : Status). Holds (holds_by s) cell.gfid) (sym runs) holds)
+
+    one : HoldsExclusively t.run.holds cell.gfid ⊎ (drawn_by t.run.fop ≡ Some cell.gfid) → drawn_by t.run.fop ≡ Some cell.gfid
+    one (inl own) = absurd (apart own)
+    one (inr drawn) = drawn
+
+    of_job : (asked : Job) → IsBirth asked → IsHeldFor t.run.holds t.run.fop asked → has_cell (cells_of_job asked) cell ≡ true → drawn_by t.run.fop ≡ Some cell.gfid
+    of_job (job.Birth cells o) is k has = one (each_has (λ (x : Cell). HoldsExclusively t.run.holds x.gfid ⊎ (drawn_by t.run.fop ≡ Some x.gfid)) cells cell k.0 has)
+    of_job (job.Read cells fd dir) is k has = absurd is
+    of_job (job.Change cells fd o effect) is k has = absurd is
+    of_job (job.Open fd gfid) is k has = absurd is
+    of_job job.Index is k has = absurd is
+    of_job (job.Heal other) is k has = absurd is

@@ -76,7 +76,7 @@ listed_each P (one ∷ jobs) done e (inl same) = subst P same e.0
 listed_each P (one ∷ jobs) done e (inr l) = listed_each P jobs done e.1 l
 
 -- a fop's own change is settled by no other call's job
-own_is_alone : (first : List (List ℕ)) (m : State) → IsReached first m → (c : ℕ) (run : Run) (t : Task) (u : ℕ) → c ≢ t.call → Runs m c run → (m.changes u).by ≡ c → MaySettle m t u → ⊥
+pub own_is_alone : (first : List (List ℕ)) (m : State) → IsReached first m → (c : ℕ) (run : Run) (t : Task) (u : ℕ) → c ≢ t.call → Runs m c run → (m.changes u).by ≡ c → MaySettle m t u → ⊥
 own_is_alone first m reached c run t u ne runs by h =
     let cover = holds_cover first m reached in
     let own = ((each_beside first m reached).running c run runs u).own_is_held by h.unsettled.verdict in

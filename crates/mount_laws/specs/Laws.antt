@@ -6,7 +6,7 @@ use Rattle.mount_laws.specs.Guards.{IsReached}
 use Rattle.mount_laws.specs.Holding.{HoldsApart, HoldsOwn, JobAsked, HoldCovers}
 use Rattle.mount_laws.specs.Objects.{DrawnApart, MadeByChange, NamesAreMade, HandedIsMade, ObjectsMade}
 use Rattle.mount_laws.specs.Seeing.{SettledIsListed, SawStill}
-use Rattle.mount_laws.specs.Settling.{OneUnsettled, EachStandsBeside, RunningIsAlone, SettlingEnds, ReadIsAdopted, AreWhole, TouchedIsFirm}
+use Rattle.mount_laws.specs.Settling.{OneUnsettled, EachStandsBeside, RunningIsAlone, OwnDecided, SettlingEnds, BirthsApart, ReadIsAdopted, AreWhole, TouchedIsFirm, FirmIsPresent}
 use Rattle.mount_laws.specs.States.{State}
 
 -- of every mount, whatever the sets of its first graph
@@ -23,7 +23,9 @@ pub record KeepsSettled (m : State) : Type 0 where
   pub beside : EachStandsBeside m
   pub one : OneUnsettled m
   pub alone : RunningIsAlone m
+  pub own : OwnDecided m
   pub ends : SettlingEnds m
+  pub births : BirthsApart m
 
 pub record KeepsSights (m : State) : Type 0 where
   pub saw : SawStill m
@@ -31,6 +33,7 @@ pub record KeepsSights (m : State) : Type 0 where
   pub rested : SettledIsListed m
   pub whole : AreWhole m
   pub firm : TouchedIsFirm m
+  pub present : FirmIsPresent m
 
 pub record KeepsGraphs (m : State) : Type 0 where
   pub in_its_graph : InItsGraph m

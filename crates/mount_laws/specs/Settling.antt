@@ -1,18 +1,19 @@
 -- What makes a set one atomic store to a fop: at most one unsettled change touches a cell; once a job has settled its cells,
 -- nobody but its own call changes them until the hold is released; what a read shows is what was adopted. Ours.
-use Rattle.std.specs.Prelude.{◌≡◌, ◌≢◌, ◌⊎◌, ℕ, ◌<◌, true, false, List, [], Option, None}
+use Rattle.std.specs.Prelude.{◌≡◌, ◌≢◌, ◌⊎◌, ℕ, ◌<◌, true, false, List, [], Option, Some, None}
 use Rattle.afr_machine.specs.Changes.Verdict.{Undrawn, Unsettled}
 use Rattle.afr_machine.specs.Touching.{has_cell, share}
 use Rattle.afr_machine.specs.Transactions.{cells_of_job, settles_first}
 use Rattle.dht_fops.specs.Courses.{Course}
 use Rattle.fop_types.specs.Bounds.{Each}
-use Rattle.fop_types.specs.StoreOps.{items_of, is_removed, needs}
+use Rattle.fop_types.specs.StoreOps.{items_of, is_removed, holds, needs}
 use Rattle.fop_types.specs.declared.cells.Cell.{Cell}
 use Rattle.fop_types.specs.declared.contents.Content.{Content}
 use Rattle.fop_types.specs.declared.jobs.Job.{Job}
 use Rattle.fop_types.specs.declared.jobs.SetReply.{SetReply}
 use Rattle.mount_laws.specs.Guards.{Allowed, IsUnsettledOn, MaySettle}
-use Rattle.mount_laws.specs.Holding.{AreHeldExclusively}
+use Rattle.mount_laws.specs.Holding.{AreHeldExclusively, drawn_by}
+use Rattle.mount_laws.specs.Holds.{Holds}
 use Rattle.mount_laws.specs.Runs.{Run, SettledJob}
 use Rattle.mount_laws.specs.Runs.Stage.{Settled, Changing}
 use Rattle.mount_laws.specs.States.{State, Change, Status, Runs, has_begun}
@@ -57,6 +58,10 @@ pub record EachStandsBeside (m : State) : Type 0 where
 abbrev pub RunningIsAlone : State → Type 0
 RunningIsAlone m = (c : ℕ) (run : Run) (t : Task) (u : ℕ) → Runs m c run → run.stage ≡ Changing u → MaySettle m t u → ⊥
 
+-- While a fop is under way, no job of another call decides a change of its call.
+abbrev pub OwnDecided : State → Type 0
+OwnDecided m = (c : ℕ) (run : Run) (t : Task) (u : ℕ) → c ≢ t.call → Runs m c run → (m.changes u).by ≡ c → MaySettle m t u → ⊥
+
 -- Calls are numbered from 1 as far as they were submitted.
 abbrev pub AreNumbered : State → Type 0
 AreNumbered m = (c : ℕ) → m.submitted < c → (m.calls c).status ≡ Status.Unsubmitted
@@ -76,6 +81,10 @@ pub record IsAtWork (m : State) (c : ℕ) (run : Run) (set : ℕ) (cells : List 
 pub record SettlingEnds (m : State) : Type 0 where
   pub asked : (c : ℕ) (run : Run) (cells : List Cell) (t : Task) (u : ℕ) → c ≢ t.call → Allowed m (Step.BeginsChange t u) → IsAtWork m c run t.set cells → share (cells_of_job t.job) cells ≡ false
   pub settled : (c : ℕ) (run : Run) (t : Task) (u : ℕ) → c ≢ t.call → Allowed m (Step.BeginsChange t u) → Runs m c run → Each (λ (done : SettledJob). share (cells_of_job t.job) done.cells ≡ false) run.settled
+
+-- While a call holds an object, no other call gives birth to a cell of it, unless it is the object that the other's fop makes.
+abbrev pub BirthsApart : State → Type 0
+BirthsApart m = (c : ℕ) (run : Run) (t : Task) (cell : Cell) → c ≢ t.call → Runs m c run → Holds run.holds cell.gfid → Allowed m (Step.SendsBirths t) → has_cell (cells_of_job t.job) cell ≡ true → drawn_by t.run.fop ≡ Some cell.gfid
 
 -- no names, and not removed
 pub record HasNoNames (content : Option Content) : Type 0 where
@@ -111,3 +120,7 @@ AreWhole m = (u : ℕ) → (m.changes u).verdict ≢ Undrawn → (m.changes u).c
 pub record TouchedIsFirm (m : State) : Type 0 where
   pub touched : (u : ℕ) (cell : Cell) → (m.changes u).verdict ≢ Undrawn → has_cell (m.changes u).cells cell ≡ true → m.firm (m.changes u).set cell ≡ true
   pub no_names : (set : ℕ) (cell : Cell) → m.firm set cell ≡ false → HasNoNames (m.adopted set cell)
+
+-- A firm cell is present, with a content of its aspect.
+abbrev pub FirmIsPresent : State → Type 0
+FirmIsPresent m = (set : ℕ) (cell : Cell) → m.firm set cell ≡ true → holds cell.aspect (m.adopted set cell) ≡ true

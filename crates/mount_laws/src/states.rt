@@ -12,9 +12,10 @@ pub fn every_state_keeps_holds()
 
 /// The law of settled jobs, of every state that allowed steps lead to. After a job's settling, each unsettled
 /// change on its cells is its own call's, until the hold is released; until the job's own change begins, none is
-/// left at all. The change of a job is unsettled until that job decides it, which no other does. At most one
-/// unsettled change touches a cell of a set. From a job's asking to the end of its hold no change of another call
-/// becomes unsettled on its cells.
+/// left at all. The change of a job is unsettled until that job decides it; while a fop is under way, no job of
+/// another call decides a change of its own. At most one unsettled change touches a cell of a set. From a job's
+/// asking to the end of its hold no change of another call becomes unsettled on its cells. To an object that a call
+/// holds no other call gives birth, but its own fop's new object.
 pub fn every_state_keeps_settled()
     ensures { EveryStateKeepsSettled }
 {}
@@ -22,8 +23,8 @@ pub fn every_state_keeps_settled()
 /// The law of sights, of every state that allowed steps lead to. What a fop has read is what is adopted now, with
 /// its own changes since; of a cell that was not shown, which is a directory's on a set after the first, there are
 /// no names. No step of another call changes what is adopted on the cells of a settled job, but for the birth of an
-/// absent cell. A change is of the cells that its op needs, and they are firm; a cell that is not firm has no
-/// names.
+/// absent cell. A change is of the cells that its op needs, and they are firm; a firm cell is present, and a cell
+/// that is not firm has no names.
 pub fn every_state_keeps_sights()
     ensures { EveryStateKeepsSights }
 {}
