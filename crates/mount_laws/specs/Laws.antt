@@ -33,7 +33,6 @@ pub record KeepsSights (m : State) : Type 0 where
   pub rested : SettledIsListed m
   pub whole : AreWhole m
   pub firm : TouchedIsFirm m
-  pub present : FirmIsPresent m
 
 pub record KeepsGraphs (m : State) : Type 0 where
   pub in_its_graph : InItsGraph m
@@ -68,3 +67,6 @@ EveryStateKeepsEffects = EveryState KeepsEffects
 
 abbrev pub EveryStateKeepsObjects : Type 0
 EveryStateKeepsObjects = EveryState KeepsObjects
+
+abbrev pub EveryStateKeepsPresence : Type 0
+EveryStateKeepsPresence = EveryState FirmIsPresent

@@ -1,4 +1,4 @@
-ghost use Rattle.mount_laws.specs.Laws.{EveryStateKeepsHolds, EveryStateKeepsSettled, EveryStateKeepsSights, EveryStateKeepsGraphs, EveryStateKeepsEffects, EveryStateKeepsObjects};
+ghost use Rattle.mount_laws.specs.Laws.{EveryStateKeepsHolds, EveryStateKeepsSettled, EveryStateKeepsSights, EveryStateKeepsGraphs, EveryStateKeepsEffects, EveryStateKeepsObjects, EveryStateKeepsPresence};
 
 /// The law of holds, of every state that allowed steps lead to. Holds of different calls do not conflict. A call holds
 /// what its fop's kind says, and the directories by which it was extended, as long as the fop needs them. The job
@@ -23,8 +23,8 @@ pub fn every_state_keeps_settled()
 /// The law of sights, of every state that allowed steps lead to. What a fop has read is what is adopted now, with
 /// its own changes since; of a cell that was not shown, which is a directory's on a set after the first, there are
 /// no names. No step of another call changes what is adopted on the cells of a settled job, but for the birth of an
-/// absent cell. A change is of the cells that its op needs, and they are firm; a firm cell is present, and a cell
-/// that is not firm has no names.
+/// absent cell. A change is of the cells that its op needs, and they are firm; a cell that is not firm has no
+/// names.
 pub fn every_state_keeps_sights()
     ensures { EveryStateKeepsSights }
 {}
@@ -52,4 +52,10 @@ pub fn every_state_keeps_effects()
 /// kind that was answered, a file on the set.
 pub fn every_state_keeps_objects()
     ensures { EveryStateKeepsObjects }
+{}
+
+/// The law of presence, of every state that allowed steps lead to. A cell of a change, and a cell of a birth that a
+/// quorum confirmed, has a content of its aspect.
+pub fn every_state_keeps_presence()
+    ensures { EveryStateKeepsPresence }
 {}
