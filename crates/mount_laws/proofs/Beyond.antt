@@ -8,7 +8,7 @@ use Rattle.afr_machine.specs.Copies.{root_alone, contents_of}
 use Rattle.afr_machine.specs.Replicas.{with_at}
 use Rattle.afr_machine.specs.Touching.{is_cell}
 use Rattle.dht_fops.specs.Courses.{Course}
-use Rattle.dht_fops.specs.Handed.{Always}
+use Rattle.dht_fops.specs.Handed.{Always, AnyHold}
 use Rattle.dht_fops.specs.Shown.{SetContents, Homes}
 use Rattle.fop_types.specs.Bounds.{Each}
 use Rattle.fop_types.specs.Cells.{root, meta_cell, names_cell}
@@ -130,19 +130,19 @@ step_graphed m (Step.AnswersAbove c run answer) h b g =
 -- ---- where a fop works
 
 module _ (m : State) (asked : JobAsked m) (g : InItsGraph m) (c : ℕ) (run : Run) (runs : Runs m c run) where
-  always_within : Always (IsWithin run.volume.sets) (AnswersWithin run.volume.sets) run.handed run.course
+  always_within : Always (IsWithin run.volume.sets) AnyHold (AnswersWithin run.volume.sets) run.handed run.course
   always_within =
       let p = g.planned c run runs in
       let known = g.unanswered c (ap (λ (s : Status). is_unanswered s) runs) in
-      led_always (IsWithin run.volume.sets) (AnswersWithin run.volume.sets) (first_course run) run.handed run.course (asked c run runs)
+      led_always (IsWithin run.volume.sets) AnyHold (AnswersWithin run.volume.sets) (first_course run) run.handed run.course (asked c run runs)
       ((courses_within run.volume run.names run.kept run.fop (let r = p.roots in let s = g.some in omega arith) (let r = p.roots in let s = p.sets in let k = known.0 in omega arith)
       (let many : length run.names ≡ length (m.calls c).names = ap (λ (n : List (List ℕ)). length n) p.names_are in many ∙ sym p.sets) (subst (λ (n : ℕ). Each (λ (object : Object). object.set < n) (objects_of run.fop)) (sym p.sets) p.objects)).at [])
 
   job_within : (set : ℕ) (wanted : Job) (next : SetReply → Course) → run.course ≡ Course.Asks set wanted next → IsWithin run.volume.sets run.handed set wanted
-  job_within set wanted next e = (subst (λ (course : Course). Always (IsWithin run.volume.sets) (AnswersWithin run.volume.sets) run.handed course) e always_within).0
+  job_within set wanted next e = (subst (λ (course : Course). Always (IsWithin run.volume.sets) AnyHold (AnswersWithin run.volume.sets) run.handed course) e always_within).0
 
   pub answer_within : (answer : FopAnswer) (place : Option ℕ) → run.course ≡ Course.Ends answer place → AnswersWithin run.volume.sets run.handed answer place
-  answer_within answer place e = subst (λ (course : Course). Always (IsWithin run.volume.sets) (AnswersWithin run.volume.sets) run.handed course) e always_within
+  answer_within answer place e = subst (λ (course : Course). Always (IsWithin run.volume.sets) AnyHold (AnswersWithin run.volume.sets) run.handed course) e always_within
 
 -- ---- what is on the first sets
 

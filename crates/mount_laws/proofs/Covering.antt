@@ -14,8 +14,7 @@ use Rattle.dht_fops.specs.Courses.{Course, refuses, on_names, after_names, on_co
 use Rattle.dht_fops.specs.Courses.Course.{Asks, Ends}
 use Rattle.dht_fops.specs.Entries.{birth_job, lookup_found, lists_from, mkdir_found, births_from, create_found, drops_link, unlink_found, rmdir_found, empties}
 use Rattle.dht_fops.specs.Fops.{fop_course, on_name}
-use Rattle.dht_fops.specs.Founded.{AnyAnswer}
-use Rattle.dht_fops.specs.Handed.{Handed, Always}
+use Rattle.dht_fops.specs.Handed.{Handed, Always, AnyHold, AnyAnswer}
 use Rattle.dht_fops.specs.Handed.Event.{Replied, Held}
 use Rattle.dht_fops.specs.Internal.{opens_again, heals, indexes, with_cells, cells_in}
 use Rattle.dht_fops.specs.Looks.{Ending, where_named, where_kept, by_item, looks_along, looks_on, looks_in, finds, reads_spans, seen_on, unseen}
@@ -85,7 +84,7 @@ alone_holds (one ∷ hs) gfid (inr h) = inr (alone_holds hs gfid h)
 
 -- wherever the replies lead, each job is covered
 pub record Goes (f : Fop) (course : Course) : Type 0 where
-  pub at : (handed : Handed) → Always (IsCovered f) AnyAnswer handed course
+  pub at : (handed : Handed) → Always (IsCovered f) AnyHold AnyAnswer handed course
 
 ends_goes : (f : Fop) (answer : FopAnswer) (place : Option ℕ) → Goes f (Ends answer place)
 ends_goes f answer place = record { at = λ handed. tt }
@@ -94,16 +93,16 @@ if_goes : (f : Fop) (one other : Course) (b : Bool) → Goes f one → Goes f ot
 if_goes f one other true g h = g
 if_goes f one other false g h = h
 
-names_lead : (f : Fop) (later : Handed) (next : DirNames → Course) (read : Result DirNames IoError) → ((shown : DirNames) → Always (IsCovered f) AnyAnswer later (next shown)) → Always (IsCovered f) AnyAnswer later (on_names next read)
+names_lead : (f : Fop) (later : Handed) (next : DirNames → Course) (read : Result DirNames IoError) → ((shown : DirNames) → Always (IsCovered f) AnyHold AnyAnswer later (next shown)) → Always (IsCovered f) AnyHold AnyAnswer later (on_names next read)
 names_lead f later next (Ok shown) k = k shown
 names_lead f later next (Err error) k = tt
 
-contents_lead : (f : Fop) (later : Handed) (next : List (Option Content) → ℕ → Course) (read : Result (List (Option Content) × ℕ) IoError) → ((contents : List (Option Content)) (place : ℕ) → Always (IsCovered f) AnyAnswer later (next contents place))
-    → Always (IsCovered f) AnyAnswer later (on_contents next read)
+contents_lead : (f : Fop) (later : Handed) (next : List (Option Content) → ℕ → Course) (read : Result (List (Option Content) × ℕ) IoError) → ((contents : List (Option Content)) (place : ℕ) → Always (IsCovered f) AnyHold AnyAnswer later (next contents place))
+    → Always (IsCovered f) AnyHold AnyAnswer later (on_contents next read)
 contents_lead f later next (Ok read) k = k read.0 read.1
 contents_lead f later next (Err error) k = tt
 
-number_leads : (f : Fop) (later : Handed) (next : Option ℕ → Course) (read : Result (Option ℕ) IoError) → ((number : Option ℕ) → Always (IsCovered f) AnyAnswer later (next number)) → Always (IsCovered f) AnyAnswer later (on_number next read)
+number_leads : (f : Fop) (later : Handed) (next : Option ℕ → Course) (read : Result (Option ℕ) IoError) → ((number : Option ℕ) → Always (IsCovered f) AnyHold AnyAnswer later (next number)) → Always (IsCovered f) AnyHold AnyAnswer later (on_number next read)
 number_leads f later next (Ok number) k = k number
 number_leads f later next (Err error) k = tt
 
@@ -247,12 +246,12 @@ unlink_ends f v parent name hashed w h (found.Io error) seen = ends_goes f _ _
 abbrev emptied : Volume → Gfid → List ℕ → Gfid → List ℕ → DirNames → Course
 emptied v parent name gfid sets shown = if has_real_name shown.items then refuses Enotempty (Some shown.place) else empties v parent name gfid sets
 
-full_goes : (f : Fop) (later : Handed) (place : ℕ) (next : Course) (b : Bool) → Always (IsCovered f) AnyAnswer later next → Always (IsCovered f) AnyAnswer later (if b then refuses Enotempty (Some place) else next)
+full_goes : (f : Fop) (later : Handed) (place : ℕ) (next : Course) (b : Bool) → Always (IsCovered f) AnyHold AnyAnswer later next → Always (IsCovered f) AnyHold AnyAnswer later (if b then refuses Enotempty (Some place) else next)
 full_goes f later place next true k = tt
 full_goes f later place next false k = k
 
 -- the directory that is removed is held once the hold was extended by it
-empties_go : (f : Fop) (v : Volume) (parent : Gfid) (name : List ℕ) (gfid : Gfid) (sets : List ℕ) (handed : Handed) → is_lookup f ≡ false → HoldsExclusively (holds_of f) parent → HoldsExclusively (extensions handed) gfid → Always (IsCovered f) AnyAnswer handed (empties v parent name gfid sets)
+empties_go : (f : Fop) (v : Volume) (parent : Gfid) (name : List ℕ) (gfid : Gfid) (sets : List ℕ) (handed : Handed) → is_lookup f ≡ false → HoldsExclusively (holds_of f) parent → HoldsExclusively (extensions handed) gfid → Always (IsCovered f) AnyHold AnyAnswer handed (empties v parent name gfid sets)
 empties_go f v parent name gfid [] handed w h e = (
   record { alone = both_alone (own_holds f handed) parent gfid (alone_front (holds_of f) (extensions handed) parent h) (alone_back (holds_of f) (extensions handed) gfid e); whole = refl; no_lookup = w },
   λ reply. number_leads f (Replied 0 (job.Change (both_names parent gfid) 0 (op.DropDir parent name gfid) (Some (entry v 1))) reply ∷ handed) (Ends (answers.Call answer.Done)) (number_in reply) (λ number. tt),
@@ -264,7 +263,7 @@ empties_go f v parent name gfid (set ∷ sets) handed w h e = (
 )
 
 rmdir_ends : (f : Fop) (v : Volume) (parent : Gfid) (name : List ℕ) → is_lookup f ≡ false → HoldsExclusively (holds_of f) parent → EndsWell f (rmdir_found v parent name)
-rmdir_ends f v parent name w h (found.Item set gfid k) seen = if_goes f _ _ (is_directory k) (record { at = λ handed. empties_go f v parent name gfid (sets_from v 0) (Held gfid ∷ handed) w h (inl (refl, refl)) }) (ends_goes f _ _)
+rmdir_ends f v parent name w h (found.Item set gfid k) seen = if_goes f _ _ (is_directory k) (record { at = λ handed. (tt, empties_go f v parent name gfid (sets_from v 0) (Held gfid ∷ handed) w h (inl (refl, refl))) }) (ends_goes f _ _)
 rmdir_ends f v parent name w h found.Absent seen = ends_goes f _ _
 rmdir_ends f v parent name w h (found.Io error) seen = ends_goes f _ _
 

@@ -9,8 +9,7 @@ use Rattle.afr_machine.specs.Replicas.{with_at}
 use Rattle.afr_machine.proofs.Tables.{at_same, at_other}
 use Rattle.dht_fops.specs.Answers.{change_of}
 use Rattle.dht_fops.specs.Courses.{Course}
-use Rattle.dht_fops.specs.Founded.{AnyAnswer}
-use Rattle.dht_fops.specs.Handed.{Handed, Event, Always}
+use Rattle.dht_fops.specs.Handed.{Handed, Event, Always, AnyHold, AnyAnswer}
 use Rattle.dht_fops.specs.Handed.Event.{Replied, Held}
 use Rattle.fop_types.specs.declared.answers.FopAnswer.TheVariants as fop_answer
 use Rattle.fop_types.specs.declared.cells.Gfid.{Gfid}
@@ -74,8 +73,8 @@ began_is first _ (IsReached.Further old step reached allowed) = step_began old s
 own_job : (first : List (List ℕ)) (m : State) → IsReached first m → (c : ℕ) (run : Run) (set : ℕ) (asked : Job) (next : SetReply → Course) → Runs m c run → run.course ≡ Course.Asks set asked next → IsOwnJob c run.fop run.handed set asked
 own_job first m reached c run set asked next runs asks =
     subst (λ (call : ℕ). IsOwnJob call run.fop run.handed set asked) ((in_its_graph first m reached).planned c run runs).call_is
-    ((subst (λ (course : Course). Always (IsOwn run.volume.call run.fop) AnyAnswer run.handed course) asks
-    (led_always (IsOwn run.volume.call run.fop) AnyAnswer (first_course run) run.handed run.course (jobs_asked first m reached c run runs) ((courses_own run.volume run.names run.kept run.fop).at [] tt))).0)
+    ((subst (λ (course : Course). Always (IsOwn run.volume.call run.fop) AnyHold AnyAnswer run.handed course) asks
+    (led_always (IsOwn run.volume.call run.fop) AnyHold AnyAnswer (first_course run) run.handed run.course (jobs_asked first m reached c run runs) ((courses_own run.volume run.names run.kept run.fop).at [] tt))).0)
 
 own_decided : (began : ℕ → Option Fop) (change : Change) (verdict : Verdict) (effect : Option Entry) → IsOwnEffect began change effect → IsOwnEffect began (record change { verdict = verdict }) effect
 own_decided began change verdict None k = k

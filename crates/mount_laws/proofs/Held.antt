@@ -4,8 +4,7 @@ use Rattle.std.specs.Prelude.{◌≢◌}
 use Rattle.std.proofs.Common.{◌≡◌, ◌⊎◌, ℕ, inl, inr, true, false, refl, sym, ap, subst, List, [], ◌∷◌, ◌++◌, Option, Some}
 use Rattle.afr_machine.specs.Transactions.{cells_of_job, settles_first}
 use Rattle.dht_fops.specs.Courses.{Course}
-use Rattle.dht_fops.specs.Founded.{AnyAnswer}
-use Rattle.dht_fops.specs.Handed.{Always}
+use Rattle.dht_fops.specs.Handed.{Always, AnyHold, AnyAnswer}
 use Rattle.dht_fops.specs.Handed.Event.{Replied, Held}
 use Rattle.dht_fops.specs.Volumes.{Kept}
 use Rattle.dht_fops.specs.declared.volume.Volume.{Volume}
@@ -131,7 +130,7 @@ extended_own run dir next saw extends a = (
     d = record { gfid = dir; shared = false }
 
     later : (gfid : Gfid) → NeedsNoMore gfid run.handed run.course → NeedsNoMore gfid (Held dir ∷ run.handed) next
-    later gfid n = subst (λ (course : Course). NeedsNoMore gfid run.handed course) extends n
+    later gfid n = (subst (λ (course : Course). NeedsNoMore gfid run.handed course) extends n).1
 
     held_before : (gfid : Gfid) → Holds run.holds gfid ⊎ NeedsNoMore gfid run.handed run.course → Holds (d ∷ run.holds) gfid ⊎ NeedsNoMore gfid (Held dir ∷ run.handed) next
     held_before gfid (inl k) = inl (inr k)
@@ -236,8 +235,8 @@ asked_covered : (m : State) → JobAsked m → HoldsOwn m → (c : ℕ) (run : R
 asked_covered m a own c run set asked next runs asks =
     needed_for (own_holds run.fop run.handed) run.holds (λ gfid. NeedsNoMore gfid run.handed run.course) (own c run runs).0 (own c run runs).1.0 run.fop asked
     (λ gfid over. (subst (λ (course : Course). NeedsNoMore gfid run.handed course) asks over).0)
-    ((subst (λ (course : Course). Always (IsCovered run.fop) AnyAnswer run.handed course) asks
-    (led_always (IsCovered run.fop) AnyAnswer (first_course run) run.handed run.course (a c run runs) ((courses_covered run.volume run.names run.kept run.fop).at []))).0)
+    ((subst (λ (course : Course). Always (IsCovered run.fop) AnyHold AnyAnswer run.handed course) asks
+    (led_always (IsCovered run.fop) AnyHold AnyAnswer (first_course run) run.handed run.course (a c run runs) ((courses_covered run.volume run.names run.kept run.fop).at []))).0)
 
 pub alone_held : (hs : List Hold) (cells : List Cell) → AreHeldExclusively hs cells → AreHeld hs cells
 alone_held hs [] h = tt

@@ -13,8 +13,7 @@ use Rattle.dht_fops.specs.Courses.{Course, on_names, after_names, on_contents, a
 use Rattle.dht_fops.specs.Courses.Course.{Asks, Ends}
 use Rattle.dht_fops.specs.Entries.{birth_job, lookup_found, lists_from, mkdir_found, births_from, create_found, drops_link, unlink_found, rmdir_found, empties}
 use Rattle.dht_fops.specs.Fops.{fop_course, on_name}
-use Rattle.dht_fops.specs.Founded.{AnyAnswer}
-use Rattle.dht_fops.specs.Handed.{Handed, Always}
+use Rattle.dht_fops.specs.Handed.{Handed, Always, AnyHold, AnyAnswer}
 use Rattle.dht_fops.specs.Handed.Event.{Replied, Held}
 use Rattle.dht_fops.specs.Internal.{opens_again, heals, indexes, with_cells, cells_in}
 use Rattle.dht_fops.specs.Looks.{Ending, where_named, where_kept, by_item, looks_along, looks_on, looks_in, finds, reads_spans, seen_on, unseen}
@@ -63,7 +62,7 @@ IsOwn call f handed set asked = IsOwnJob call f handed set asked
 
 -- wherever the replies lead, where only earlier parts than this were asked for, and did not fail
 pub record Owns (call : ℕ) (f : Fop) (part : ℕ) (course : Course) : Type 0 where
-  pub at : (handed : Handed) → AreEarlier handed part → Always (IsOwn call f) AnyAnswer handed course
+  pub at : (handed : Handed) → AreEarlier handed part → Always (IsOwn call f) AnyHold AnyAnswer handed course
 
 earlier_event : (event : Handed) (a b : ℕ) → a ≤ b → AreEarlier event a → AreEarlier event b
 earlier_event [] a b h e = tt
@@ -90,17 +89,17 @@ module _ (call : ℕ) (f : Fop) where
   more k l course h o = record { at = λ handed e. o.at handed (earlier_event handed k l h e) }
 
   contents_lead : (k : ℕ) (next : List (Option Content) → ℕ → Course) → ((contents : List (Option Content)) (place : ℕ) → Owns call f k (next contents place))
-      → (handed : Handed) → AreEarlier handed k → (read : Result (List (Option Content) × ℕ) IoError) → Always (IsOwn call f) AnyAnswer handed (on_contents next read)
+      → (handed : Handed) → AreEarlier handed k → (read : Result (List (Option Content) × ℕ) IoError) → Always (IsOwn call f) AnyHold AnyAnswer handed (on_contents next read)
   contents_lead k next o handed e (Ok read) = (o read.0 read.1).at handed e
   contents_lead k next o handed e (Err error) = tt
 
   names_lead : (k : ℕ) (next : DirNames → Course) → ((shown : DirNames) → Owns call f k (next shown))
-      → (handed : Handed) → AreEarlier handed k → (read : Result DirNames IoError) → Always (IsOwn call f) AnyAnswer handed (on_names next read)
+      → (handed : Handed) → AreEarlier handed k → (read : Result DirNames IoError) → Always (IsOwn call f) AnyHold AnyAnswer handed (on_names next read)
   names_lead k next o handed e (Ok shown) = (o shown).at handed e
   names_lead k next o handed e (Err error) = tt
 
   number_leads : (k : ℕ) (next : Option ℕ → Course) → ((number : Option ℕ) → Owns call f k (next number))
-      → (handed : Handed) → AreEarlier handed k → (read : Result (Option ℕ) IoError) → Always (IsOwn call f) AnyAnswer handed (on_number next read)
+      → (handed : Handed) → AreEarlier handed k → (read : Result (Option ℕ) IoError) → Always (IsOwn call f) AnyHold AnyAnswer handed (on_number next read)
   number_leads k next o handed e (Ok number) = (o number).at handed e
   number_leads k next o handed e (Err error) = tt
 
@@ -124,11 +123,11 @@ module _ (call : ℕ) (f : Fop) where
     at = λ handed e. (record { call_is = call_is; part = part; part_is = part_is; makes = makes; on_first = on_first; earlier = e }, λ shown. leads handed e shown);
   }
     where
-      later : (handed : Handed) → AreEarlier handed one.part → (shown : SetReply) → DidNotFail shown → (number : Option ℕ) → Always (IsOwn call f) AnyAnswer (Replied set (job.Change cells fd o (Some one)) shown ∷ handed) (next number)
+      later : (handed : Handed) → AreEarlier handed one.part → (shown : SetReply) → DidNotFail shown → (number : Option ℕ) → Always (IsOwn call f) AnyHold AnyAnswer (Replied set (job.Change cells fd o (Some one)) shown ∷ handed) (next number)
       later handed e shown ok number =
           (w number).at (Replied set (job.Change cells fd o (Some one)) shown ∷ handed) ((omega arith, ok), earlier_event handed one.part (one.part + 1) (omega arith) e)
 
-      leads : (handed : Handed) → AreEarlier handed one.part → (shown : SetReply) → Always (IsOwn call f) AnyAnswer (Replied set (job.Change cells fd o (Some one)) shown ∷ handed) (after_change next shown)
+      leads : (handed : Handed) → AreEarlier handed one.part → (shown : SetReply) → Always (IsOwn call f) AnyHold AnyAnswer (Replied set (job.Change cells fd o (Some one)) shown ∷ handed) (after_change next shown)
       leads handed e (reply.Contents contents place) = later handed e (reply.Contents contents place) tt None
       leads handed e (reply.Decided number) = later handed e (reply.Decided number) tt number
       leads handed e reply.Opened = later handed e reply.Opened tt None
@@ -224,7 +223,7 @@ module _ (call : ℕ) (f : Fop) where
 
   rmdir_ends : (v : Volume) (parent : Gfid) (name : List ℕ) → v.call ≡ call → part_of (flat_op f) 1 ≡ Some (flat.Rmdir parent name) → EndsOwn (rmdir_found v parent name)
   rmdir_ends v parent name c h (found.Item set gfid k) seen =
-      if_owns 1 _ _ (is_directory k) (record { at = λ handed e. (empties_own v parent name gfid (sets_from v 0) c h).at (Held gfid ∷ handed) (tt, e) }) (ends 1 _ _)
+      if_owns 1 _ _ (is_directory k) (record { at = λ handed e. (tt, (empties_own v parent name gfid (sets_from v 0) c h).at (Held gfid ∷ handed) (tt, e)) }) (ends 1 _ _)
   rmdir_ends v parent name c h found.Absent seen = ends 1 _ _
   rmdir_ends v parent name c h (found.Io error) seen = ends 1 _ _
 

@@ -15,7 +15,7 @@ use Rattle.dht_fops.specs.Courses.{Course, on_names, after_names, on_contents, a
 use Rattle.dht_fops.specs.Courses.Course.{Asks, Ends}
 use Rattle.dht_fops.specs.Entries.{birth_job, lookup_found, lists_from, mkdir_found, births_from, adds_file, create_found, drops_link, unlink_found, rmdir_found, empties}
 use Rattle.dht_fops.specs.Fops.{fop_course, on_name}
-use Rattle.dht_fops.specs.Handed.{Handed, Always}
+use Rattle.dht_fops.specs.Handed.{Handed, Always, AnyHold}
 use Rattle.dht_fops.specs.Handed.Event.{Replied, Held}
 use Rattle.dht_fops.specs.Internal.{opens_again, heals, indexes, with_cells, cells_in}
 use Rattle.dht_fops.specs.Looks.{Ending, finds, looks_in, where_named, where_kept}
@@ -60,7 +60,7 @@ use Rattle.mount_laws.proofs.Arguments.{Seen, Source, Renaming, renaming}
 
 -- wherever the replies lead
 pub record Stays (n : ℕ) (course : Course) : Type 0 where
-  pub at : (handed : Handed) → Always (IsWithin n) (AnswersWithin n) handed course
+  pub at : (handed : Handed) → Always (IsWithin n) AnyHold (AnswersWithin n) handed course
 
 -- an answer that names no object
 says : (n : ℕ) (a : Answer) (place : Option ℕ) → Stays n (Ends (fop_answer.Call a) place)
@@ -70,15 +70,15 @@ if_stays : (n : ℕ) (one other : Course) (b : Bool) → Stays n one → Stays n
 if_stays n one other true g h = g
 if_stays n one other false g h = h
 
-contents_lead : (n : ℕ) (next : List (Option Content) → ℕ → Course) → ((contents : List (Option Content)) (place : ℕ) → Stays n (next contents place)) → (handed : Handed) (read : Result (List (Option Content) × ℕ) IoError) → Always (IsWithin n) (AnswersWithin n) handed (on_contents next read)
+contents_lead : (n : ℕ) (next : List (Option Content) → ℕ → Course) → ((contents : List (Option Content)) (place : ℕ) → Stays n (next contents place)) → (handed : Handed) (read : Result (List (Option Content) × ℕ) IoError) → Always (IsWithin n) AnyHold (AnswersWithin n) handed (on_contents next read)
 contents_lead n next k handed (Ok read) = (k read.0 read.1).at handed
 contents_lead n next k handed (Err error) = tt
 
-names_lead : (n : ℕ) (next : DirNames → Course) → ((shown : DirNames) → Stays n (next shown)) → (handed : Handed) (read : Result DirNames IoError) → Always (IsWithin n) (AnswersWithin n) handed (on_names next read)
+names_lead : (n : ℕ) (next : DirNames → Course) → ((shown : DirNames) → Stays n (next shown)) → (handed : Handed) (read : Result DirNames IoError) → Always (IsWithin n) AnyHold (AnswersWithin n) handed (on_names next read)
 names_lead n next k handed (Ok shown) = (k shown).at handed
 names_lead n next k handed (Err error) = tt
 
-number_leads : (n : ℕ) (next : Option ℕ → Course) → ((number : Option ℕ) → Stays n (next number)) → (handed : Handed) (read : Result (Option ℕ) IoError) → Always (IsWithin n) (AnswersWithin n) handed (on_number next read)
+number_leads : (n : ℕ) (next : Option ℕ → Course) → ((number : Option ℕ) → Stays n (next number)) → (handed : Handed) (read : Result (Option ℕ) IoError) → Always (IsWithin n) AnyHold (AnswersWithin n) handed (on_number next read)
 number_leads n next k handed (Ok number) = (k number).at handed
 number_leads n next k handed (Err error) = tt
 
@@ -99,11 +99,11 @@ birth_stays n set gfid span next h k = record { at = λ handed. (h, λ reply. nu
 
 -- ---- looks
 
-reading : (n : ℕ) (handed : Handed) (dir : Gfid) → Reading (IsWithin n) (AnswersWithin n) n handed dir
+reading : (n : ℕ) (handed : Handed) (dir : Gfid) → Reading (IsWithin n) AnyHold (AnswersWithin n) n handed dir
 reading n handed dir = record { names = λ later set l h. tt; spans = λ later set l h. tt; fails = λ later error. tt; removed = λ later set shown l h saw e. tt }
 
 abbrev EndsWell : ℕ → Gfid → List ℕ → Ending → Type 0
-EndsWell n dir name ending = (handed : Handed) → EndsRight (IsWithin n) (AnswersWithin n) n handed dir name ending
+EndsWell n dir name ending = (handed : Handed) → EndsRight (IsWithin n) AnyHold (AnswersWithin n) n handed dir name ending
 
 look_stays : (n : ℕ) (dir : Gfid) (name : List ℕ) (names : List (List ℕ)) (watched : ℕ) (known : Option ℕ) (ending : ℕ → Ending) → length names ≡ n → IfSome known (λ set. set < n)
     → ((hashed : ℕ) → hashed < n → EndsWell n dir name (ending hashed))
@@ -111,8 +111,8 @@ look_stays : (n : ℕ) (dir : Gfid) (name : List ℕ) (names : List (List ℕ)) 
     → Stays n (finds (length names) dir known (looks_in dir name names watched ending) after)
 look_stays n dir name names watched known ending e k ends after later = record {
   at = λ handed.
-      finds_go (IsWithin n) (AnswersWithin n) n (length names) dir known (looks_in dir name names watched ending) after handed e (reading n handed dir) k
-      (λ set i. looks_in_goes (IsWithin n) (AnswersWithin n) n dir name names watched ending set handed e i (reading n handed dir) (ends set i handed))
+      finds_go (IsWithin n) AnyHold (AnswersWithin n) n (length names) dir known (looks_in dir name names watched ending) after handed e (reading n handed dir) k
+      (λ set i. looks_in_goes (IsWithin n) AnyHold (AnswersWithin n) n dir name names watched ending set handed e i (reading n handed dir) (ends set i handed))
       (λ whole after_all w l. (later whole w).at after_all);
 }
 
@@ -120,7 +120,7 @@ found_stays : (n : ℕ) (dir : Gfid) (name : List ℕ) (names : List (List ℕ))
     → Stays n (looks_in dir name names watched ending hashed)
 found_stays n dir name names watched ending hashed e h ends = record {
   at = λ handed.
-      looks_in_goes (IsWithin n) (AnswersWithin n) n dir name names watched ending hashed handed e h (reading n handed dir) (ends handed);
+      looks_in_goes (IsWithin n) AnyHold (AnswersWithin n) n dir name names watched ending hashed handed e h (reading n handed dir) (ends handed);
 }
 
 named_stays : (n : ℕ) (parent : Object) (name : List ℕ) (place : Option ℕ) (next : Course) → Stays n next → Stays n (where_named parent name place next)
@@ -144,7 +144,7 @@ by_found : (n : ℕ) (dir : Gfid) (name : List ℕ) (ending : Ending) → ((set 
     → ((error : IoError) (seen : Seen) → Stays n (ending (found.Io error) seen)) → EndsWell n dir name ending
 by_found n dir name ending item absent io handed = λ result seen later l f. by_result result seen later f
   where
-    by_result : (result : Found) (seen : Seen) (later : Handed) → IsFoundIn n later dir name result → Always (IsWithin n) (AnswersWithin n) later (ending result seen)
+    by_result : (result : Found) (seen : Seen) (later : Handed) → IsFoundIn n later dir name result → Always (IsWithin n) AnyHold (AnswersWithin n) later (ending result seen)
     by_result (found.Item set gfid k) seen later f = (item set gfid k seen f.0).at later
     by_result found.Absent seen later f = (absent seen).at later
     by_result (found.Io error) seen later f = (io error seen).at later
@@ -153,7 +153,7 @@ by_found n dir name ending item absent io handed = λ result seen later l f. by_
 lookup_ends : (n : ℕ) (dir : Gfid) (name : List ℕ) → EndsWell n dir name lookup_found
 lookup_ends n dir name handed = λ result seen later l f. by_result result seen later f
   where
-    by_result : (result : Found) (seen : Seen) (later : Handed) → IsFoundIn n later dir name result → Always (IsWithin n) (AnswersWithin n) later (lookup_found result seen)
+    by_result : (result : Found) (seen : Seen) (later : Handed) → IsFoundIn n later dir name result → Always (IsWithin n) AnyHold (AnswersWithin n) later (lookup_found result seen)
     by_result (found.Item set gfid k) seen later f = (f.0, inl (record { dir = dir; name = name; saw = f.1 }))
     by_result found.Absent seen later f = tt
     by_result (found.Io error) seen later f = tt
@@ -180,7 +180,7 @@ adds_stay_file v parent name mode drawn hashed h = record { at = λ handed. (h, 
     answered : (handed : Handed) (shown : SetReply) → DidNotFail shown → (number : Option ℕ) → AnswersWithin v.sets (Replied hashed add shown ∷ handed) (fop_answer.Found hashed drawn kind.File) number
     answered handed shown ok number = (h, inr (inl (refl, (ok, record { item = item_of name drawn kind.File; added = refl; gfid_is = refl; kind_is = refl; no_link = refl }))))
 
-    leads : (handed : Handed) (shown : SetReply) → Always (IsWithin v.sets) (AnswersWithin v.sets) (Replied hashed add shown ∷ handed) (after_change (Ends (fop_answer.Found hashed drawn kind.File)) shown)
+    leads : (handed : Handed) (shown : SetReply) → Always (IsWithin v.sets) AnyHold (AnswersWithin v.sets) (Replied hashed add shown ∷ handed) (after_change (Ends (fop_answer.Found hashed drawn kind.File)) shown)
     leads handed (reply.Contents contents place) = answered handed (reply.Contents contents place) tt None
     leads handed (reply.Decided number) = answered handed (reply.Decided number) tt number
     leads handed reply.Opened = answered handed reply.Opened tt None
@@ -208,7 +208,7 @@ empties_stay v parent name gfid (set ∷ sets) some = names_stay v.sets set gfid
 rmdir_ends : (v : Volume) (parent : Gfid) (name : List ℕ) → 1 ≤ v.sets → EndsWell v.sets parent name (rmdir_found v parent name)
 rmdir_ends v parent name some =
     by_found v.sets parent name (rmdir_found v parent name)
-    (λ set gfid k seen i. if_stays v.sets _ _ (is_directory k) (record { at = λ handed. (empties_stay v parent name gfid (sets_from v 0) some).at (Held gfid ∷ handed) }) (says v.sets _ _)) (λ seen. says v.sets _ _) (λ error seen. says v.sets _ _)
+    (λ set gfid k seen i. if_stays v.sets _ _ (is_directory k) (record { at = λ handed. (tt, (empties_stay v parent name gfid (sets_from v 0) some).at (Held gfid ∷ handed)) }) (says v.sets _ _)) (λ seen. says v.sets _ _) (λ error seen. says v.sets _ _)
 
 -- ---- rename
 

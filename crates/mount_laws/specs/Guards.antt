@@ -7,8 +7,7 @@ use Rattle.afr_machine.specs.Touching.{share}
 use Rattle.afr_machine.specs.Transactions.{cells_of_job, settles_first}
 use Rattle.dht_fops.specs.Answers.{flat_op, SaysFlat}
 use Rattle.dht_fops.specs.Courses.{Course}
-use Rattle.dht_fops.specs.Founded.{AnyAnswer}
-use Rattle.dht_fops.specs.Handed.{Handed, Event, Always, IsAnswered}
+use Rattle.dht_fops.specs.Handed.{Handed, Event, Always, AnyHold, AnyAnswer}
 use Rattle.dht_fops.specs.Handed.Event.{Replied}
 use Rattle.dht_fops.specs.Looks.{span_of, span_job}
 use Rattle.dht_fops.specs.Volumes.{Kept}
@@ -16,7 +15,7 @@ use Rattle.dht_linkto.specs.DirNames.{first_content}
 use Rattle.fop_types.specs.Bounds.{Each, IsFop, IsVolumeName}
 use Rattle.fop_types.specs.Files.{first_files}
 use Rattle.fop_types.specs.History.{files_after}
-use Rattle.fop_types.specs.Jobs.{may_lack}
+use Rattle.fop_types.specs.Jobs.{may_lack, IsAnsweredBy}
 use Rattle.fop_types.specs.StoreOps.{are_present}
 use Rattle.fop_types.specs.declared.answers.Answer.{Answer}
 use Rattle.fop_types.specs.declared.answers.FopAnswer.{FopAnswer}
@@ -106,7 +105,7 @@ abbrev pub IsWithout : Gfid → Job → Type 0
 IsWithout gfid asked = Each (λ (cell : Cell). cell.gfid ≢ gfid) (cells_of_job asked)
 
 abbrev pub NeedsNoMore : Gfid → Handed → Course → Type 0
-NeedsNoMore gfid handed course = Always (λ (later : Handed) (set : ℕ) (asked : Job). IsWithout gfid asked) AnyAnswer handed course
+NeedsNoMore gfid handed course = Always (λ (later : Handed) (set : ℕ) (asked : Job). IsWithout gfid asked) AnyHold AnyAnswer handed course
 
 -- A fop may let go of an object that it needs no more, where no change of its call on the object is unsettled. A call's fop
 -- keeps its holds until it is answered; a rebalance does not.
@@ -246,6 +245,11 @@ pub data IsReply (m : State) (t : Task) : SetReply → Type 0 where
   Enters : (number : Option ℕ) → t.run.stage ≡ Decided number → IsReply m t (reply.Decided number)
   Fails : (error : IoError) → MayFail t.run.stage → IsReply m t (reply.Io error)
   Opens : (shown : SetReply) → IsOpen t.job → IsReply m t shown
+
+-- the reply answers the job, with some quorum of the set
+pub record IsAnswered (set : ℕ) (asked : Job) (shown : SetReply) : Type 0 where
+  pub quorum : ℕ
+  pub answered : IsAnsweredBy set quorum asked shown
 
 pub record MayHandIn (m : State) (t : Task) (shown : SetReply) : Type 0 where
   pub under_way : IsUnderWay m t
