@@ -45,7 +45,7 @@ use Rattle.mount_laws.specs.Guards.{Allowed, IsReached, IsKnown, objects_of, IsR
 use Rattle.mount_laws.specs.Guards.IsReply.{Shows, Enters, Fails, Opens}
 use Rattle.mount_laws.specs.Objects.{volumes, IsMadeBy, MadeByChange, IsMadeOn, IsNameMade, AreNamesMade, NamesAreMade, item_added, added_by, contents_read, IsEventMade, AreEventsMade, IsRunMade, HandedIsMade, ObjectsMade}
 use Rattle.mount_laws.specs.Runs.{Run}
-use Rattle.mount_laws.specs.Runs.Stage.{Bearing, Decided}
+use Rattle.mount_laws.specs.Runs.Stage.{Bearing}
 use Rattle.mount_laws.specs.States.{State, Change, Runs, start}
 use Rattle.mount_laws.specs.Steps.{Step, Task, after, is_lookup, change_by, births_by, by_effect, kinds_after, homes_after, with_kind, with_home, object_in, applied}
 use Rattle.mount_laws.specs.Within.{SawObject, IsAddOf, WasAdded, AnswersWithin}

@@ -22,7 +22,7 @@ use Rattle.mount_laws.specs.Guards.{Allowed, IsReached, IsShown, AreShown, IsRep
 use Rattle.mount_laws.specs.Guards.IsReply.{Shows, Enters, Fails, Opens}
 use Rattle.mount_laws.specs.Holding.{AreHeld, AreHeldExclusively}
 use Rattle.mount_laws.specs.Runs.{Run, SettledJob, Sight, jobs_without}
-use Rattle.mount_laws.specs.Runs.Stage.{Settled, Decided}
+use Rattle.mount_laws.specs.Runs.Stage.{Settled}
 use Rattle.mount_laws.specs.Seeing.{IsListed, SettledIsListed, WasSettled, IsStill, StandsAsSeen, SawStill}
 use Rattle.mount_laws.specs.Settling.{HasNoNames, StaysOrBorn, TouchedIsFirm, IsSettledJob, ReadIsAdopted, LeavesSettled, IsStepOf}
 use Rattle.mount_laws.specs.States.{State, Change, Call, Status, Runs, holds_by, held}

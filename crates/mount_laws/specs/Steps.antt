@@ -38,7 +38,7 @@ use Rattle.fop_types.specs.declared.store_ops.StoreOp.{StoreOp}
 use Rattle.fop_types.specs.declared.store_ops.StoreOp.TheVariants as op
 use Rattle.mount_laws.specs.Runs.{Run, Stage, Sight, begun, going_on, held_longer, released}
 use Rattle.mount_laws.specs.Runs.Stage.{Settled, Changing, Bearing, Decided}
-use Rattle.mount_laws.specs.States.{State, Change, no_change, Status, Call, with_status, with_run, with_change, with_firm}
+use Rattle.mount_laws.specs.States.{State, Change, no_change, Status, with_status, with_run, with_change, with_firm}
 use Rattle.mount_laws.specs.States.Status.{Ready, Answered}
 
 -- the job that a call's fop asks for, with what its reply leads to
