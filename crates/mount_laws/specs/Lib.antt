@@ -1,0 +1,13 @@
+pub mod Effects
+pub mod Graphs
+pub mod Guards
+pub mod Holding
+pub mod Holds
+pub mod Laws
+pub mod Objects
+pub mod Runs
+pub mod Seeing
+pub mod Settling
+pub mod States
+pub mod Steps
+pub mod Within
