@@ -27,11 +27,6 @@ pub on_err : {T E : Type 0} {P : Type 0} (result : Result T E) → P → OnErr r
 on_err (Ok v) h = tt
 on_err (Err e) h = h
 
--- the ledger is kept where the memory runs out, in each phase
-pub kept_err : {T E : Type 0} (p at : Phase) (txn : Txn) (before made : State Cell) → at ≡ p → (made ≡ before → IsLeftIn p txn before made) → (result : Result T E) → OnErr result (made ≡ before) → OnErr result (IsLeftIn at txn before made)
-kept_err p at txn before made is leaves (Ok v) h = tt
-kept_err p at txn before made is leaves (Err e) h = subst (λ (q : Phase). IsLeftIn q txn before made) (sym is) (leaves h)
-
 -- A replica has answered where `was` is the phase of the job, `left` the phase that it is left in for the turn, and `now` the
 -- job with the answer: the turn is that of the call for its phase. Such a call gives the ledger, or leaves it as it is.
 module _ (txn : Txn) (k : ℕ) (rep : BrickRep) (mark : ℕ) (ledger : State Cell) (live : Mask) (last : List ℕ) (was left : Phase) (now : Txn) (value : was ≡ txn.phase) (after : left ≡ phase.Over) (heard : now ≡ hearing (record txn { phase = left }) k rep mark) where
