@@ -194,7 +194,7 @@ module _ (live : Mask) (last : List ℕ) where
 
     op_kept : (op : Option (ℕ × StoreOp)) (change : ℕ) → IsLocked txn → IsHyper change → KeptWith (write_by op (hearing txn k rep mark) change ledger live last)
     op_kept None change locked hyper = redo_kept (hearing txn k rep mark) ledger own locked.0 few
-    op_kept (Some op) change locked hyper = cond_both (may_begin (hearing txn k rep mark) change ledger) _ _ KeptWith (λ e. ((own, (locked, hyper)), tt)) (λ e. fail_kept (hearing txn k rep mark) ledger own locked.0)
+    op_kept (Some op) change locked hyper = cond_both (may_begin (hearing txn k rep mark) change ledger) _ _ KeptWith (λ e. ((own, (locked, hyper)), tt)) (λ e. redo_kept (hearing txn k rep mark) ledger own locked.0 few)
 
     marked_kept : (change : ℕ) → IsLocked txn → IsHyper change → KeptWith (mark_answered (hearing txn k rep mark) change ledger live last)
     marked_kept change locked hyper =
@@ -275,10 +275,10 @@ module _ (live : Mask) (last : List ℕ) where
 
   copied_kept : (p : Phase) (txn : Txn) (done : CopyDone) (ledger : State Cell) → IsOwn txn → FewIn ledger.unsettled → BoundsIn p txn → KeptWith (copied_in p txn done ledger live last)
   copied_kept (phase.Copying sinks parts) txn done ledger own few b =
-      cond_both (is_heal txn.job) (record txn { outs = with_outs txn.outs done.outs; records = txn.records ++ done.records }) (record txn { outs = with_outs txn.outs done.outs })
+      cond_both (is_heal txn.job) (record txn { outs = with_outs txn.size.n txn.outs done.outs; records = txn.records ++ done.records }) (record txn { outs = with_outs txn.size.n txn.outs done.outs })
       (λ (after : Txn). KeptWith (cond (is_short after.outs after.size.n after.size.q) (kept (fail after ledger live last) ledger) (cond (is_left after sinks done.current) (kept (unlock after next.Again ledger live last) ledger) (copy_next after parts ledger live last))))
-      (λ e. noted_kept (record txn { outs = with_outs txn.outs done.outs; records = txn.records ++ done.records }) sinks parts done.current ledger own few b.0 b.1)
-      (λ e. noted_kept (record txn { outs = with_outs txn.outs done.outs }) sinks parts done.current ledger own few b.0 b.1)
+      (λ e. noted_kept (record txn { outs = with_outs txn.size.n txn.outs done.outs; records = txn.records ++ done.records }) sinks parts done.current ledger own few b.0 b.1)
+      (λ e. noted_kept (record txn { outs = with_outs txn.size.n txn.outs done.outs }) sinks parts done.current ledger own few b.0 b.1)
   copied_kept (phase.Locking at) txn done ledger own few b = ((own, b), tt)
   copied_kept (phase.Unlocking after) txn done ledger own few b = ((own, b), tt)
   copied_kept (phase.Fetching place from contents) txn done ledger own few b = ((own, b), tt)

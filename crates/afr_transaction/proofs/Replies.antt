@@ -247,7 +247,7 @@ module _ (live : Mask) (last : List ℕ) where
 
     op_fits : (op : Option (ℕ × StoreOp)) (change : ℕ) → FitsWith (write_by op (hearing txn k rep mark) change ledger live last)
     op_fits None change = redo_fits (hearing txn k rep mark) ledger
-    op_fits (Some op) change = cond_both (may_begin (hearing txn k rep mark) change ledger) _ _ FitsWith (λ e. (tt, tt)) (λ e. fail_fits (hearing txn k rep mark) ledger)
+    op_fits (Some op) change = cond_both (may_begin (hearing txn k rep mark) change ledger) _ _ FitsWith (λ e. (tt, tt)) (λ e. redo_fits (hearing txn k rep mark) ledger)
 
     marked_fits : (change : ℕ) → FitsWith (mark_answered (hearing txn k rep mark) change ledger live last)
     marked_fits change =

@@ -1,7 +1,7 @@
 -- What a turn is, from its parts: the answer to a settle from its decision, and an arm of the turn of an answer from the call
 -- for its phase.
-use Rattle.std.proofs.Common.{◌≡◌, ◌∙◌, ℕ, Bool, List, Option, Result, Ok, Err, ap, sym, refl}
-use Rattle.std.specs.Prelude.{IfOk}
+use Rattle.std.proofs.Common.{◌≡◌, ◌∙◌, ℕ, Bool, List, Option, Result, Ok, Err, ap, sym, refl, subst}
+use Rattle.std.specs.Prelude.{IfOk, OnErr}
 use Rattle.fop_types.specs.declared.cells.Cell.{Cell}
 use Rattle.fop_types.specs.declared.contents.Mask.{Mask}
 use Rattle.fop_types.specs.declared.messages.BrickRep.{BrickRep}
@@ -15,12 +15,17 @@ use Rattle.afr_transaction.specs.declared.phase.Verdict.{Verdict}
 use Rattle.afr_transaction.specs.declared.txn.Txn.{Txn}
 use Rattle.afr_transaction.specs.Txns.{kept}
 use Rattle.afr_transaction.specs.Settles.{settle_decided}
-use Rattle.afr_transaction.specs.Answers.{hearing, idle, unlock_answered, mark_answered, write_answered, post_answered, settle_step, settle_answered, birth_answered, open_answered, answered_in, answered}
+use Rattle.afr_transaction.specs.Answers.{hearing, idle, unlock_answered, mark_answered, write_answered, post_answered, settle_step, settle_answered, birth_answered, open_answered, answered_in, answered, IsLeftIn}
 
 pub settle_steps : (txn : Txn) (verdict : Verdict) (ledger after : State Cell) (live : Mask) (last : List ℕ) (decided : Bool) (turn : Txn × (Need × State Cell)) → (decided, after) ≡ settle_decided txn verdict ledger → turn ≡ settle_step txn (record verdict { decided = decided }) after live last → turn ≡ settle_answered txn verdict ledger live last
 settle_steps txn verdict ledger after live last decided turn e step =
     let judged : settle_step txn (record verdict { decided = decided }) after live last ≡ settle_answered txn verdict ledger live last = ap (λ (d : Bool × State Cell). settle_step txn (record verdict { decided = d.0 }) d.1 live last) e in
     step ∙ judged
+
+-- what holds anyway holds of an error
+pub on_err : {T E : Type 0} {P : Type 0} (result : Result T E) → P → OnErr result P
+on_err (Ok v) h = tt
+on_err (Err e) h = h
 
 -- A replica has answered where `was` is the phase of the job, `left` the phase that it is left in for the turn, and `now` the
 -- job with the answer: the turn is that of the call for its phase. Such a call gives the ledger, or leaves it as it is.
@@ -45,6 +50,14 @@ module _ (txn : Txn) (k : ℕ) (rep : BrickRep) (mark : ℕ) (ledger : State Cel
       let turn : ◌≡◌ {A = Txn × (Need × State Cell)} (to, (need, ledger)) (kept (f now) ledger) = ap (λ (t : Txn × Need). kept t ledger) h in
       turn ∙ turns p (λ t. kept (f t) ledger) is arm
   given_kept p f is arm to (Err e) h = h
+
+  -- where the memory runs out, the ledger is what the call for the phase says
+  pub given_err : {T E : Type 0} (p : Phase) (Left : Txn → State Cell → Type 0) → was ≡ p → ((t : Txn) (made : State Cell) → Left t made → IsLeftIn p t ledger made)
+      → (made : State Cell) (result : Result T E) → OnErr result (Left now made) → OnErr result (IsLeftIn txn.phase (hearing (idle txn) k rep mark) ledger made)
+  given_err p Left is leaves made (Ok v) h = tt
+  given_err p Left is leaves made (Err e) h =
+      subst (λ (q : Phase). IsLeftIn q (hearing (idle txn) k rep mark) ledger made) (sym (sym value ∙ is))
+      (leaves (hearing (idle txn) k rep mark) made (subst (λ (t : Txn). Left t made) heard_idle h))
 
   pub after_unlock : {E : Type 0} (next : Then) → was ≡ phase.Unlocking next → (to : Txn) (result : Result Need E) → IfOk result (λ need. (to, need) ≡ unlock_answered now next ledger live last) → IfOk result (λ need. (to, (need, ledger)) ≡ answered txn k rep mark ledger live last)
   after_unlock next is = given_kept (phase.Unlocking next) (λ t. unlock_answered t next ledger live last) is refl

@@ -131,7 +131,7 @@ module _ (G : Type 0) (live : Mask) (last : List ℕ) (ledger : State Cell) (txn
       cond_both (may_begin (hearing txn k rep mark) change ledger) (begun (hearing txn k rep mark) change op.0 op.1 ledger) _ (OnWith G txn.size)
       (λ e. let some = someone (hearing txn k rep mark) enough in asks_alive G (hearing txn k rep mark) _ (phase.Writing change) still.1.0 still.1.1 some.0 some.1 refl
       (λ g. (holds_heard holds g, sent txn.size.n (hearing txn k rep mark).outs (still.1.1 g))) (λ g j f. (holds_heard holds g j f, record { op = op; at = at; is = refl })))
-      (λ e. fail_on G live last (hearing txn k rep mark) ledger still)
+      (λ e. unlock_on G live last (hearing txn k rep mark) next.Again ledger still)
 
   mark_on : (change : ℕ) → (G → HoldsLocks txn) → AfterWith G txn k (mark_answered (hearing txn k rep mark) change ledger live last)
   mark_on change holds =

@@ -106,20 +106,20 @@ settle_is txn verdict group =
 
 -- ---- who went out during a copy
 
-out_five : (outs : Outs) (out : Out) → length outs.at ≡ 5 → length (with_out outs out).at ≡ 5
-out_five outs out five = cond_both (nat_lt out.replica 5) (left outs out.replica out.fault out.mark) outs (λ (o : Outs). length o.at ≡ 5) (λ e. left_places outs out.replica out.mark out.fault five) (λ e. five)
+out_five : (n : ℕ) (outs : Outs) (out : Out) → length outs.at ≡ 5 → length (with_out n outs out).at ≡ 5
+out_five n outs out five = cond_both (nat_lt out.replica n) (left outs out.replica out.fault out.mark) outs (λ (o : Outs). length o.at ≡ 5) (λ e. left_places outs out.replica out.mark out.fault five) (λ e. five)
 
-outs_five : (outs : Outs) (list : List Out) → length outs.at ≡ 5 → length (with_outs outs list).at ≡ 5
-outs_five outs [] five = five
-outs_five outs (out ∷ list) five = outs_five (with_out outs out) list (out_five outs out five)
+outs_five : (n : ℕ) (outs : Outs) (list : List Out) → length outs.at ≡ 5 → length (with_outs n outs list).at ≡ 5
+outs_five n outs [] five = five
+outs_five n outs (out ∷ list) five = outs_five n (with_out n outs out) list (out_five n outs out five)
 
-out_used : (n : ℕ) (outs : Outs) (out : Out) (k : ℕ) → flag (used (with_out outs out) n) k ≡ true → flag (used outs n) k ≡ true
+out_used : (n : ℕ) (outs : Outs) (out : Out) (k : ℕ) → flag (used (with_out n outs out) n) k ≡ true → flag (used outs n) k ≡ true
 out_used n outs out k =
-    cond_both (nat_lt out.replica 5) (left outs out.replica out.fault out.mark) outs (λ (o : Outs). flag (used o n) k ≡ true → flag (used outs n) k ≡ true) (λ e. used_left n outs out.replica out.mark out.fault k) (λ e h. h)
+    cond_both (nat_lt out.replica n) (left outs out.replica out.fault out.mark) outs (λ (o : Outs). flag (used o n) k ≡ true → flag (used outs n) k ≡ true) (λ e. used_left n outs out.replica out.mark out.fault k) (λ e h. h)
 
-outs_used : (n : ℕ) (outs : Outs) (list : List Out) (k : ℕ) → flag (used (with_outs outs list) n) k ≡ true → flag (used outs n) k ≡ true
+outs_used : (n : ℕ) (outs : Outs) (list : List Out) (k : ℕ) → flag (used (with_outs n outs list) n) k ≡ true → flag (used outs n) k ≡ true
 outs_used n outs [] k h = h
-outs_used n outs (out ∷ list) k h = out_used n outs out k (outs_used n (with_out outs out) list k h)
+outs_used n outs (out ∷ list) k h = out_used n outs out k (outs_used n (with_out n outs out) list k h)
 
 -- ---- the turns
 
@@ -177,8 +177,8 @@ module _ (G : Type 0) (live : Mask) (last : List ℕ) where
   pub taken_on : (txn : Txn) (sinks : List Bool) (parts : List Part) (done : CopyDone) (ledger : State Cell) → have_cells parts ≡ true → IsStill G txn → (G → HoldsLocks txn)
       → OnWith G txn.size (copy_taken txn sinks parts done ledger live last)
   taken_on txn sinks parts done ledger cells still holds =
-      cond_both (is_heal txn.job) (record txn { outs = with_outs txn.outs done.outs; records = txn.records ++ done.records }) (record txn { outs = with_outs txn.outs done.outs })
+      cond_both (is_heal txn.job) (record txn { outs = with_outs txn.size.n txn.outs done.outs; records = txn.records ++ done.records }) (record txn { outs = with_outs txn.size.n txn.outs done.outs })
       (λ (after : Txn). OnWith G txn.size (cond (is_short after.outs after.size.n after.size.q) (kept (fail after ledger live last) ledger)
       (cond (is_left after sinks done.current) (kept (unlock after next.Again ledger live last) ledger) (copy_next after parts ledger live last))))
-      (λ e. noted_on (record txn { outs = with_outs txn.outs done.outs; records = txn.records ++ done.records }) sinks parts done.current ledger cells (still.0, (still.1.0, λ g. outs_five txn.outs done.outs (still.1.1 g))) (λ g k f. holds g k (outs_used txn.size.n txn.outs done.outs k f)))
-      (λ e. noted_on (record txn { outs = with_outs txn.outs done.outs }) sinks parts done.current ledger cells (still.0, (still.1.0, λ g. outs_five txn.outs done.outs (still.1.1 g))) (λ g k f. holds g k (outs_used txn.size.n txn.outs done.outs k f)))
+      (λ e. noted_on (record txn { outs = with_outs txn.size.n txn.outs done.outs; records = txn.records ++ done.records }) sinks parts done.current ledger cells (still.0, (still.1.0, λ g. outs_five txn.size.n txn.outs done.outs (still.1.1 g))) (λ g k f. holds g k (outs_used txn.size.n txn.outs done.outs k f)))
+      (λ e. noted_on (record txn { outs = with_outs txn.size.n txn.outs done.outs }) sinks parts done.current ledger cells (still.0, (still.1.0, λ g. outs_five txn.size.n txn.outs done.outs (still.1.1 g))) (λ g k f. holds g k (outs_used txn.size.n txn.outs done.outs k f)))

@@ -1,6 +1,6 @@
 -- The turns of a transaction: what an answer, or a finished copy, makes of it, phase by phase. Each turn gives the job as
 -- it is then, what it needs next, and the ledger.
-use Rattle.std.specs.Prelude.{◌≡◌, ℕ, ◌+◌, ◌-◌, ◌≤◌, Bool, true, false, not, List, [], ◌∷◌, ◌++◌, Option, Some, None, is_none, is_some, length, slice_get, if◌then◌else◌}
+use Rattle.std.specs.Prelude.{◌≡◌, ◌⊎◌, ℕ, ◌+◌, ◌-◌, ◌≤◌, Bool, true, false, not, List, [], ◌∷◌, ◌++◌, Option, Some, None, is_none, is_some, length, slice_get, if◌then◌else◌}
 use Rattle.fop_types.specs.declared.cells.Cell.{Cell}
 use Rattle.fop_types.specs.declared.contents.Mask.{Mask}
 use Rattle.fop_types.specs.declared.jobs.SetReply.TheVariants as reply
@@ -167,6 +167,21 @@ answered_in phase.Over txn k rep mark ledger live last = kept (waiting txn phase
 
 abbrev pub answered : Txn → ℕ → BrickRep → ℕ → State Cell → Mask → List ℕ → Txn × (Need × State Cell)
 answered txn k rep mark ledger live last = answered_in txn.phase (idle txn) k rep mark ledger live last
+
+-- the ledger where the memory runs out in such a turn: as it was, or with the decision of the post or the settle
+abbrev pub IsLeftIn : Phase → Txn → State Cell → State Cell → Type 0
+IsLeftIn (phase.Posting change adopted) txn before after = (after ≡ before) ⊎ (after ≡ (post_decided txn change adopted before).1)
+IsLeftIn (phase.Settling verdict) txn before after = (after ≡ before) ⊎ (after ≡ (settle_decided txn verdict before).1)
+IsLeftIn (phase.Locking at) txn before after = after ≡ before
+IsLeftIn (phase.Unlocking how) txn before after = after ≡ before
+IsLeftIn (phase.Fetching place from contents) txn before after = after ≡ before
+IsLeftIn (phase.Copying sinks parts) txn before after = after ≡ before
+IsLeftIn (phase.Marking change) txn before after = after ≡ before
+IsLeftIn (phase.Writing change) txn before after = after ≡ before
+IsLeftIn phase.Bearing txn before after = after ≡ before
+IsLeftIn phase.Opening txn before after = after ≡ before
+IsLeftIn (phase.Listing all) txn before after = after ≡ before
+IsLeftIn phase.Over txn before after = after ≡ before
 
 -- ---- the turn of a finished copy
 

@@ -26,7 +26,7 @@ use Rattle.afr_transaction.specs.declared.phase.Then.{Then}
 use Rattle.afr_transaction.specs.declared.phase.Then.TheVariants as next
 use Rattle.afr_transaction.specs.declared.txn.Txn.{Txn}
 use Rattle.afr_transaction.specs.Txns.{asking, alive, kept}
-use Rattle.afr_transaction.specs.Locked.{fail}
+use Rattle.afr_transaction.specs.Locked.{fail, unlock}
 
 abbrev pub effect_of : Job → Option Entry
 effect_of (job.Read cells fd dir) = None
@@ -77,10 +77,10 @@ may_begin txn number ledger =
     is_none (touching cell_cmp txn.set txn.cells ledger.unsettled)
     && (is_drawn number ledger && is_none (numbered number ledger.unsettled))
 
--- a change whose mark a quorum has confirmed; where another touches its cells by now, it fails
+-- a change whose mark a quorum has confirmed; where another touches its cells by now, it is dropped, and the job begins again
 abbrev pub writing : Txn → ℕ → ℕ → StoreOp → State Cell → Mask → List ℕ → Txn × (Need × State Cell)
 writing txn number fd op ledger live last =
-    if may_begin txn number ledger then begun txn number fd op ledger else kept (fail txn ledger live last) ledger
+    if may_begin txn number ledger then begun txn number fd op ledger else kept (unlock txn next.Again ledger live last) ledger
 
 -- the post goes to those who confirmed the op, and accuses all others
 abbrev pub posting : Txn → ℕ → Txn × Need

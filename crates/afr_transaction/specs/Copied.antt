@@ -53,8 +53,8 @@ copy_next txn parts ledger live last = copy_by txn (next_part txn parts) ledger 
 -- who went out during a copy, and what a heal has copied
 abbrev pub copy_noted : Txn → CopyDone → Txn
 copy_noted txn done =
-    if is_heal txn.job then record txn { outs = with_outs txn.outs done.outs; records = txn.records ++ done.records }
-    else record txn { outs = with_outs txn.outs done.outs }
+    if is_heal txn.job then record txn { outs = with_outs txn.size.n txn.outs done.outs; records = txn.records ++ done.records }
+    else record txn { outs = with_outs txn.size.n txn.outs done.outs }
 
 -- a copy is done
 abbrev pub copy_taken : Txn → List Bool → List Part → CopyDone → State Cell → Mask → List ℕ → Txn × (Need × State Cell)

@@ -51,13 +51,13 @@ abbrev pub copying : Txn → Part → List Part → Txn × Need
 copying txn part parts =
     (record txn { phase = phase.Copying (sinks_left txn part) parts }, need.Copy (copy_job txn part) (rows_listed txn.shown replicas 0 txn.cells))
 
--- those who went out during a copy
-abbrev pub with_out : Outs → Out → Outs
-with_out outs out = if nat_lt out.replica 5 then left outs out.replica out.fault out.mark else outs
+-- those of a set of n who went out during a copy
+abbrev pub with_out : ℕ → Outs → Out → Outs
+with_out n outs out = if nat_lt out.replica n then left outs out.replica out.fault out.mark else outs
 
-abbrev pub with_outs : Outs → List Out → Outs
-with_outs outs [] = outs
-with_outs outs (out ∷ rest) = with_outs (with_out outs out) rest
+abbrev pub with_outs : ℕ → Outs → List Out → Outs
+with_outs n outs [] = outs
+with_outs n outs (out ∷ rest) = with_outs n (with_out n outs out) rest
 
 -- a sink that is still used was not brought up to date: the copy was left without a source
 abbrev pub is_left : Txn → List Bool → Mask → Bool

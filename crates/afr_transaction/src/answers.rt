@@ -1,7 +1,8 @@
-ghost use Rattle.std.specs.Prelude.{◌≡◌, ◌+◌, ◌<◌, true, IfOk, length};
+ghost use Rattle.std.specs.Prelude.{◌≡◌, ◌+◌, ◌<◌, ◌⊎◌, true, IfOk, OnErr, length};
 ghost use Rattle.afr_phases.specs.Waves.{is_asked};
 ghost use Rattle.afr_transaction.specs.Answers.{lock_on, lock_answered, hearing, mark_answered, write_answered, birth_answered, unlock_answered, open_answered, fetch_answered, aspect_at};
 ghost use Rattle.afr_transaction.specs.Answers.{post_ended, post_answered};
+ghost use Rattle.afr_transaction.specs.Changes.{post_decided};
 
 use crate::jobs::change_op;
 use crate::need::Need;
@@ -23,7 +24,8 @@ impl Txn {
         live: Mask,
         last: &[u32],
     ) -> Result<Need, AllocError>
-        ensures { IfOk result (λ need. (self.new, (need, ledger.new)) ≡ lock_on self.old from ledger.old live last.now) }
+        ensures turn { IfOk result (λ need. (self.new, (need, ledger.new)) ≡ lock_on self.old from ledger.old live last.now) }
+        ensures err { OnErr result (ledger.new ≡ ledger.old) }
     {
         match next_lock(
             &mut self.outs,
@@ -34,8 +36,14 @@ impl Txn {
             live,
             last,
         ) {
-            LockStep::Ask(k) => self.ask_lock(alloc, k),
-            LockStep::Short => self.fail(alloc, ledger, live, last),
+            LockStep::Ask(k) => {
+                let need = self.ask_lock(alloc, k)?;
+                Ok(need)
+            }
+            LockStep::Short => {
+                let need = self.fail(alloc, ledger, live, last)?;
+                Ok(need)
+            }
             LockStep::Reached => {
                 self.reach();
                 self.ready(alloc, ledger, live, last)
@@ -59,7 +67,8 @@ impl Txn {
     ) -> Result<Need, AllocError>
         requires place { k < 5 }
         requires asked { is_asked self.old.wave k ≡ true }
-        ensures { IfOk result (λ need. (self.new, (need, ledger.new)) ≡ lock_answered self.old k rep mark ledger.old live last.now) }
+        ensures turn { IfOk result (λ need. (self.new, (need, ledger.new)) ≡ lock_answered self.old k rep mark ledger.old live last.now) }
+        ensures err { OnErr result (ledger.new ≡ ledger.old) }
     {
         let fault = is_fault(&rep);
         let rows = rows_in(rep, self.cells.len());
@@ -88,18 +97,23 @@ impl Txn {
         live: Mask,
         last: &[u32],
     ) -> Result<Need, AllocError>
-        ensures { IfOk result (λ need. (self.new, (need, ledger.new)) ≡ mark_answered self.old change ledger.old live last.now) }
+        ensures turn { IfOk result (λ need. (self.new, (need, ledger.new)) ≡ mark_answered self.old change ledger.old live last.now) }
+        ensures err { OnErr result (ledger.new ≡ ledger.old) }
     {
         if !self.wave.is_over() {
             self.phase = Phase::Marking { change };
             return Ok(Need::Wait);
         }
         if self.outs.is_short(self.size.n, self.size.q) {
-            return self.fail(alloc, ledger, live, last);
+            let need = self.fail(alloc, ledger, live, last)?;
+            return Ok(need);
         }
         match change_op(alloc, &self.job)? {
             Some((fd, op)) => self.write(alloc, change, fd, op, ledger, live, last),
-            None => self.unlock(alloc, Then::Again, ledger, live, last),
+            None => {
+                let need = self.unlock(alloc, Then::Again, ledger, live, last)?;
+                Ok(need)
+            }
         }
     }
 
@@ -160,11 +174,13 @@ impl Txn {
         live: Mask,
         last: &[u32],
     ) -> Result<Need, AllocError>
-        ensures { IfOk result (λ need. (self.new, (need, ledger.new)) ≡ post_answered self.old change adopted ledger.old live last.now) }
+        ensures turn { IfOk result (λ need. (self.new, (need, ledger.new)) ≡ post_answered self.old change adopted ledger.old live last.now) }
+        ensures err { OnErr result ((ledger.new ≡ ledger.old) ⊎ (ledger.new ≡ (post_decided self.old change adopted ledger.old).1)) }
     {
         let adopted = self.decide_post(alloc, change, adopted, ledger)?;
         if self.wave.is_over() {
-            return self.post_ended(alloc, adopted, ledger, live, last);
+            let need = self.post_ended(alloc, adopted, ledger, live, last)?;
+            return Ok(need);
         }
         self.phase = Phase::Posting { change, adopted };
         Ok(Need::Wait)

@@ -1,10 +1,10 @@
-ghost use Rattle.std.specs.Prelude.{◌≡◌, ◌^◌, ◌-◌, ◌<◌, ◌≤◌, IfOk, None, length};
+ghost use Rattle.std.specs.Prelude.{◌≡◌, ◌^◌, ◌-◌, ◌<◌, ◌≤◌, IfOk, OnErr, None, length};
 ghost use Rattle.fop_types.specs.Orders.{cell_cmp};
 ghost use Rattle.afr_ledger.specs.Changes.{numbered, touching};
 ghost use Rattle.afr_transaction.specs.Changes.{effect_of, has_number, has_room, is_drawn, marking, drawing, may_begin, writing, begun, posting, decides, same_entry, entry_from, adopting, post_decided};
 
 use crate::need::Need;
-use crate::phase::{Adopted, Phase};
+use crate::phase::{Adopted, Phase, Then};
 use crate::txn::Txn;
 use afr_ledger::{Ledger, Unsettled};
 use afr_phases::{mask_of, outside};
@@ -23,10 +23,12 @@ impl Txn {
         live: Mask,
         last: &[u32],
     ) -> Result<Need, AllocError>
-        ensures { IfOk result (λ need. (self.new, (need, ledger.new)) ≡ marking self.old ledger.old live last.now) }
+        ensures turn { IfOk result (λ need. (self.new, (need, ledger.new)) ≡ marking self.old ledger.old live last.now) }
+        ensures err { OnErr result (ledger.new ≡ ledger.old) }
     {
         if !has_number(ledger) {
-            return self.fail(alloc, ledger, live, last);
+            let need = self.fail(alloc, ledger, live, last)?;
+            return Ok(need);
         }
         self.draw(alloc, ledger)
     }
@@ -34,9 +36,10 @@ impl Txn {
     // A number is drawn, and the cells are marked.
     fn draw(&mut self, alloc: Global, ledger: &mut Ledger<Cell>) -> Result<Need, AllocError>
         requires { ledger.old.drawn < 2 ^ 64 - 1 }
-        ensures { IfOk result (λ need. (self.new, (need, ledger.new)) ≡ drawing self.old ledger.old) }
+        ensures turn { IfOk result (λ need. (self.new, (need, ledger.new)) ≡ drawing self.old ledger.old) }
+        ensures err { OnErr result (ledger.new ≡ ledger.old) }
     {
-        let change = ledger.draw();
+        let change = ledger.drawn() + 1;
         let cells = self.cells.copy(alloc)?;
         let to = self.alive();
         let need = self.ask(
@@ -45,10 +48,12 @@ impl Txn {
             BrickReq::Mark { change, cells },
             Phase::Marking { change },
         )?;
+        ledger.draw();
         Ok(need)
     }
 
-    /// A change whose mark a quorum has confirmed. Where another touches its cells by now, it fails.
+    /// A change whose mark a quorum has confirmed. Where another touches its cells by now, it is dropped: the job begins
+    /// again, and settles that one first.
     ///
     /// # Errors
     /// Out of memory.
@@ -62,10 +67,12 @@ impl Txn {
         live: Mask,
         last: &[u32],
     ) -> Result<Need, AllocError>
-        ensures { IfOk result (λ need. (self.new, (need, ledger.new)) ≡ writing self.old change fd op ledger.old live last.now) }
+        ensures turn { IfOk result (λ need. (self.new, (need, ledger.new)) ≡ writing self.old change fd op ledger.old live last.now) }
+        ensures err { OnErr result (ledger.new ≡ ledger.old) }
     {
         if !self.may_begin(change, ledger) {
-            return self.fail(alloc, ledger, live, last);
+            let need = self.unlock(alloc, Then::Again, ledger, live, last)?;
+            return Ok(need);
         }
         self.begin_write(alloc, change, fd, op, ledger)
     }
@@ -91,7 +98,8 @@ impl Txn {
         requires apart { touching cell_cmp self.old.set self.old.cells ledger.old.unsettled ≡ None }
         requires drawn { (1 ≤ change) × (change ≤ ledger.old.drawn) }
         requires new { numbered change ledger.old.unsettled ≡ None }
-        ensures { IfOk result (λ need. (self.new, (need, ledger.new)) ≡ begun self.old change fd op ledger.old) }
+        ensures turn { IfOk result (λ need. (self.new, (need, ledger.new)) ≡ begun self.old change fd op ledger.old) }
+        ensures err { OnErr result (ledger.new ≡ ledger.old) }
     {
         let cells = self.cells.copy(alloc)?;
         let u = Unsettled {
@@ -100,7 +108,6 @@ impl Txn {
             cells,
             effect: effect_of(&self.job),
         };
-        ledger.begin(alloc, u)?;
         let to = self.alive();
         let need = self.ask(
             alloc,
@@ -108,6 +115,7 @@ impl Txn {
             BrickReq::Op { change, fd, op },
             Phase::Writing { change },
         )?;
+        ledger.begin(alloc, u)?;
         Ok(need)
     }
 
@@ -151,7 +159,8 @@ impl Txn {
         ledger: &mut Ledger<Cell>,
     ) -> Result<Adopted, AllocError>
         requires { length ledger.old.history < 4294967295 }
-        ensures { IfOk result (λ adopted. (adopted, ledger.new) ≡ adopting self.now change ledger.old) }
+        ensures turn { IfOk result (λ adopted. (adopted, ledger.new) ≡ adopting self.now change ledger.old) }
+        ensures err { OnErr result (ledger.new ≡ ledger.old) }
     {
         if ledger.unsettled(change).is_none() {
             let entry = entry_of(ledger.history(), effect_of(&self.job));
@@ -172,7 +181,8 @@ impl Txn {
         adopted: Option<Adopted>,
         ledger: &mut Ledger<Cell>,
     ) -> Result<Option<Adopted>, AllocError>
-        ensures { IfOk result (λ now. (now, ledger.new) ≡ post_decided self.now change adopted ledger.old) }
+        ensures turn { IfOk result (λ now. (now, ledger.new) ≡ post_decided self.now change adopted ledger.old) }
+        ensures err { OnErr result (ledger.new ≡ ledger.old) }
     {
         if adopted.is_some() || !self.decides(ledger) {
             return Ok(adopted);

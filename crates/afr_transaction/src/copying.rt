@@ -1,4 +1,4 @@
-ghost use Rattle.std.specs.Prelude.{◌≡◌, ◌++◌, Some, IfOk, OnOk};
+ghost use Rattle.std.specs.Prelude.{◌≡◌, ◌++◌, ◌≤◌, Some, IfOk, OnOk, OnErr};
 ghost use Rattle.afr_transaction.specs.Copies.{sinks_left, has_sink, has_source, next_part, copying, with_out, with_outs, is_left};
 ghost use Rattle.afr_transaction.specs.Copied.{is_change, copied_all, copy_by, copy_next, copy_noted, copy_taken};
 
@@ -63,11 +63,15 @@ impl Txn {
         live: Mask,
         last: &[u32],
     ) -> Result<Need, AllocError>
-        ensures { IfOk result (λ need. (self.new, (need, ledger.new)) ≡ copy_next self.old parts ledger.old live last.now) }
+        ensures turn { IfOk result (λ need. (self.new, (need, ledger.new)) ≡ copy_next self.old parts ledger.old live last.now) }
+        ensures err { OnErr result (ledger.new ≡ ledger.old) }
     {
         let mut rest = parts;
         match self.next_part(&mut rest) {
-            Some(part) => self.copy_part(alloc, part, rest, ledger, live, last),
+            Some(part) => {
+                let need = self.copy_part(alloc, part, rest, ledger, live, last)?;
+                Ok(need)
+            }
             None => self.end_copies(alloc, ledger, live, last),
         }
     }
@@ -110,10 +114,12 @@ impl Txn {
         live: Mask,
         last: &[u32],
     ) -> Result<Need, AllocError>
-        ensures { IfOk result (λ need. (self.new, (need, ledger.new)) ≡ copied_all self.old ledger.old live last.now) }
+        ensures turn { IfOk result (λ need. (self.new, (need, ledger.new)) ≡ copied_all self.old ledger.old live last.now) }
+        ensures err { OnErr result (ledger.new ≡ ledger.old) }
     {
         if self.settles.is_some() {
-            return self.unlock(alloc, Then::Again, ledger, live, last);
+            let need = self.unlock(alloc, Then::Again, ledger, live, last)?;
+            return Ok(need);
         }
         if is_change(&self.job) {
             return self.mark(alloc, ledger, live, last);
@@ -121,9 +127,11 @@ impl Txn {
         if is_heal(&self.job) {
             let records = std::mem::replace(&mut self.records, Seq::new(alloc));
             let after = Then::Answer(SetReply::Healed(records));
-            return self.unlock(alloc, after, ledger, live, last);
+            let need = self.unlock(alloc, after, ledger, live, last)?;
+            return Ok(need);
         }
-        self.unlock(alloc, Then::Again, ledger, live, last)
+        let need = self.unlock(alloc, Then::Again, ledger, live, last)?;
+        Ok(need)
     }
 
     /// A copy is done.
@@ -140,15 +148,18 @@ impl Txn {
         live: Mask,
         last: &[u32],
     ) -> Result<Need, AllocError>
-        ensures { IfOk result (λ need. (self.new, (need, ledger.new)) ≡ copy_taken self.old sinks rest done ledger.old live last.now) }
+        ensures turn { IfOk result (λ need. (self.new, (need, ledger.new)) ≡ copy_taken self.old sinks rest done ledger.old live last.now) }
+        ensures err { OnErr result (ledger.new ≡ ledger.old) }
     {
         let current = done.current;
         self.note_copy(done)?;
         if self.outs.is_short(self.size.n, self.size.q) {
-            return self.fail(alloc, ledger, live, last);
+            let need = self.fail(alloc, ledger, live, last)?;
+            return Ok(need);
         }
         if self.is_left(sinks, current) {
-            return self.unlock(alloc, Then::Again, ledger, live, last);
+            let need = self.unlock(alloc, Then::Again, ledger, live, last)?;
+            return Ok(need);
         }
         self.copy_next(alloc, rest, ledger, live, last)
     }
@@ -157,7 +168,7 @@ impl Txn {
     fn note_copy(&mut self, done: CopyDone) -> Result<(), AllocError>
         ensures { OnOk result (self.new ≡ copy_noted self.old done) }
     {
-        leave_all(&mut self.outs, done.outs.as_slice());
+        leave_all(&mut self.outs, self.size.n, done.outs.as_slice());
         if is_heal(&self.job) {
             add_records(&mut self.records, done.records)?;
         }
@@ -171,19 +182,21 @@ impl Txn {
     }
 }
 
-// Those who went out during a copy.
-fn leave_all(outs: &mut Outs, left: &[Out])
-    ensures { outs.new ≡ with_outs outs.old left.now }
+// Those of a set of `n` who went out during a copy.
+fn leave_all(outs: &mut Outs, n: u8, left: &[Out])
+    requires { n ≤ 5 }
+    ensures { outs.new ≡ with_outs n outs.old left.now }
 {
     for out in left {
-        leave_one(outs, *out);
+        leave_one(outs, n, *out);
     }
 }
 
-fn leave_one(outs: &mut Outs, out: Out)
-    ensures { outs.new ≡ with_out outs.old out }
+fn leave_one(outs: &mut Outs, n: u8, out: Out)
+    requires { n ≤ 5 }
+    ensures { outs.new ≡ with_out n outs.old out }
 {
-    if out.replica < 5 {
+    if out.replica < n {
         outs.leave(out.replica, out.fault, out.mark);
     }
 }

@@ -1,4 +1,4 @@
-ghost use Rattle.std.specs.Prelude.{◌≡◌, IfOk};
+ghost use Rattle.std.specs.Prelude.{◌≡◌, IfOk, OnErr};
 ghost use Rattle.afr_transaction.specs.Ready.{split, skipping, ready_to_change, is_touched, heal_copies, ready_to_heal, bearing, ready};
 
 use crate::jobs::{Kind, birth_op, kind_of};
@@ -41,10 +41,12 @@ impl Txn {
         live: Mask,
         last: &[u32],
     ) -> Result<Need, AllocError>
-        ensures { IfOk result (λ need. (self.new, (need, ledger.new)) ≡ ready_to_change self.old ledger.old live last.now) }
+        ensures turn { IfOk result (λ need. (self.new, (need, ledger.new)) ≡ ready_to_change self.old ledger.old live last.now) }
+        ensures err { OnErr result (ledger.new ≡ ledger.old) }
     {
         if self.is_split() {
-            return self.split(alloc, ledger, live, last);
+            let need = self.split(alloc, ledger, live, last)?;
+            return Ok(need);
         }
         let parts = self.all_parts(alloc)?;
         self.copy_next(alloc, parts, ledger, live, last)
@@ -81,7 +83,8 @@ impl Txn {
         live: Mask,
         last: &[u32],
     ) -> Result<Need, AllocError>
-        ensures { IfOk result (λ need. (self.new, (need, ledger.new)) ≡ ready_to_heal self.old ledger.old live last.now) }
+        ensures turn { IfOk result (λ need. (self.new, (need, ledger.new)) ≡ ready_to_heal self.old ledger.old live last.now) }
+        ensures err { OnErr result (ledger.new ≡ ledger.old) }
     {
         if self.is_touched(ledger) {
             let need = self.skip(alloc, SkipCause::Unsettled, ledger, live, last)?;
@@ -98,7 +101,8 @@ impl Txn {
         live: Mask,
         last: &[u32],
     ) -> Result<Need, AllocError>
-        ensures { IfOk result (λ need. (self.new, (need, ledger.new)) ≡ heal_copies self.old ledger.old live last.now) }
+        ensures turn { IfOk result (λ need. (self.new, (need, ledger.new)) ≡ heal_copies self.old ledger.old live last.now) }
+        ensures err { OnErr result (ledger.new ≡ ledger.old) }
     {
         if self.is_split() {
             let need = self.skip(alloc, SkipCause::Split, ledger, live, last)?;
@@ -141,18 +145,32 @@ impl Txn {
         live: Mask,
         last: &[u32],
     ) -> Result<Need, AllocError>
-        ensures { IfOk result (λ need. (self.new, (need, ledger.new)) ≡ ready self.old ledger.old live last.now) }
+        ensures turn { IfOk result (λ need. (self.new, (need, ledger.new)) ≡ ready self.old ledger.old live last.now) }
+        ensures err { OnErr result (ledger.new ≡ ledger.old) }
     {
         if let Some(change) = self.settles {
-            return self.ready_to_settle(alloc, change, ledger, live, last);
+            let need = self.ready_to_settle(alloc, change, ledger, live, last)?;
+            return Ok(need);
         }
         match kind_of(&self.job) {
-            Kind::Read => self.ready_to_read(alloc, ledger, live, last),
+            Kind::Read => {
+                let need = self.ready_to_read(alloc, ledger, live, last)?;
+                Ok(need)
+            }
             Kind::Change => self.ready_to_change(alloc, ledger, live, last),
-            Kind::Birth => self.bear(alloc, ledger, live, last),
+            Kind::Birth => {
+                let need = self.bear(alloc, ledger, live, last)?;
+                Ok(need)
+            }
             Kind::Heal => self.ready_to_heal(alloc, ledger, live, last),
-            Kind::Open { .. } => self.unlock(alloc, Then::Again, ledger, live, last),
-            Kind::Index => self.unlock(alloc, Then::Again, ledger, live, last),
+            Kind::Open { .. } => {
+                let need = self.unlock(alloc, Then::Again, ledger, live, last)?;
+                Ok(need)
+            }
+            Kind::Index => {
+                let need = self.unlock(alloc, Then::Again, ledger, live, last)?;
+                Ok(need)
+            }
         }
     }
 }

@@ -1,4 +1,4 @@
-ghost use Rattle.std.specs.Prelude.{◌≡◌, ◌<◌, IfOk};
+ghost use Rattle.std.specs.Prelude.{◌≡◌, ◌<◌, ◌⊎◌, IfOk, OnErr};
 ghost use Rattle.afr_transaction.specs.Sound.{is_last, is_alike, agrees};
 ghost use Rattle.afr_transaction.specs.Settles.{has_it, group_of, settling, settle_decided, settle_parts};
 ghost use Rattle.afr_transaction.specs.Ready.{ready_to_settle};
@@ -128,7 +128,8 @@ impl Txn {
         verdict: Verdict,
         ledger: &mut Ledger<Cell>,
     ) -> Result<bool, AllocError>
-        ensures { IfOk result (λ now. (now, ledger.new) ≡ settle_decided self.now verdict ledger.old) }
+        ensures turn { IfOk result (λ now. (now, ledger.new) ≡ settle_decided self.now verdict ledger.old) }
+        ensures err { OnErr result (ledger.new ≡ ledger.old) }
     {
         if verdict.decided {
             return Ok(true);
@@ -154,7 +155,8 @@ impl Txn {
         live: Mask,
         last: &[u32],
     ) -> Result<Need, AllocError>
-        ensures { IfOk result (λ need. (self.new, (need, ledger.new)) ≡ settle_answered self.old verdict ledger.old live last.now) }
+        ensures turn { IfOk result (λ need. (self.new, (need, ledger.new)) ≡ settle_answered self.old verdict ledger.old live last.now) }
+        ensures err { OnErr result ((ledger.new ≡ ledger.old) ⊎ (ledger.new ≡ (settle_decided self.old verdict ledger.old).1)) }
     {
         let decided = self.decide_settle(alloc, verdict, ledger)?;
         let group = verdict.group;
@@ -177,7 +179,8 @@ impl Txn {
         live: Mask,
         last: &[u32],
     ) -> Result<Need, AllocError>
-        ensures { IfOk result (λ need. (self.new, (need, ledger.new)) ≡ settle_step self.old verdict ledger.old live last.now) }
+        ensures turn { IfOk result (λ need. (self.new, (need, ledger.new)) ≡ settle_step self.old verdict ledger.old live last.now) }
+        ensures err { OnErr result (ledger.new ≡ ledger.old) }
     {
         if !self.wave.is_over() {
             self.phase = Phase::Settling(verdict);
@@ -197,10 +200,12 @@ impl Txn {
         live: Mask,
         last: &[u32],
     ) -> Result<Need, AllocError>
-        ensures { IfOk result (λ need. (self.new, (need, ledger.new)) ≡ settle_ended self.old group decided ledger.old live last.now) }
+        ensures turn { IfOk result (λ need. (self.new, (need, ledger.new)) ≡ settle_ended self.old group decided ledger.old live last.now) }
+        ensures err { OnErr result (ledger.new ≡ ledger.old) }
     {
         if !decided {
-            return self.fail(alloc, ledger, live, last);
+            let need = self.fail(alloc, ledger, live, last)?;
+            return Ok(need);
         }
         let parts = self.settle_parts(alloc, group)?;
         self.copy_next(alloc, parts, ledger, live, last)

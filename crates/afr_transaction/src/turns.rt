@@ -1,6 +1,6 @@
-ghost use Rattle.std.specs.Prelude.{◌≡◌, ◌<◌, true, IfOk};
+ghost use Rattle.std.specs.Prelude.{◌≡◌, ◌<◌, true, IfOk, OnErr};
 ghost use Rattle.afr_phases.specs.Waves.{is_asked};
-ghost use Rattle.afr_transaction.specs.Answers.{answered, copied};
+ghost use Rattle.afr_transaction.specs.Answers.{answered, copied, hearing, idle, IsLeftIn};
 
 use crate::need::Need;
 use crate::phase::Phase;
@@ -15,7 +15,7 @@ impl Txn {
     /// replicas with an open connection, and `last` has the number of each one's last.
     ///
     /// # Errors
-    /// Out of memory.
+    /// Out of memory. The ledger is as it was, or has the decision of the post or the settle that was confirmed.
     pub fn answer(
         &mut self,
         alloc: Global,
@@ -28,7 +28,8 @@ impl Txn {
     ) -> Result<Need, AllocError>
         requires place { replica < 5 }
         requires asked { is_asked self.old.wave replica ≡ true }
-        ensures { IfOk result (λ need. (self.new, (need, ledger.new)) ≡ answered self.old replica rep mark ledger.old live last.now) }
+        ensures turn { IfOk result (λ need. (self.new, (need, ledger.new)) ≡ answered self.old replica rep mark ledger.old live last.now) }
+        ensures err { OnErr result (IsLeftIn self.old.phase (hearing (idle self.old) replica rep mark) ledger.old ledger.new) }
     {
         let phase = std::mem::replace(&mut self.phase, Phase::Over);
         match phase {
@@ -83,7 +84,7 @@ impl Txn {
     /// copy that was asked for.
     ///
     /// # Errors
-    /// Out of memory.
+    /// Out of memory; the ledger is unchanged.
     pub fn copied(
         &mut self,
         alloc: Global,
@@ -92,7 +93,8 @@ impl Txn {
         last: &[u32],
         ledger: &mut Ledger<Cell>,
     ) -> Result<Need, AllocError>
-        ensures { IfOk result (λ need. (self.new, (need, ledger.new)) ≡ copied self.old done ledger.old live last.now) }
+        ensures turn { IfOk result (λ need. (self.new, (need, ledger.new)) ≡ copied self.old done ledger.old live last.now) }
+        ensures err { OnErr result (ledger.new ≡ ledger.old) }
     {
         let phase = std::mem::replace(&mut self.phase, Phase::Over);
         match phase {
