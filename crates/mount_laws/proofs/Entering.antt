@@ -599,25 +599,25 @@ begun_unadopted c set (job.Open fd gfid) is e = absurd is
 begun_unadopted c set job.Index is e = absurd is
 begun_unadopted c set (job.Heal cell) is e = absurd is
 
-step_entered : (m : State) (step : Step) → Allowed m step → AdoptedIsEntered m → AdoptedIsEntered (after m step)
-step_entered m (Step.Submits draws) h a = a
-step_entered m (Step.Concludes c) h a = a
-step_entered m (Step.Switches names) h a = a
-step_entered m (Step.Begins c f kept) h a = a
-step_entered m (Step.Settles t u true) h a = now_entered m u a
-step_entered m (Step.Settles t u false) h a = other_entered m u (record (m.changes u) { verdict = Dropped }) (λ e. let clash : Dropped ≡ Adopted = e in absurd cc) a
-step_entered m (Step.EndsSettling t) h a = a
-step_entered m (Step.BeginsChange t u) h a = other_entered m u (change_by t.call t.set t.job) (begun_unadopted t.call t.set t.job h.is_change) a
-step_entered m (Step.Decides t u) h a = now_entered m u a
-step_entered m (Step.SendsBirths t) h a = a
-step_entered m (Step.ConfirmsBirths t) h a = a
-step_entered m (Step.HandsIn t shown) h a = a
-step_entered m (Step.Extends c run dir next) h a = a
-step_entered m (Step.Releases c run gfid) h a = a
-step_entered m (Step.Learns c run dir spans) h a = a
-step_entered m (Step.Answers c run answer place) h a = a
-step_entered m (Step.AnswersAbove c run answer) h a = a
+step_adopted : (m : State) (step : Step) → Allowed m step → AdoptedIsEntered m → AdoptedIsEntered (after m step)
+step_adopted m (Step.Submits draws) h a = a
+step_adopted m (Step.Concludes c) h a = a
+step_adopted m (Step.Switches names) h a = a
+step_adopted m (Step.Begins c f kept) h a = a
+step_adopted m (Step.Settles t u true) h a = now_entered m u a
+step_adopted m (Step.Settles t u false) h a = other_entered m u (record (m.changes u) { verdict = Dropped }) (λ e. let clash : Dropped ≡ Adopted = e in absurd cc) a
+step_adopted m (Step.EndsSettling t) h a = a
+step_adopted m (Step.BeginsChange t u) h a = other_entered m u (change_by t.call t.set t.job) (begun_unadopted t.call t.set t.job h.is_change) a
+step_adopted m (Step.Decides t u) h a = now_entered m u a
+step_adopted m (Step.SendsBirths t) h a = a
+step_adopted m (Step.ConfirmsBirths t) h a = a
+step_adopted m (Step.HandsIn t shown) h a = a
+step_adopted m (Step.Extends c run dir next) h a = a
+step_adopted m (Step.Releases c run gfid) h a = a
+step_adopted m (Step.Learns c run dir spans) h a = a
+step_adopted m (Step.Answers c run answer place) h a = a
+step_adopted m (Step.AnswersAbove c run answer) h a = a
 
 pub adopted_is_entered : (first : List (List ℕ)) (m : State) → IsReached first m → AdoptedIsEntered m
 adopted_is_entered first _ (IsReached.Start planned) = λ u entry v. let clash : Undrawn ≡ Adopted = v in absurd cc
-adopted_is_entered first _ (IsReached.Further old step reached allowed) = step_entered old step allowed (adopted_is_entered first old reached)
+adopted_is_entered first _ (IsReached.Further old step reached allowed) = step_adopted old step allowed (adopted_is_entered first old reached)
