@@ -20,7 +20,7 @@ use Rattle.fop_types.specs.declared.jobs.Job.{Job}
 use Rattle.fop_types.specs.declared.jobs.Job.TheVariants as job
 use Rattle.fop_types.specs.declared.jobs.SetReply.{SetReply}
 use Rattle.fop_types.specs.declared.store_ops.StoreOp.{StoreOp}
-use Rattle.mount_laws.specs.Effects.{DidNotFail, IsEarlier, AreEarlier, IsOwnPart, IsOwnJob, IsOwnEffect, EffectIsOwn, HasEffect, PartsInOrder, IsEntered, AreEntered, EnteredOnce, IsReplyTo, WasReplied, IsAt, IsJobOf, IsOfRun, OwnIsOfRun, BeganIsRun}
+use Rattle.mount_laws.specs.Effects.{DidNotFail, IsEarlier, AreEarlier, IsOwnPart, IsOwnJob, IsOwnEffect, EffectIsOwn, HasEffect, PartsInOrder, IsEntered, AreEntered, EnteredOnce, HasEntry, AdoptedIsEntered, IsReplyTo, WasReplied, IsAt, IsJobOf, IsOfRun, OwnIsOfRun, BeganIsRun}
 use Rattle.mount_laws.specs.Guards.{Allowed, IsReached, IsChange, IsReply, IsSettling, IsOpen, MayBeginChange, MayHandIn}
 use Rattle.mount_laws.specs.Guards.IsReply.{Shows, Enters, Fails, Opens}
 use Rattle.mount_laws.specs.Runs.{Run, Stage, Sight, first_course, begun, going_on, held_longer, released}
@@ -568,3 +568,56 @@ step_entered first m (Step.AnswersAbove c run answer) reached h a = a
 pub entered_once : (first : List (List ℕ)) (m : State) → IsReached first m → EnteredOnce m
 entered_once first _ (IsReached.Start planned) = record { as_many = refl; entered = λ index entry h. absurd cc; distinct = λ i j entry h. absurd cc; in_order = λ i j e f h. absurd cc }
 entered_once first _ (IsReached.Further old step reached allowed) = step_entered first old step reached allowed (entered_once first old reached)
+
+-- ---- the effects of adopted changes
+
+entry_still : (history : List Entry) (effect : Option Entry) (entry : Entry) → HasEntry history entry → HasEntry (history_with history effect) entry
+entry_still history None entry a = a
+entry_still history (Some one) entry a = record { index = a.index; at = get_front history one a.index (slice_get_within history a.index entry a.at) ∙ a.at }
+
+entry_new : (history : List Entry) (effect : Option Entry) (entry : Entry) → effect ≡ Some entry → HasEntry (history_with history effect) entry
+entry_new history None entry e = absurd cc
+entry_new history (Some one) entry e = let is : one ≡ entry = cc in record { index = length history; at = get_end history one ∙ ap (λ (x : Entry). Some x) is }
+
+now_entered : (m : State) (u : ℕ) → AdoptedIsEntered m → (w : ℕ) (entry : Entry) → (with_at m.changes u (record (m.changes u) { verdict = Adopted }) w).verdict ≡ Adopted
+    → (with_at m.changes u (record (m.changes u) { verdict = Adopted }) w).effect ≡ Some entry → HasEntry (history_with m.history (m.changes u).effect) entry
+now_entered m u a w entry =
+    at_case (λ i (one : Change). one.verdict ≡ Adopted → one.effect ≡ Some entry → HasEntry (history_with m.history (m.changes u).effect) entry) m.changes u (record (m.changes u) { verdict = Adopted })
+    (λ v e. entry_new m.history (m.changes u).effect entry e) w (λ differ v e. entry_still m.history (m.changes u).effect entry (a w entry v e))
+
+-- a change that is not adopted takes the place of one
+other_entered : (m : State) (u : ℕ) (new : Change) → (new.verdict ≡ Adopted → ⊥) → AdoptedIsEntered m → (w : ℕ) (entry : Entry) → (with_at m.changes u new w).verdict ≡ Adopted → (with_at m.changes u new w).effect ≡ Some entry → HasEntry m.history entry
+other_entered m u new unadopted a w entry =
+    at_case (λ i (one : Change). one.verdict ≡ Adopted → one.effect ≡ Some entry → HasEntry m.history entry) m.changes u new
+    (λ v e. absurd (unadopted v)) w (λ differ v e. a w entry v e)
+
+begun_unadopted : (c set : ℕ) (asked : Job) → IsChange asked → (change_by c set asked).verdict ≡ Adopted → ⊥
+begun_unadopted c set (job.Change cells fd o effect) is e = absurd cc
+begun_unadopted c set (job.Read cells fd dir) is e = absurd is
+begun_unadopted c set (job.Birth cells o) is e = absurd is
+begun_unadopted c set (job.Open fd gfid) is e = absurd is
+begun_unadopted c set job.Index is e = absurd is
+begun_unadopted c set (job.Heal cell) is e = absurd is
+
+step_adopted : (m : State) (step : Step) → Allowed m step → AdoptedIsEntered m → AdoptedIsEntered (after m step)
+step_adopted m (Step.Submits draws) h a = a
+step_adopted m (Step.Concludes c) h a = a
+step_adopted m (Step.Switches names) h a = a
+step_adopted m (Step.Begins c f kept) h a = a
+step_adopted m (Step.Settles t u true) h a = now_entered m u a
+step_adopted m (Step.Settles t u false) h a = other_entered m u (record (m.changes u) { verdict = Dropped }) (λ e. let clash : Dropped ≡ Adopted = e in absurd cc) a
+step_adopted m (Step.EndsSettling t) h a = a
+step_adopted m (Step.BeginsChange t u) h a = other_entered m u (change_by t.call t.set t.job) (begun_unadopted t.call t.set t.job h.is_change) a
+step_adopted m (Step.Decides t u) h a = now_entered m u a
+step_adopted m (Step.SendsBirths t) h a = a
+step_adopted m (Step.ConfirmsBirths t) h a = a
+step_adopted m (Step.HandsIn t shown) h a = a
+step_adopted m (Step.Extends c run dir next) h a = a
+step_adopted m (Step.Releases c run gfid) h a = a
+step_adopted m (Step.Learns c run dir spans) h a = a
+step_adopted m (Step.Answers c run answer place) h a = a
+step_adopted m (Step.AnswersAbove c run answer) h a = a
+
+pub adopted_is_entered : (first : List (List ℕ)) (m : State) → IsReached first m → AdoptedIsEntered m
+adopted_is_entered first _ (IsReached.Start planned) = λ u entry v. let clash : Undrawn ≡ Adopted = v in absurd cc
+adopted_is_entered first _ (IsReached.Further old step reached allowed) = step_adopted old step allowed (adopted_is_entered first old reached)

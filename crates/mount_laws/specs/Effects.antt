@@ -127,6 +127,14 @@ pub record AreEntered (changes : ℕ → Change) (ops : List FlatOp) (history : 
 abbrev pub EnteredOnce : State → Type 0
 EnteredOnce m = AreEntered m.changes m.ops m.history
 
+pub record HasEntry (history : List Entry) (entry : Entry) : Type 0 where
+  pub index : ℕ
+  pub at : slice_get history index ≡ Some entry
+
+-- the effect of each adopted change is an entry
+abbrev pub AdoptedIsEntered : State → Type 0
+AdoptedIsEntered m = (u : ℕ) (entry : Entry) → (m.changes u).verdict ≡ Adopted → (m.changes u).effect ≡ Some entry → HasEntry m.history entry
+
 -- ---- a fop under way beside a change of its call
 
 -- a reply of the change of this effect was handed in; if it was no I/O error, the change is adopted

@@ -68,6 +68,12 @@ IsOfCall (fop.Migrate fds) = ⊥
 IsOfCall (fop.Heal count) = ⊥
 IsOfCall other = Unit {0}
 
+-- a fop of the mount itself
+abbrev pub IsOfMount : Fop → Type 0
+IsOfMount (fop.Migrate fds) = Unit {0}
+IsOfMount (fop.Heal count) = Unit {0}
+IsOfMount other = ⊥
+
 -- one of the list is the object
 abbrev pub IsKnown : List Object → Object → Type 0
 IsKnown [] object = ⊥
@@ -107,10 +113,11 @@ IsWithout gfid asked = Each (λ (cell : Cell). cell.gfid ≢ gfid) (cells_of_job
 abbrev pub NeedsNoMore : Gfid → Handed → Course → Type 0
 NeedsNoMore gfid handed course = Always (λ (later : Handed) (set : ℕ) (asked : Job). IsWithout gfid asked) AnyHold AnyAnswer handed course
 
--- A fop may let go of an object that it needs no more, where no change of its call on the object is unsettled. A call's fop
--- keeps its holds until it is answered; a rebalance does not.
+-- A fop of the mount may let go of an object that it needs no more, where no change of its call on the object is unsettled. A
+-- call's fop keeps its holds until it is answered: else its answer would not be that of the files at the answer.
 pub record MayRelease (m : State) (c : ℕ) (run : Run) (gfid : Gfid) : Type 0 where
   pub runs : Runs m c run
+  pub of_mount : IsOfMount run.fop
   pub unneeded : NeedsNoMore gfid run.handed run.course
   pub settled : (u : ℕ) → (m.changes u).by ≡ c → (m.changes u).verdict ≡ Unsettled → Each (λ (cell : Cell). cell.gfid ≢ gfid) (m.changes u).cells
 

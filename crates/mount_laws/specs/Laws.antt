@@ -1,6 +1,6 @@
 -- What every state of the mount keeps that allowed steps lead to. Ours.
 use Rattle.std.specs.Prelude.{ℕ, List}
-use Rattle.mount_laws.specs.Effects.{EffectIsOwn, PartsInOrder, EnteredOnce}
+use Rattle.mount_laws.specs.Effects.{EffectIsOwn, PartsInOrder, EnteredOnce, AdoptedIsEntered}
 use Rattle.mount_laws.specs.Graphs.{BeyondOld, InItsGraph}
 use Rattle.mount_laws.specs.Guards.{IsReached}
 use Rattle.mount_laws.specs.Holding.{HoldsApart, HoldsOwn, JobAsked, HoldCovers}
@@ -42,6 +42,7 @@ pub record KeepsEffects (m : State) : Type 0 where
   pub own : EffectIsOwn m
   pub order : PartsInOrder m
   pub entered : EnteredOnce m
+  pub adopted : AdoptedIsEntered m
 
 pub record KeepsObjects (m : State) : Type 0 where
   pub drawn : DrawnApart m

@@ -13,7 +13,7 @@
 //! A fop is its course in `dht_fops`, and a set is what `afr_machine` promises of one: bricks, their locks and frames are
 //! not here. A change of a job that failed stays unsettled, until another job settles it, as adopted or as dropped. The
 //! crate has definitions and laws alone: each public function has no body, and its contract is a law of every state that
-//! allowed steps lead to. What is not proved yet is listed in OPEN.md.
+//! allowed steps lead to.
 #![tactic(auto)]
 
 mod states;

@@ -13,9 +13,9 @@ pub fn every_state_keeps_holds()
 /// The law of settled jobs, of every state that allowed steps lead to. After a job's settling, each unsettled
 /// change on its cells is its own call's, until the hold is released; until the job's own change begins, none is
 /// left at all. The change of a job is unsettled until that job decides it; while a fop is under way, no job of
-/// another call decides a change of its own. At most one unsettled change touches a cell of a set. From a job's
-/// asking to the end of its hold no change of another call becomes unsettled on its cells. To an object that a call
-/// holds no other call gives birth, but its own fop's new object.
+/// another call decides a change of its own. At most one unsettled change touches a cell of a set. From the
+/// asking of a read or a change to the end of its hold no change of another call becomes unsettled on its cells. To
+/// an object that a call holds no other call gives birth, but its own fop's new object.
 pub fn every_state_keeps_settled()
     ensures { EveryStateKeepsSettled }
 {}
@@ -38,9 +38,9 @@ pub fn every_state_keeps_graphs()
 {}
 
 /// The law of effects, of every state that allowed steps lead to. A change with an effect is an entry of its call,
-/// and its op is that part of the fop that the call began last; a change without one adds or drops a link. A call
-/// begins each part at most once, and the second after the first was adopted. The history has the effects of the
-/// adopted changes, each once and with its operation, and a call's parts in their order.
+/// and its op is that part of the fop that the call began last; a change without one adds a link or drops a name. A
+/// call begins each part at most once, and the second after the first was adopted. The history has the effects of the
+/// adopted changes and nothing else, each once and with its operation, and a call's parts come in their order.
 pub fn every_state_keeps_effects()
     ensures { EveryStateKeepsEffects }
 {}
