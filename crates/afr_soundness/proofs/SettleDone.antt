@@ -44,6 +44,7 @@ use Rattle.afr_soundness.proofs.Copied.Kept.{out_back}
 use Rattle.afr_soundness.proofs.Copied.Steps.{asked_now}
 use Rattle.afr_soundness.proofs.SettleLines.{settles_quietly}
 use Rattle.afr_soundness.proofs.SendMoves.{IsConfirmedNow, SendMove, send_moves}
+use Rattle.afr_soundness.proofs.States.{phase_stays}
 
 abbrev is_settling : Stage → Bool
 is_settling (Settling u group adopts) = true

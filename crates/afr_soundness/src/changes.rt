@@ -47,8 +47,8 @@ pub fn every_group_agrees()
 {}
 
 /// The law of posts, of every state that allowed steps lead to. While a transaction sends the posts of its change, it sends
-/// them to bricks alone that applied the change. While the change is unsettled, each brick that answered such a post with
-/// Done applied it, and its rows accuse on each of the change's cells every replica that has no op wind of the change which
+/// them to bricks alone that applied the change. While it does and the change is unsettled, each brick that answered such a
+/// post with Done applied it, and its rows accuse on each of the change's cells every replica that has no op wind of the change which
 /// ended with Done: from the moment at which it answered, and once the answer was handed in.
 pub fn every_post_done_accuses()
     ensures { EveryPostDoneAccuses }
