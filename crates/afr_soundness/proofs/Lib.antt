@@ -22,6 +22,9 @@ pub mod OwnFree
 pub mod CopyApart
 pub mod Whole
 pub mod Applied
-pub mod PostMoves
+pub mod Agreeing
+pub mod SendMoves
 pub mod Posted
+pub mod SettleLines
+pub mod SettleDone
 pub mod Guarded

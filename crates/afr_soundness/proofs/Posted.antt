@@ -55,7 +55,11 @@ use Rattle.afr_soundness.proofs.Copied.Kept.{out_back}
 use Rattle.afr_soundness.proofs.Copied.Steps.{asked_now}
 use Rattle.afr_soundness.proofs.CopyApart.Steps.{keeps_copies_apart}
 use Rattle.afr_soundness.proofs.Applied.{applied_holds}
-use Rattle.afr_soundness.proofs.PostMoves.{IsConfirmedNow, PostMove, post_moves, is_posting}
+use Rattle.afr_soundness.proofs.SendMoves.{IsConfirmedNow, SendMove, send_moves}
+
+abbrev is_posting : Stage → Bool
+is_posting (Posting u) = true
+is_posting other = false
 
 -- what a transaction that posts asks for is a post of its change
 record IsPostOf (u : ℕ) (ask : Ask) : Type 0 where
@@ -172,21 +176,52 @@ module _ (size : Size) (m : State) (r : IsReached size m) (step : Step) (allowed
   renewed t u k posts h = subst (λ cs. AccusesAll (after size m step) k cs (outside size (new.changes u).done)) (sym (cells_stay size m step allowed u (drawn t u posts)))
       (subst (λ (d : Replicas). AccusesAll (after size m step) k (m.changes u).cells (outside size d)) (sym (same_done t u posts)) h)
 
+  -- ---- the front of a line
+
+  pub front_numbered : (k : ℕ) (by : Sender) (ask : Ask) (rest : List Input) → (m.bricks k).line ≡ Asked by ask ∷ rest → IsNumbered m k by ask
+  front_numbered k by ask rest front = (subst (EachInput (IsNumbered m k)) front ((on_their_way size m r).numbered k).line).0
+
+  -- the front of the line is one of the requests on their way
+  module _ (k : ℕ) (by : Sender) (ask : Ask) (rest : List Input) (front : (m.bricks k).line ≡ Asked by ask ∷ rest) (current : is_current (m.links k by.graph) by.connection ≡ true) (used : (m.txns by.txn).out k ≡ false) where
+    abbrev mine : Sender → Bool
+    mine = is_mine by.txn (m.links k (m.txns by.txn).graph)
+
+    abbrev Phased : Ask → Type 0
+    Phased a = is_open_first a ≡ false → IsAskedBy size m.changes (m.txns by.txn).job (m.txns by.txn).stage k a
+
+    own : is_mine by.txn (m.links k (m.txns by.txn).graph) by ≡ true
+    own = both _ _ (eq-eqb by.txn by.txn refl) (ap (λ g. is_current (m.links k g) by.connection) (sym (front_numbered k by ask rest front).graph) ∙ current)
+
+    of_line : AllAsks Phased (in_line (is_mine by.txn (m.links k (m.txns by.txn).graph)) (m.bricks k).line)
+    of_line =
+        all_right Phased (in_locks mine (m.bricks k).waiting) (in_line mine (m.bricks k).line)
+        (all_right Phased (in_outputs mine (m.bricks k).outputs) (in_locks mine (m.bricks k).waiting ++ in_line mine (m.bricks k).line)
+        (subst (AllAsks Phased) (sym ((on_their_way size m r).known by.txn k)) (all_asked size m r by.txn k used)))
+
+    pub front_asked : is_open_first ask ≡ false → IsAskedBy size m.changes (m.txns by.txn).job (m.txns by.txn).stage k ask
+    front_asked plain = (subst (λ b. AllAsks Phased (if b then ask ∷ in_line mine rest else in_line mine rest)) own (subst (λ l. AllAsks Phased (in_line mine l)) front of_line)).0 plain
+
   module _ (was : PostDoneAccuses size m) where
     -- ---- whom posts go to
 
     posts_after : PostsGoToTheApplied new
-    posts_after t u k stage asks = by_move (post_moves size m step allowed t u stage) where
+    posts_after t u k stage asks = by_move (send_moves size m step allowed t (Posting u) refl stage) where
       by_waits : (m.txns t).stage ≡ Posting u → WaitsFrom size m step t k (new.txns t) → (m.changes u).done k ≡ true
       by_waits posts (Before w same on) = was.posts t u k posts (inr w)
       by_waits posts (WaitsFrom.Asked first ask step_is may same on) = was.posts t u k posts (inl (post_left t u posts k ask may))
 
-      by_move : PostMove size m step t u (new.txns t) → (new.changes u).done k ≡ true
-      by_move (PostMove.Keeps posts g) = done_grows u k (drawn t u posts) (by_ask asks) where
+      by_move : SendMove size m step t (Posting u) (new.txns t) → (new.changes u).done k ≡ true
+      by_move (SendMove.Keeps posts g) = done_grows u k (drawn t u posts) (by_ask asks) where
         by_ask : ((new.txns t).left k ≡ true) ⊎ ((new.txns t).waits k ≡ true) → (m.changes u).done k ≡ true
         by_ask (inl left) = was.posts t u k posts (inl (g.left k left))
         by_ask (inr waits) = by_waits posts (waits_from size m (waits_fit size m r) step allowed t k waits)
-      by_move (PostMove.Posts step_is h at is) = by_ask asks where
+      by_move (SendMove.Settles group adopts step_is h at is) = absurd (let e : Posting u ≡ Settling h.change group adopts = at in cc)
+      by_move (SendMove.Posts step_is h stage_is is) = by_ask asks where
+        at : u ≡ h.change
+        at = same_change h.change stage_is where
+          same_change : (v : ℕ) → Posting u ≡ Posting v → u ≡ v
+          same_change v e = cc
+
         low : h.change ≤ m.drawn
         low = subst (λ s. change_in s ≤ m.drawn) h.turn ((changes_are_drawn size m r).names t).stage
 
@@ -207,29 +242,6 @@ module _ (size : Size) (m : State) (r : IsReached size m) (step : Step) (allowed
         renewed by.txn u k posts (accuses_stay u k before_then (was.posts by.txn u k posts (inr a.waits)) (outside size (m.changes u).done) (h done current_then posts used_then before_then))
     shows_on k by other answer reply h done = tt
 
-    front_numbered : (k : ℕ) (by : Sender) (ask : Ask) (rest : List Input) → (m.bricks k).line ≡ Asked by ask ∷ rest → IsNumbered m k by ask
-    front_numbered k by ask rest front = (subst (EachInput (IsNumbered m k)) front ((on_their_way size m r).numbered k).line).0
-
-    -- the front of the line is one of the requests on their way
-    module _ (k : ℕ) (by : Sender) (ask : Ask) (rest : List Input) (front : (m.bricks k).line ≡ Asked by ask ∷ rest) (current : is_current (m.links k by.graph) by.connection ≡ true) (used : (m.txns by.txn).out k ≡ false) where
-      abbrev mine : Sender → Bool
-      mine = is_mine by.txn (m.links k (m.txns by.txn).graph)
-
-      abbrev Phased : Ask → Type 0
-      Phased a = is_open_first a ≡ false → IsAskedBy size m.changes (m.txns by.txn).job (m.txns by.txn).stage k a
-
-      own : is_mine by.txn (m.links k (m.txns by.txn).graph) by ≡ true
-      own = both _ _ (eq-eqb by.txn by.txn refl) (ap (λ g. is_current (m.links k g) by.connection) (sym (front_numbered k by ask rest front).graph) ∙ current)
-
-      of_line : AllAsks Phased (in_line (is_mine by.txn (m.links k (m.txns by.txn).graph)) (m.bricks k).line)
-      of_line =
-          all_right Phased (in_locks mine (m.bricks k).waiting) (in_line mine (m.bricks k).line)
-          (all_right Phased (in_outputs mine (m.bricks k).outputs) (in_locks mine (m.bricks k).waiting ++ in_line mine (m.bricks k).line)
-          (subst (AllAsks Phased) (sym ((on_their_way size m r).known by.txn k)) (all_asked size m r by.txn k used)))
-
-      front_asked : is_open_first ask ≡ false → IsAskedBy size m.changes (m.txns by.txn).job (m.txns by.txn).stage k ask
-      front_asked plain = (subst (λ b. AllAsks Phased (if b then ask ∷ in_line mine rest else in_line mine rest)) own (subst (λ l. AllAsks Phased (in_line mine l)) front of_line)).0 plain
-
     -- a post that is served now
     shows_now : (k : ℕ) (by : Sender) (ask : Ask) (rest : List Input) → (m.bricks k).line ≡ Asked by ask ∷ rest → (new.bricks k).store ≡ stored_by ask (m.bricks k).store → ShowsPosted size new k by ask
     shows_now k by (Post u cells accused) rest front stored = λ current stage used unsettled.
@@ -238,11 +250,11 @@ module _ (size : Size) (m : State) (r : IsReached size m) (step : Step) (allowed
         let used_then = out_back size m r step allowed by.txn number.begun k used in
         let a = front_asked k by (Post u cells accused) rest front current_then used_then refl in
         renewed by.txn u k a.0 (accuses_now k u cells accused stored a.1.0 a.1.1) where
-          accuses_now : (k u : ℕ) (cells : List Cell) (accused : Replicas) → (new.bricks k).store ≡ stored_by (Post u cells accused) (m.bricks k).store → cells ≡ (m.changes u).cells → accused ≡ outside size (m.changes u).done → AccusesAll new k (m.changes u).cells (outside size (m.changes u).done)
-          accuses_now k u cells accused stored cells_are accused_are cell i has in_it =
-              ap (λ (st : Store). accuses_at st cell i) stored ∙ accusers_follow (Post u cells accused) (m.bricks k).store cell i
-              ∙ or_left (has_cell cells cell && accused i) (accuses_at (m.bricks k).store cell i && not false)
-              (both (has_cell cells cell) (accused i) (ap (λ cs. has_cell cs cell) cells_are ∙ has) (ap (λ (f : Replicas). f i) accused_are ∙ in_it))
+      accuses_now : (k u : ℕ) (cells : List Cell) (accused : Replicas) → (new.bricks k).store ≡ stored_by (Post u cells accused) (m.bricks k).store → cells ≡ (m.changes u).cells → accused ≡ outside size (m.changes u).done → AccusesAll new k (m.changes u).cells (outside size (m.changes u).done)
+      accuses_now k u cells accused stored cells_are accused_are cell i has in_it =
+          ap (λ (st : Store). accuses_at st cell i) stored ∙ accusers_follow (Post u cells accused) (m.bricks k).store cell i
+          ∙ or_left (has_cell cells cell && accused i) (accuses_at (m.bricks k).store cell i && not false)
+          (both (has_cell cells cell) (accused i) (ap (λ cs. has_cell cs cell) cells_are ∙ has) (ap (λ (f : Replicas). f i) accused_are ∙ in_it))
     shows_now k by other rest front stored = tt
 
     otherwise : (k : ℕ) → HoldsOtherwise (λ by ask answer. answer ≡ Done → ShowsPosted size (after size m step) k by ask)
@@ -289,10 +301,11 @@ module _ (size : Size) (m : State) (r : IsReached size m) (step : Step) (allowed
           let s : ShowsPosted size m k c.by (Post u p.cells p.accused) = subst (ShowsPosted size m k c.by) p.is (shown done) in
           (was.posts t u k posts (inr (ap (λ i. (m.txns i).waits k) (sym c.txn) ∙ waits)), s c.handed.current posts_by used unsettled)
 
-    confirmed_after : (t u k : ℕ) → (new.txns t).stage ≡ Posting u → is_unsettled (new.changes u).verdict ≡ true → (new.txns t).confirmed k ≡ true → PostMove size m step t u (new.txns t) →
+    confirmed_after : (t u k : ℕ) → (new.txns t).stage ≡ Posting u → is_unsettled (new.changes u).verdict ≡ true → (new.txns t).confirmed k ≡ true → SendMove size m step t (Posting u) (new.txns t) →
         ((new.changes u).done k ≡ true) × AccusesAll new k (new.changes u).cells (outside size (new.changes u).done)
-    confirmed_after t u k stage unsettled confirmed (PostMove.Posts step_is h at is) = absurd (let e : false ≡ true = sym (ap (λ (z : Txn). z.confirmed k) is) ∙ confirmed in cc)
-    confirmed_after t u k stage unsettled confirmed (PostMove.Keeps posts g) = by_case (g.confirmed k confirmed) where
+    confirmed_after t u k stage unsettled confirmed (SendMove.Settles group adopts step_is h at is) = absurd (let e : Posting u ≡ Settling h.change group adopts = at in cc)
+    confirmed_after t u k stage unsettled confirmed (SendMove.Posts step_is h at is) = absurd (let e : false ≡ true = sym (ap (λ (z : Txn). z.confirmed k) is) ∙ confirmed in cc)
+    confirmed_after t u k stage unsettled confirmed (SendMove.Keeps posts g) = by_case (g.confirmed k confirmed) where
       then_on : ((m.changes u).done k ≡ true) × AccusesAll m k (m.changes u).cells (outside size (m.changes u).done) → ((new.changes u).done k ≡ true) × AccusesAll new k (new.changes u).cells (outside size (new.changes u).done)
       then_on h = (done_grows u k (drawn t u posts) h.0, renewed t u k posts (accuses_stay u k (before t u posts unsettled) h.0 (outside size (m.changes u).done) h.1))
 
@@ -311,5 +324,5 @@ post_done_accuses size m IsReached.Start = record {
 post_done_accuses size m (IsReached.Further old step reached allowed) = record {
   posts = posts_after size old reached step allowed (post_done_accuses size old reached);
   replies = replies_after size old reached step allowed (post_done_accuses size old reached);
-  confirmed = λ t u k stage unsettled confirmed. confirmed_after size old reached step allowed (post_done_accuses size old reached) t u k stage unsettled confirmed (post_moves size old step allowed t u stage);
+  confirmed = λ t u k stage unsettled confirmed. confirmed_after size old reached step allowed (post_done_accuses size old reached) t u k stage unsettled confirmed (send_moves size old step allowed t (Posting u) refl stage);
 }

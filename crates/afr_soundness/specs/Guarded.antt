@@ -1,5 +1,5 @@
 -- Whatever the steps, somebody is free: on each cell that is present on a brick, and on all cells of an unsettled change
--- together. So whoever reaches all replicas finds a sound one. Ours.
+-- together. Ours.
 use Rattle.std.specs.Prelude.{◌≡◌, ◌<◌, ℕ, true, List, [], ◌∷◌}
 use Rattle.fop_types.specs.declared.cells.Cell.{Cell}
 use Rattle.afr_machine.specs.Replicas.{Size, IsSize}

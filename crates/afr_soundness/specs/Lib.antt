@@ -15,4 +15,6 @@ pub mod Later
 pub mod Guarded
 pub mod CopyApart
 pub mod Applied
+pub mod Agreeing
 pub mod Posted
+pub mod SettleDone

@@ -2,7 +2,9 @@ ghost use Rattle.afr_soundness.specs.Unsettled.{EveryUnsettledIsAlone};
 ghost use Rattle.afr_soundness.specs.Later.{EveryUnsettledHasFree};
 ghost use Rattle.afr_soundness.specs.Guarded.{EveryStateLeavesOneFree};
 ghost use Rattle.afr_soundness.specs.Applied.{EveryAppliedHolds};
+ghost use Rattle.afr_soundness.specs.Agreeing.{EveryGroupAgrees};
 ghost use Rattle.afr_soundness.specs.Posted.{EveryPostDoneAccuses};
+ghost use Rattle.afr_soundness.specs.SettleDone.{EverySettleDoneAccuses};
 
 /// The law of unsettled changes, of every state that allowed steps lead to. No two of them have a cell in common. While a
 /// read or change runs and its settling has ended, no unsettled change but its own touches the cells of its job. A change
@@ -36,10 +38,27 @@ pub fn every_applied_holds()
     ensures { EveryAppliedHolds }
 {}
 
+/// The law of groups that agree, of every state that allowed steps lead to. While an unsettled change is settled, from the end of
+/// the lock phase on, each brick that this phase reached has the change in its copy of a cell exactly where the row of that
+/// copy said so, also where its grant has ended since, and no op of the change is on its way there. So each replica of the
+/// settling's group has the change in all of its cells where the verdict adopts it, and in none where it does not.
+pub fn every_group_agrees()
+    ensures { EveryGroupAgrees }
+{}
+
 /// The law of posts, of every state that allowed steps lead to. While a transaction sends the posts of its change, it sends
-/// them to bricks alone that applied the change. While the change is unsettled, each brick that answered such a post with
-/// Done applied it, and its rows accuse on each of the change's cells every replica that has no op wind of the change which
+/// them to bricks alone that applied the change. While it does and the change is unsettled, each brick that answered such a
+/// post with Done applied it, and its rows accuse on each of the change's cells every replica that has no op wind of the change which
 /// ended with Done: from the moment at which it answered, and once the answer was handed in.
 pub fn every_post_done_accuses()
     ensures { EveryPostDoneAccuses }
+{}
+
+/// The law of settles, of every state that allowed steps lead to. While an unsettled change is settled, from the end of the
+/// lock phase on, lock phases over one of its cells that end later see it unsettled, and no clear over one of its cells is on
+/// its way to a brick that the lock phase reached. So while the change is unsettled, each brick that answered a settle with
+/// Done was reached, and its rows accuse on each of the change's cells every replica outside the group: from the moment at
+/// which it answered, and once the answer was handed in.
+pub fn every_settle_done_accuses()
+    ensures { EverySettleDoneAccuses }
 {}

@@ -22,9 +22,9 @@ pub fn every_replaced_has_copy()
 {}
 
 /// The law of copies that stand, of every state that allowed steps lead to. While a transaction copies, uses a brick still,
-/// and has its grant there on the connection that is open: what it fetched of a cell is the copy, with the last change,
-/// that the source has; the sink's is the same once it confirmed its replacement. So it is from the moment at which the
-/// brick answered.
+/// and has its grant there on the connection that is open: where the brick is the copy's only source so placed, what was
+/// fetched of a cell is the copy, with the last change, that it has; a sink's is what was fetched once it confirmed its
+/// replacement. So it is from the moment at which the brick answered.
 pub fn every_copy_stands()
     ensures { EveryCopyStands }
 {}
@@ -33,7 +33,7 @@ pub fn every_copy_stands()
 /// clear with Done, on the open connection, accuses none of those that the clear named in its rows of the clear's cells,
 /// while the lock phase of the clear and all later ones over the cell that wrote spare them. From the moment at which the
 /// answer was handed in it does not accuse a sink whose copy the clear confirmed, in its rows or by what is in its line. So
-/// a replica that received a copy, a quorum with itself having confirmed the clear, has that copy and does not accuse
+/// a replica that received a copy, a quorum with itself having confirmed the clear, has a copy and does not accuse
 /// itself, and fewer than a quorum of all accuse it.
 pub fn every_copied_is_free()
     ensures { EveryCopiedIsFree }
@@ -41,8 +41,7 @@ pub fn every_copied_is_free()
 
 /// The law of copies and unsettled changes, of every state that allowed steps lead to. An unsettled change is at bricks alone
 /// that the lock phase reached which marked it: in no copy of another brick, and no op of it on its way there. A later lock
-/// phase over one of its cells that saw no unsettled change when it ended, or settles another change, reached no brick where
-/// it is. What was fetched for a copy, and each replacement on its way, carries no unsettled change; and none that touches a
+/// phase over one of its cells that saw no unsettled change when it ended reached no brick where it is. What was fetched for a copy, and each replacement on its way, carries no unsettled change; and none that touches a
 /// cell of the copy is at a brick which the copy's lock phase reached and whose grant is on the connection that is open, nor
 /// at one to which a replacement or a clear over the cell is on its way.
 pub fn every_copy_is_apart()

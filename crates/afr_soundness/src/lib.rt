@@ -22,8 +22,8 @@ mod copies;
 mod phases;
 
 pub use changes::{
-    every_applied_holds, every_post_done_accuses, every_state_leaves_one_free,
-    every_unsettled_has_free, every_unsettled_is_alone,
+    every_applied_holds, every_group_agrees, every_post_done_accuses, every_settle_done_accuses,
+    every_state_leaves_one_free, every_unsettled_has_free, every_unsettled_is_alone,
 };
 pub use copies::{
     every_copied_is_free, every_copy_is_apart, every_copy_knows_its_sources, every_copy_stands,

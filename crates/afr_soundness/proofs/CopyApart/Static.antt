@@ -103,6 +103,10 @@ module _ (size : Size) (m : State) (r : IsReached size m) (t u : ℕ) (run : Cop
   by_work (Settles v) None work group h = absurd h
   by_work (Settles v) (Some g) work group h = inr (settles_other v g work (phase_of m t).decides h)
 
+  -- its lock phase comes before an unsettled change of one of its cells
+  pub comes_before : ComesBefore (phase_of m t) u
+  comes_before = by_work (m.txns t).work run.group refl refl decides
+
   module _ (within : StaysWithin m) (overtaken : OvertakenAreWithout m) (k : ℕ) (reached : (phase_of m t).reached k ≡ true) (granted : open_grants m t k ≡ true) where
     shared : share (phase_of m t).cells (m.changes u).cells ≡ true
     shared = share_at (phase_of m t).cells (m.changes u).cells cell covers touches
@@ -123,7 +127,7 @@ module _ (size : Size) (m : State) (r : IsReached size m) (t u : ℕ) (run : Cop
       by_order (inl after) other = later after
       by_order (inr before) (inl same) = absurd (not_marking (m.txns t).work run.group decides (subst (λ p. (m.phases p).decides ≡ ByPosts u) same marked.decides))
       by_order (inr before) (inr other) =
-          overtaken marked.phase (m.txns t).phase u k unsettled marked.one marked.decides (omega (arith, before, other)) (phases_are_known size m r t).low shared (by_work (m.txns t).work run.group refl refl decides) reached
+          overtaken marked.phase (m.txns t).phase u k unsettled marked.one marked.decides (omega (arith, before, other)) (phases_are_known size m r t).low shared comes_before reached
 
 pub copies_apart : (size : Size) (m : State) → IsReached size m → StaysWithin m → OvertakenAreWithout m → CopyApartFromUnsettled m
 copies_apart size m r within overtaken = λ t u k run cell copies of_run unsettled touches reached granted. without size m r t u run copies cell of_run unsettled touches within overtaken k reached granted

@@ -19,7 +19,7 @@ use Rattle.afr_machine.specs.States.{State, is_current, phase_of}
 use Rattle.afr_machine.specs.Births.{cells_of_work}
 use Rattle.afr_machine.specs.Sending.{MayAsk, IsMember, asks_of, inputs_of, sender_of}
 use Rattle.afr_machine.specs.Answering.{is_single}
-use Rattle.afr_machine.specs.Turns.{MaySettleNow, open_grants, cells_locked}
+use Rattle.afr_machine.specs.Turns.{MaySettleNow, open_grants, cells_locked, phase_reached}
 use Rattle.afr_machine.specs.Steps.{Step, MayUnsettle, Allowed, after, IsReached}
 use Rattle.afr_machine.specs.Moves.{IsTaken}
 use Rattle.afr_machine.proofs.BrickMoves.{bricks_move}
@@ -266,40 +266,38 @@ module _ (size : Size) (m : State) (r : IsReached size m) (step : Step) (allowed
         let out : (m.phases q).reached k ≡ false = sym (ap (λ (f : Replicas). f k) (goes.reached q old.0)) ∙ none in
         stays_without replaces u before k (outside_unsent q u k one old.0 old.1 out) (was q u k before one old.0 old.1 out)
 
-  overtaken_after : OvertakenAreWithout m → CopyAsksApart m → OvertakenAreWithout new
-  overtaken_after was replaces q p u k unsettled one decides after low shared comes reached = by_case (unsettled_from size m r step allowed u unsettled) (phase_from size m step allowed p low) where
-    by_case : UnsettledFrom size m r step allowed u → PhaseFrom size m new p → IsWithout new u k
-    by_case (UnsettledFrom.Becomes t step_is h at) from = nowhere t u step_is h at k
-    by_case (UnsettledFrom.Was before) (Now t may at is bricks) = absurd (comes_now comes) where
-      -- where it saw no unsettled change, there was none
-      none_seen : (b : Bool) → not b ≡ true → b ≡ false
-      none_seen true e = absurd (let no : false ≡ true = e in cc)
-      none_seen false e = refl
+  -- a lock phase that comes before an unsettled change did so already: it did not end now
+  module _ (u p : ℕ) (before : is_unsettled (m.changes u).verdict ≡ true) (shared : share (new.phases p).cells (new.changes u).cells ≡ true) where
+    same_cells : (new.changes u).cells ≡ (m.changes u).cells
+    same_cells = cells_stay size m step allowed u (drawn_from size m r step allowed u (UnsettledFrom.Was before))
 
-      shared_then : share (m.changes u).cells (cells_locked (m.txns t).stage) ≡ true
-      shared_then = share_sym (m.changes u).cells (cells_locked (m.txns t).stage) ∙ ap (share (cells_locked (m.txns t).stage)) (sym (cells_stay size m step allowed u (drawn_then replaces u before))) ∙ sym (ap (λ (x : Phase). share x.cells (new.changes u).cells) is) ∙ shared
+    pub record CameBefore : Type 0 where
+      pub low : p ≤ m.ended
+      pub comes : ComesBefore (m.phases p) u
+      pub common : share (m.phases p).cells (m.changes u).cells ≡ true
 
-      settles_none : (decides1 : Deciding) → decides1 ≡ NoChange → SettlesOther u decides1 → ⊥
-      settles_none NoChange e h = h
-      settles_none (ByPosts v) e h = h
-      settles_none (BySettles v group adopts) e h = absurd (let no : BySettles v group adopts ≡ NoChange = e in cc)
+    none_seen : (b : Bool) → not b ≡ true → b ≡ false
+    none_seen true e = absurd (let no : false ≡ true = e in cc)
+    none_seen false e = refl
 
-      comes_now : ComesBefore (new.phases p) u → ⊥
-      comes_now (inl untouched) = none_shares size m r (cells_locked (m.txns t).stage) (none_seen (any_touches m.changes m.drawn (cells_locked (m.txns t).stage)) (sym (ap (λ (x : Phase). x.untouched) is) ∙ untouched)) u before shared_then
-      comes_now (inr other) = settles_none (new.phases p).decides (ap (λ (x : Phase). x.decides) is) other
-    by_case (UnsettledFrom.Was before) (Old low_p) = by_old (comes_then (phase_moves size m step allowed p)) where
-      old : (q ≤ m.ended) × ((m.phases q).decides ≡ ByPosts u)
-      old = marked_back q u (drawn_then replaces u before) decides (PhaseFrom.Old (omega (arith, after, low_p)))
+    settles_none : (decides : Deciding) → decides ≡ NoChange → SettlesOther u decides → ⊥
+    settles_none NoChange e h = h
+    settles_none (ByPosts v) e h = h
+    settles_none (BySettles v group adopts) e h = absurd (let no : BySettles v group adopts ≡ NoChange = e in cc)
 
+    -- where it saw no unsettled change, there was none
+    not_now : (t : ℕ) → new.phases p ≡ phase_reached m t → ComesBefore (new.phases p) u → ⊥
+    not_now t is (inl untouched) = none_shares size m r (cells_locked (m.txns t).stage) (none_seen (any_touches m.changes m.drawn (cells_locked (m.txns t).stage)) (sym (ap (λ (x : Phase). x.untouched) is) ∙ untouched)) u before
+        (share_sym (m.changes u).cells (cells_locked (m.txns t).stage) ∙ ap (share (cells_locked (m.txns t).stage)) (sym same_cells) ∙ sym (ap (λ (x : Phase). share x.cells (new.changes u).cells) is) ∙ shared)
+    not_now t is (inr other) = settles_none (new.phases p).decides (ap (λ (x : Phase). x.decides) is) other
+
+    module _ (low : p ≤ m.ended) where
       shared_then : share (m.phases p).cells (m.changes u).cells ≡ true
-      shared_then = sym (ap (λ cs. share cs (new.changes u).cells) (goes.cells p low_p) ∙ ap (share (m.phases p).cells) (cells_stay size m step allowed u (drawn_then replaces u before))) ∙ shared
-
-      reached_then : (m.phases p).reached k ≡ true
-      reached_then = sym (ap (λ (f : Replicas). f k) (goes.reached p low_p)) ∙ reached
+      shared_then = sym (ap (λ cs. share cs (new.changes u).cells) (goes.cells p low) ∙ ap (share (m.phases p).cells) same_cells) ∙ shared
 
       same : (x : Phase) → new.phases p ≡ x → x.untouched ≡ (m.phases p).untouched → x.decides ≡ (m.phases p).decides → ComesBefore (new.phases p) u → ComesBefore (m.phases p) u
-      same x is untouched decided (inl h1) = inl (sym (ap (λ (y : Phase). y.untouched) is ∙ untouched) ∙ h1)
-      same x is untouched decided (inr h1) = inr (subst (SettlesOther u) (ap (λ (y : Phase). y.decides) is ∙ decided) h1)
+      same x is untouched decided (inl h) = inl (sym (ap (λ (y : Phase). y.untouched) is ∙ untouched) ∙ h)
+      same x is untouched decided (inr h) = inr (subst (SettlesOther u) (ap (λ (y : Phase). y.decides) is ∙ decided) h)
 
       -- a change that is settled now is unsettled, and has no cell in common with another
       settles : (t : ℕ) (group : Replicas) (adopts : Bool) (h : MaySettleNow size m t group adopts) → p ≡ (m.txns t).phase → (h.change ≢ u) → ⊥
@@ -307,24 +305,33 @@ module _ (size : Size) (m : State) (r : IsReached size m) (step : Step) (allowed
           let cells : (m.phases p).cells ≡ (m.changes h.change).cells = ap (λ n. (m.phases n).cells) at ∙ (phases_are_known size m r t).cells (ap is_behind h.turn) ∙ ap (cells_of_work m.changes (m.txns t)) h.work_is in
           other (one_unsettled size m r h.change u h.is_unsettled before (sym (ap (λ cs. share cs (m.changes u).cells) cells) ∙ shared_then))
 
-      comes_then : PhaseMove size m step p (new.phases p) → ComesBefore (m.phases p) u
-      comes_then (PhaseMove.Same is) = same _ is refl refl comes
-      comes_then (PhaseMove.Reaches t step_is may at is) = absurd (omega (arith, at, low_p))
-      comes_then (PhaseMove.Marks t step_is may at is) = marks comes where
-        marks : ComesBefore (new.phases p) u → ComesBefore (m.phases p) u
-        marks (inl h) = inl (sym (ap (λ (y : Phase). y.untouched) is) ∙ h)
-        marks (inr h) = absurd (subst (SettlesOther u) (ap (λ (y : Phase). y.decides) is) h)
-      comes_then (PhaseMove.Posts t step_is may at is) = same _ is refl refl comes
-      comes_then (PhaseMove.SettlesAs t group adopts step_is may at is) = by_comes comes where
-        by_comes : ComesBefore (new.phases p) u → ComesBefore (m.phases p) u
-        by_comes (inl h) = inl (sym (ap (λ (y : Phase). y.untouched) is) ∙ h)
-        by_comes (inr h) = absurd (settles t group adopts may at (subst (SettlesOther u) (ap (λ (y : Phase). y.decides) is) h))
-      comes_then (PhaseMove.Asks t j first ask step_is may w at is) = same _ is refl refl comes
-      comes_then (PhaseMove.Clears j by cells who answer run step_is handed stage at is) = same _ is refl refl comes
-      comes_then (PhaseMove.Confirms j by ask answer step_is handed at is) = same _ is refl refl comes
+      marks : (x : Phase) → new.phases p ≡ x → x.untouched ≡ (m.phases p).untouched → (SettlesOther u x.decides → ⊥) → ComesBefore (new.phases p) u → ComesBefore (m.phases p) u
+      marks x is untouched none (inl h) = inl (sym (ap (λ (y : Phase). y.untouched) is ∙ untouched) ∙ h)
+      marks x is untouched none (inr h) = absurd (none (subst (SettlesOther u) (ap (λ (y : Phase). y.decides) is) h))
 
-      by_old : ComesBefore (m.phases p) u → IsWithout new u k
-      by_old before_then = stays_without replaces u before k (overtaken_unsent q u k one old.0 old.1 p after low_p shared_then reached_then) (was q p u k before one old.1 after low_p shared_then before_then reached_then)
+      comes_then : ComesBefore (new.phases p) u → PhaseMove size m step p (new.phases p) → ComesBefore (m.phases p) u
+      comes_then comes (PhaseMove.Same is) = same _ is refl refl comes
+      comes_then comes (PhaseMove.Reaches t step_is may at is) = absurd (omega (arith, at, low))
+      comes_then comes (PhaseMove.Marks t step_is may at is) = marks _ is refl (λ h. h) comes
+      comes_then comes (PhaseMove.Posts t step_is may at is) = same _ is refl refl comes
+      comes_then comes (PhaseMove.SettlesAs t group adopts step_is may at is) = marks _ is refl (settles t group adopts may at) comes
+      comes_then comes (PhaseMove.Asks t j first ask step_is may w at is) = same _ is refl refl comes
+      comes_then comes (PhaseMove.Clears j by cells who answer run step_is handed stage at is) = same _ is refl refl comes
+      comes_then comes (PhaseMove.Confirms j by ask answer step_is handed at is) = same _ is refl refl comes
+
+    pub comes_back : ComesBefore (new.phases p) u → PhaseFrom size m new p → CameBefore
+    comes_back comes (Now t may at is bricks) = absurd (not_now t is comes)
+    comes_back comes (Old low) = record { low = low; comes = comes_then low comes (phase_moves size m step allowed p); common = shared_then low }
+
+  overtaken_after : OvertakenAreWithout m → CopyAsksApart m → OvertakenAreWithout new
+  overtaken_after was replaces q p u k unsettled one decides after low shared comes reached = by_case (unsettled_from size m r step allowed u unsettled) where
+    by_case : UnsettledFrom size m r step allowed u → IsWithout new u k
+    by_case (UnsettledFrom.Becomes t step_is h at) = nowhere t u step_is h at k
+    by_case (UnsettledFrom.Was before) =
+        let c = comes_back u p before shared comes (phase_from size m step allowed p low) in
+        let old = marked_back q u (drawn_then replaces u before) decides (PhaseFrom.Old (omega (arith, after, c.low))) in
+        let reached_then : (m.phases p).reached k ≡ true = sym (ap (λ (f : Replicas). f k) (goes.reached p c.low)) ∙ reached in
+        stays_without replaces u before k (overtaken_unsent q u k one old.0 old.1 p after c.low c.common reached_then) (was q p u k before one old.1 after c.low c.common c.comes reached_then)
 
   -- ---- replacements on their way
 
@@ -371,7 +378,7 @@ module _ (size : Size) (m : State) (r : IsReached size m) (step : Step) (allowed
           let has_then = cells_then replaces u before cell has in (
             fetched t u may.run cell found may.turn may.fetched before has_then,
             stays_without replaces u before k (λ s. absurd (let e : Step.Asks t k first (Replace cell found) ≡ Step.Asks s.txn k s.first (Op u s.op) = sym is ∙ s.is in cc))
-                (apart t u k may.run cell may.turn may.of_run before has_then may.member.reached (opens m t k (record { grant = may.member.grant.grant; granted = may.member.grant.granted; current = may.member.grant.still_open }))),
+            (apart t u k may.run cell may.turn may.of_run before has_then may.member.reached (opens m t k (record { grant = may.member.grant.grant; granted = may.member.grant.granted; current = may.member.grant.still_open }))),
           )
     sent_apart t first (Clear cells who) is may = λ u cell unsettled has touches. by_case u cell has touches (unsettled_from size m r step allowed u unsettled) where
       by_case : (u : ℕ) (cell : Cell) → has_cell cells cell ≡ true → has_cell (new.changes u).cells cell ≡ true → UnsettledFrom size m r step allowed u → IsWithout new u k

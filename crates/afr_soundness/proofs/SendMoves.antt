@@ -1,4 +1,4 @@
--- What a step makes of a transaction that sends posts: it begins to, or goes on, and one more brick may have confirmed.
+-- What a step makes of a transaction that sends posts or settles: it begins to, or goes on, and one more brick may have confirmed.
 use Rattle.std.proofs.Common.{◌≡◌, ◌∙◌, ℕ, ◌+◌, Bool, true, false, refl, sym, ap, subst, ◌⊎◌, inl, inr}
 use Rattle.std.specs.Prelude.{if◌then◌else◌, List, [], ◌∷◌, ◌||◌, ◌==◌, not}
 use Rattle.fop_types.specs.declared.cells.Cell.{Cell}
@@ -14,7 +14,7 @@ use Rattle.afr_machine.specs.Transactions.Stage.{Over, Locking, Locked, Marking,
 use Rattle.afr_machine.specs.States.{State, is_current}
 use Rattle.afr_machine.specs.Sending.{asking}
 use Rattle.afr_machine.specs.Answering.{is_wanted, passed, missing, confirming, granting, having, fetching, replacing, taking, awaits, at_rest, forgetting, replied, taken_in, without_first_output}
-use Rattle.afr_machine.specs.Turns.{Turn, MayTurn, MayPostNow, entering, members, open_grants, after_turn, locking_for, skipping, resting, drawing, posting, settling, bearing, clearing}
+use Rattle.afr_machine.specs.Turns.{Turn, MayTurn, MayPostNow, MaySettleNow, entering, members, open_grants, after_turn, locking_for, skipping, resting, drawing, posting, settling, bearing, clearing}
 use Rattle.afr_machine.specs.Steps.{Step, Allowed, after, take_in_front, unsettling, decided, decided_by}
 use Rattle.afr_laws.proofs.Carry.{at_case}
 use Rattle.afr_laws.proofs.EachTxn.{forgotten}
@@ -34,35 +34,38 @@ pub record IsConfirmedNow (m : State) (step : Step) (t k : ℕ) : Type 0 where
   pub txn : by.txn ≡ t
 
 -- of its bricks no more are left to be sent to, and each that confirmed did before or does now
-pub record GoesOnPosting (m : State) (step : Step) (t : ℕ) (y : Txn) : Type 0 where
+pub record GoesOnSending (m : State) (step : Step) (t : ℕ) (y : Txn) : Type 0 where
   pub left : (k : ℕ) → y.left k ≡ true → (m.txns t).left k ≡ true
   pub confirmed : (k : ℕ) → y.confirmed k ≡ true → ((m.txns t).confirmed k ≡ true) ⊎ IsConfirmedNow m step t k
 
-pub data PostMove (size : Size) (m : State) (step : Step) (t u : ℕ) (y : Txn) : Type 0 where
-  Keeps : (m.txns t).stage ≡ Posting u → GoesOnPosting m step t y → PostMove size m step t u y
-  Posts : step ≡ Step.Turns t Turn.Posts → (h : MayPostNow size m t) → u ≡ h.change → y ≡ entering (m.txns t) (Posting h.change) (m.changes h.change).done → PostMove size m step t u y
+pub data SendMove (size : Size) (m : State) (step : Step) (t : ℕ) (stage : Stage) (y : Txn) : Type 0 where
+  Keeps : (m.txns t).stage ≡ stage → GoesOnSending m step t y → SendMove size m step t stage y
+  Posts : step ≡ Step.Turns t Turn.Posts → (h : MayPostNow size m t) → stage ≡ Posting h.change → y ≡ entering (m.txns t) (Posting h.change) (m.changes h.change).done → SendMove size m step t stage y
+  Settles : (group : Replicas) → (adopts : Bool) → step ≡ Step.Turns t (Turn.SettlesAs group adopts) → (h : MaySettleNow size m t group adopts) → stage ≡ Settling h.change group adopts → y ≡ entering (m.txns t) (Settling h.change group adopts) (members m t) → SendMove size m step t stage y
 
-abbrev pub is_posting : Stage → Bool
-is_posting (Posting u) = true
-is_posting other = false
+-- the stages in which posts or settles are sent
+abbrev pub is_sending : Stage → Bool
+is_sending (Posting u) = true
+is_sending (Settling u group adopts) = true
+is_sending other = false
 
-passed_posting : (stage : Stage) (u : ℕ) → passed stage ≡ Posting u → stage ≡ Posting u
-passed_posting (Locking cells shared next) u is = absurd (let e : false ≡ true = ap is_posting is in cc)
-passed_posting other u is = is
+passed_sending : (old stage : Stage) → is_sending stage ≡ true → passed old ≡ stage → old ≡ stage
+passed_sending (Locking cells shared next) stage sends is = absurd (let e : false ≡ true = ap is_sending is ∙ sends in cc)
+passed_sending other stage sends is = is
 
 module _ (size : Size) (m : State) where
   abbrev pub Moves : Step → ℕ → Txn → Type 0
-  Moves step t y = (u : ℕ) → y.stage ≡ Posting u → PostMove size m step t u y
+  Moves step t y = (stage : Stage) → is_sending stage ≡ true → y.stage ≡ stage → SendMove size m step t stage y
 
   -- in the same stage, with whoever was left and confirmed, or fewer left
   same : (step : Step) (t : ℕ) (y : Txn) → y.stage ≡ (m.txns t).stage → ((k : ℕ) → y.left k ≡ true → (m.txns t).left k ≡ true) → y.confirmed ≡ (m.txns t).confirmed → Moves step t y
-  same step t y stage left confirmed u is = PostMove.Keeps (sym stage ∙ is) (record { left = left; confirmed = λ k h. inl (sym (ap (λ (f : Replicas). f k) confirmed) ∙ h) })
+  same step t y stage left confirmed s sends is = SendMove.Keeps (sym stage ∙ is) (record { left = left; confirmed = λ k h. inl (sym (ap (λ (f : Replicas). f k) confirmed) ∙ h) })
 
   passes : (step : Step) (t : ℕ) (y : Txn) → y.stage ≡ passed (m.txns t).stage → ((k : ℕ) → y.left k ≡ true → (m.txns t).left k ≡ true) → y.confirmed ≡ (m.txns t).confirmed → Moves step t y
-  passes step t y stage left confirmed u is = PostMove.Keeps (passed_posting (m.txns t).stage u (sym stage ∙ is)) (record { left = left; confirmed = λ k h. inl (sym (ap (λ (f : Replicas). f k) confirmed) ∙ h) })
+  passes step t y stage left confirmed s sends is = SendMove.Keeps (passed_sending (m.txns t).stage s sends (sym stage ∙ is)) (record { left = left; confirmed = λ k h. inl (sym (ap (λ (f : Replicas). f k) confirmed) ∙ h) })
 
-  none : (step : Step) (t : ℕ) (y : Txn) → is_posting y.stage ≡ false → Moves step t y
-  none step t y free u is = absurd (let e : false ≡ true = sym free ∙ ap is_posting is in cc)
+  none : (step : Step) (t : ℕ) (y : Txn) → is_sending y.stage ≡ false → Moves step t y
+  none step t y free s sends is = absurd (let e : false ≡ true = sym free ∙ ap is_sending is ∙ sends in cc)
 
   stays : (step : Step) (i : ℕ) → Moves step i (m.txns i)
   stays step i = same step i (m.txns i) refl (λ k h. h) refl
@@ -90,11 +93,8 @@ module _ (size : Size) (m : State) where
     locks Own = none (Step.Turns t (Turn.LocksFor Own)) t (locking_for m x Own) refl
     locks (Settles u) = none (Step.Turns t (Turn.LocksFor (Settles u))) t (locking_for m x (Settles u)) refl
 
-    quiet : (turn : Turn) (y : Txn) → is_posting y.stage ≡ false → (i : ℕ) → Moves (Step.Turns t turn) i (with_at m.txns t y i)
+    quiet : (turn : Turn) (y : Txn) → is_sending y.stage ≡ false → (i : ℕ) → Moves (Step.Turns t turn) i (with_at m.txns t y i)
     quiet turn y free = only (Step.Turns t turn) t y (none (Step.Turns t turn) t y free)
-
-    change_of_stage : (a b : ℕ) → Posting a ≡ Posting b → b ≡ a
-    change_of_stage a b e = cc
 
     turned : (turn : Turn) → MayTurn size m t turn → (i : ℕ) → Moves (Step.Turns t turn) i ((after_turn size m t turn).txns i)
     turned (Turn.Begins graph job) h = quiet (Turn.Begins graph job) (new_txn graph job) refl
@@ -106,10 +106,10 @@ module _ (size : Size) (m : State) where
         (quiet Turn.Marks (record (entering x (Marking (m.drawn + 1)) (members m t)) { own = m.drawn + 1 }) refl)
     turned Turn.Posts h =
         table (Step.Turns t Turn.Posts) (with_at m.txns t (entering x (Posting h.change) (m.changes h.change).done)) ((posting size m t x.stage).txns) (ap (λ s. (posting size m t s).txns) h.turn)
-        (only (Step.Turns t Turn.Posts) t (entering x (Posting h.change) (m.changes h.change).done) (λ u is. PostMove.Posts refl h (change_of_stage h.change u is) refl))
+        (only (Step.Turns t Turn.Posts) t (entering x (Posting h.change) (m.changes h.change).done) (λ s sends is. SendMove.Posts refl h (sym is) refl))
     turned (Turn.SettlesAs group adopts) h =
         table (Step.Turns t (Turn.SettlesAs group adopts)) (with_at m.txns t (entering x (Settling h.change group adopts) (members m t))) ((settling size m t x.work group adopts).txns) (ap (λ w. (settling size m t w group adopts).txns) h.work_is)
-        (quiet (Turn.SettlesAs group adopts) (entering x (Settling h.change group adopts) (members m t)) refl)
+        (only (Step.Turns t (Turn.SettlesAs group adopts)) t (entering x (Settling h.change group adopts) (members m t)) (λ s sends is. SendMove.Settles group adopts refl h (sym is) refl))
     turned Turn.Bears h =
         table (Step.Turns t Turn.Bears) (with_at m.txns t (entering x Bearing (members m t))) ((bearing m t x.job).txns) (ap (λ j. (bearing m t j).txns) h.job_is) (quiet Turn.Bears (entering x Bearing (members m t)) refl)
     turned Turn.Confirms h = stays (Step.Turns t Turn.Confirms)
@@ -149,7 +149,7 @@ module _ (size : Size) (m : State) where
       replaces cell other is = same (Step.HandsIn k) by.txn _ refl (λ j h. h) refl
 
       confirms : is_open_first ask ≡ false → awaits (m.txns by.txn) k ≡ true → is_wanted ask answer ≡ true → Hears (confirming z k)
-      confirms plain waits wanted u is = PostMove.Keeps is (record { left = λ j h. h; confirmed = λ j h. now j h }) where
+      confirms plain waits wanted s sends is = SendMove.Keeps is (record { left = λ j h. h; confirmed = λ j h. now j h }) where
         now : (j : ℕ) → with_at (m.txns by.txn).confirmed k true j ≡ true → ((m.txns by.txn).confirmed j ≡ true) ⊎ IsConfirmedNow m (Step.HandsIn k) by.txn j
         now j h = at_case (λ i b. b ≡ true → ((m.txns by.txn).confirmed i ≡ true) ⊎ IsConfirmedNow m (Step.HandsIn k) by.txn i) (m.txns by.txn).confirmed k true
             (λ e. inr (record { by = by; ask = ask; answer = answer; is = refl; plain = plain; handed = record { rest = rest; front = front; current = current; awaited = waits; wanted = wanted }; txn = refl })) j (λ ne e. inl e) h
@@ -206,5 +206,5 @@ module _ (size : Size) (m : State) where
   moves_by (Step.Decides t) h = table (Step.Decides t) m.txns ((decided m (decided_by (m.txns t).stage)).txns) (decided_txns m (decided_by (m.txns t).stage)) (stays (Step.Decides t))
   moves_by other h = λ i. stays other i
 
-pub post_moves : (size : Size) (m : State) (step : Step) → Allowed size m step → (t u : ℕ) → ((after size m step).txns t).stage ≡ Posting u → PostMove size m step t u ((after size m step).txns t)
-post_moves size m step allowed t u is = moves_by size m step allowed t u is
+pub send_moves : (size : Size) (m : State) (step : Step) → Allowed size m step → (t : ℕ) (stage : Stage) → is_sending stage ≡ true → ((after size m step).txns t).stage ≡ stage → SendMove size m step t stage ((after size m step).txns t)
+send_moves size m step allowed t stage sends is = moves_by size m step allowed t stage sends is
