@@ -1,4 +1,5 @@
-//! Tables of cases for the texts: what volfiles, scripts and plans give, and where and why they are refused.
+//! Tables of cases for the texts: what volfiles, scripts and plans give, and where and why they are refused. Beside
+//! them, what a report prints, and what the ends of the program read and write.
 #![tactic(auto)]
 
 #[cfg(test)]

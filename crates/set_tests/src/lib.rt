@@ -1,0 +1,10 @@
+//! Cases of the crates below and beside a transaction of replicate: which replicas are sound, how the ledger finds and
+//! decides changes, how a phase goes on, what a copy needs turn by turn, and which pieces of two blocks differ. The
+//! library is empty.
+#![tactic(auto)]
+
+// afr_changelog
+// self_heal
+// lane_scan
+// afr_ledger
+// afr_phases

@@ -1,0 +1,10 @@
+//! Cases of the tables of the mount, of its caches and queues, and of what a switch asks: each a list of steps with the
+//! answers that must come. The library is empty.
+#![tactic(auto)]
+
+// fd_table
+// mount_locks
+// inode_table
+// io_cache
+// io_threads
+// graph_switch
