@@ -4,6 +4,8 @@
 #![tactic(auto)]
 
 // afr_changelog
+#[cfg(test)]
+mod changelog;
 // self_heal
 // lane_scan
 // afr_ledger
