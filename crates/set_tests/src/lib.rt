@@ -9,4 +9,6 @@ mod changelog;
 // self_heal
 // lane_scan
 // afr_ledger
+#[cfg(test)]
+mod ledger;
 // afr_phases
