@@ -12,3 +12,5 @@ mod changelog;
 #[cfg(test)]
 mod ledger;
 // afr_phases
+#[cfg(test)]
+mod phases;
