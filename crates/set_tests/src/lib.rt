@@ -7,6 +7,10 @@
 #[cfg(test)]
 mod changelog;
 // self_heal
+#[cfg(test)]
+mod copies;
+#[cfg(test)]
+mod copy_cases;
 // lane_scan
 // afr_ledger
 #[cfg(test)]
