@@ -12,6 +12,8 @@ mod copies;
 #[cfg(test)]
 mod copy_cases;
 // lane_scan
+#[cfg(test)]
+mod lanes;
 // afr_ledger
 #[cfg(test)]
 mod ledger;
