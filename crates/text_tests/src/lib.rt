@@ -3,6 +3,8 @@
 #![tactic(auto)]
 
 #[cfg(test)]
+mod end_tests;
+#[cfg(test)]
 mod plan_tests;
 #[cfg(test)]
 mod script_tests;
