@@ -7,6 +7,8 @@ mod end_tests;
 #[cfg(test)]
 mod plan_tests;
 #[cfg(test)]
+mod report_tests;
+#[cfg(test)]
 mod script_tests;
 #[cfg(test)]
 mod volfile_tests;
