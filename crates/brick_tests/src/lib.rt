@@ -13,6 +13,8 @@ mod locks;
 #[cfg(test)]
 mod losses;
 #[cfg(test)]
+mod owners;
+#[cfg(test)]
 mod refusals;
 #[cfg(test)]
 mod tables;
