@@ -31,6 +31,8 @@ mod in_order;
 #[cfg(test)]
 mod jobs;
 #[cfg(test)]
+mod layouts;
+#[cfg(test)]
 mod lookups;
 #[cfg(test)]
 mod new_names;
