@@ -45,4 +45,6 @@ mod renames;
 #[cfg(test)]
 mod replies;
 #[cfg(test)]
+mod searches;
+#[cfg(test)]
 mod text;
