@@ -3,6 +3,8 @@
 #![tactic(auto)]
 
 // fd_table
+#[cfg(test)]
+mod descriptors;
 // mount_locks
 // inode_table
 // io_cache
