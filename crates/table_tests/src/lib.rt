@@ -7,6 +7,8 @@
 mod descriptors;
 // mount_locks
 // inode_table
+#[cfg(test)]
+mod inodes;
 // io_cache
 // io_threads
 // graph_switch
