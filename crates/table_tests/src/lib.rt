@@ -6,6 +6,8 @@
 #[cfg(test)]
 mod descriptors;
 // mount_locks
+#[cfg(test)]
+mod holds;
 // inode_table
 #[cfg(test)]
 mod inodes;
