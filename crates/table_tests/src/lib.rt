@@ -12,5 +12,7 @@ mod holds;
 #[cfg(test)]
 mod inodes;
 // io_cache
+#[cfg(test)]
+mod pages;
 // io_threads
 // graph_switch
