@@ -15,4 +15,6 @@ mod inodes;
 #[cfg(test)]
 mod pages;
 // io_threads
+#[cfg(test)]
+mod queues;
 // graph_switch
