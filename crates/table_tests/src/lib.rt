@@ -18,3 +18,5 @@ mod pages;
 #[cfg(test)]
 mod queues;
 // graph_switch
+#[cfg(test)]
+mod switches;
