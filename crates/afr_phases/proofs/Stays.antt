@@ -12,8 +12,8 @@ use Rattle.afr_phases.specs.declared.outs.Outs.{Outs}
 use Rattle.afr_phases.specs.Answers.{is_fault, is_plain_done}
 use Rattle.afr_phases.specs.Flags.{flag}
 use Rattle.afr_phases.specs.Hearing.{heard}
-use Rattle.afr_phases.specs.Locking.{next_to_lock, kept_only, ended, ended_with, asked_or_ended, next_lock}
-use Rattle.afr_phases.specs.Locks.{standing, is_open}
+use Rattle.afr_phases.specs.Locking.{next_to_lock, kept_only, without_lost, ended, ended_with, asked_or_ended, next_lock}
+use Rattle.afr_phases.specs.Locks.{standing, keeping, is_open}
 use Rattle.afr_phases.specs.Outs.{is_out, is_short, left, used}
 use Rattle.afr_phases.proofs.Reached.{next_places, kept_places, reached_hold}
 use Rattle.afr_phases.proofs.Tracked.{left_places}
@@ -84,3 +84,10 @@ module _ (n q from : ℕ) (outs : Outs) (locks : Locks) (live : Mask) (last : Li
 
   pub step_from : IsStepFrom n locks (next_lock outs locks n q from live last)
   step_from = by_step (next_lock outs locks n q from live last) refl step_places
+
+-- ---- the release
+
+-- the five places stay where those that have lost their lock are out
+pub lost_five : (n : ℕ) (outs : Outs) (locks : Locks) (live : Mask) (last : List ℕ) → length outs.at ≡ 5 → length (without_lost outs locks n live last).at ≡ 5
+unfolding without_lost
+lost_five n outs locks live last five = kept_places outs (keeping locks live last) n last five
