@@ -5,6 +5,7 @@ pub mod Grants
 pub mod LockSteps
 pub mod Reached
 pub mod Rows
+pub mod Short
 pub mod Sound
 pub mod Stays
 pub mod Tracked

@@ -3,6 +3,7 @@ pub mod CopyParts
 pub mod EachTurn
 pub mod Encodings
 pub mod Entries
+pub mod Failures
 pub mod FewCells
 pub mod Joins
 pub mod Moves

@@ -1,3 +1,4 @@
+ghost use Rattle.afr_transaction.specs.Causes.{BeginsHaveCauses, AnswersHaveCauses, CopiesHaveCauses};
 ghost use Rattle.afr_transaction.specs.Encodings.{BeginsBound, AnswersBound, CopiesBound, AnswersLeaveFew, CopiesLeaveFew, RequestsAreEncoded};
 ghost use Rattle.afr_transaction.specs.Laws.{DecidesAtQuorum};
 ghost use Rattle.afr_transaction.specs.Moves.{AnswersMove, CopiesDraw};
@@ -58,4 +59,15 @@ pub fn replies_are_within_bounds()
     ensures begin { BeginsReply }
     ensures answers { AnswersReply }
     ensures copies { CopiesReply }
+{}
+
+/// An I/O error has its cause. One for lack of replicas is decided on only where so many are out that the others are no
+/// quorum, no number is left for a change, or the history is full, and lists each that is out with its mark; a split only
+/// where the rows that the reached replicas showed leave a cell of a read or a change, or all cells of a settling together,
+/// without a sound replica, and it lists these rows. What was decided on before the release of the locks is what is
+/// answered after it. The call does nothing: its contract exports this.
+pub fn failures_have_causes()
+    ensures begin { BeginsHaveCauses }
+    ensures answers { AnswersHaveCauses }
+    ensures copies { CopiesHaveCauses }
 {}

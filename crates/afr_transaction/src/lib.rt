@@ -37,8 +37,8 @@ mod txn;
 
 pub use jobs::Kind;
 pub use laws::{
-    quorums_decide, replies_are_within_bounds, requests_are_encoded, requests_are_of_phases,
-    transactions_go_on, turns_move_the_ledger,
+    failures_have_causes, quorums_decide, replies_are_within_bounds, requests_are_encoded,
+    requests_are_of_phases, transactions_go_on, turns_move_the_ledger,
 };
 pub use listed::Listed;
 pub use need::Need;
