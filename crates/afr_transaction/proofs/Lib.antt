@@ -5,6 +5,7 @@ pub mod Encodings
 pub mod Entries
 pub mod Failures
 pub mod FewCells
+pub mod Freed
 pub mod Joins
 pub mod Moves
 pub mod Posts

@@ -2,7 +2,8 @@
 -- lock phase; a read; copies; a change; a settling; how each job goes on after its copies and its locks; jobs without locks;
 -- the turn of an answer or a copy; the begin; the laws; a transaction between two turns, and what
 -- its phases ask for; what a turn does to the ledger; that
--- requests have an encoding, and replies are within their bounds; the causes of I/O errors.
+-- requests have an encoding, and replies are within their bounds; the causes of I/O errors, and
+-- when there is none for a split.
 pub mod Sound
 pub mod Jobs
 pub mod Txns
@@ -25,3 +26,4 @@ pub mod Moves
 pub mod Encodings
 pub mod Replies
 pub mod Causes
+pub mod Free

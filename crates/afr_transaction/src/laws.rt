@@ -1,5 +1,6 @@
 ghost use Rattle.afr_transaction.specs.Causes.{BeginsHaveCauses, AnswersHaveCauses, CopiesHaveCauses};
 ghost use Rattle.afr_transaction.specs.Encodings.{BeginsBound, AnswersBound, CopiesBound, AnswersLeaveFew, CopiesLeaveFew, RequestsAreEncoded};
+ghost use Rattle.afr_transaction.specs.Free.{SplitsLackFree};
 ghost use Rattle.afr_transaction.specs.Laws.{DecidesAtQuorum};
 ghost use Rattle.afr_transaction.specs.Moves.{AnswersMove, CopiesDraw};
 ghost use Rattle.afr_transaction.specs.Replies.{BeginsReply, AnswersReply, CopiesReply};
@@ -70,4 +71,11 @@ pub fn failures_have_causes()
     ensures begin { BeginsHaveCauses }
     ensures answers { AnswersHaveCauses }
     ensures copies { CopiesHaveCauses }
+{}
+
+/// Where all replicas of the set granted their locks, a split has no cause as long as each cell of a read or a change, or all
+/// cells of a settling together, have a replica whose copy is there, which does not accuse itself, and which fewer than a
+/// quorum accuse; a cell that is read as absent needs none. The call does nothing: its contract exports this.
+pub fn splits_lack_free()
+    ensures { SplitsLackFree }
 {}
