@@ -3,7 +3,7 @@
 -- the turn of an answer or a copy; the begin; the laws; a transaction between two turns, and what
 -- its phases ask for; what a turn does to the ledger; that
 -- requests have an encoding, and replies are within their bounds; the causes of I/O errors, and
--- when there is none for a split.
+-- when there is none for a split; that an op follows its mark.
 pub mod Sound
 pub mod Jobs
 pub mod Txns
@@ -27,3 +27,4 @@ pub mod Encodings
 pub mod Replies
 pub mod Causes
 pub mod Free
+pub mod Ops

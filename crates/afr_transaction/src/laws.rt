@@ -3,6 +3,7 @@ ghost use Rattle.afr_transaction.specs.Encodings.{BeginsBound, AnswersBound, Cop
 ghost use Rattle.afr_transaction.specs.Free.{SplitsLackFree};
 ghost use Rattle.afr_transaction.specs.Laws.{DecidesAtQuorum};
 ghost use Rattle.afr_transaction.specs.Moves.{AnswersMove, CopiesDraw};
+ghost use Rattle.afr_transaction.specs.Ops.{OpsFollowMarks};
 ghost use Rattle.afr_transaction.specs.Replies.{BeginsReply, AnswersReply, CopiesReply};
 ghost use Rattle.afr_transaction.specs.Requests.{BeginsSend, AnswersSend, CopiesSend, PostsFollowOps};
 ghost use Rattle.afr_transaction.specs.Shapes.{BeginsGoOn, AnswersGoOn, CopiesGoOn};
@@ -24,12 +25,14 @@ pub fn transactions_go_on()
 {}
 
 /// What a turn sends. Each request is of the phase that begins, on the cells of the lock phase, and one under a lock goes
-/// only to a replica that has granted its lock; a settle accuses exactly the replicas outside its group. A post follows the
-/// op, and accuses exactly the replicas that have not confirmed it. The call does nothing: its contract exports this.
+/// only to a replica that has granted its lock; a settle accuses exactly the replicas outside its group. An op follows the
+/// mark, and goes only to replicas that have confirmed it. A post follows the op, and accuses exactly the replicas that have
+/// not confirmed it. The call does nothing: its contract exports this.
 pub fn requests_are_of_phases()
     ensures begin { BeginsSend }
     ensures answers { AnswersSend }
     ensures copies { CopiesSend }
+    ensures ops { OpsFollowMarks }
     ensures posts { PostsFollowOps }
 {}
 
