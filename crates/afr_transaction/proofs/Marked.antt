@@ -97,7 +97,7 @@ module _ (txn : Txn) (k mark change : ℕ) (rep : BrickRep) (ledger : State Cell
       subst (λ (q : Phase). TracksIn q txn → OpsAreConfirmed (taken txn.wave k (is_plain_done rep)) (answered_in q (idle txn) k rep mark ledger live last).1.0) (sym is) marking_ops
 
 pub ops_follow : OpsFollowMarks
-ops_follow txn k mark change rep ledger live last asking keeps tracks asked is =
+ops_follow txn k mark change rep ledger live last asking tracks asked is =
     let a = and_parts (is_waiting txn.size.n txn.wave) (are_granted_within txn.size.n txn.locks && suits txn.phase txn) asking in
     let b = and_parts (not (is_over txn.wave)) (is_within txn.size.n txn.wave.asked) a.0 in
     let low : k < txn.size.n = within_at txn.size.n k txn.wave.asked b.1 asked in

@@ -17,7 +17,6 @@ use Rattle.afr_transaction.specs.declared.phase.Phase.TheVariants as phase
 use Rattle.afr_transaction.specs.declared.txn.Txn.{Txn}
 use Rattle.afr_transaction.specs.Answers.{answered}
 use Rattle.afr_transaction.specs.Causes.{Tracks}
-use Rattle.afr_transaction.specs.Requests.{Keeps}
 use Rattle.afr_transaction.specs.Shapes.{is_asking}
 
 -- a request to replica k is no op, or the replica has confirmed
@@ -44,5 +43,5 @@ OpsAreConfirmed wave need.Wait = Unit {0}
 -- what follows a mark: an op goes only to replicas that have confirmed it
 abbrev pub OpsFollowMarks : Type 0
 OpsFollowMarks = (txn : Txn) (k mark change : ℕ) (rep : BrickRep) (ledger : State Cell) (live : Mask) (last : List ℕ)
-    → is_asking txn ≡ true → Keeps txn → Tracks txn → is_asked txn.wave k ≡ true → txn.phase ≡ phase.Marking change
+    → is_asking txn ≡ true → Tracks txn → is_asked txn.wave k ≡ true → txn.phase ≡ phase.Marking change
     → OpsAreConfirmed (taken txn.wave k (is_plain_done rep)) (answered txn k rep mark ledger live last).1.0
