@@ -34,6 +34,7 @@ use Rattle.afr_phases.proofs.Asked.{within_at}
 use Rattle.afr_phases.proofs.Short.{IsFirstOf, IsShortOf, first_of, short_of, few_short, noted_keeps}
 use Rattle.afr_phases.proofs.Stays.{five_heard, lost_five, step_places}
 use Rattle.afr_phases.proofs.Tracked.{sent, heard_one, left_places}
+use Rattle.afr_phases.proofs.Truths.{both_right, lowest_is}
 use Rattle.afr_transaction.specs.declared.jobs.Kind.{Kind}
 use Rattle.afr_transaction.specs.declared.jobs.Kind.TheVariants as kind
 use Rattle.afr_transaction.specs.declared.need.Need.{Need}
@@ -151,13 +152,13 @@ module _ (live : Mask) (last : List ℕ) where
   -- ---- under the locks
 
   module _ (txn : Txn) (ledger : State Cell) (five : length txn.outs.at ≡ 5) where
-    fetching_told : (place : ℕ) (contents : List (Option Content)) (cell : Cell) (from : Option ℕ) → Told ledger (fetching txn place contents cell from ledger live last)
-    fetching_told place contents cell None = redo_told txn ledger five
-    fetching_told place contents cell (Some k) = (tt, tt)
+    fetching_told : (place : ℕ) (contents : List (Option Content)) (cell : Cell) (sound : List Bool) (from : Option ℕ) → lowest (both sound (alive txn)) ≡ from → Told ledger (fetching txn place contents cell from ledger live last)
+    fetching_told place contents cell sound None e = redo_told txn ledger five
+    fetching_told place contents cell sound (Some k) e = (both_right sound (alive txn) k (lowest_is (both sound (alive txn)) k e), tt)
 
     at_told : (place : ℕ) (contents : List (Option Content)) (cell : Option Cell) → Told ledger (fetch_at txn place contents cell ledger live last)
     at_told place contents None = answer_told txn (reply.Contents contents place) ledger (λ now is. tt)
-    at_told place contents (Some cell) = fetching_told place contents cell (lowest (both (sound_on txn (length contents)) (alive txn)))
+    at_told place contents (Some cell) = fetching_told place contents cell (sound_on txn (length contents)) (lowest (both (sound_on txn (length contents)) (alive txn))) refl
 
     fetch_told : (place : ℕ) (contents : List (Option Content)) → Told ledger (fetch_next txn place contents ledger live last)
     fetch_told place contents =

@@ -14,7 +14,7 @@ use Rattle.fop_types.specs.declared.jobs.SetReply.{SetReply}
 use Rattle.fop_types.specs.declared.jobs.SetReply.TheVariants as reply
 use Rattle.fop_types.specs.declared.messages.BrickRep.{BrickRep}
 use Rattle.afr_ledger.specs.Ledger.{State}
-use Rattle.afr_phases.specs.Flags.{lowest}
+use Rattle.afr_phases.specs.Flags.{flag, lowest}
 use Rattle.afr_phases.specs.Outs.{is_short}
 use Rattle.afr_phases.specs.Shown.{rows_listed}
 use Rattle.afr_phases.specs.Tracked.{IsTracked}
@@ -36,7 +36,7 @@ use Rattle.afr_transaction.specs.Parts.{common_of, is_split}
 use Rattle.afr_transaction.specs.Reads.{is_split_read, split_rows}
 use Rattle.afr_transaction.specs.Requests.{Keeps}
 use Rattle.afr_transaction.specs.Shapes.{is_asking, is_copying}
-use Rattle.afr_transaction.specs.Txns.{io_of}
+use Rattle.afr_transaction.specs.Txns.{alive, io_of}
 
 -- ---- the causes
 
@@ -119,11 +119,12 @@ IsKeptOrHasCause None now ledger turned = DecidedHasCause now ledger (reply_of n
 
 -- ---- what is kept between two turns
 
--- while a mark, a post or a settle is sent, each replica that is used is asked still or has confirmed it
+-- while a mark, a post or a settle is sent, each replica that is used is asked still or has confirmed it; a content is asked
+-- of a replica that is used
 abbrev pub TracksIn : Phase → Txn → Type 0
 TracksIn (phase.Locking at) txn = Unit {0}
 TracksIn (phase.Unlocking after) txn = Unit {0}
-TracksIn (phase.Fetching place from contents) txn = Unit {0}
+TracksIn (phase.Fetching place from contents) txn = flag (alive txn) from ≡ true
 TracksIn (phase.Copying sinks rest) txn = Unit {0}
 TracksIn (phase.Marking change) txn = IsTracked txn.size.n txn.outs txn.wave
 TracksIn (phase.Writing change) txn = Unit {0}
