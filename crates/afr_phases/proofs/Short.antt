@@ -13,7 +13,7 @@ use Rattle.afr_phases.specs.declared.locking.LockStep.TheVariants as step
 use Rattle.afr_phases.specs.declared.locks.Locks.{Locks}
 use Rattle.afr_phases.specs.declared.outs.Outs.{Outs}
 use Rattle.afr_phases.specs.declared.wave.Wave.{Wave}
-use Rattle.afr_phases.specs.Flags.{flag}
+use Rattle.afr_phases.specs.Flags.{flag, names}
 use Rattle.afr_phases.specs.Locking.{next_to_lock, lost, kept_only, without_lost, ended, ended_with, asked_or_ended, next_lock}
 use Rattle.afr_phases.specs.Locks.{no_locks, stands, standing, keeping}
 use Rattle.afr_phases.specs.Outs.{is_out, is_short, left, out_count, used}
@@ -72,6 +72,44 @@ module _ (n q : ℕ) (live : Mask) (last : List ℕ) where
         let some = some_used o n q least few p in
         let low : some.0 < 5 = below_five (λ j. nat_lt j n && not (is_out o j)) some.0 some.1 in
         absurd (true≢false (sym (reached_hold outs o no_locks n q 0 live last five e some.0 low some.1) ∙ none_stands some.0))
+
+-- ---- whom a step asks
+
+-- a replica that is asked is not before the one from which on they are asked
+IsLater : ℕ → Outs × Option ℕ → Type 0
+IsLater from (outs, Some k) = from ≤ k
+IsLater from (outs, None) = Unit {0}
+
+abbrev pub AsksFrom : ℕ → Outs × LockStep → Type 0
+AsksFrom from (outs, step.Ask k) = from ≤ k
+AsksFrom from (outs, step.Short) = Unit {0}
+AsksFrom from (outs, step.Reached) = Unit {0}
+
+module _ (n q : ℕ) (live : Mask) (last : List ℕ) where
+  asked_later : (count k from : ℕ) (outs : Outs) → from ≤ k → IsLater from (next_to_lock count outs n q k live last)
+  unfolding IsLater
+  asked_later zero k from outs le = tt
+  asked_later (suc count) k from outs le =
+      cond_both (is_short outs n q) _ _ (IsLater from) (λ e. tt)
+      (λ e. cond_both (is_out outs k) _ _ (IsLater from) (λ o. asked_later count (k + 1) from outs (omega arith))
+      (λ o. cond_both (names live k) _ _ (IsLater from) (λ l. le) (λ l. asked_later count (k + 1) from (left outs k false (slice_index last k)) (omega arith))))
+
+  end_asks : (outs : Outs) (from : ℕ) → AsksFrom from (ended_with outs n q)
+  end_asks outs from = by (is_short outs n q) where
+    by : (b : Bool) → AsksFrom from (outs, if b then step.Short else step.Reached)
+    by true = tt
+    by false = tt
+
+  ended_asks : (outs : Outs) (locks : Locks) (from : ℕ) → AsksFrom from (ended outs locks n q live last)
+  ended_asks outs locks from = cond_both (is_short outs n q) _ _ (AsksFrom from) (λ e. tt) (λ e. end_asks (kept_only outs (standing locks live last) n last) from)
+
+  by_later : (locks : Locks) (from : ℕ) (t : Outs × Option ℕ) → IsLater from t → AsksFrom from (asked_or_ended t locks n q live last)
+  unfolding IsLater
+  by_later locks from (outs, Some k) later = later
+  by_later locks from (outs, None) later = ended_asks outs locks from
+
+  pub asks_from : (outs : Outs) (locks : Locks) (from : ℕ) → AsksFrom from (next_lock outs locks n q from live last)
+  asks_from outs locks from = by_later locks from (next_to_lock (n - from) outs n q from live last) (asked_later (n - from) from from outs (omega arith))
 
 -- ---- who is out stays so, by its first cause
 

@@ -392,7 +392,7 @@ tracks_idle phase.Opening txn t = t
 tracks_idle (phase.Listing all) txn t = t
 tracks_idle phase.Over txn t = t
 
-suits_idle : (p : Phase) (txn : Txn) → suits p txn ≡ true → suits p (idle txn) ≡ true
+pub suits_idle : (p : Phase) (txn : Txn) → suits p txn ≡ true → suits p (idle txn) ≡ true
 suits_idle (phase.Locking at) txn h = h
 suits_idle (phase.Unlocking after) txn h = h
 suits_idle (phase.Fetching place from contents) txn h = h

@@ -20,3 +20,4 @@ pub mod TurnsCopies
 pub mod TurnsLocked
 pub mod TurnsReads
 pub mod TurnsReady
+pub mod Working

@@ -3,7 +3,8 @@
 -- the turn of an answer or a copy; the begin; the laws; a transaction between two turns, and what
 -- its phases ask for; what a turn does to the ledger; that
 -- requests have an encoding, and replies are within their bounds; the causes of I/O errors, and
--- when there is none for a split; that an op follows its mark.
+-- when there is none for a split; that an op follows its mark; and
+-- that requests end.
 pub mod Sound
 pub mod Jobs
 pub mod Txns
@@ -28,3 +29,4 @@ pub mod Replies
 pub mod Causes
 pub mod Free
 pub mod Ops
+pub mod Work

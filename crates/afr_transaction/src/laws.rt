@@ -7,6 +7,7 @@ ghost use Rattle.afr_transaction.specs.Ops.{OpsFollowMarks};
 ghost use Rattle.afr_transaction.specs.Replies.{BeginsReply, AnswersReply, CopiesReply};
 ghost use Rattle.afr_transaction.specs.Requests.{BeginsSend, AnswersSend, CopiesSend, PostsFollowOps};
 ghost use Rattle.afr_transaction.specs.Shapes.{BeginsGoOn, AnswersGoOn, CopiesGoOn};
+ghost use Rattle.afr_transaction.specs.Work.{EachAnswerLeavesLess, EachCopyLeavesLess};
 
 /// A change is decided exactly with the q-th confirmation of its post or its settle. The call does nothing: its contract
 /// exports this.
@@ -81,4 +82,11 @@ pub fn failures_have_causes()
 /// quorum accuse; a cell that is read as absent needs none. The call does nothing: its contract exports this.
 pub fn splits_lack_free()
     ensures { SplitsLackFree }
+{}
+
+/// Requests end: each answer and each finished copy leaves less work, unless the job begins again at its locks. So a lock phase
+/// and what follows it take a bounded number of answers and copies. The call does nothing: its contract exports this.
+pub fn requests_end()
+    ensures answers { EachAnswerLeavesLess }
+    ensures copies { EachCopyLeavesLess }
 {}

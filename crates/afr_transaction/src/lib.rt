@@ -38,7 +38,8 @@ mod txn;
 pub use jobs::Kind;
 pub use laws::{
     failures_have_causes, quorums_decide, replies_are_within_bounds, requests_are_encoded,
-    requests_are_of_phases, splits_lack_free, transactions_go_on, turns_move_the_ledger,
+    requests_are_of_phases, requests_end, splits_lack_free, transactions_go_on,
+    turns_move_the_ledger,
 };
 pub use listed::Listed;
 pub use need::Need;
