@@ -35,7 +35,7 @@ mod wave;
 
 pub use flags::{Flags, both, but_for, flags_of, lowest, mask_of, names, outside};
 pub use hearing::{hear, miss};
-pub use laws::{phases_are_tracked, reached_hold_locks};
+pub use laws::{lost_locks_leave, phases_are_tracked, reached_hold_locks};
 pub use locking::{LockStep, keep_only, leave_lost, next_lock};
 pub use locks::Locks;
 pub use outs::Outs;
