@@ -3,6 +3,7 @@ pub mod Bits
 pub mod Encoded
 pub mod Grants
 pub mod LockSteps
+pub mod LostSince
 pub mod Reached
 pub mod Rows
 pub mod Short

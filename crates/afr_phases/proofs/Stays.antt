@@ -13,7 +13,7 @@ use Rattle.afr_phases.specs.Answers.{is_fault, is_plain_done}
 use Rattle.afr_phases.specs.Flags.{flag}
 use Rattle.afr_phases.specs.Hearing.{heard}
 use Rattle.afr_phases.specs.Locking.{next_to_lock, kept_only, without_lost, ended, ended_with, asked_or_ended, next_lock}
-use Rattle.afr_phases.specs.Locks.{standing, stands, keeps, keeping, is_open}
+use Rattle.afr_phases.specs.Locks.{standing, stands, keeping, is_open}
 use Rattle.afr_phases.specs.Outs.{is_out, is_short, left, used}
 use Rattle.afr_phases.specs.Reached.{LostAreOut}
 use Rattle.afr_phases.proofs.Reached.{next_places, kept_places, are_out, reached_hold}
@@ -110,6 +110,6 @@ lost_are_out outs locks n k live last five low below grants lost =
   where
     off : flag (keeping locks live last) k ≡ false
     off =
-        flag_by (λ j. keeps locks j live last) k low
+        flag_by (λ j. is_none (slice_index_or locks.at j None) || stands locks j live last) k low
         ∙ ap (λ (b : Bool). b || stands locks k live last) (none_is (slice_index_or locks.at k None))
         ∙ lost_keeps_none (is_some (slice_index_or locks.at k None)) (stands locks k live last) grants lost

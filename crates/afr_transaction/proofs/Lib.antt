@@ -7,6 +7,7 @@ pub mod Failures
 pub mod FewCells
 pub mod Freed
 pub mod Joins
+pub mod LostMarks
 pub mod Marked
 pub mod Moves
 pub mod Posts

@@ -2,8 +2,8 @@
 -- lock phase; a read; copies; a change; a settling; how each job goes on after its copies and its locks; jobs without locks;
 -- the turn of an answer or a copy; the begin; the laws; a transaction between two turns, and what
 -- its phases ask for; what a turn does to the ledger; that
--- requests have an encoding, and replies are within their bounds; the causes of I/O errors, and
--- when there is none for a split; that an op follows its mark; and
+-- requests have an encoding, and replies are within their bounds; the causes of I/O errors, when
+-- there is none for a split, and with which marks they list replicas; that an op follows its mark; and
 -- that requests end.
 pub mod Sound
 pub mod Jobs
@@ -28,5 +28,6 @@ pub mod Encodings
 pub mod Replies
 pub mod Causes
 pub mod Free
+pub mod Marks
 pub mod Ops
 pub mod Work

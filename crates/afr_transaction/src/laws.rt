@@ -2,6 +2,7 @@ ghost use Rattle.afr_transaction.specs.Causes.{BeginsHaveCauses, AnswersHaveCaus
 ghost use Rattle.afr_transaction.specs.Encodings.{BeginsBound, AnswersBound, CopiesBound, AnswersLeaveFew, CopiesLeaveFew, RequestsAreEncoded};
 ghost use Rattle.afr_transaction.specs.Free.{SplitsLackFree};
 ghost use Rattle.afr_transaction.specs.Laws.{DecidesAtQuorum};
+ghost use Rattle.afr_transaction.specs.Marks.{BeginsMark, AnswersMark, CopiesMark};
 ghost use Rattle.afr_transaction.specs.Moves.{AnswersMove, CopiesDraw};
 ghost use Rattle.afr_transaction.specs.Ops.{OpsFollowMarks};
 ghost use Rattle.afr_transaction.specs.Replies.{BeginsReply, AnswersReply, CopiesReply};
@@ -89,4 +90,12 @@ pub fn splits_lack_free()
 pub fn requests_end()
     ensures answers { EachAnswerLeavesLess }
     ensures copies { EachCopyLeavesLess }
+{}
+
+/// Each replica that is out after a turn was out before with the same mark, is out by the answer or the copy that was handed in,
+/// with its mark, or is lost, with the number of its last connection. The call does nothing: its contract exports this.
+pub fn marks_are_handed_in()
+    ensures begin { BeginsMark }
+    ensures answers { AnswersMark }
+    ensures copies { CopiesMark }
 {}
