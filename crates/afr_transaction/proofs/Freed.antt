@@ -1,20 +1,19 @@
 -- With all replicas reached, a replica that fewer than a quorum accuse is sound, so that nothing is split where each cell has
 -- one.
-use Rattle.std.proofs.Common.{◌≡◌, ℕ, suc, ◌+◌, ◌-◌, ◌<◌, ◌⊎◌, inl, inr, Bool, true, false, ◌&&◌, ◌||◌, not, List, [], ◌∷◌, Option, Some, None, is_none, is_some, length, refl, sym, ap, ◌∙◌, subst, arith}
+use Rattle.std.proofs.Common.{◌≡◌, ℕ, suc, ◌+◌, ◌-◌, ◌<◌, ◌⊎◌, inl, inr, Bool, true, false, ◌&&◌, ◌||◌, not, List, [], ◌∷◌, Option, Some, None, is_none, is_some, length, refl, sym, ap, ◌∙◌, arith}
 use Rattle.std.proofs.lemmas.Bool.{and_left, and_right, or_from, not_from_true, true≢false}
 use Rattle.fop_types.specs.declared.answers.IoError.TheVariants as io
 use Rattle.fop_types.specs.declared.answers.SplitRow.{SplitRow}
 use Rattle.fop_types.specs.declared.cells.Cell.{Cell}
 use Rattle.afr_changelog.specs.Conviction.{IsCleared}
 use Rattle.afr_changelog.specs.Soundness.{reached_in}
-use Rattle.afr_ledger.specs.Ledger.{State}
 use Rattle.afr_phases.specs.Flags.{flag, flags_by, both, lowest}
 use Rattle.afr_phases.specs.Shown.{is_sound}
 use Rattle.afr_phases.proofs.Sound.{sound_test}
 use Rattle.afr_phases.proofs.Truths.{both_have, flags_have, lowest_some}
 use Rattle.afr_transaction.specs.declared.txn.Txn.{Txn}
-use Rattle.afr_transaction.specs.Causes.{IsCause, FewLeft, NoNumber, FullHistory, BareCell, BareRead, BareChange}
-use Rattle.afr_transaction.specs.Free.{rows_shown, AllShow, HasFree, EachHasFree, EachReadHasFree, OneIsFree, HasItsFree, SplitsLackFree}
+use Rattle.afr_transaction.specs.Causes.{FewLeft, NoNumber, FullHistory, BareCell, BareRead, BareChange}
+use Rattle.afr_transaction.specs.Free.{rows_shown, AllShow, HasFree, EachHasFree, EachReadHasFree, OneIsFree, SplitsLackFree}
 use Rattle.afr_transaction.specs.Parts.{common_from, common_of, is_unsound, is_split}
 use Rattle.afr_transaction.specs.Reads.{lacks, sound_on, is_bare, is_split_read}
 use Rattle.afr_transaction.specs.Txns.{io_by, io_of, fault_pairs, lost_pairs}
@@ -100,9 +99,9 @@ module _ (job : Txn) (shows : AllShow job) where
       one m low = free_sound job m f.replica f.low (shows m low) (f.free m low)
 
 -- an error for lack of replicas is no split
-no_split : (set of : ℕ) (rows : List SplitRow) (faults lost : List (ℕ × ℕ)) → io.Split set rows ≡ io_by of faults lost → ⊥
-no_split set of rows [] lost e = absurd cc
-no_split set of rows (fault ∷ faults) lost e = absurd cc
+no_split : (set other : ℕ) (rows : List SplitRow) (faults lost : List (ℕ × ℕ)) → io.Split set rows ≡ io_by other faults lost → ⊥
+no_split set other rows [] lost e = absurd cc
+no_split set other rows (fault ∷ faults) lost e = absurd cc
 
 not_few : (job : Txn) (set : ℕ) (rows : List SplitRow) → io.Split set rows ≡ io_of job → ⊥
 not_few job set rows e = no_split set job.set rows (fault_pairs job.bricks job.outs.at) (lost_pairs job.bricks job.outs.at) e

@@ -1,5 +1,5 @@
 -- Who is out after a turn, and was not before, is out by the answer or the copy, or is lost.
-use Rattle.std.proofs.Common.{◌≡◌, ℕ, ◌+◌, ◌-◌, ◌⊎◌, inl, inr, Bool, true, false, ◌&&◌, not, nat_lt, cond, List, [], ◌∷◌, ◌++◌, Option, Some, None, is_none, is_some, refl, ap}
+use Rattle.std.proofs.Common.{◌≡◌, ℕ, ◌+◌, ◌-◌, ◌⊎◌, inl, inr, Bool, true, false, ◌&&◌, not, nat_lt, cond, List, [], ◌∷◌, ◌++◌, Option, Some, None, is_none, is_some, ap}
 use Rattle.std.specs.Prelude.{length, slice_get, slice_index, slice_index_or}
 use Rattle.std.proofs.lemmas.Bool.{cond_both}
 use Rattle.fop_types.specs.declared.answers.IoError.TheVariants as io
@@ -42,10 +42,10 @@ use Rattle.afr_transaction.specs.declared.phase.Then.{Then}
 use Rattle.afr_transaction.specs.declared.phase.Then.TheVariants as next
 use Rattle.afr_transaction.specs.declared.phase.Verdict.{Verdict}
 use Rattle.afr_transaction.specs.declared.txn.Txn.{Txn}
-use Rattle.afr_transaction.specs.Answers.{lock_step, lock_on, hearing, waiting, write_by, mark_answered, write_answered, post_ended, post_answered, settle_ended, settle_answered, birth_answered, unlock_answered, open_answered, list_taken, list_answered, aspect_at, answered_in, answered, copied_in, copied, idle}
+use Rattle.afr_transaction.specs.Answers.{lock_step, lock_on, hearing, waiting, write_by, mark_answered, write_answered, post_ended, post_answered, settle_ended, settle_answered, birth_answered, unlock_answered, open_answered, list_taken, list_answered, aspect_at, answered_in, copied_in, idle}
 use Rattle.afr_transaction.specs.Begins.{fresh}
 use Rattle.afr_transaction.specs.Changes.{has_number, may_begin, marking, post_decided}
-use Rattle.afr_transaction.specs.Copied.{healed, is_change, copied_all, copy_by, copy_next, copy_noted}
+use Rattle.afr_transaction.specs.Copied.{healed, is_change, copied_all, copy_by, copy_next}
 use Rattle.afr_transaction.specs.Copies.{has_source, next_part, with_out, with_outs, is_left}
 use Rattle.afr_transaction.specs.Jobs.{kind_of, birth_op, change_op}
 use Rattle.afr_transaction.specs.Locked.{to_settle, cells_for, first_step, again, going, lost_noted, unlock, fail, lock_taken, reached}

@@ -36,7 +36,7 @@ use Rattle.afr_transaction.specs.Answers.{hearing, waiting, write_by, mark_answe
 use Rattle.afr_transaction.specs.Causes.{TracksIn}
 use Rattle.afr_transaction.specs.Changes.{may_begin}
 use Rattle.afr_transaction.specs.Jobs.{change_op}
-use Rattle.afr_transaction.specs.Locked.{is_read, to_settle, cells_for, first_step, again, going, lost_noted, unlock, fail}
+use Rattle.afr_transaction.specs.Locked.{is_read, to_settle, cells_for, first_step, going, lost_noted, unlock, fail}
 use Rattle.afr_transaction.specs.Ops.{OpIsConfirmed, OpsAreConfirmed, OpsFollowMarks}
 use Rattle.afr_transaction.specs.Shapes.{suits}
 use Rattle.afr_transaction.specs.Txns.{only, alive, healing, io_of, is_heal, kept}

@@ -25,7 +25,7 @@ use Rattle.afr_phases.specs.Asked.{is_within, is_waiting, are_granted_within}
 use Rattle.afr_phases.specs.Flags.{bit, flag, lowest, both, but_for}
 use Rattle.afr_phases.specs.Locking.{next_lock}
 use Rattle.afr_phases.specs.Locks.{granted, standing}
-use Rattle.afr_phases.specs.Outs.{is_out, is_short, left, used}
+use Rattle.afr_phases.specs.Outs.{is_short, left, used}
 use Rattle.afr_phases.specs.Shown.{with_rows, rows_listed}
 use Rattle.afr_phases.specs.Waves.{is_asked, is_over, taken}
 use Rattle.afr_phases.proofs.Asked.{asked_after, only_at, within_at}

@@ -1,7 +1,7 @@
 -- I/O errors have causes. A turn that decides on an I/O error has one of these: too few replicas are left, no number is left
 -- for a change, the history is full, or the rows that the replicas showed leave a cell, or a change to be settled, without a
 -- sound replica. An error that was decided on before is kept until it is given.
-use Rattle.std.specs.Prelude.{◌≡◌, ℕ, Bool, true, false, List, Option, Some, None, is_some, slice_index_or}
+use Rattle.std.specs.Prelude.{◌≡◌, ℕ, true, false, List, Option, Some, None, is_some, slice_index_or}
 use Rattle.fop_types.specs.declared.answers.IoError.{IoError}
 use Rattle.fop_types.specs.declared.answers.IoError.TheVariants as io
 use Rattle.fop_types.specs.declared.cells.Cell.{Cell}

@@ -9,7 +9,6 @@ use Rattle.fop_types.specs.declared.jobs.Job.{Job}
 use Rattle.fop_types.specs.declared.jobs.SetPlan.{SetPlan}
 use Rattle.fop_types.specs.declared.messages.BrickRep.{BrickRep}
 use Rattle.afr_ledger.specs.Ledger.{State}
-use Rattle.afr_phases.specs.declared.outs.Outs.{Outs}
 use Rattle.afr_phases.specs.Answers.{is_fault}
 use Rattle.afr_phases.specs.Marks.{IsLost, AreLostSince}
 use Rattle.afr_phases.specs.Outs.{no_outs}
