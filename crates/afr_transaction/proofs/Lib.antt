@@ -14,6 +14,7 @@ pub mod Posts
 pub mod Quorums
 pub mod Replies
 pub mod Turned
+pub mod ShownRows
 pub mod Steps
 pub mod TurnsAnswers
 pub mod TurnsBase

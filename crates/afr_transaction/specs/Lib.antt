@@ -3,7 +3,8 @@
 -- the turn of an answer or a copy; the begin; the laws; a transaction between two turns, and what
 -- its phases ask for; what a turn does to the ledger; that
 -- requests have an encoding, and replies are within their bounds; the causes of I/O errors, when
--- there is none for a split, and with which marks they list replicas; that an op follows its mark; and
+-- there is none for a split, with which marks they list replicas, and
+-- by whose rows; that an op follows its mark; and
 -- that requests end.
 pub mod Sound
 pub mod Jobs
@@ -29,5 +30,6 @@ pub mod Replies
 pub mod Causes
 pub mod Free
 pub mod Marks
+pub mod Handed
 pub mod Ops
 pub mod Work

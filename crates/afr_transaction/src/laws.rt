@@ -1,6 +1,7 @@
 ghost use Rattle.afr_transaction.specs.Causes.{BeginsHaveCauses, AnswersHaveCauses, CopiesHaveCauses};
 ghost use Rattle.afr_transaction.specs.Encodings.{BeginsBound, AnswersBound, CopiesBound, AnswersLeaveFew, CopiesLeaveFew, RequestsAreEncoded};
 ghost use Rattle.afr_transaction.specs.Free.{SplitsLackFree};
+ghost use Rattle.afr_transaction.specs.Handed.{BeginsShow, AnswersShow, CopiesShow};
 ghost use Rattle.afr_transaction.specs.Laws.{DecidesAtQuorum};
 ghost use Rattle.afr_transaction.specs.Marks.{BeginsMark, AnswersMark, CopiesMark};
 ghost use Rattle.afr_transaction.specs.Moves.{AnswersMove, CopiesDraw};
@@ -98,4 +99,13 @@ pub fn marks_are_handed_in()
     ensures begin { BeginsMark }
     ensures answers { AnswersMark }
     ensures copies { CopiesMark }
+{}
+
+/// The rows of a lock phase are those that replicas answered to its locks: rows that are kept after an answer were kept
+/// before, or this answer carries them, one for each cell, and it is of their replica. The call does nothing: its contract
+/// exports this.
+pub fn rows_are_handed_in()
+    ensures begin { BeginsShow }
+    ensures answers { AnswersShow }
+    ensures copies { CopiesShow }
 {}
