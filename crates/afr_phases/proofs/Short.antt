@@ -16,7 +16,7 @@ use Rattle.afr_phases.specs.declared.wave.Wave.{Wave}
 use Rattle.afr_phases.specs.Flags.{flag, names}
 use Rattle.afr_phases.specs.Locking.{next_to_lock, lost, kept_only, without_lost, ended, ended_with, asked_or_ended, next_lock}
 use Rattle.afr_phases.specs.Locks.{no_locks, stands, standing, keeping}
-use Rattle.afr_phases.specs.Outs.{is_out, is_short, left, out_count, used}
+use Rattle.afr_phases.specs.Outs.{is_out, is_short, left, out_count}
 use Rattle.afr_phases.specs.Tracked.{IsTracked}
 use Rattle.afr_phases.specs.Waves.{is_over, confirmations}
 use Rattle.afr_phases.proofs.Grants.{IsStepOf, step_of, some_used}

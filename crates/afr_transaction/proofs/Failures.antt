@@ -45,7 +45,7 @@ use Rattle.afr_transaction.specs.declared.phase.Phase.TheVariants as phase
 use Rattle.afr_transaction.specs.declared.phase.Then.TheVariants as next
 use Rattle.afr_transaction.specs.declared.phase.Verdict.{Verdict}
 use Rattle.afr_transaction.specs.declared.txn.Txn.{Txn}
-use Rattle.afr_transaction.specs.Answers.{lock_step, lock_on, hearing, waiting, write_by, mark_answered, write_answered, post_ended, post_answered, settle_ended, settle_answered, birth_answered, unlock_answered, open_answered, list_taken, list_answered, aspect_at, answered_in, answered, copied_in, idle}
+use Rattle.afr_transaction.specs.Answers.{lock_step, lock_on, hearing, waiting, write_by, mark_answered, write_answered, post_ended, post_answered, settle_ended, settle_answered, birth_answered, unlock_answered, open_answered, list_taken, list_answered, aspect_at, answered_in, copied_in, idle}
 use Rattle.afr_transaction.specs.Begins.{fresh}
 use Rattle.afr_transaction.specs.Causes.{IsCause, FewLeft, NoNumber, FullHistory, BareCell, BareRead, BareChange, IsThen, ShortHasCause, ReplyHasCause, reply_in, reply_of, DecidedHasCause, IsKeptOrHasCause, TracksIn, BeginsHaveCauses, AnswersHaveCauses, CopiesHaveCauses}
 use Rattle.afr_transaction.specs.Changes.{has_number, has_room, may_begin, decides, adopting, marking, post_decided}

@@ -1,6 +1,6 @@
 -- With all replicas reached, a replica that fewer than a quorum accuse is sound, so that nothing is split where each cell has
 -- one.
-use Rattle.std.proofs.Common.{◌≡◌, ℕ, suc, ◌+◌, ◌-◌, ◌<◌, ◌⊎◌, inl, inr, Bool, true, false, ◌&&◌, ◌||◌, not, List, [], ◌∷◌, Option, Some, None, is_none, is_some, length, refl, sym, ap, ◌∙◌, arith}
+use Rattle.std.proofs.Common.{◌≡◌, ℕ, suc, ◌+◌, ◌<◌, ◌⊎◌, inl, inr, Bool, true, false, not, List, [], ◌∷◌, Option, Some, None, is_none, is_some, length, refl, sym, ap, ◌∙◌, arith}
 use Rattle.std.proofs.lemmas.Bool.{and_left, and_right, or_from, not_from_true, true≢false}
 use Rattle.fop_types.specs.declared.answers.IoError.TheVariants as io
 use Rattle.fop_types.specs.declared.answers.SplitRow.{SplitRow}

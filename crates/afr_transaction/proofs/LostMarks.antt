@@ -1,5 +1,5 @@
 -- Who is out after a turn, and was not before, is out by the answer or the copy, or is lost.
-use Rattle.std.proofs.Common.{◌≡◌, ℕ, ◌+◌, ◌-◌, ◌⊎◌, inl, inr, Bool, true, false, ◌&&◌, not, nat_lt, cond, List, [], ◌∷◌, ◌++◌, Option, Some, None, is_none, is_some, ap}
+use Rattle.std.proofs.Common.{◌≡◌, ℕ, ◌+◌, ◌-◌, ◌⊎◌, inl, inr, Bool, true, false, not, nat_lt, cond, List, [], ◌∷◌, ◌++◌, Option, Some, None, is_none, is_some, ap}
 use Rattle.std.specs.Prelude.{length, slice_get, slice_index, slice_index_or}
 use Rattle.std.proofs.lemmas.Bool.{cond_both}
 use Rattle.fop_types.specs.declared.answers.IoError.TheVariants as io

@@ -23,7 +23,7 @@ use Rattle.afr_phases.specs.declared.locking.LockStep.TheVariants as step
 use Rattle.afr_phases.specs.declared.outs.Outs.{Outs}
 use Rattle.afr_phases.specs.declared.shown.Shown.{Shown}
 use Rattle.afr_phases.specs.Answers.{is_fault, is_plain_done, rows_in, content_in, cells_in}
-use Rattle.afr_phases.specs.Flags.{flags_of, lowest, both}
+use Rattle.afr_phases.specs.Flags.{lowest, both}
 use Rattle.afr_phases.specs.Locking.{next_lock}
 use Rattle.afr_phases.specs.Locks.{no_locks, granted, standing}
 use Rattle.afr_phases.specs.Outs.{left, is_short}
