@@ -177,14 +177,14 @@ module _ (live : Mask) (last : List ℕ) where
 
   module _ (txn : Txn) (k mark : ℕ) (rep : BrickRep) (ledger : State Cell) where
     -- after the answer, and with it alone
-    abbrev Marked : Outs → Type 0
-    Marked after = (j : ℕ) (out : Out) → slice_index_or after.at j None ≡ Some out
+    abbrev HasMarks : Outs → Type 0
+    HasMarks after = (j : ℕ) (out : Out) → slice_index_or after.at j None ≡ Some out
         → (slice_index_or txn.outs.at j None ≡ Some out) ⊎ ((out ≡ record { replica = k; fault = is_fault rep; mark = mark }) ⊎ IsLost last out)
 
     abbrev IsBase : Outs → Type 0
     IsBase base = (j : ℕ) (out : Out) → slice_index_or base.at j None ≡ Some out → (slice_index_or txn.outs.at j None ≡ Some out) ⊎ (out ≡ record { replica = k; fault = is_fault rep; mark = mark })
 
-    marked : (base after : Outs) → IsBase base → AreLostSince last base after → Marked after
+    marked : (base after : Outs) → IsBase base → AreLostSince last base after → HasMarks after
     marked base after first since j out h = by (since j out h) where
       in_base : (slice_index_or txn.outs.at j None ≡ Some out) ⊎ (out ≡ record { replica = k; fault = is_fault rep; mark = mark })
           → (slice_index_or txn.outs.at j None ≡ Some out) ⊎ ((out ≡ record { replica = k; fault = is_fault rep; mark = mark }) ⊎ IsLost last out)
@@ -205,17 +205,17 @@ module _ (live : Mask) (last : List ℕ) where
     heard_base : IsBase (heard txn.outs k rep mark)
     heard_base = cond_both (is_plain_done rep) txn.outs (left txn.outs k (is_fault rep) mark) IsBase (λ e. same_base) (λ e. left_base)
 
-    -- the turn of a phase that goes to several
-    abbrev Heard : Txn × Need → Type 0
-    Heard t = AreLostSince last (hearing txn k rep mark).outs t.0.outs
+    -- the turn of a phase that goes to several, from the answer on
+    abbrev Grows : Txn × Need → Type 0
+    Grows t = AreLostSince last (hearing txn k rep mark).outs t.0.outs
 
-    abbrev HeardWith : Txn × (Need × State Cell) → Type 0
-    HeardWith t = AreLostSince last (hearing txn k rep mark).outs t.0.outs
+    abbrev GrowsWith : Txn × (Need × State Cell) → Type 0
+    GrowsWith t = AreLostSince last (hearing txn k rep mark).outs t.0.outs
 
     stays : AreLostSince last (hearing txn k rep mark).outs (hearing txn k rep mark).outs
     stays = same (hearing txn k rep mark).outs
 
-    locked_marked : (rows : Option (List Row)) → Marked (lock_on (lock_taken txn k rows (is_fault rep) mark last) (k + 1) ledger live last).0.outs
+    locked_marked : (rows : Option (List Row)) → HasMarks (lock_on (lock_taken txn k rows (is_fault rep) mark last) (k + 1) ledger live last).0.outs
     locked_marked None =
         marked (left txn.outs k (is_fault rep) mark) (lock_on (lock_taken txn k None (is_fault rep) mark last) (k + 1) ledger live last).0.outs left_base
         (step_from (left txn.outs k (is_fault rep) mark) (record txn { outs = left txn.outs k (is_fault rep) mark; wave = taken txn.wave k false })
@@ -227,7 +227,7 @@ module _ (live : Mask) (last : List ℕ) where
         (next_lock txn.outs (granted txn.locks k (slice_index last k)) txn.size.n txn.size.q (k + 1) live last) ledger
         (since_step txn.size.n txn.size.q live last txn.outs (granted txn.locks k (slice_index last k)) (k + 1)))
 
-    fetched_marked : (place : ℕ) (contents : List (Option Content)) (content : Option (Content × ℕ)) → Marked (fetch_taken txn place k contents content (is_fault rep) mark ledger live last).0.outs
+    fetched_marked : (place : ℕ) (contents : List (Option Content)) (content : Option (Content × ℕ)) → HasMarks (fetch_taken txn place k contents content (is_fault rep) mark ledger live last).0.outs
     fetched_marked place contents (Some content) =
         marked txn.outs (fetch_taken txn place k contents (Some content) (is_fault rep) mark ledger live last).0.outs same_base
         (fetch_from (record txn { wave = taken txn.wave k true }) ledger place (contents ++ Some content.0 ∷ []))
@@ -237,70 +237,70 @@ module _ (live : Mask) (last : List ℕ) where
         (λ e. fail_from (record txn { outs = left txn.outs k (is_fault rep) mark; wave = taken txn.wave k false }) ledger)
         (λ e. fetch_from (record txn { outs = left txn.outs k (is_fault rep) mark; wave = taken txn.wave k false }) ledger place contents))
 
-    op_heard : (op : Option (ℕ × StoreOp)) (change : ℕ) → HeardWith (write_by op (hearing txn k rep mark) change ledger live last)
+    op_heard : (op : Option (ℕ × StoreOp)) (change : ℕ) → GrowsWith (write_by op (hearing txn k rep mark) change ledger live last)
     op_heard None change = unlock_from (hearing txn k rep mark) next.Again ledger
-    op_heard (Some op) change = cond_both (may_begin (hearing txn k rep mark) change ledger) _ _ HeardWith (λ e. stays) (λ e. unlock_from (hearing txn k rep mark) next.Again ledger)
+    op_heard (Some op) change = cond_both (may_begin (hearing txn k rep mark) change ledger) _ _ GrowsWith (λ e. stays) (λ e. unlock_from (hearing txn k rep mark) next.Again ledger)
 
-    marking_heard : (change : ℕ) → HeardWith (mark_answered (hearing txn k rep mark) change ledger live last)
+    marking_heard : (change : ℕ) → GrowsWith (mark_answered (hearing txn k rep mark) change ledger live last)
     marking_heard change =
-        cond_both (not (is_over (taken txn.wave k (is_plain_done rep)))) _ _ HeardWith (λ e. stays)
-        (λ e. cond_both (is_short (hearing txn k rep mark).outs txn.size.n txn.size.q) _ _ HeardWith (λ s. fail_from (hearing txn k rep mark) ledger) (λ s. op_heard (change_op txn.job) change))
+        cond_both (not (is_over (taken txn.wave k (is_plain_done rep)))) _ _ GrowsWith (λ e. stays)
+        (λ e. cond_both (is_short (hearing txn k rep mark).outs txn.size.n txn.size.q) _ _ GrowsWith (λ s. fail_from (hearing txn k rep mark) ledger) (λ s. op_heard (change_op txn.job) change))
 
-    writing_heard : (change : ℕ) → Heard (write_answered (hearing txn k rep mark) change ledger live last)
+    writing_heard : (change : ℕ) → Grows (write_answered (hearing txn k rep mark) change ledger live last)
     writing_heard change =
-        cond_both (not (is_over (taken txn.wave k (is_plain_done rep)))) _ _ Heard (λ e. stays)
-        (λ e. cond_both (is_short (hearing txn k rep mark).outs txn.size.n txn.size.q) _ _ Heard (λ s. fail_from (hearing txn k rep mark) ledger) (λ s. stays))
+        cond_both (not (is_over (taken txn.wave k (is_plain_done rep)))) _ _ Grows (λ e. stays)
+        (λ e. cond_both (is_short (hearing txn k rep mark).outs txn.size.n txn.size.q) _ _ Grows (λ s. fail_from (hearing txn k rep mark) ledger) (λ s. stays))
 
-    ended_heard : (adopted : Option Adopted) (after : State Cell) → Heard (post_ended (hearing txn k rep mark) adopted after live last)
+    ended_heard : (adopted : Option Adopted) (after : State Cell) → Grows (post_ended (hearing txn k rep mark) adopted after live last)
     ended_heard None after = fail_from (hearing txn k rep mark) after
     ended_heard (Some adopted) after = unlock_from (hearing txn k rep mark) (next.Answer (reply.Decided adopted.entry)) after
 
-    posting_heard : (change : ℕ) (adopted : Option Adopted) → HeardWith (post_answered (hearing txn k rep mark) change adopted ledger live last)
+    posting_heard : (change : ℕ) (adopted : Option Adopted) → GrowsWith (post_answered (hearing txn k rep mark) change adopted ledger live last)
     posting_heard change adopted =
-        cond_both (is_over (taken txn.wave k (is_plain_done rep))) _ _ HeardWith
+        cond_both (is_over (taken txn.wave k (is_plain_done rep))) _ _ GrowsWith
         (λ e. ended_heard (post_decided (hearing txn k rep mark) change adopted ledger).0 (post_decided (hearing txn k rep mark) change adopted ledger).1) (λ e. stays)
 
-    group_heard : (verdict : Verdict) (decided : Bool) (after : State Cell) → HeardWith (settle_ended (hearing txn k rep mark) verdict.group decided after live last)
+    group_heard : (verdict : Verdict) (decided : Bool) (after : State Cell) → GrowsWith (settle_ended (hearing txn k rep mark) verdict.group decided after live last)
     group_heard verdict decided after =
-        cond_both decided _ _ HeardWith (λ e. next_from (hearing txn k rep mark) after (settle_parts (hearing txn k rep mark) verdict.group)) (λ e. fail_from (hearing txn k rep mark) after)
+        cond_both decided _ _ GrowsWith (λ e. next_from (hearing txn k rep mark) after (settle_parts (hearing txn k rep mark) verdict.group)) (λ e. fail_from (hearing txn k rep mark) after)
 
-    settling_heard : (verdict : Verdict) → HeardWith (settle_answered (hearing txn k rep mark) verdict ledger live last)
+    settling_heard : (verdict : Verdict) → GrowsWith (settle_answered (hearing txn k rep mark) verdict ledger live last)
     settling_heard verdict =
-        cond_both (not (is_over (taken txn.wave k (is_plain_done rep)))) _ _ HeardWith (λ e. stays)
+        cond_both (not (is_over (taken txn.wave k (is_plain_done rep)))) _ _ GrowsWith (λ e. stays)
         (λ e. group_heard verdict (settle_decided (hearing txn k rep mark) verdict ledger).0 (settle_decided (hearing txn k rep mark) verdict ledger).1)
 
-    bearing_heard : Heard (birth_answered (hearing txn k rep mark) ledger live last)
+    bearing_heard : Grows (birth_answered (hearing txn k rep mark) ledger live last)
     bearing_heard =
-        cond_both (not (is_over (taken txn.wave k (is_plain_done rep)))) _ _ Heard (λ e. stays)
-        (λ e. cond_both (is_short (hearing txn k rep mark).outs txn.size.n txn.size.q) _ _ Heard (λ s. fail_from (hearing txn k rep mark) ledger)
+        cond_both (not (is_over (taken txn.wave k (is_plain_done rep)))) _ _ Grows (λ e. stays)
+        (λ e. cond_both (is_short (hearing txn k rep mark).outs txn.size.n txn.size.q) _ _ Grows (λ s. fail_from (hearing txn k rep mark) ledger)
         (λ s. unlock_from (hearing txn k rep mark) (next.Answer (reply.Decided None)) ledger))
 
-    releasing_heard : (after : Then) → Heard (unlock_answered (hearing txn k rep mark) after ledger live last)
-    releasing_heard after = cond_both (not (is_over (taken txn.wave k (is_plain_done rep)))) _ _ Heard (λ e. stays) (λ e. going_from (hearing txn k rep mark) after ledger)
+    releasing_heard : (after : Then) → Grows (unlock_answered (hearing txn k rep mark) after ledger live last)
+    releasing_heard after = cond_both (not (is_over (taken txn.wave k (is_plain_done rep)))) _ _ Grows (λ e. stays) (λ e. going_from (hearing txn k rep mark) after ledger)
 
-    opening_heard : Heard (open_answered (hearing txn k rep mark))
+    opening_heard : Grows (open_answered (hearing txn k rep mark))
     opening_heard =
-        cond_both (not (is_over (taken txn.wave k (is_plain_done rep)))) _ _ Heard (λ e. stays)
-        (λ e. cond_both (is_short (hearing txn k rep mark).outs txn.size.n txn.size.q) _ _ Heard (λ s. stays) (λ s. stays))
+        cond_both (not (is_over (taken txn.wave k (is_plain_done rep)))) _ _ Grows (λ e. stays)
+        (λ e. cond_both (is_short (hearing txn k rep mark).outs txn.size.n txn.size.q) _ _ Grows (λ s. stays) (λ s. stays))
 
-    listing_marked : (all : List Cell) → Marked (list_answered txn k rep mark all).0.outs
+    listing_marked : (all : List Cell) → HasMarks (list_answered txn k rep mark all).0.outs
     listing_marked all = by (cells_in rep) where
-      by : (o : Option (List Cell)) → Marked (cond (not (is_over (list_taken txn k o (is_fault rep) mark all).0.wave))
+      by : (o : Option (List Cell)) → HasMarks (cond (not (is_over (list_taken txn k o (is_fault rep) mark all).0.wave))
           (waiting (list_taken txn k o (is_fault rep) mark all).0 (phase.Listing (list_taken txn k o (is_fault rep) mark all).1))
           (list_ended (list_taken txn k o (is_fault rep) mark all).0 (list_taken txn k o (is_fault rep) mark all).1)).0.outs
       by None =
-          cond_both (not (is_over (taken txn.wave k false))) _ _ (λ (t : Txn × Need). Marked t.0.outs)
+          cond_both (not (is_over (taken txn.wave k false))) _ _ (λ (t : Txn × Need). HasMarks t.0.outs)
           (λ e. marked (left txn.outs k (is_fault rep) mark) (left txn.outs k (is_fault rep) mark) left_base (same (left txn.outs k (is_fault rep) mark)))
           (λ e. marked (left txn.outs k (is_fault rep) mark) (left txn.outs k (is_fault rep) mark) left_base (same (left txn.outs k (is_fault rep) mark)))
       by (Some cells) =
-          cond_both (not (is_over (taken txn.wave k true))) _ _ (λ (t : Txn × Need). Marked t.0.outs)
+          cond_both (not (is_over (taken txn.wave k true))) _ _ (λ (t : Txn × Need). HasMarks t.0.outs)
           (λ e. marked txn.outs txn.outs same_base (same txn.outs)) (λ e. marked txn.outs txn.outs same_base (same txn.outs))
 
     -- by the phase
-    of_heard : (t : Txn × (Need × State Cell)) → HeardWith t → Marked t.0.outs
+    of_heard : (t : Txn × (Need × State Cell)) → GrowsWith t → HasMarks t.0.outs
     of_heard t h = marked (hearing txn k rep mark).outs t.0.outs heard_base h
 
-    phase_marked : (p : Phase) → Marked (answered_in p txn k rep mark ledger live last).0.outs
+    phase_marked : (p : Phase) → HasMarks (answered_in p txn k rep mark ledger live last).0.outs
     phase_marked (phase.Locking at) = locked_marked (rows_in rep (length txn.cells))
     phase_marked (phase.Unlocking after) = of_heard (answered_in (phase.Unlocking after) txn k rep mark ledger live last) (releasing_heard after)
     phase_marked (phase.Fetching place from contents) = fetched_marked place contents (content_in rep (aspect_at (slice_get txn.cells (length contents))))
@@ -345,10 +345,10 @@ all_outs n outs (one ∷ list) j out h = by (all_outs n (with_out n outs one) li
   by (inr among) = inr (inr among)
 
 module _ (txn : Txn) (done : CopyDone) (last : List ℕ) where
-  abbrev MarkedBy : Outs → Type 0
-  MarkedBy after = (j : ℕ) (out : Out) → slice_index_or after.at j None ≡ Some out → (slice_index_or txn.outs.at j None ≡ Some out) ⊎ (IsAmong out done.outs ⊎ IsLost last out)
+  abbrev HasMarksBy : Outs → Type 0
+  HasMarksBy after = (j : ℕ) (out : Out) → slice_index_or after.at j None ≡ Some out → (slice_index_or txn.outs.at j None ≡ Some out) ⊎ (IsAmong out done.outs ⊎ IsLost last out)
 
-  copy_marked : (after : Outs) → AreLostSince last (with_outs txn.size.n txn.outs done.outs) after → MarkedBy after
+  copy_marked : (after : Outs) → AreLostSince last (with_outs txn.size.n txn.outs done.outs) after → HasMarksBy after
   copy_marked after since j out h = by (since j out h) where
     there : (slice_index_or txn.outs.at j None ≡ Some out) ⊎ IsAmong out done.outs → (slice_index_or txn.outs.at j None ≡ Some out) ⊎ (IsAmong out done.outs ⊎ IsLost last out)
     there (inl x) = inl x
@@ -358,10 +358,10 @@ module _ (txn : Txn) (done : CopyDone) (last : List ℕ) where
     by (inl x) = there (all_outs txn.size.n txn.outs done.outs j out x)
     by (inr lost) = inr (inr lost)
 
-copied_marked : (p : Phase) (txn : Txn) (done : CopyDone) (ledger : State Cell) (live : Mask) (last : List ℕ) → MarkedBy txn done last (copied_in p txn done ledger live last).0.outs
+copied_marked : (p : Phase) (txn : Txn) (done : CopyDone) (ledger : State Cell) (live : Mask) (last : List ℕ) → HasMarksBy txn done last (copied_in p txn done ledger live last).0.outs
 copied_marked (phase.Copying sinks parts) txn done ledger live last =
     cond_both (is_heal txn.job) (record txn { outs = with_outs txn.size.n txn.outs done.outs; records = txn.records ++ done.records }) (record txn { outs = with_outs txn.size.n txn.outs done.outs })
-    (λ (after : Txn). MarkedBy txn done last (cond (is_short after.outs after.size.n after.size.q) (kept (fail after ledger live last) ledger) (cond (is_left after sinks done.current) (kept (unlock after next.Again ledger live last) ledger) (copy_next after parts ledger live last))).0.outs)
+    (λ (after : Txn). HasMarksBy txn done last (cond (is_short after.outs after.size.n after.size.q) (kept (fail after ledger live last) ledger) (cond (is_left after sinks done.current) (kept (unlock after next.Again ledger live last) ledger) (copy_next after parts ledger live last))).0.outs)
     (λ e. copy_marked txn done last _ (noted_copy live last (record txn { outs = with_outs txn.size.n txn.outs done.outs; records = txn.records ++ done.records }) sinks parts done.current ledger))
     (λ e. copy_marked txn done last _ (noted_copy live last (record txn { outs = with_outs txn.size.n txn.outs done.outs }) sinks parts done.current ledger))
 copied_marked (phase.Locking at) txn done ledger live last = λ j out h. inl h
