@@ -3,8 +3,10 @@ pub mod Bits
 pub mod Encoded
 pub mod Grants
 pub mod LockSteps
+pub mod LostSince
 pub mod Reached
 pub mod Rows
+pub mod Short
 pub mod Sound
 pub mod Stays
 pub mod Tracked

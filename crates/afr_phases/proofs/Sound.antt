@@ -48,7 +48,7 @@ module _ (rows : List (Option Row)) (n q k : ℕ) where
       let p = and_parts (is_row_good (row_of rows k) k) (nat_lt (accusers_of rows k) (reached_in rows - (n - q))) h in
       sound_at (row_of rows k) refl p.0 (is_less (accusers_of rows k) (reached_in rows - (n - q)) p.1)
 
-  sound_test : IsSound rows n q k → is_sound rows n q k ≡ true
+  pub sound_test : IsSound rows n q k → is_sound rows n q k ≡ true
   sound_test s =
       both_true (is_row_good (row_of rows k) k) (nat_lt (accusers_of rows k) (reached_in rows - (n - q)))
       (ap (λ (o : Option Row). is_row_good o k) s.reached ∙ both_true s.row.present (slice_index s.row.pending k == 0) s.present (zero_is (slice_index s.row.pending k) s.trusts_itself))

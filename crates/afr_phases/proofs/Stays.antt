@@ -1,7 +1,7 @@
 -- Who is out stays out, so that who is used was used before; and the five places stay.
-use Rattle.std.proofs.Common.{◌≡◌, ◌∙◌, ℕ, ◌-◌, ◌<◌, ◌⊎◌, inl, inr, Bool, true, false, ◌&&◌, cond, not, nat_lt, List, Option, Some, None, is_some, length, slice_index_or, slice_set, refl, sym, ap, subst}
+use Rattle.std.proofs.Common.{◌≡◌, ◌∙◌, ℕ, ◌-◌, ◌<◌, ◌⊎◌, inl, inr, Bool, true, false, ◌&&◌, ◌||◌, cond, not, nat_lt, List, Option, Some, None, is_none, is_some, length, slice_index_or, slice_set, refl, sym, ap, subst}
 use Rattle.std.specs.Prelude.{◌≢◌}
-use Rattle.std.proofs.lemmas.Bool.{cond_both, and_parts, and_from, cases_eq, true≢false, not-true}
+use Rattle.std.proofs.lemmas.Bool.{cond_both, and_parts, and_from, cases_eq, lt-ltb, true≢false, not-true}
 use Rattle.std.proofs.lemmas.List.{get_or-set_other}
 use Rattle.fop_types.specs.declared.contents.Mask.{Mask}
 use Rattle.fop_types.specs.declared.messages.BrickRep.{BrickRep}
@@ -12,11 +12,12 @@ use Rattle.afr_phases.specs.declared.outs.Outs.{Outs}
 use Rattle.afr_phases.specs.Answers.{is_fault, is_plain_done}
 use Rattle.afr_phases.specs.Flags.{flag}
 use Rattle.afr_phases.specs.Hearing.{heard}
-use Rattle.afr_phases.specs.Locking.{next_to_lock, kept_only, ended, ended_with, asked_or_ended, next_lock}
-use Rattle.afr_phases.specs.Locks.{standing, is_open}
+use Rattle.afr_phases.specs.Locking.{next_to_lock, kept_only, without_lost, ended, ended_with, asked_or_ended, next_lock}
+use Rattle.afr_phases.specs.Locks.{standing, stands, keeping, is_open}
 use Rattle.afr_phases.specs.Outs.{is_out, is_short, left, used}
-use Rattle.afr_phases.proofs.Reached.{next_places, kept_places, reached_hold}
-use Rattle.afr_phases.proofs.Tracked.{left_places}
+use Rattle.afr_phases.specs.Reached.{LostAreOut}
+use Rattle.afr_phases.proofs.Reached.{next_places, kept_places, are_out, reached_hold}
+use Rattle.afr_phases.proofs.Tracked.{flag_by, left_places}
 use Rattle.afr_phases.proofs.Truths.{flags_at, below_five, flags_have}
 
 -- who was out stays so
@@ -84,3 +85,31 @@ module _ (n q from : ℕ) (outs : Outs) (locks : Locks) (live : Mask) (last : Li
 
   pub step_from : IsStepFrom n locks (next_lock outs locks n q from live last)
   step_from = by_step (next_lock outs locks n q from live last) refl step_places
+
+-- ---- the release
+
+-- the five places stay where those that have lost their lock are out
+pub lost_five : (n : ℕ) (outs : Outs) (locks : Locks) (live : Mask) (last : List ℕ) → length outs.at ≡ 5 → length (without_lost outs locks n live last).at ≡ 5
+unfolding without_lost
+lost_five n outs locks live last five = kept_places outs (keeping locks live last) n last five
+
+lost_keeps_none : (granted stands : Bool) → granted ≡ true → stands ≡ false → (not granted || stands) ≡ false
+lost_keeps_none true false g s = refl
+lost_keeps_none true true g s = absurd (true≢false s)
+lost_keeps_none false stands g s = absurd (true≢false (sym g))
+
+none_is : (o : Option ℕ) → is_none o ≡ not (is_some o)
+none_is None = refl
+none_is (Some x) = refl
+
+-- who has lost its lock is out
+pub lost_are_out : LostAreOut
+unfolding without_lost
+lost_are_out outs locks n k live last five low below grants lost =
+    are_out outs (keeping locks live last) n last five k low (and_from (nat_lt k n) (not (flag (keeping locks live last) k)) (lt-ltb k n below) (ap not off))
+  where
+    off : flag (keeping locks live last) k ≡ false
+    off =
+        flag_by (λ j. is_none (slice_index_or locks.at j None) || stands locks j live last) k low
+        ∙ ap (λ (b : Bool). b || stands locks k live last) (none_is (slice_index_or locks.at k None))
+        ∙ lost_keeps_none (is_some (slice_index_or locks.at k None)) (stands locks k live last) grants lost

@@ -10,7 +10,7 @@ use Rattle.afr_phases.specs.declared.locking.LockStep.{LockStep}
 use Rattle.afr_phases.specs.declared.locking.LockStep.TheVariants as step
 use Rattle.afr_phases.specs.Flags.{flag, names}
 use Rattle.afr_phases.specs.Outs.{is_out, is_short, left}
-use Rattle.afr_phases.specs.Locks.{standing}
+use Rattle.afr_phases.specs.Locks.{standing, keeping}
 
 -- who is out, and the replica that is asked, looking at `count` replicas from `k` on
 abbrev pub next_to_lock : ℕ → Outs → ℕ → ℕ → ℕ → Mask → List ℕ → Outs × Option ℕ
@@ -33,6 +33,10 @@ kept_only outs kept n last =
     let c = lost b (nat_lt 2 n && not (flag kept 2)) 2 last in
     let d = lost c (nat_lt 3 n && not (flag kept 3)) 3 last in
     lost d (nat_lt 4 n && not (flag kept 4)) 4 last
+
+-- the replicas of n that have lost their lock are out: each granted it on a connection that has ended since
+unfoldable pub without_lost : Outs → Locks → ℕ → Mask → List ℕ → Outs
+without_lost outs locks n live last = kept_only outs (keeping locks live last) n last
 
 -- the end of the phase, by those who are left
 abbrev pub ended_with : Outs → ℕ → ℕ → Outs × LockStep

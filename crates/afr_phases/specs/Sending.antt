@@ -1,5 +1,5 @@
 -- What a phase sends: one request to each of some replicas, rising.
-use Rattle.std.specs.Prelude.{ℕ, Bool, List, [], ◌∷◌, if◌then◌else◌}
+use Rattle.std.specs.Prelude.{ℕ, Bool, List, [], ◌∷◌, Option, Some, None, if◌then◌else◌}
 use Rattle.fop_types.specs.declared.messages.BrickReq.{BrickReq}
 use Rattle.afr_phases.specs.Flags.{flag}
 
@@ -9,3 +9,8 @@ sends_among (k ∷ ks) to req = if flag to k then (k, req) ∷ sends_among ks to
 
 abbrev pub sends : List Bool → BrickReq → List (ℕ × BrickReq)
 sends to req = sends_among (0 ∷ 1 ∷ 2 ∷ 3 ∷ 4 ∷ []) to req
+
+-- the request to one replica, if there is one
+abbrev pub one_to : Option ℕ → BrickReq → List (ℕ × BrickReq)
+one_to None req = []
+one_to (Some k) req = (k, req) ∷ []

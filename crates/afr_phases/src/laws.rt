@@ -1,4 +1,4 @@
-ghost use Rattle.afr_phases.specs.Reached.{ReachedHoldLocks};
+ghost use Rattle.afr_phases.specs.Reached.{ReachedHoldLocks, LostAreOut};
 ghost use Rattle.afr_phases.specs.Tracked.{SentIsTracked, HeardIsTracked, OutsideAreUnconfirmed};
 
 /// What a phase keeps that is sent to all replicas that are not out: who is not out was asked or has confirmed. Once
@@ -14,4 +14,10 @@ pub fn phases_are_tracked()
 /// contract exports this.
 pub fn reached_hold_locks()
     ensures { ReachedHoldLocks }
+{}
+
+/// Each replica that granted a lock which is not held any more is out, once those are noted that have lost theirs. The call
+/// does nothing: its contract exports this.
+pub fn lost_locks_leave()
+    ensures { LostAreOut }
 {}

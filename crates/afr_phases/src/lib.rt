@@ -14,8 +14,8 @@
 //!
 //! Whom a phase asks: for a lock, [`next_lock`] says it. After the lock phase, all replicas that are not out
 //! ([`Outs::used`]), also one whose connection has ended since: its answer is then Gone. An unlock goes to those whose
-//! lock is still held ([`Locks::standing`]), out or not. Jobs without locks ask every live replica, and
-//! [`keep_only`] notes the others. A post or a settle accuses every replica of the set outside a group
+//! lock is still held ([`Locks::standing`]), out or not; [`leave_lost`] notes those that have lost theirs. Jobs without
+//! locks ask every live replica, and [`keep_only`] notes the others. A post or a settle accuses every replica of the set outside a group
 //! ([`outside`]), reached or not.
 //!
 //! Everything here is a small value of five places, one for each replica that a set may have; only the requests that
@@ -35,8 +35,8 @@ mod wave;
 
 pub use flags::{Flags, both, but_for, flags_of, lowest, mask_of, names, outside};
 pub use hearing::{hear, miss};
-pub use laws::{phases_are_tracked, reached_hold_locks};
-pub use locking::{LockStep, keep_only, next_lock};
+pub use laws::{lost_locks_leave, phases_are_tracked, reached_hold_locks};
+pub use locking::{LockStep, keep_only, leave_lost, next_lock};
 pub use locks::Locks;
 pub use outs::Outs;
 pub use replies::{cells_in, content_in, is_fault, is_plain_done, rows_in};

@@ -1,5 +1,5 @@
 ghost use Rattle.std.specs.Prelude.{◌≡◌, ◌-◌, ◌<◌, ◌≤◌};
-ghost use Rattle.afr_phases.specs.Locking.{next_to_lock, lost, kept_only, ended, next_lock};
+ghost use Rattle.afr_phases.specs.Locking.{next_to_lock, lost, kept_only, without_lost, ended, next_lock};
 
 use crate::flags::{Flags, names};
 use crate::locks::{Locks, number_at};
@@ -84,6 +84,15 @@ pub fn keep_only(outs: &mut Outs, kept: Flags, n: u8, last: &[u32])
     lose(outs, n > 2 && !c, 2, last);
     lose(outs, n > 3 && !d, 3, last);
     lose(outs, n > 4 && !e, 4, last);
+}
+
+/// The replicas of `n` that have lost their lock are out, each with the number of its last connection. Who granted none
+/// is not.
+#[tactic(auto, unfolding(crate::specs::Locking::without_lost))]
+pub fn leave_lost(outs: &mut Outs, locks: &Locks, n: u8, live: Mask, last: &[u32])
+    ensures { outs.new ≡ without_lost outs.old locks.now n live last.now }
+{
+    keep_only(outs, locks.keeping(live, last), n, last);
 }
 
 fn lose(outs: &mut Outs, is_lost: bool, k: u8, last: &[u32])

@@ -1,5 +1,5 @@
 ghost use Rattle.std.specs.Prelude.{◌≡◌, ◌<◌, slice_index};
-ghost use Rattle.afr_phases.specs.Locks.{no_locks, granted, stands, standing};
+ghost use Rattle.afr_phases.specs.Locks.{no_locks, granted, stands, standing, keeps, keeping};
 
 use crate::flags::{Flags, names};
 use fop_types::Mask;
@@ -48,6 +48,27 @@ impl Locks {
             self.stands(2, live, last),
             self.stands(3, live, last),
             self.stands(4, live, last),
+        ]
+    }
+
+    // Whether a replica has lost no lock: it granted none, or its lock is still held.
+    fn keeps(&self, k: u8, live: Mask, last: &[u32]) -> bool
+        requires { k < 5 }
+        ensures { result ≡ keeps self.now k live last.now }
+    {
+        self.at[k as usize].is_none() || self.stands(k, live, last)
+    }
+
+    /// The replicas that have lost no lock. The others granted one on a connection that has ended since.
+    pub fn keeping(&self, live: Mask, last: &[u32]) -> Flags
+        ensures { result ≡ keeping self.now live last.now }
+    {
+        [
+            self.keeps(0, live, last),
+            self.keeps(1, live, last),
+            self.keeps(2, live, last),
+            self.keeps(3, live, last),
+            self.keeps(4, live, last),
         ]
     }
 }

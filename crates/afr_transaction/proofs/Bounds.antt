@@ -48,7 +48,7 @@ use Rattle.afr_transaction.specs.Copied.{healed, is_change, copied_all, copy_by,
 use Rattle.afr_transaction.specs.Copies.{has_sink, has_source, next_part, with_outs, is_left}
 use Rattle.afr_transaction.specs.Encodings.{HaveFew, IsPart, TakesLocks, IsLocked, BoundsIn, IsOwn, HasBounds, Bounds, BeginsBound, AnswersBound, CopiesBound, AnswersLeaveFew, CopiesLeaveFew}
 use Rattle.afr_transaction.specs.Jobs.{kind_of, birth_op, change_op}
-use Rattle.afr_transaction.specs.Locked.{to_settle, cells_for, first_step, again, going, unlock, fail, lock_taken, reached}
+use Rattle.afr_transaction.specs.Locked.{to_settle, cells_for, first_step, again, going, lost_noted, unlock, fail, lock_taken, reached}
 use Rattle.afr_transaction.specs.Moves.{IsMove, Stays, Draws, Begins, Decides}
 use Rattle.afr_transaction.specs.Parts.{common_of, is_split, all_parts}
 use Rattle.afr_transaction.specs.Polls.{polled}
@@ -95,7 +95,7 @@ module _ (live : Mask) (last : List ℕ) where
   answer_kept txn r ledger own takes = cond_both (is_none (lowest (standing txn.locks live last))) _ _ Kept (λ e. ((own, tt), tt)) (λ e. ((own, takes), tt))
 
   redo_kept : (txn : Txn) (ledger : State Cell) → IsOwn txn → TakesLocks txn.job → FewIn ledger.unsettled → Kept (unlock txn next.Again ledger live last)
-  redo_kept txn ledger own takes few = cond_both (is_none (lowest (standing txn.locks live last))) _ _ Kept (λ e. again_kept txn ledger own takes few) (λ e. ((own, takes), tt))
+  redo_kept txn ledger own takes few = cond_both (is_none (lowest (standing txn.locks live last))) _ _ Kept (λ e. again_kept (lost_noted txn live last) ledger own takes few) (λ e. ((own, takes), tt))
 
   going_kept : (txn : Txn) (after : Then) (ledger : State Cell) → IsOwn txn → TakesLocks txn.job → FewIn ledger.unsettled → Kept (going txn after ledger live last)
   going_kept txn (next.Answer r) ledger own takes few = ((own, tt), tt)

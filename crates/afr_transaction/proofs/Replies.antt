@@ -56,7 +56,7 @@ use Rattle.afr_transaction.specs.Changes.{has_number, may_begin, marking, post_d
 use Rattle.afr_transaction.specs.Copied.{healed, is_change, copied_all, copy_by, copy_next, copy_noted}
 use Rattle.afr_transaction.specs.Copies.{has_source, next_part, is_left}
 use Rattle.afr_transaction.specs.Jobs.{kind_of, birth_op, change_op}
-use Rattle.afr_transaction.specs.Locked.{to_settle, cells_for, first_step, again, going, unlock, fail, lock_taken, reached}
+use Rattle.afr_transaction.specs.Locked.{to_settle, cells_for, first_step, again, going, lost_noted, unlock, fail, lock_taken, reached}
 use Rattle.afr_transaction.specs.Parts.{common_of, is_split, all_parts}
 use Rattle.afr_transaction.specs.Polls.{polled}
 use Rattle.afr_transaction.specs.Reads.{lacks, sound_on, is_split_read, split_rows, with_absent, fetching, fetch_at, fetch_next, fetch_taken, ready_to_read}
@@ -150,7 +150,7 @@ module _ (live : Mask) (last : List ℕ) where
   going_fits txn next.Again ledger h = again_fits txn ledger
 
   unlock_fits : (txn : Txn) (after : Then) (ledger : State Cell) → ThenFits after → Fits (unlock txn after ledger live last)
-  unlock_fits txn after ledger h = cond_both (is_none (lowest (standing txn.locks live last))) _ _ Fits (λ e. going_fits txn after ledger h) (λ e. (h, tt))
+  unlock_fits txn after ledger h = cond_both (is_none (lowest (standing txn.locks live last))) _ _ Fits (λ e. going_fits (lost_noted txn live last) after ledger h) (λ e. (h, tt))
 
   redo_fits : (txn : Txn) (ledger : State Cell) → Fits (unlock txn next.Again ledger live last)
   redo_fits txn ledger = unlock_fits txn next.Again ledger tt

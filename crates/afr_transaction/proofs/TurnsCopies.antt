@@ -109,7 +109,7 @@ settle_is txn verdict group =
 out_five : (n : ℕ) (outs : Outs) (out : Out) → length outs.at ≡ 5 → length (with_out n outs out).at ≡ 5
 out_five n outs out five = cond_both (nat_lt out.replica n) (left outs out.replica out.fault out.mark) outs (λ (o : Outs). length o.at ≡ 5) (λ e. left_places outs out.replica out.mark out.fault five) (λ e. five)
 
-outs_five : (n : ℕ) (outs : Outs) (list : List Out) → length outs.at ≡ 5 → length (with_outs n outs list).at ≡ 5
+pub outs_five : (n : ℕ) (outs : Outs) (list : List Out) → length outs.at ≡ 5 → length (with_outs n outs list).at ≡ 5
 outs_five n outs [] five = five
 outs_five n outs (out ∷ list) five = outs_five n (with_out n outs out) list (out_five n outs out five)
 

@@ -19,13 +19,13 @@ use Rattle.afr_phases.specs.Locks.{no_locks, stands, standing, is_open}
 use Rattle.afr_phases.specs.Shown.{nothing_shown}
 use Rattle.afr_phases.specs.Waves.{is_over}
 use Rattle.afr_phases.proofs.Grants.{IsStepOf, step_of, none_granted, stands_low}
-use Rattle.afr_phases.proofs.Stays.{step_places}
+use Rattle.afr_phases.proofs.Stays.{step_places, lost_five}
 use Rattle.afr_phases.proofs.Truths.{flags_at, lowest_there}
 use Rattle.afr_transaction.specs.declared.phase.Phase.TheVariants as phase
 use Rattle.afr_transaction.specs.declared.phase.Then.{Then}
 use Rattle.afr_transaction.specs.declared.phase.Then.TheVariants as next
 use Rattle.afr_transaction.specs.declared.txn.Txn.{Txn}
-use Rattle.afr_transaction.specs.Locked.{is_read, to_settle, cells_for, locking, first_step, again, going, unlock, fail}
+use Rattle.afr_transaction.specs.Locked.{is_read, to_settle, cells_for, locking, first_step, again, going, lost_noted, releasing, unlock, fail}
 use Rattle.afr_transaction.specs.Requests.{HasGranted}
 use Rattle.afr_transaction.specs.Txns.{over, healing, ending, io_of, is_heal}
 use Rattle.afr_transaction.proofs.TurnsBase.{On, IsStill, asks, asks_only, only_alone, over_on}
@@ -60,13 +60,17 @@ module _ (G : Type 0) (live : Mask) (last : List ℕ) where
     by None h = absurd (true≢false (sym h))
     by (Some connection) h = refl
 
-  pub unlock_on : (txn : Txn) (after : Then) (ledger : State Cell) → IsStill G txn → On G txn.size (unlock txn after ledger live last)
-  unlock_on txn after ledger still =
+  release_on : (txn : Txn) (after : Then) (ledger : State Cell) → IsStill G txn → On G txn.size (releasing txn after ledger live last)
+  release_on txn after ledger still =
       cond_both (is_none (lowest (standing txn.locks live last))) _ _ (On G txn.size) (λ e. going_on txn after ledger still.0 still.1.1)
       (λ e. let some = lowest_there (standing txn.locks live last) e in
       asks G txn (req.Unlock txn.call) (phase.Unlocking after) still.1.0 still.1.1 (λ k. stands txn.locks k live last) some.0 some.1.0
       (λ j h. stands_low txn.size.n j txn.locks live last still.1.0 (flags_at (λ k. stands txn.locks k live last) j h)) refl (λ g. tt)
       (λ g j h. (granted_at txn j (flags_at (λ k. stands txn.locks k live last) j h), refl)))
+
+  pub unlock_on : (txn : Txn) (after : Then) (ledger : State Cell) → IsStill G txn → On G txn.size (unlock txn after ledger live last)
+  unlock_on txn after ledger still =
+      release_on (lost_noted txn live last) after ledger (still.0, (still.1.0, λ g. lost_five txn.size.n txn.outs txn.locks live last (still.1.1 g)))
 
   pub fail_on : (txn : Txn) (ledger : State Cell) → IsStill G txn → On G txn.size (fail txn ledger live last)
   fail_on txn ledger still =

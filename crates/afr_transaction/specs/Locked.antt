@@ -19,7 +19,7 @@ use Rattle.afr_phases.specs.Locks.{no_locks, granted, standing}
 use Rattle.afr_phases.specs.Waves.{taken}
 use Rattle.afr_phases.specs.declared.locking.LockStep.{LockStep}
 use Rattle.afr_phases.specs.declared.locking.LockStep.TheVariants as step
-use Rattle.afr_phases.specs.Locking.{next_lock}
+use Rattle.afr_phases.specs.Locking.{next_lock, without_lost}
 use Rattle.afr_phases.specs.Answers.{is_fault, is_plain_done, rows_in}
 use Rattle.afr_phases.specs.Shown.{nothing_shown, with_rows, reaching}
 use Rattle.afr_transaction.specs.declared.need.Need.{Need}
@@ -103,11 +103,19 @@ abbrev pub going : Txn → Then → State Cell → Mask → List ℕ → Txn × 
 going txn (next.Answer reply) ledger live last = over txn reply
 going txn next.Again ledger live last = again txn ledger live last
 
+-- a replica that granted a lock which is not held any more is out for the job, with the number of its last connection
+abbrev pub lost_noted : Txn → Mask → List ℕ → Txn
+lost_noted txn live last = record txn { outs = without_lost txn.outs txn.locks txn.size.n live last }
+
 -- the locks that are still held are released
-abbrev pub unlock : Txn → Then → State Cell → Mask → List ℕ → Txn × Need
-unlock txn after ledger live last =
+abbrev pub releasing : Txn → Then → State Cell → Mask → List ℕ → Txn × Need
+releasing txn after ledger live last =
     if is_none (lowest (standing txn.locks live last)) then going txn after ledger live last
     else asking txn (standing txn.locks live last) (req.Unlock txn.call) (phase.Unlocking after)
+
+-- the lock phase is over: whose lock was lost is noted, and the others are released
+abbrev pub unlock : Txn → Then → State Cell → Mask → List ℕ → Txn × Need
+unlock txn after ledger live last = releasing (lost_noted txn live last) after ledger live last
 
 -- too few replicas are left
 abbrev pub fail : Txn → State Cell → Mask → List ℕ → Txn × Need

@@ -11,8 +11,8 @@
 //!
 //! A transaction takes what a replica answered and says what it needs next: requests to be sent, a copy to be made,
 //! nothing before another answer, or that it is done. It knows no frames and no bytes, and asks each replica for one
-//! thing at a time. Who does not answer as asked is out, and when so many are out that the others are no quorum, the
-//! locks are released and the job is answered by the cause.
+//! thing at a time. Who does not answer as asked, or has lost its lock by the release, is out, and when so many are out
+//! that the others are no quorum, the locks are released and the job is answered by the cause.
 #![tactic(auto)]
 
 mod answers;
@@ -37,8 +37,9 @@ mod txn;
 
 pub use jobs::Kind;
 pub use laws::{
-    quorums_decide, replies_are_within_bounds, requests_are_encoded, requests_are_of_phases,
-    transactions_go_on, turns_move_the_ledger,
+    failures_have_causes, marks_are_handed_in, quorums_decide, replies_are_within_bounds,
+    requests_are_encoded, requests_are_of_phases, requests_end, rows_are_handed_in,
+    splits_lack_free, transactions_go_on, turns_move_the_ledger,
 };
 pub use listed::Listed;
 pub use need::Need;

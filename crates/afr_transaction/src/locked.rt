@@ -1,12 +1,12 @@
 ghost use Rattle.std.specs.Prelude.{◌≡◌, ◌<◌, ◌∷◌, [], true, IfOk, slice_index};
 ghost use Rattle.afr_phases.specs.Waves.{is_asked};
-ghost use Rattle.afr_transaction.specs.Locked.{job_cells, settles_first, is_read, to_settle, cells_for, locking, first_lock, start_lock, again, going, unlock, fail, lock_taken, reached};
+ghost use Rattle.afr_transaction.specs.Locked.{job_cells, settles_first, is_read, to_settle, cells_for, locking, first_lock, start_lock, again, going, lost_noted, releasing, unlock, fail, lock_taken, reached};
 
 use crate::need::Need;
 use crate::phase::{Phase, Then};
 use crate::txn::{Txn, only};
 use afr_ledger::Ledger;
-use afr_phases::{LockStep, Locks, Shown, lowest, miss, next_lock};
+use afr_phases::{LockStep, Locks, Shown, leave_lost, lowest, miss, next_lock};
 use fop_types::{BrickReq, Cell, Job, Mask, Row, Seq};
 use std::alloc::{AllocError, Global};
 
@@ -121,7 +121,14 @@ impl Txn {
         }
     }
 
-    /// The locks that are still held are released.
+    // Each replica that granted a lock which is not held any more is out for the job.
+    fn note_lost(&mut self, live: Mask, last: &[u32])
+        ensures { self.new ≡ lost_noted self.old live last.now }
+    {
+        leave_lost(&mut self.outs, &self.locks, self.size.n, live, last);
+    }
+
+    /// The lock phase is over: the locks that are still held are released, and those that were lost are noted.
     ///
     /// # Errors
     /// Out of memory.
@@ -134,6 +141,21 @@ impl Txn {
         last: &[u32],
     ) -> Result<Need, AllocError>
         ensures { IfOk result (λ need. (self.new, need) ≡ unlock self.old after ledger.now live last.now) }
+    {
+        self.note_lost(live, last);
+        self.release(alloc, after, ledger, live, last)
+    }
+
+    // The locks that are still held are released.
+    fn release(
+        &mut self,
+        alloc: Global,
+        after: Then,
+        ledger: &Ledger<Cell>,
+        live: Mask,
+        last: &[u32],
+    ) -> Result<Need, AllocError>
+        ensures { IfOk result (λ need. (self.new, need) ≡ releasing self.old after ledger.now live last.now) }
     {
         let held = self.locks.standing(live, last);
         if lowest(&held).is_none() {

@@ -51,7 +51,7 @@ impl Txn {
     ) -> Result<Need, AllocError>
         ensures { IfOk result (λ need. (self.new, need) ≡ asking self.old to req phase) }
     {
-        let list = sends(alloc, &to, &req)?;
+        let list = sends(alloc, &to, req)?;
         self.wave = Wave::of(to);
         self.phase = phase;
         Ok(Need::Send(list))

@@ -54,7 +54,7 @@ impl CopyRun {
     /// Takes the answer of a replica that was asked, and says what the copy needs next. `mark` is the place in the
     /// replica's journal where the answer is a fault, else the number of its last connection.
     ///
-    /// An answer that asks nothing takes constant time. A replacement is copied once for each sink.
+    /// An answer that asks nothing takes constant time. A replacement is copied once for each sink but the last.
     ///
     /// # Errors
     /// Out of memory. After that the copy is not used any more.
@@ -123,7 +123,7 @@ impl CopyRun {
     ) -> Result<CopyNeed, AllocError>
         ensures { IfOk result (λ need. (self.new, need) ≡ asking self.old to req stage) }
     {
-        let list = sends(alloc, &to, &req)?;
+        let list = sends(alloc, &to, req)?;
         self.wave = Wave::of(to);
         self.stage = stage;
         Ok(CopyNeed::Send(list))

@@ -133,7 +133,7 @@ fn sound_by_rows(rt: HostRuntime) -> Result<(), Fail> {
 }
 
 fn count_sends(alloc: Global, to: &Flags) -> Result<usize, AllocError> {
-    let list = sends(alloc, to, &BrickReq::Unlock { call: 7 })?;
+    let list = sends(alloc, to, BrickReq::Unlock { call: 7 })?;
     Ok(list.len())
 }
 

@@ -7,8 +7,9 @@ use std::test::*;
 // Writes, reads and heals of one file on three replicas, as losses and faults leave them: two are down during a write,
 // or go down with its op under way, and the next read finds the change on all; a connection ends after the post; two
 // settlings lose their majority and a third drops the change; three writes reach two replicas each; the source of a
-// heal goes down; two answer a fault to the op.
-const LOSSES: [Case; 14] = [
+// heal goes down; two answer a fault to the op; the only source of a read goes down, and another's connection is a new
+// one by then, so that its lock is lost and only one replica is left.
+const LOSSES: [Case; 15] = [
     (
         3,
         1,
@@ -261,6 +262,22 @@ const LOSSES: [Case; 14] = [
             (Done(0), Wait),
             (Done(1), Wait),
             (Done(2), Shared(1)),
+        ],
+    ),
+    (
+        3,
+        7,
+        false,
+        Work::Read,
+        Shared(1),
+        &[
+            (Rows(0, 1, 0), Shared(2)),
+            (Rows(1, 0, 0), Shared(4)),
+            (Rows(2, 4, 0), Fetch(2)),
+            (Back(2), Wait),
+            (Cut(5), Wait),
+            (Gone(1), Unlock(1)),
+            (Done(0), Quorum(6)),
         ],
     ),
 ];

@@ -13,7 +13,8 @@ pub(crate) type Case = (u8, u8, bool, Work, Want, &'static [(Turn, Want)]);
 const LAST: [u32; 5] = [4; 5];
 
 /// What happens next: an answer of a replica; a copy that is done, with the sinks that have it, and the replicas that are out
-/// by it; a connection that ends; or another transaction that settles change 1, or begins a change of the cell.
+/// by it; connections that end; one that ends and is open again, with the next number; or another transaction that settles
+/// change 1, or begins a change of the cell.
 #[derive(Clone, Copy)]
 pub(crate) enum Turn {
     Done(u8),
@@ -30,6 +31,7 @@ pub(crate) enum Turn {
     Copied(u8),
     CopyOuts(u8, u8),
     Cut(u8),
+    Back(u8),
     Settled(bool),
     Begun,
 }
@@ -53,6 +55,7 @@ struct Play {
     txn: Txn,
     ledger: Ledger<Cell>,
     live: u8,
+    last: [u32; 5],
 }
 
 fn cell() -> Cell {
@@ -223,7 +226,7 @@ impl Play {
         }
         let need = self
             .txn
-            .answer(alloc, k, rep, 9, Mask(self.live), &LAST, &mut self.ledger)?;
+            .answer(alloc, k, rep, 9, Mask(self.live), &self.last, &mut self.ledger)?;
         Ok(summary(&need))
     }
 
@@ -236,8 +239,16 @@ impl Play {
         };
         let need = self
             .txn
-            .copied(alloc, done, Mask(self.live), &LAST, &mut self.ledger)?;
+            .copied(alloc, done, Mask(self.live), &self.last, &mut self.ledger)?;
         Ok(summary(&need))
+    }
+
+    fn back(&mut self, k: u8) -> Want {
+        if k >= 5 {
+            return Want::Other(k);
+        }
+        self.last[k as usize] = 5;
+        Want::Wait
     }
 
     fn settled(&mut self, alloc: Global, adopted: bool) -> Result<Want, AllocError> {
@@ -312,6 +323,7 @@ impl Play {
                 self.live = live;
                 Ok(Want::Wait)
             }
+            Turn::Back(k) => Ok(self.back(k)),
             Turn::Settled(adopted) => self.settled(alloc, adopted),
             Turn::Begun => self.begun(alloc),
         }
@@ -349,6 +361,11 @@ pub(crate) fn is_played(
     if summary(&need) != first {
         return Ok(false);
     }
-    let mut play = Play { txn, ledger, live };
+    let mut play = Play {
+        txn,
+        ledger,
+        live,
+        last: LAST,
+    };
     play.takes(alloc, turns)
 }
