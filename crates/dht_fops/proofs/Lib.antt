@@ -16,6 +16,8 @@ pub mod FlatRenames
 pub mod FlatRmdir
 pub mod Gfids
 pub mod Handing
+pub mod Homes
+pub mod HomesOfFops
 pub mod JobBounds
 pub mod Known
 pub mod LookSteps

@@ -1,5 +1,6 @@
 pub mod Additions
 pub mod Answers
+pub mod Births
 pub mod Bounds
 pub mod Costs
 pub mod Courses
@@ -7,6 +8,7 @@ pub mod Entries
 pub mod Fops
 pub mod Founded
 pub mod Handed
+pub mod Homes
 pub mod Internal
 pub mod Links
 pub mod Looks

@@ -1,8 +1,10 @@
 ghost use Rattle.dht_fops.specs.Additions.{FopsAddOnSets};
 ghost use Rattle.dht_fops.specs.Answers.{FopsAnswerAsFlat};
+ghost use Rattle.dht_fops.specs.Births.{FopsBearFirst};
 ghost use Rattle.dht_fops.specs.Bounds.{FopsKeepBounds, AnswersHaveBounds};
 ghost use Rattle.dht_fops.specs.Costs.{FopsAskFew};
 ghost use Rattle.dht_fops.specs.Founded.{FopsAskWell};
+ghost use Rattle.dht_fops.specs.Homes.{FopsChangeOnSets};
 ghost use Rattle.dht_fops.specs.Links.{FopsChangeLinks};
 ghost use Rattle.dht_fops.specs.Places.{FopsPlaceAnswers};
 ghost use Rattle.dht_fops.specs.code.Within.{CoursesKeepFops};
@@ -44,6 +46,19 @@ pub fn fops_change_links()
 /// that is known, or by the ranges that the sets showed. The call does nothing: its contract exports this.
 pub fn fops_add_on_sets()
     ensures { FopsAddOnSets }
+{}
+
+/// On which set a fop reads and changes: a file's bytes, mode and attributes on the set that has the file, and a directory's
+/// mode and attributes on the first, where a directory is removed too. Each other cell of a job is a directory's: one that
+/// the fop names, that a set showed, or that the fop makes. The call does nothing: its contract exports this.
+pub fn fops_change_on_sets()
+    ensures { FopsChangeOnSets }
+{}
+
+/// The copies of a new directory: its name is added after the birth of each further copy was answered, each with its own range
+/// of the even split; a copy that a rename bears has no range. The call does nothing: its contract exports this.
+pub fn fops_bear_first()
+    ensures { FopsBearFirst }
 {}
 
 /// How many jobs a fop asks for at most: 4 for each set and 16; a migration one for each descriptor; a heal one for each
