@@ -6,6 +6,8 @@ pub mod Costs
 pub mod CostsOfFops
 pub mod Begun
 pub mod Bounds
+pub mod Endings
+pub mod EndingsOfFops
 pub mod FlatFiles
 pub mod FlatFops
 pub mod FlatGoing

@@ -62,7 +62,7 @@ Traces g handed course = Always (IsRested g) AnyHold IsPlaced handed course
 error_same : (one two : IoError) → ◌≡◌ {A = Result DirNames IoError} (Err one) (Err two) → reply.Io one ≡ reply.Io two
 error_same one two e = let same : one ≡ two = cc in ap (λ (error : IoError). reply.Io error) same
 
-names_error : (r : SetReply) (error : IoError) → names_in r ≡ Err error → r ≡ reply.Io error
+pub names_error : (r : SetReply) (error : IoError) → names_in r ≡ Err error → r ≡ reply.Io error
 names_error (reply.Contents contents place) error e = absurd cc
 names_error (reply.Decided number) error e = absurd cc
 names_error reply.Opened error e = absurd cc
@@ -71,7 +71,7 @@ names_error (reply.Healed records) error e = absurd cc
 names_error (reply.Skipped cause) error e = absurd cc
 names_error (reply.Io own) error e = error_same own error e
 
-contents_error : (r : SetReply) (error : IoError) → contents_in r ≡ Err error → r ≡ reply.Io error
+pub contents_error : (r : SetReply) (error : IoError) → contents_in r ≡ Err error → r ≡ reply.Io error
 contents_error (reply.Contents contents place) error e = absurd cc
 contents_error (reply.Decided number) error e = absurd cc
 contents_error reply.Opened error e = absurd cc
@@ -80,7 +80,7 @@ contents_error (reply.Healed records) error e = absurd cc
 contents_error (reply.Skipped cause) error e = absurd cc
 contents_error (reply.Io own) error e = let same : own ≡ error = cc in ap (λ (one : IoError). reply.Io one) same
 
-number_error : (r : SetReply) (error : IoError) → number_in r ≡ Err error → r ≡ reply.Io error
+pub number_error : (r : SetReply) (error : IoError) → number_in r ≡ Err error → r ≡ reply.Io error
 number_error (reply.Contents contents place) error e = absurd cc
 number_error (reply.Decided number) error e = absurd cc
 number_error reply.Opened error e = absurd cc

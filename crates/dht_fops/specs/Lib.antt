@@ -4,6 +4,7 @@ pub mod Births
 pub mod Bounds
 pub mod Costs
 pub mod Courses
+pub mod Endings
 pub mod Entries
 pub mod Fops
 pub mod Founded
