@@ -31,4 +31,5 @@ pub mod ShownNames
 pub mod Traces
 pub mod TracesOfFops
 pub mod Turns
+pub mod Unheeded
 pub mod Writing

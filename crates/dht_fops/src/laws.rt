@@ -6,7 +6,7 @@ ghost use Rattle.dht_fops.specs.Costs.{FopsAskFew};
 ghost use Rattle.dht_fops.specs.Endings.{FopsAnswerChanges};
 ghost use Rattle.dht_fops.specs.Founded.{FopsAskWell};
 ghost use Rattle.dht_fops.specs.Homes.{FopsChangeOnSets};
-ghost use Rattle.dht_fops.specs.Links.{FopsChangeLinks};
+ghost use Rattle.dht_fops.specs.Links.{FopsChangeLinks, FopsIgnoreLinks};
 ghost use Rattle.dht_fops.specs.Places.{FopsPlaceAnswers};
 ghost use Rattle.dht_fops.specs.code.Within.{CoursesKeepFops};
 
@@ -49,6 +49,12 @@ pub fn fops_answer_changes()
 /// which that set showed no copy. The call does nothing: its contract exports this.
 pub fn fops_change_links()
     ensures { FopsChangeLinks }
+{}
+
+/// The reply of a change of a link is not heeded, an I/O error or any other: what a fop asks for afterwards, and what it answers,
+/// is one and the same. So is it with the heal of a cell. The call does nothing: its contract exports this.
+pub fn fops_ignore_links()
+    ensures { FopsIgnoreLinks }
 {}
 
 /// On which set a name is added: a directory's on the first, and a file's on the set to which its name belongs, by the layout
