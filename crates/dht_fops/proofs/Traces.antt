@@ -293,6 +293,6 @@ spans_traced g dir (suc n) first count spans next handed e h saw k =
     (λ whole last m w s. k whole last (later_then handed later last l m) w s))
 
 pub finds_traced : (g : Given) (count : ℕ) (dir : Gfid) (known : Option ℕ) (next : ℕ → Course) (after : List (Option Span) → Course) (handed : Handed)
-    → ((set : ℕ) → known ≡ Some set → Traces g handed (next set)) → OnLayout g handed dir count after → Traces g handed (finds count dir known next after)
+    → ((set : ℕ) → known ≡ Some set → Traces g handed (next set)) → (known ≡ None → OnLayout g handed dir count after) → Traces g handed (finds count dir known next after)
 finds_traced g count dir (Some set) next after handed k m = k set refl
-finds_traced g count dir None next after handed k m = spans_traced g dir count 0 count [] after handed refl (omega arith) tt m
+finds_traced g count dir None next after handed k m = spans_traced g dir count 0 count [] after handed refl (omega arith) tt (m refl)

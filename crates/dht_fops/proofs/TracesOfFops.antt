@@ -19,7 +19,7 @@ use Rattle.dht_fops.specs.Looks.{Ending, where_named, looks_in, finds}
 use Rattle.dht_fops.specs.Merges.{merged, real_items}
 use Rattle.dht_fops.specs.Objects.{opens, stats, attr_value, gets_attr, drops_attr, dels_attr, reads_bytes, changes_cell, truncates, writes_some, writes, home}
 use Rattle.dht_fops.specs.Founded.{IsNoError}
-use Rattle.dht_fops.specs.Additions.{IsSetOf, IsOnSet, AddsOnSet, FopsAddOnSets}
+use Rattle.dht_fops.specs.Additions.{SawLayout, IsSetBy, IsSetOf, IsOnSet, AddsOnSet, FopsAddOnSets}
 use Rattle.dht_fops.specs.Links.{SawLink, SawNoCopy, IsOfCopy, WasMoved, IsMadeBy, RestsOnLinks, FopsChangeLinks}
 use Rattle.dht_fops.specs.Places.{last_place, IsPlaced, FopsPlaceAnswers}
 use Rattle.dht_fops.specs.Renames.{adds_link, moves, bears, replaces, changes_names, other_set, target_found, target_ending, looks_for_target, renames_file, source_at, source_found, second_set, renames_from}
@@ -97,14 +97,24 @@ named_traced : (g : Given) (handed : Handed) (parent : Object) (name : List ℕ)
 named_traced g handed parent name place next at k =
     if_traced g handed _ _ (is_directory parent.kind) (λ dir. if_traced g handed _ _ (nat_lt max_item_name (length name)) (λ long. sym at) (λ short. k)) (λ file. sym at)
 
+-- the set to which a name belongs, by what is known of it or was read
+set_known : (known : Option ℕ) (count : ℕ) (handed : Handed) (dir : Gfid) (name : List ℕ) (set : ℕ) → known ≡ Some set → IsSetBy known count handed dir name set
+set_known None count handed dir name set e = absurd cc
+set_known (Some own) count handed dir name set e = let same : own ≡ set = cc in sym same
+
+set_read : (known : Option ℕ) (count : ℕ) (handed : Handed) (dir : Gfid) (name : List ℕ) (set : ℕ) → known ≡ None → SawLayout count handed dir name set → IsSetBy known count handed dir name set
+set_read None count handed dir name set e read = read
+set_read (Some own) count handed dir name set e read = absurd cc
+
 on_name_traced : (g : Given) (v : Volume) (names : List (List ℕ)) (kept : Kept) (parent : Object) (name : List ℕ) (ending : ℕ → Ending) → ((hashed : ℕ) (handed : Handed) → IsSetOf v (length names) kept handed parent.gfid name hashed → EndsTraced g handed parent.gfid name hashed 0 (ending hashed))
     → Traces g [] (on_name v names kept parent name ending)
 on_name_traced g v names kept parent name ending ends =
     named_traced g [] parent name None _ refl
     (finds_traced g (length names) parent.gfid (known_set v kept parent.gfid name) _ _ []
-    (λ set known. looks_traced g parent.gfid name names 0 ending set [] (ends set [] (inl known)))
-    (λ whole later l w saw. looks_traced g parent.gfid name names 0 ending (hashed_set whole name) later
-    (ends (hashed_set whole name) later (inr (record { spans = whole; whole = w; saw = saw; set_is = refl })))))
+    (λ set known. looks_traced g parent.gfid name names 0 ending set [] (ends set [] (set_known (known_set v kept parent.gfid name) (length names) [] parent.gfid name set known)))
+    (λ unknown whole later l w saw. looks_traced g parent.gfid name names 0 ending (hashed_set whole name) later
+    (ends (hashed_set whole name) later
+    (set_read (known_set v kept parent.gfid name) (length names) later parent.gfid name (hashed_set whole name) unknown (record { spans = whole; whole = w; saw = saw; set_is = refl })))))
 
 lookup_traced : (g : Given) (handed : Handed) (dir : Gfid) (name : List ℕ) (hashed : ℕ) → EndsTraced g handed dir name hashed 0 lookup_found
 lookup_traced g handed dir name hashed = λ result seen later l r h. by_found later result seen r h.place
@@ -126,9 +136,12 @@ mkdir_traced g v handed parent name mode drawn hashed made = λ result seen late
     by_found later found.Absent seen r at = births_traced g v parent name mode drawn (sets_from v 1) later made
     by_found later (found.Io error) seen r at = absurd r
 
+set_by_later : (known : Option ℕ) (count : ℕ) (a b : Handed) (dir : Gfid) (name : List ℕ) (set : ℕ) → Later a b → IsSetBy known count a dir name set → IsSetBy known count b dir name set
+set_by_later None count a b dir name set l read = record { spans = read.spans; whole = read.whole; saw = saw_spans_later a b dir 0 read.spans l read.saw; set_is = read.set_is }
+set_by_later (Some own) count a b dir name set l on = on
+
 set_later : (g : Given) (a b : Handed) (dir : Gfid) (name : List ℕ) (set : ℕ) → Later a b → IsSetOf g.volume (length g.names) g.kept a dir name set → IsSetOf g.volume (length g.names) g.kept b dir name set
-set_later g a b dir name set l (inl known) = inl known
-set_later g a b dir name set l (inr read) = inr (record { spans = read.spans; whole = read.whole; saw = saw_spans_later a b dir 0 read.spans l read.saw; set_is = read.set_is })
+set_later g a b dir name set l on = set_by_later (known_set g.volume g.kept dir name) (length g.names) a b dir name set l on
 
 create_traced : (g : Given) (v : Volume) (handed : Handed) (parent : Gfid) (name : List ℕ) (mode : ℕ) (drawn : Gfid) (hashed : ℕ) → IsSetOf g.volume (length g.names) g.kept handed parent name hashed → EndsTraced g handed parent name hashed 0 (create_found v parent name mode drawn hashed)
 create_traced g v handed parent name mode drawn hashed on = λ result seen later l r h. by_found later result seen r h.place (set_later g handed later parent name hashed l on)
@@ -227,7 +240,7 @@ looks_for_target_traced : (g : Given) (v : Volume) (source : Source) (target : G
 looks_for_target_traced g v source target new_name names second handed old =
     finds_traced g (length names) target second _ _ handed
     (λ set known. looks_traced g target new_name names source.set (target_ending v source target new_name names) set handed (target_traced g v handed _ old))
-    (λ whole later l w saw. looks_traced g target new_name names source.set (target_ending v source target new_name names) (hashed_set whole new_name) later (target_traced g v later _ (old_later handed later source l old)))
+    (λ unknown whole later l w saw. looks_traced g target new_name names source.set (target_ending v source target new_name names) (hashed_set whole new_name) later (target_traced g v later _ (old_later handed later source l old)))
 
 source_traced : (g : Given) (v : Volume) (handed : Handed) (parent : Gfid) (name : List ℕ) (names : List (List ℕ)) (target : Object) (new_name : List ℕ) (second : Option ℕ) (hashed : ℕ)
     → EndsTraced g handed parent name hashed 0 (source_found v parent name names target new_name second hashed)
@@ -248,7 +261,7 @@ renames_traced g v names kept parent name target new_name =
     (finds_traced g (length names) parent.gfid (known_set v kept parent.gfid name) _ _ []
     (λ set known. looks_traced g parent.gfid name names 0 (source_found v parent.gfid name names target new_name (known_set v kept target.gfid new_name)) set []
     (source_traced g v [] parent.gfid name names target new_name (known_set v kept target.gfid new_name) set))
-    (λ whole later l w saw. looks_traced g parent.gfid name names 0 (source_found v parent.gfid name names target new_name (second_set parent.gfid target.gfid new_name (known_set v kept target.gfid new_name) whole)) (hashed_set whole name) later
+    (λ unknown whole later l w saw. looks_traced g parent.gfid name names 0 (source_found v parent.gfid name names target new_name (second_set parent.gfid target.gfid new_name (known_set v kept target.gfid new_name) whole)) (hashed_set whole name) later
     (source_traced g v later parent.gfid name names target new_name (second_set parent.gfid target.gfid new_name (known_set v kept target.gfid new_name) whole) (hashed_set whole name))))
 
 -- ---- fops of the mount itself

@@ -1,5 +1,5 @@
 -- On which set mkdir and create add a name: a directory's on the first, and a file's on the set to which its name belongs,
--- by the layout that is known, or by the ranges that the sets showed.
+-- by the layout that is known, and where none is by the ranges that the sets showed.
 use Rattle.std.specs.Prelude.{◌≡◌, ◌⊎◌, ℕ, ◌+◌, List, [], ◌∷◌, length, Option, Some, None, Result, Ok, Err}
 use Rattle.dht_linkto.specs.DirNames.{first_content}
 use Rattle.dht_linkto.specs.Search.{hashed_set}
@@ -49,9 +49,14 @@ pub record SawLayout (count : ℕ) (handed : Handed) (dir : Gfid) (name : List �
   pub saw : SawSpans handed dir 0 spans
   pub set_is : hashed_set spans name ≡ set
 
+-- by the set that is known, or, where none is, by the ranges that so many sets showed
+abbrev pub IsSetBy : Option ℕ → ℕ → Handed → Gfid → List ℕ → ℕ → Type 0
+IsSetBy (Some known) count handed dir name set = set ≡ known
+IsSetBy None count handed dir name set = SawLayout count handed dir name set
+
 -- the set, of so many, to which a name of the directory belongs
 abbrev pub IsSetOf : Volume → ℕ → Kept → Handed → Gfid → List ℕ → ℕ → Type 0
-IsSetOf v count kept handed dir name set = (known_set v kept dir name ≡ Some set) ⊎ SawLayout count handed dir name set
+IsSetOf v count kept handed dir name set = IsSetBy (known_set v kept dir name) count handed dir name set
 
 -- ---- jobs
 

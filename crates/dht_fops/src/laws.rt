@@ -58,7 +58,7 @@ pub fn fops_ignore_links()
 {}
 
 /// On which set a name is added: a directory's on the first, and a file's on the set to which its name belongs, by the layout
-/// that is known, or by the ranges that the sets showed. The call does nothing: its contract exports this.
+/// that is known, and where none is by the ranges that the sets showed. The call does nothing: its contract exports this.
 pub fn fops_add_on_sets()
     ensures { FopsAddOnSets }
 {}
