@@ -29,11 +29,11 @@ use Rattle.dht_fops.specs.Volumes.{Kept, known_set, sets_from}
 use Rattle.dht_fops.specs.declared.rename.Renaming.{Renaming}
 use Rattle.dht_fops.specs.declared.rename.Source.{Source}
 use Rattle.dht_fops.specs.declared.volume.Volume.{Volume}
-use Rattle.fop_types.specs.Cells.{meta_cell}
+use Rattle.fop_types.specs.Cells.{data_cell, meta_cell, names_cell}
 use Rattle.fop_types.specs.FileBytes.{file_limit}
 use Rattle.fop_types.specs.Flat.{item_of}
 use Rattle.fop_types.specs.Names.{attr_named, has_real_name, is_directory, is_same_name}
-use Rattle.fop_types.specs.StoreOps.{attrs_of}
+use Rattle.fop_types.specs.StoreOps.{attrs_of, both_names}
 use Rattle.fop_types.specs.declared.answers.FopAnswer.{FopAnswer}
 use Rattle.fop_types.specs.declared.cells.Cell.{Cell}
 use Rattle.fop_types.specs.declared.cells.Gfid.{Gfid}
@@ -52,7 +52,7 @@ use Rattle.fop_types.specs.declared.store_ops.StoreOp.TheVariants as op
 
 cell_set : (v : Volume) (f : Fop) (set : ℕ) (cell : Cell) (fd : ℕ) (o : StoreOp) (answer : FopAnswer) (handed : Handed) → IsInPlace f handed set cell.gfid → IsChangedAt f set o → ComesAfterBirths v handed o
     → SetsWell v f handed (changes_cell v set cell fd o answer)
-cell_set v f set cell fd o answer handed there at after = change_set v f handed set _ fd o _ _ (there, tt) at after (λ reply number done. tt)
+cell_set v f set cell fd o answer handed there at after = change_set v f handed set (cell ∷ []) fd o _ _ (there, tt) at after (λ reply number done. tt)
 
 -- a file of the fop on the set that has it
 own_file : (f : Fop) (object : Object) → IsObjectOf f object → is_directory object.kind ≡ false → IsFileOn f object.set object.gfid
@@ -69,12 +69,12 @@ opens_set v object fd =
 stats_set : (v : Volume) (object : Object) → SetsWell v (fop.Stat object) [] (stats object)
 stats_set v object =
     if_set v (fop.Stat object) [] _ _ (is_directory object.kind)
-    (λ dir. read_set v (fop.Stat object) [] 0 _ 0 _ _ (first_is_home object dir) (inr (inl (own_dir (fop.Stat object) object refl dir)), tt) (λ later contents place l. tt))
-    (λ file. read_set v (fop.Stat object) [] object.set _ 0 _ _ (own_is_home object file) (inl (own_file (fop.Stat object) object refl file), (inl (own_file (fop.Stat object) object refl file), tt)) (λ later contents place l. tt))
+    (λ dir. read_set v (fop.Stat object) [] 0 (meta_cell object.gfid ∷ []) 0 _ _ (first_is_home object dir) (inr (inl (own_dir (fop.Stat object) object refl dir)), tt) (λ later contents place l. tt))
+    (λ file. read_set v (fop.Stat object) [] object.set (data_cell object.gfid ∷ meta_cell object.gfid ∷ []) 0 _ _ (own_is_home object file) (inl (own_file (fop.Stat object) object refl file), (inl (own_file (fop.Stat object) object refl file), tt)) (λ later contents place l. tt))
 
 gets_set : (v : Volume) (object : Object) (name : List ℕ) → SetsWell v (fop.GetAttr object name) [] (gets_attr object name)
 gets_set v object name =
-    read_set v (fop.GetAttr object name) [] (home object) _ 0 _ _ (home_is object) (home_in_place (fop.GetAttr object name) [] object refl, tt)
+    read_set v (fop.GetAttr object name) [] (home object) (meta_cell object.gfid ∷ []) 0 _ _ (home_is object) (home_in_place (fop.GetAttr object name) [] object refl, tt)
     (λ later contents place l. by_attr later (attr_named (attrs_of (first_content contents)) name) place)
   where
     by_attr : (later : Handed) (attr : Option Attr) (place : ℕ) → SetsWell v (fop.GetAttr object name) later (attr_value attr place)
@@ -84,11 +84,11 @@ gets_set v object name =
 -- the mode and the attributes of an object at hand are changed at its home
 meta_set : (v : Volume) (f : Fop) (object : Object) (o : StoreOp) (answer : FopAnswer) (handed : Handed) → IsObjectOf f object → IsChangedAt f (home object) o → ComesAfterBirths v handed o
     → SetsWell v f handed (changes_cell v (home object) (meta_cell object.gfid) 0 o answer)
-meta_set v f object o answer handed named at after = cell_set v f (home object) _ 0 o answer handed (home_in_place f handed object named) at after
+meta_set v f object o answer handed named at after = cell_set v f (home object) (meta_cell object.gfid) 0 o answer handed (home_in_place f handed object named) at after
 
 dels_set : (v : Volume) (object : Object) (name : List ℕ) → SetsWell v (fop.DelAttr object name) [] (dels_attr v object name)
 dels_set v object name =
-    read_set v (fop.DelAttr object name) [] (home object) _ 0 _ _ (home_is object) (home_in_place (fop.DelAttr object name) [] object refl, tt)
+    read_set v (fop.DelAttr object name) [] (home object) (meta_cell object.gfid ∷ []) 0 _ _ (home_is object) (home_in_place (fop.DelAttr object name) [] object refl, tt)
     (λ later contents place l. by_attr later (attr_named (attrs_of (first_content contents)) name) place)
   where
     by_attr : (later : Handed) (attr : Option Attr) (place : ℕ) → SetsWell v (fop.DelAttr object name) later (drops_attr v object name attr place)
@@ -99,13 +99,13 @@ dels_set v object name =
 reads_bytes_set : (v : Volume) (object : Object) (fd offset count : ℕ) → SetsWell v (fop.Read fd object offset count) [] (reads_bytes object fd offset count)
 reads_bytes_set v object fd offset count =
     if_set v (fop.Read fd object offset count) [] _ _ (is_directory object.kind) (λ dir. tt)
-    (λ file. read_set v (fop.Read fd object offset count) [] object.set _ fd false _ refl (inl (own_file (fop.Read fd object offset count) object refl file), tt) (λ later contents place l. tt))
+    (λ file. read_set v (fop.Read fd object offset count) [] object.set (data_cell object.gfid ∷ []) fd false _ refl (inl (own_file (fop.Read fd object offset count) object refl file), tt) (λ later contents place l. tt))
 
 truncates_set : (v : Volume) (object : Object) (size : ℕ) → SetsWell v (fop.Truncate object size) [] (truncates v object size)
 truncates_set v object size =
     if_set v (fop.Truncate object size) [] _ _ (is_directory object.kind) (λ dir. tt)
     (λ file. if_set v (fop.Truncate object size) [] _ _ (nat_lt file_limit size) (λ big. tt)
-    (λ fits. cell_set v (fop.Truncate object size) object.set _ 0 (op.Truncate object.gfid size) _ [] (inl (own_file (fop.Truncate object size) object refl file)) (own_file (fop.Truncate object size) object refl file) tt))
+    (λ fits. cell_set v (fop.Truncate object size) object.set (data_cell object.gfid) 0 (op.Truncate object.gfid size) _ [] (inl (own_file (fop.Truncate object size) object refl file)) (own_file (fop.Truncate object size) object refl file) tt))
 
 writes_set : (v : Volume) (object : Object) (fd offset : ℕ) (bytes : List ℕ) → SetsWell v (fop.Write fd object offset bytes) [] (writes v object fd offset bytes)
 writes_set v object fd offset bytes =
@@ -115,7 +115,7 @@ writes_set v object fd offset bytes =
     by_bytes : is_directory object.kind ≡ false → (some : List ℕ) → SetsWell v (fop.Write fd object offset bytes) [] (writes_some v object fd offset some)
     by_bytes file [] = tt
     by_bytes file (first ∷ rest) =
-        cell_set v (fop.Write fd object offset bytes) object.set _ fd (op.Write object.gfid offset (first ∷ rest)) _ [] (inl (own_file (fop.Write fd object offset bytes) object refl file)) (own_file (fop.Write fd object offset bytes) object refl file) tt
+        cell_set v (fop.Write fd object offset bytes) object.set (data_cell object.gfid) fd (op.Write object.gfid offset (first ∷ rest)) _ [] (inl (own_file (fop.Write fd object offset bytes) object refl file)) (own_file (fop.Write fd object offset bytes) object refl file) tt
 
 -- ---- names of a directory
 
@@ -134,7 +134,7 @@ BearsOwn v f drawn = (set : ℕ) → 0 < set → HasRange v f set drawn (Some (e
 births_set : (v : Volume) (f : Fop) (parent : Gfid) (name : List ℕ) (mode : ℕ) (drawn : Gfid) (n first : ℕ) (handed : Handed) → IsOwnDir f parent → IsMadeBy f drawn → BearsOwn v f drawn → 0 < first → v.sets ≤ first + n
     → AreBornBelow v handed drawn first → SetsWell v f handed (births_from v parent name mode drawn (range_with_len first n))
 births_set v f parent name mode drawn zero first handed own made ranged some all born =
-    change_set v f handed 0 _ 0 (op.AddName parent (item_of name drawn kind.Dir) mode (Some (even_span v.sets 0))) _ _ (inr (inl own), tt) tt
+    change_set v f handed 0 (names_cell parent ∷ []) 0 (op.AddName parent (item_of name drawn kind.Dir) mode (Some (even_span v.sets 0))) _ _ (inr (inl own), tt) tt
     (refl, λ set after below. born set after (omega arith)) (λ reply number done. tt)
 births_set v f parent name mode drawn (suc n) first handed own made ranged some all born =
     birth_set v f handed first drawn (Some (even_span v.sets first)) _ (inr (inr made)) (ranged first some)
@@ -152,7 +152,7 @@ mkdir_set v f handed parent name mode drawn own made ranged =
 create_set : (v : Volume) (f : Fop) (handed : Handed) (parent : Gfid) (name : List ℕ) (mode : ℕ) (drawn : Gfid) (hashed : ℕ) → IsOwnDir f parent → EndsSet v f handed parent name (create_found v parent name mode drawn hashed)
 create_set v f handed parent name mode drawn hashed own =
     ends_by v f handed parent name (create_found v parent name mode drawn hashed) (λ set gfid k seen later l saw. tt)
-    (λ seen later. change_set v f later hashed _ 0 (op.AddName parent (item_of name drawn kind.File) mode None) _ _ (inr (inl own), tt) tt refl (λ reply number done. tt)) (λ error seen later. tt)
+    (λ seen later. change_set v f later hashed (names_cell parent ∷ []) 0 (op.AddName parent (item_of name drawn kind.File) mode None) _ _ (inr (inl own), tt) tt refl (λ reply number done. tt)) (λ error seen later. tt)
 
 drops_link_set : (v : Volume) (f : Fop) (handed : Handed) (parent : Gfid) (name : List ℕ) (hashed : ℕ) (has_link : Bool) (number : Option ℕ) → IsOwnDir f parent → SetsWell v f handed (drops_link parent name hashed has_link number)
 drops_link_set v f handed parent name hashed true number own = (((inr (inl own), tt), tt), λ reply. tt)
@@ -162,7 +162,7 @@ unlink_set : (v : Volume) (f : Fop) (handed : Handed) (parent : Gfid) (name : Li
 unlink_set v f handed parent name hashed own =
     ends_by v f handed parent name (unlink_found v parent name hashed)
     (λ set gfid k seen later l saw. if_set v f later _ _ (is_directory k) (λ dir. tt)
-    (λ file. change_set v f later set _ 0 (op.DropName parent name) _ _ (inr (inl own), tt) tt tt (λ reply number done. drops_link_set v f _ parent name hashed seen.has_link number own)))
+    (λ file. change_set v f later set (names_cell parent ∷ []) 0 (op.DropName parent name) _ _ (inr (inl own), tt) tt tt (λ reply number done. drops_link_set v f _ parent name hashed seen.has_link number own)))
     (λ seen later. tt) (λ error seen later. tt)
 
 saw_later : (a b : Handed) (gfid : Gfid) → Later a b → SawDirectory a gfid → SawDirectory b gfid
@@ -170,7 +170,7 @@ saw_later a b gfid l s = record { parent = s.parent; name = s.name; set = s.set;
 
 empties_set : (v : Volume) (f : Fop) (parent : Gfid) (name : List ℕ) (gfid : Gfid) (sets : List ℕ) (handed : Handed) → ReadsAnywhere f → IsOwnDir f parent → SawDirectory handed gfid → SetsWell v f handed (empties v parent name gfid sets)
 empties_set v f parent name gfid [] handed free own saw =
-    change_set v f handed 0 _ 0 (op.DropDir parent name gfid) _ _ (both_in_place f handed 0 parent gfid (inl own) (inr (inl saw))) refl tt (λ reply number done. tt)
+    change_set v f handed 0 (both_names parent gfid) 0 (op.DropDir parent name gfid) _ _ (both_in_place f handed 0 parent gfid (inl own) (inr (inl saw))) refl tt (λ reply number done. tt)
 empties_set v f parent name gfid (set ∷ sets) handed free own saw =
     names_set v f handed set gfid _ (free set) (inr (inl saw))
     (λ later shown l seen. if_set v f later _ _ (has_real_name shown.items) (λ full. tt) (λ none. empties_set v f parent name gfid sets later free own (saw_later handed later gfid l saw)))
@@ -197,7 +197,7 @@ adds_link_set v f handed r number old new =
 
 moves_set : (v : Volume) (f : Fop) (handed : Handed) (r : Renaming) → IsOwnDir f r.source.parent → IsOwnDir f r.target → SetsWell v f handed (moves v r)
 moves_set v f handed r old new =
-    change_set v f handed r.source.set _ 0 (op.Move r.source.parent r.source.name r.target r.new_name) _ (adds_link r) (both_in_place f handed r.source.set r.source.parent r.target (inl old) (inl new)) tt tt
+    change_set v f handed r.source.set (both_names r.source.parent r.target) 0 (op.Move r.source.parent r.source.name r.target r.new_name) _ (adds_link r) (both_in_place f handed r.source.set r.source.parent r.target (inl old) (inl new)) tt tt
     (λ reply number done. adds_link_set v f _ r number old new)
 
 bears_set : (v : Volume) (f : Fop) (handed : Handed) (r : Renaming) (copy : Bool) → BearsBare v f → IsOwnDir f r.source.parent → IsOwnDir f r.target → SetsWell v f handed (bears v r copy)
@@ -207,7 +207,7 @@ bears_set v f handed r false bare old new = birth_set v f handed r.source.set r.
 replaces_set : (v : Volume) (f : Fop) (handed : Handed) (r : Renaming) (replaced : Option ℕ) (copy : Bool) → BearsBare v f → IsOwnDir f r.source.parent → IsOwnDir f r.target → SetsWell v f handed (replaces v r replaced copy)
 replaces_set v f handed r None copy bare old new = bears_set v f handed r copy bare old new
 replaces_set v f handed r (Some set) copy bare old new =
-    change_set v f handed set _ 0 (op.DropName r.target r.new_name) _ (λ number. bears v r copy) (inr (inl new), tt) tt tt (λ reply number done. bears_set v f _ r copy bare old new)
+    change_set v f handed set (names_cell r.target ∷ []) 0 (op.DropName r.target r.new_name) _ (λ number. bears v r copy) (inr (inl new), tt) tt tt (λ reply number done. bears_set v f _ r copy bare old new)
 
 changes_set : (v : Volume) (f : Fop) (handed : Handed) (r : Renaming) (replaced : Option ℕ) (copy : Option Bool) → ReadsAnywhere f → BearsBare v f → IsOwnDir f r.source.parent → IsOwnDir f r.target → SetsWell v f handed (changes_names v r replaced copy)
 changes_set v f handed r replaced (Some copy) free bare old new = replaces_set v f handed r replaced copy bare old new
