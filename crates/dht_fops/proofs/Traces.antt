@@ -15,7 +15,7 @@ use Rattle.dht_fops.proofs.Handing.{Later, later_same, later_push, later_then, n
 use Rattle.dht_fops.specs.Founded.{IsNoError}
 use Rattle.dht_fops.specs.Handed.{Handed, Always, AnyHold, Saw}
 use Rattle.dht_fops.specs.Links.{SawLink, SawNoCopy, IsOfLink, IsOfCopy}
-use Rattle.dht_fops.specs.Additions.{SawSpan, SawSpans, ShowsSpan, IsOnSet}
+use Rattle.dht_fops.specs.Additions.{SawSpan, SawSpans, ShowsSpan, IsOnSet, IsLinkOnSet}
 use Rattle.dht_fops.specs.Volumes.{Kept}
 use Rattle.dht_fops.specs.declared.volume.Volume.{Volume}
 use Rattle.dht_fops.specs.Handed.Event.{Replied}
@@ -47,7 +47,7 @@ pub record Given : Type 0 where
 -- what a job rests on, and where names are added
 abbrev pub IsRested : Given → Handed → ℕ → Job → Type 0
 IsRested g handed set (job.Change cells fd o (Some entry)) = IsOnSet g.volume (length g.names) g.kept handed set o
-IsRested g handed set (job.Change cells fd o None) = IsOfLink handed set o
+IsRested g handed set (job.Change cells fd o None) = IsOfLink handed set o × IsLinkOnSet g.volume (length g.names) g.kept handed set o
 IsRested g handed set (job.Birth cells o) = IsOfCopy g.fop handed set o
 IsRested g handed set (job.Read cells fd dir) = Unit {0}
 IsRested g handed set (job.Open fd gfid) = Unit {0}

@@ -57,8 +57,9 @@ pub fn fops_ignore_links()
     ensures { FopsIgnoreLinks }
 {}
 
-/// On which set a name is added: a directory's on the first, and a file's on the set to which its name belongs, by the layout
-/// that is known, and where none is by the ranges that the sets showed. The call does nothing: its contract exports this.
+/// On which set a name is added: a directory's on the first, and a file's or a link's on the set to which the name belongs, by
+/// the layout that is known, and where none is by the ranges that the sets showed. The call does nothing: its contract exports
+/// this.
 pub fn fops_add_on_sets()
     ensures { FopsAddOnSets }
 {}
