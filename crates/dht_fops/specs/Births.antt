@@ -1,8 +1,10 @@
 -- The copies of a new directory on the sets after the first, and their ranges. A mkdir adds its name only after each of them
 -- was born, with its range of the even split; a copy that a rename bears has no range. (cluster/distribute: mkdir and the
 -- layout on every subvolume; that the name comes last is ours.)
-use Rattle.std.specs.Prelude.{◌≡◌, ◌⊎◌, ℕ, ◌<◌, ◌≤◌, List, [], ◌∷◌, length, Option, Some, None}
+use Rattle.std.specs.Prelude.{◌≡◌, ◌⊎◌, ℕ, ◌+◌, ◌<◌, ◌≤◌, List, [], ◌∷◌, length, Option, Some, None}
 use Rattle.dht_layout.specs.Layouts.{even_span}
+use Rattle.dht_fops.specs.Courses.{Course}
+use Rattle.dht_fops.specs.Courses.Course.{Asks, Extends, Ends}
 use Rattle.dht_fops.specs.Fops.{fop_course}
 use Rattle.dht_fops.specs.Founded.{IsNoError}
 use Rattle.dht_fops.specs.Handed.{Handed, Event, Always, AnyHold, AnyAnswer}
@@ -17,6 +19,7 @@ use Rattle.fop_types.specs.declared.fops.Fop.{Fop}
 use Rattle.fop_types.specs.declared.fops.Fop.TheVariants as fop
 use Rattle.fop_types.specs.declared.jobs.Job.{Job}
 use Rattle.fop_types.specs.declared.jobs.Job.TheVariants as job
+use Rattle.fop_types.specs.declared.jobs.SetReply.{SetReply}
 use Rattle.fop_types.specs.declared.store_ops.StoreOp.{StoreOp}
 use Rattle.fop_types.specs.declared.store_ops.StoreOp.TheVariants as op
 
@@ -74,3 +77,31 @@ IsBornInTime v f handed set (job.Heal cell) = Unit {0}
 abbrev pub FopsBearFirst : Type 0
 FopsBearFirst = (v : Volume) (names : List (List ℕ)) (kept : Kept) (f : Fop) → 1 ≤ v.root_sets → v.root_sets ≤ v.sets → length names ≡ v.sets
     → Always (IsBornInTime v f) AnyHold AnyAnswer [] (fop_course v names kept f)
+
+-- ---- each set once
+
+-- births are asked of rising sets, the first of this one or a later one
+abbrev pub IsBirthFrom : ℕ → ℕ → Job → Type 0
+IsBirthFrom least set (job.Birth cells o) = least ≤ set
+IsBirthFrom least set (job.Read cells fd dir) = Unit {0}
+IsBirthFrom least set (job.Change cells fd o effect) = Unit {0}
+IsBirthFrom least set (job.Open fd gfid) = Unit {0}
+IsBirthFrom least set job.Index = Unit {0}
+IsBirthFrom least set (job.Heal cell) = Unit {0}
+
+abbrev pub after_birth : ℕ → ℕ → Job → ℕ
+after_birth least set (job.Birth cells o) = set + 1
+after_birth least set (job.Read cells fd dir) = least
+after_birth least set (job.Change cells fd o effect) = least
+after_birth least set (job.Open fd gfid) = least
+after_birth least set job.Index = least
+after_birth least set (job.Heal cell) = least
+
+abbrev pub BearsFrom : ℕ → Course → Type 0
+BearsFrom least (Asks set asked next) = IsBirthFrom least set asked × ((reply : SetReply) → BearsFrom (after_birth least set asked) (next reply))
+BearsFrom least (Extends dir next) = BearsFrom least next
+BearsFrom least (Ends answer place) = Unit {0}
+
+-- A fop asks each set for at most one birth, and these in the order of the sets, whatever the replies are.
+abbrev pub FopsBearOnce : Type 0
+FopsBearOnce = (v : Volume) (names : List (List ℕ)) (kept : Kept) (f : Fop) → BearsFrom 0 (fop_course v names kept f)

@@ -1,6 +1,6 @@
 ghost use Rattle.dht_fops.specs.Additions.{FopsAddOnSets};
 ghost use Rattle.dht_fops.specs.Answers.{FopsAnswerAsFlat};
-ghost use Rattle.dht_fops.specs.Births.{FopsBearFirst};
+ghost use Rattle.dht_fops.specs.Births.{FopsBearFirst, FopsBearOnce};
 ghost use Rattle.dht_fops.specs.Bounds.{FopsKeepBounds, AnswersHaveBounds};
 ghost use Rattle.dht_fops.specs.Costs.{FopsAskFew};
 ghost use Rattle.dht_fops.specs.Endings.{FopsAnswerChanges};
@@ -72,9 +72,11 @@ pub fn fops_change_on_sets()
 {}
 
 /// The copies of a new directory: its name is added after the birth of each further copy was answered, each with its own range
-/// of the even split; a copy that a rename bears has no range. The call does nothing: its contract exports this.
+/// of the even split; a copy that a rename bears has no range. And each set is asked for at most one birth, in the order of the
+/// sets. The call does nothing: its contract exports this.
 pub fn fops_bear_first()
-    ensures { FopsBearFirst }
+    ensures names { FopsBearFirst }
+    ensures once { FopsBearOnce }
 {}
 
 /// How many jobs a fop asks for at most: 4 for each set and 16; a migration one for each descriptor; a heal one for each
