@@ -21,7 +21,7 @@ use Rattle.dht_fops.specs.Fops.{on_name}
 use Rattle.dht_fops.specs.Founded.{IsNoError}
 use Rattle.dht_fops.specs.Handed.{Handed, Event, Always, AnyHold, AnyAnswer, Saw, SawName}
 use Rattle.dht_fops.specs.Handed.Event.{Replied}
-use Rattle.dht_fops.specs.Homes.{IsObjectOf, IsHome, IsOwnDir, IsDirectoryOf, IsInPlace, AreInPlace, IsReadAt, IsChangedAt, IsJobAtHome}
+use Rattle.dht_fops.specs.Homes.{IsNamedBy, IsHome, IsOwnDir, IsDirectoryOf, IsInPlace, AreInPlace, IsReadAt, IsChangedAt, IsJobAtHome}
 use Rattle.dht_fops.specs.Looks.{Ending, where_named, where_kept, looks_in, finds}
 use Rattle.dht_fops.specs.Objects.{home}
 use Rattle.dht_fops.specs.Volumes.{Kept, known_set}
@@ -72,7 +72,7 @@ pub own_is_home : (object : Object) → is_directory object.kind ≡ false → I
 own_is_home object file = record { directory = λ dir. absurd (let wrong : true ≡ false = sym dir ∙ file in cc); file = λ same. refl }
 
 -- an object's mode and attributes are in place at its home
-pub home_in_place : (f : Fop) (handed : Handed) (object : Object) → IsObjectOf f object → IsInPlace f handed (home object) object.gfid
+pub home_in_place : (f : Fop) (handed : Handed) (object : Object) → IsNamedBy f object → IsInPlace f handed (home object) object.gfid
 home_in_place f handed object named = by_kind (is_directory object.kind) refl
   where
     by_kind : (b : Bool) → is_directory object.kind ≡ b → IsInPlace f handed (home object) object.gfid
@@ -193,7 +193,7 @@ ends_by v f handed dir name ending item absent io = λ result seen later l is. b
     by_result found.Absent seen later l is = absent seen later
     by_result (found.Io error) seen later l is = io error seen later
 
-pub on_name_set : (v : Volume) (f : Fop) (names : List (List ℕ)) (kept : Kept) (parent : Object) (name : List ℕ) (ending : ℕ → Ending) → 1 ≤ v.root_sets → v.root_sets ≤ v.sets → length names ≡ v.sets → ReadsAnywhere f → IsObjectOf f parent
+pub on_name_set : (v : Volume) (f : Fop) (names : List (List ℕ)) (kept : Kept) (parent : Object) (name : List ℕ) (ending : ℕ → Ending) → 1 ≤ v.root_sets → v.root_sets ≤ v.sets → length names ≡ v.sets → ReadsAnywhere f → IsNamedBy f parent
     → ((hashed : ℕ) (handed : Handed) → IsOwnDir f parent.gfid → EndsSet v f handed parent.gfid name (ending hashed)) → SetsWell v f [] (on_name v names kept parent name ending)
 on_name_set v f names kept parent name ending some within e free named ends =
     named_set v f [] parent name None _ (λ dir. looks_for (record { object = parent; named = named; gfid_is = refl; is_dir = dir }))

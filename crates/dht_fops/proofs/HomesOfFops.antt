@@ -18,7 +18,7 @@ use Rattle.dht_fops.specs.Entries.{birth_job, lookup_found, lists_from, births_f
 use Rattle.dht_fops.specs.Fops.{renames, fop_course}
 use Rattle.dht_fops.specs.Handed.{Handed, Always, AnyHold, AnyAnswer}
 use Rattle.dht_fops.specs.Handed.Event.{Replied, Held}
-use Rattle.dht_fops.specs.Homes.{IsObjectOf, IsFileOn, IsOwnDir, SawDirectory, IsInPlace, IsChangedAt, IsOneOf, IsOpenedAt, IsJobAtHome, FopsChangeOnSets}
+use Rattle.dht_fops.specs.Homes.{IsNamedBy, IsFileOn, IsOwnDir, SawDirectory, IsInPlace, IsChangedAt, IsOneOf, IsOpenedAt, IsJobAtHome, FopsChangeOnSets}
 use Rattle.dht_fops.specs.Internal.{opens_again, heals, indexes, with_cells, cells_in}
 use Rattle.dht_fops.specs.Links.{IsMadeBy}
 use Rattle.dht_fops.specs.Looks.{looks_in, finds}
@@ -55,10 +55,10 @@ cell_set : (v : Volume) (f : Fop) (set : ℕ) (cell : Cell) (fd : ℕ) (o : Stor
 cell_set v f set cell fd o answer handed there at after = change_set v f handed set (cell ∷ []) fd o _ _ (there, tt) at after (λ reply number done. tt)
 
 -- a file of the fop on the set that has it
-own_file : (f : Fop) (object : Object) → IsObjectOf f object → is_directory object.kind ≡ false → IsFileOn f object.set object.gfid
+own_file : (f : Fop) (object : Object) → IsNamedBy f object → is_directory object.kind ≡ false → IsFileOn f object.set object.gfid
 own_file f object named file = record { object = object; named = named; gfid_is = refl; is_file = file; set_is = refl }
 
-own_dir : (f : Fop) (object : Object) → IsObjectOf f object → is_directory object.kind ≡ true → IsOwnDir f object.gfid
+own_dir : (f : Fop) (object : Object) → IsNamedBy f object → is_directory object.kind ≡ true → IsOwnDir f object.gfid
 own_dir f object named dir = record { object = object; named = named; gfid_is = refl; is_dir = dir }
 
 opens_set : (v : Volume) (object : Object) (fd : ℕ) → SetsWell v (fop.Open fd object) [] (opens object fd)
@@ -82,7 +82,7 @@ gets_set v object name =
     by_attr later (Some attr) place = tt
 
 -- the mode and the attributes of an object at hand are changed at its home
-meta_set : (v : Volume) (f : Fop) (object : Object) (o : StoreOp) (answer : FopAnswer) (handed : Handed) → IsObjectOf f object → IsChangedAt f (home object) o → ComesAfterBirths v handed o
+meta_set : (v : Volume) (f : Fop) (object : Object) (o : StoreOp) (answer : FopAnswer) (handed : Handed) → IsNamedBy f object → IsChangedAt f (home object) o → ComesAfterBirths v handed o
     → SetsWell v f handed (changes_cell v (home object) (meta_cell object.gfid) 0 o answer)
 meta_set v f object o answer handed named at after = cell_set v f (home object) (meta_cell object.gfid) 0 o answer handed (home_in_place f handed object named) at after
 
@@ -234,7 +234,7 @@ looks_for_target_set v f handed source target new_name names second e some known
     (target_ends v f later source target new_name names (hashed_set whole new_name) free bare old new))
 
 source_set : (v : Volume) (f : Fop) (handed : Handed) (parent : Gfid) (name : List ℕ) (names : List (List ℕ)) (target : Object) (new_name : List ℕ) (second : Option ℕ) (hashed : ℕ) → length names ≡ v.sets → 1 ≤ v.sets → IfSome second (λ set. set < v.sets)
-    → ReadsAnywhere f → BearsBare v f → IsObjectOf f target → IsOwnDir f parent → EndsSet v f handed parent name (source_found v parent name names target new_name second hashed)
+    → ReadsAnywhere f → BearsBare v f → IsNamedBy f target → IsOwnDir f parent → EndsSet v f handed parent name (source_found v parent name names target new_name second hashed)
 source_set v f handed parent name names target new_name second hashed e some known free bare named old =
     ends_by v f handed parent name (source_found v parent name names target new_name second hashed)
     (λ set gfid k seen later l saw. if_set v f later _ _ (is_directory k) (λ dir. tt)

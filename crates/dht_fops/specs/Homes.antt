@@ -24,25 +24,25 @@ use Rattle.fop_types.specs.declared.store_ops.StoreOp.TheVariants as op
 -- ---- objects
 
 -- the fop names the object
-abbrev pub IsObjectOf : Fop → Object → Type 0
-IsObjectOf (fop.Lookup parent name) object = object ≡ parent
-IsObjectOf (fop.Mkdir parent name mode drawn) object = object ≡ parent
-IsObjectOf (fop.Rmdir parent name) object = object ≡ parent
-IsObjectOf (fop.Create fd parent name mode drawn) object = object ≡ parent
-IsObjectOf (fop.Unlink parent name) object = object ≡ parent
-IsObjectOf (fop.Rename parent name target new_name) object = (object ≡ parent) ⊎ (object ≡ target)
-IsObjectOf (fop.Open fd own) object = object ≡ own
-IsObjectOf (fop.Stat own) object = object ≡ own
-IsObjectOf (fop.List own) object = object ≡ own
-IsObjectOf (fop.Chmod own mode) object = object ≡ own
-IsObjectOf (fop.Truncate own size) object = object ≡ own
-IsObjectOf (fop.SetAttr own attr) object = object ≡ own
-IsObjectOf (fop.GetAttr own name) object = object ≡ own
-IsObjectOf (fop.DelAttr own name) object = object ≡ own
-IsObjectOf (fop.Read fd own offset count) object = object ≡ own
-IsObjectOf (fop.Write fd own offset bytes) object = object ≡ own
-IsObjectOf (fop.Migrate fds) object = ⊥
-IsObjectOf (fop.Heal count) object = ⊥
+abbrev pub IsNamedBy : Fop → Object → Type 0
+IsNamedBy (fop.Lookup parent name) object = object ≡ parent
+IsNamedBy (fop.Mkdir parent name mode drawn) object = object ≡ parent
+IsNamedBy (fop.Rmdir parent name) object = object ≡ parent
+IsNamedBy (fop.Create fd parent name mode drawn) object = object ≡ parent
+IsNamedBy (fop.Unlink parent name) object = object ≡ parent
+IsNamedBy (fop.Rename parent name target new_name) object = (object ≡ parent) ⊎ (object ≡ target)
+IsNamedBy (fop.Open fd own) object = object ≡ own
+IsNamedBy (fop.Stat own) object = object ≡ own
+IsNamedBy (fop.List own) object = object ≡ own
+IsNamedBy (fop.Chmod own mode) object = object ≡ own
+IsNamedBy (fop.Truncate own size) object = object ≡ own
+IsNamedBy (fop.SetAttr own attr) object = object ≡ own
+IsNamedBy (fop.GetAttr own name) object = object ≡ own
+IsNamedBy (fop.DelAttr own name) object = object ≡ own
+IsNamedBy (fop.Read fd own offset count) object = object ≡ own
+IsNamedBy (fop.Write fd own offset bytes) object = object ≡ own
+IsNamedBy (fop.Migrate fds) object = ⊥
+IsNamedBy (fop.Heal count) object = ⊥
 
 -- the set of an object's mode and attributes
 pub record IsHome (object : Object) (set : ℕ) : Type 0 where
@@ -52,14 +52,14 @@ pub record IsHome (object : Object) (set : ℕ) : Type 0 where
 -- an object of the fop, with its home
 pub record IsOwnAtHome (f : Fop) (set : ℕ) (gfid : Gfid) : Type 0 where
   pub object : Object
-  pub named : IsObjectOf f object
+  pub named : IsNamedBy f object
   pub gfid_is : object.gfid ≡ gfid
   pub at_home : IsHome object set
 
 -- a file of the fop, on the set that has it
 pub record IsFileOn (f : Fop) (set : ℕ) (gfid : Gfid) : Type 0 where
   pub object : Object
-  pub named : IsObjectOf f object
+  pub named : IsNamedBy f object
   pub gfid_is : object.gfid ≡ gfid
   pub is_file : is_directory object.kind ≡ false
   pub set_is : set ≡ object.set
@@ -67,7 +67,7 @@ pub record IsFileOn (f : Fop) (set : ℕ) (gfid : Gfid) : Type 0 where
 -- a directory that the fop names
 pub record IsOwnDir (f : Fop) (gfid : Gfid) : Type 0 where
   pub object : Object
-  pub named : IsObjectOf f object
+  pub named : IsNamedBy f object
   pub gfid_is : object.gfid ≡ gfid
   pub is_dir : is_directory object.kind ≡ true
 
