@@ -1,3 +1,4 @@
+pub mod Accepted
 pub mod AskEntries
 pub mod AskFops
 pub mod AskLooks

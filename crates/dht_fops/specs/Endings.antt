@@ -10,6 +10,9 @@ use Rattle.dht_fops.specs.Handed.Event.{Replied, Held}
 use Rattle.dht_fops.specs.Places.{place_made}
 use Rattle.dht_fops.specs.Volumes.{Kept}
 use Rattle.dht_fops.specs.declared.volume.Volume.{Volume}
+use Rattle.fop_types.specs.Files.{Files}
+use Rattle.fop_types.specs.Flat.{flat}
+use Rattle.fop_types.specs.Flat.Outcome.{Changes}
 use Rattle.fop_types.specs.declared.answers.Answer.{Answer}
 use Rattle.fop_types.specs.declared.answers.Answer.TheVariants as answer
 use Rattle.fop_types.specs.declared.answers.FopAnswer.{FopAnswer}
@@ -18,6 +21,9 @@ use Rattle.fop_types.specs.declared.answers.IoError.{IoError}
 use Rattle.fop_types.specs.declared.cells.Gfid.{Gfid}
 use Rattle.fop_types.specs.declared.cells.Kind.{Kind}
 use Rattle.fop_types.specs.declared.cells.Kind.TheVariants as kind
+use Rattle.fop_types.specs.declared.flat.FlatAnswer.{FlatAnswer}
+use Rattle.fop_types.specs.declared.flat.FlatAnswer.TheVariants as flat_answer
+use Rattle.fop_types.specs.declared.flat.FlatOp.{FlatOp}
 use Rattle.fop_types.specs.declared.fops.Fop.{Fop}
 use Rattle.fop_types.specs.declared.fops.Fop.TheVariants as fop
 use Rattle.fop_types.specs.declared.jobs.Job.{Job}
@@ -167,3 +173,14 @@ EndsWith f (event ∷ handed) a place = HaveNoFault f handed × EndsBy f (fault_
 -- Each fop goes on and ends so, whatever the volume, the replies and the fop's values are.
 abbrev pub FopsAnswerChanges : Type 0
 FopsAnswerChanges = (v : Volume) (names : List (List ℕ)) (kept : Kept) (f : Fop) → Always (GoesOn f) AnyHold (EndsWith f) [] (fop_course v names kept f)
+
+-- ---- as the flat file system
+
+-- the answer of a call: a create is done where its file is found
+abbrev pub call_answer : FopAnswer → Answer
+call_answer (fop_answer.Found set gfid kind) = answer.Done
+call_answer (fop_answer.Call a) = a
+
+-- Where the flat file system accepts the operation of a change, its answer is that to the change.
+abbrev pub FlatAnswersChanges : Type 0
+FlatAnswersChanges = (files after : Files) (set : ℕ) (o : StoreOp) (one : FlatOp) (a : FlatAnswer) → change_of o ≡ Some one → flat files one ≡ Changes a after → a ≡ flat_answer.Call (call_answer (answer_to set o))

@@ -3,7 +3,7 @@ ghost use Rattle.dht_fops.specs.Answers.{FopsAnswerAsFlat};
 ghost use Rattle.dht_fops.specs.Births.{FopsBearFirst, FopsBearOnce};
 ghost use Rattle.dht_fops.specs.Bounds.{FopsKeepBounds, AnswersHaveBounds};
 ghost use Rattle.dht_fops.specs.Costs.{FopsAskFew};
-ghost use Rattle.dht_fops.specs.Endings.{FopsAnswerChanges};
+ghost use Rattle.dht_fops.specs.Endings.{FopsAnswerChanges, FlatAnswersChanges};
 ghost use Rattle.dht_fops.specs.Founded.{FopsAskWell};
 ghost use Rattle.dht_fops.specs.Homes.{FopsChangeOnSets};
 ghost use Rattle.dht_fops.specs.Links.{FopsChangeLinks, FopsIgnoreLinks};
@@ -39,9 +39,11 @@ pub fn fops_place_answers()
 /// What a fop answers after a change with an effect: Done, the count of the bytes that it wrote, or the file that it made on
 /// its set, at the number of the change's entry, and only once that change is the fop's own operation. Where a job that it
 /// needs failed, no other follows, and the job's I/O error is the answer. A link is changed after the fop's own operation, and
-/// then nothing else. The call does nothing: its contract exports this.
+/// then nothing else. And these are the answers of the flat file system, where it accepts the operation. The call does nothing:
+/// its contract exports this.
 pub fn fops_answer_changes()
-    ensures { FopsAnswerChanges }
+    ensures fops { FopsAnswerChanges }
+    ensures flat { FlatAnswersChanges }
 {}
 
 /// What a change without an effect rests on, and a birth: a link that is dropped was seen on that set; a link is added for a
