@@ -1,4 +1,5 @@
--- No reply of a change of a link, or of the heal of a cell, changes what a fop does; and a fop bears at most one copy on a set.
+-- No reply of a change of a link, or of the heal of a cell, changes what a fop does; and a fop asks each set for at most one
+-- birth.
 use Rattle.std.proofs.Common.{ℕ, zero, suc, ◌+◌, ◌-◌, ◌≤◌, ◌==◌, Bool, true, false, List, [], ◌∷◌, ◌++◌, Option, Some, None, Result, Ok, Err, if◌then◌else◌, length, nat_lt, refl, arith}
 use Rattle.std.specs.List.{range_with_len}
 use Rattle.std.specs.Prelude.{slice_index_or}

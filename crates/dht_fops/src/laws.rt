@@ -53,8 +53,8 @@ pub fn fops_change_links()
     ensures { FopsChangeLinks }
 {}
 
-/// The reply of a change of a link is not heeded, an I/O error or any other: what a fop asks for afterwards, and what it answers,
-/// is one and the same. So is it with the heal of a cell. The call does nothing: its contract exports this.
+/// The reply of a change of a link is not heeded, an I/O error or any other: what a fop asks for afterwards, and what it
+/// answers, is one and the same. So is it with the heal of a cell. The call does nothing: its contract exports this.
 pub fn fops_ignore_links()
     ensures { FopsIgnoreLinks }
 {}
