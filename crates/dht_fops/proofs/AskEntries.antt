@@ -151,7 +151,7 @@ empties_asks v parent name gfid (set ∷ sets) handed g short some b saw empty =
     (λ other i t. empty_push_by v.sets handed later gfid set other sets (set == other) refl l (record { shown = shown; saw = seen; none = none }) (empty other i) t)))
 
 -- what was found and is a directory
-dir_by : (handed : Handed) (dir : Gfid) (name : List ℕ) (set : ℕ) (gfid : Gfid) (k : Kind) → SawName handed dir name set gfid k → is_directory k ≡ true → SawName handed dir name set gfid kind.Dir
+pub dir_by : (handed : Handed) (dir : Gfid) (name : List ℕ) (set : ℕ) (gfid : Gfid) (k : Kind) → SawName handed dir name set gfid k → is_directory k ≡ true → SawName handed dir name set gfid kind.Dir
 dir_by handed dir name set gfid kind.File s e = absurd cc
 dir_by handed dir name set gfid kind.Dir s e = s
 dir_by handed dir name set gfid kind.Link s e = absurd cc

@@ -83,7 +83,7 @@ target_ends n v r handed old names hashed o dir short other some = λ result see
 
 -- ---- a name that is renamed to itself
 
-is_eq_equal : (a b : Gfid) → is_eq (gfid_cmp a b) ≡ true → a ≡ b
+pub is_eq_equal : (a b : Gfid) → is_eq (gfid_cmp a b) ≡ true → a ≡ b
 is_eq_equal a b e = gfid_exact a b (equal_by (gfid_cmp a b) e)
 
 same_done : (n : ℕ) (r : Names n) (handed : Handed) → SawOld n r handed → is_directory r.target.kind ≡ true → nat_lt 255 (length r.new_name) ≡ false

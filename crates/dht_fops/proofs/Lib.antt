@@ -1,3 +1,4 @@
+pub mod Accepted
 pub mod AskEntries
 pub mod AskFops
 pub mod AskLooks
@@ -6,6 +7,8 @@ pub mod Costs
 pub mod CostsOfFops
 pub mod Begun
 pub mod Bounds
+pub mod Endings
+pub mod EndingsOfFops
 pub mod FlatFiles
 pub mod FlatFops
 pub mod FlatGoing
@@ -16,6 +19,8 @@ pub mod FlatRenames
 pub mod FlatRmdir
 pub mod Gfids
 pub mod Handing
+pub mod Homes
+pub mod HomesOfFops
 pub mod JobBounds
 pub mod Known
 pub mod LookSteps
@@ -27,4 +32,5 @@ pub mod ShownNames
 pub mod Traces
 pub mod TracesOfFops
 pub mod Turns
+pub mod Unheeded
 pub mod Writing

@@ -15,7 +15,7 @@ use Rattle.dht_fops.proofs.Handing.{Later, later_same, later_push, later_then, n
 use Rattle.dht_fops.specs.Founded.{IsNoError}
 use Rattle.dht_fops.specs.Handed.{Handed, Always, AnyHold, Saw}
 use Rattle.dht_fops.specs.Links.{SawLink, SawNoCopy, IsOfLink, IsOfCopy}
-use Rattle.dht_fops.specs.Additions.{SawSpan, SawSpans, ShowsSpan, IsOnSet}
+use Rattle.dht_fops.specs.Additions.{SawSpan, SawSpans, ShowsSpan, IsOnSet, IsLinkOnSet}
 use Rattle.dht_fops.specs.Volumes.{Kept}
 use Rattle.dht_fops.specs.declared.volume.Volume.{Volume}
 use Rattle.dht_fops.specs.Handed.Event.{Replied}
@@ -47,7 +47,7 @@ pub record Given : Type 0 where
 -- what a job rests on, and where names are added
 abbrev pub IsRested : Given → Handed → ℕ → Job → Type 0
 IsRested g handed set (job.Change cells fd o (Some entry)) = IsOnSet g.volume (length g.names) g.kept handed set o
-IsRested g handed set (job.Change cells fd o None) = IsOfLink handed set o
+IsRested g handed set (job.Change cells fd o None) = IsOfLink handed set o × IsLinkOnSet g.volume (length g.names) g.kept handed set o
 IsRested g handed set (job.Birth cells o) = IsOfCopy g.fop handed set o
 IsRested g handed set (job.Read cells fd dir) = Unit {0}
 IsRested g handed set (job.Open fd gfid) = Unit {0}
@@ -62,7 +62,7 @@ Traces g handed course = Always (IsRested g) AnyHold IsPlaced handed course
 error_same : (one two : IoError) → ◌≡◌ {A = Result DirNames IoError} (Err one) (Err two) → reply.Io one ≡ reply.Io two
 error_same one two e = let same : one ≡ two = cc in ap (λ (error : IoError). reply.Io error) same
 
-names_error : (r : SetReply) (error : IoError) → names_in r ≡ Err error → r ≡ reply.Io error
+pub names_error : (r : SetReply) (error : IoError) → names_in r ≡ Err error → r ≡ reply.Io error
 names_error (reply.Contents contents place) error e = absurd cc
 names_error (reply.Decided number) error e = absurd cc
 names_error reply.Opened error e = absurd cc
@@ -71,7 +71,7 @@ names_error (reply.Healed records) error e = absurd cc
 names_error (reply.Skipped cause) error e = absurd cc
 names_error (reply.Io own) error e = error_same own error e
 
-contents_error : (r : SetReply) (error : IoError) → contents_in r ≡ Err error → r ≡ reply.Io error
+pub contents_error : (r : SetReply) (error : IoError) → contents_in r ≡ Err error → r ≡ reply.Io error
 contents_error (reply.Contents contents place) error e = absurd cc
 contents_error (reply.Decided number) error e = absurd cc
 contents_error reply.Opened error e = absurd cc
@@ -80,7 +80,7 @@ contents_error (reply.Healed records) error e = absurd cc
 contents_error (reply.Skipped cause) error e = absurd cc
 contents_error (reply.Io own) error e = let same : own ≡ error = cc in ap (λ (one : IoError). reply.Io one) same
 
-number_error : (r : SetReply) (error : IoError) → number_in r ≡ Err error → r ≡ reply.Io error
+pub number_error : (r : SetReply) (error : IoError) → number_in r ≡ Err error → r ≡ reply.Io error
 number_error (reply.Contents contents place) error e = absurd cc
 number_error (reply.Decided number) error e = absurd cc
 number_error reply.Opened error e = absurd cc
@@ -293,6 +293,6 @@ spans_traced g dir (suc n) first count spans next handed e h saw k =
     (λ whole last m w s. k whole last (later_then handed later last l m) w s))
 
 pub finds_traced : (g : Given) (count : ℕ) (dir : Gfid) (known : Option ℕ) (next : ℕ → Course) (after : List (Option Span) → Course) (handed : Handed)
-    → ((set : ℕ) → known ≡ Some set → Traces g handed (next set)) → OnLayout g handed dir count after → Traces g handed (finds count dir known next after)
+    → ((set : ℕ) → known ≡ Some set → Traces g handed (next set)) → (known ≡ None → OnLayout g handed dir count after) → Traces g handed (finds count dir known next after)
 finds_traced g count dir (Some set) next after handed k m = k set refl
-finds_traced g count dir None next after handed k m = spans_traced g dir count 0 count [] after handed refl (omega arith) tt m
+finds_traced g count dir None next after handed k m = spans_traced g dir count 0 count [] after handed refl (omega arith) tt (m refl)

@@ -1,45 +1,48 @@
 -- Every fop's answers are placed at the latest read or change with an effect, and its changes of links and births rest on
 -- what was seen.
-use Rattle.std.proofs.Common.{◌≡◌, ◌∙◌, ℕ, ◌+◌, inl, inr, ◌==◌, Bool, true, false, List, [], ◌∷◌, Option, Some, None, if◌then◌else◌, nat_lt, length, refl, ap, sym}
+use Rattle.std.proofs.Common.{◌≡◌, ℕ, ◌+◌, inl, inr, ◌==◌, Bool, true, false, List, [], ◌∷◌, Option, Some, None, if◌then◌else◌, nat_lt, length, refl, ap, sym, subst}
+use Rattle.std.specs.Ordering.{is_eq}
+use Rattle.std.specs.Prelude.{slice_index_or}
 use Rattle.dht_linkto.specs.DirNames.{first_content}
 use Rattle.dht_linkto.specs.Search.{hashed_set}
 use Rattle.dht_linkto.specs.declared.found.Found.{Found}
 use Rattle.dht_linkto.specs.declared.found.Found.TheVariants as found
-use Rattle.dht_layout.specs.Layouts.{even_span}
-use Rattle.dht_fops.proofs.Handing.{Later, later_same, later_push, later_then, no_error}
+use Rattle.dht_layout.specs.Layouts.{even_layout}
+use Rattle.dht_fops.proofs.FlatRenames.{is_eq_equal}
+use Rattle.dht_fops.proofs.Handing.{Later, later_push}
 use Rattle.dht_fops.proofs.Traces.{Given, Traces, IsRested, saw_spans_later, EndsTraced, IsRead, IsInHand, names_traced, read_traced, change_traced, birth_traced, open_traced, if_traced, kept_traced, looks_traced, finds_traced, link_later, no_copy_later}
 use Rattle.dht_fops.specs.Courses.{Course}
 use Rattle.dht_fops.specs.Courses.Course.{Asks, Extends, Ends}
-use Rattle.dht_fops.specs.Entries.{lookup_found, lists_from, birth_job, births_from, adds_dir, mkdir_found, create_found, drops_link, unlinks, unlink_found, empties, rmdir_found}
-use Rattle.dht_fops.specs.Fops.{on_name, lists, renames, fop_course}
+use Rattle.dht_fops.specs.Entries.{lookup_found, lists_from, births_from, mkdir_found, create_found, drops_link, unlink_found, empties, rmdir_found}
+use Rattle.dht_fops.specs.Fops.{on_name, renames, fop_course}
 use Rattle.dht_fops.specs.Handed.{Handed, Always, AnyJob, AnyHold, AnyAnswer}
 use Rattle.dht_fops.specs.Handed.Event.{Replied, Held}
 use Rattle.dht_fops.specs.Internal.{opens_again, heals, indexes, with_cells, cells_in}
-use Rattle.dht_fops.specs.Looks.{Ending, where_named, looks_in, finds}
+use Rattle.dht_fops.specs.Looks.{Ending, where_named}
 use Rattle.dht_fops.specs.Merges.{merged, real_items}
 use Rattle.dht_fops.specs.Objects.{opens, stats, attr_value, gets_attr, drops_attr, dels_attr, reads_bytes, changes_cell, truncates, writes_some, writes, home}
-use Rattle.dht_fops.specs.Founded.{IsNoError}
-use Rattle.dht_fops.specs.Additions.{IsSetOf, IsOnSet, AddsOnSet, FopsAddOnSets}
-use Rattle.dht_fops.specs.Links.{SawLink, SawNoCopy, IsOfCopy, WasMoved, IsMadeBy, RestsOnLinks, FopsChangeLinks}
+use Rattle.dht_fops.specs.Additions.{SawSpans, SawLayout, IsSetBy, IsSetOf, IsOnSet, AddsOnSet, FopsAddOnSets}
+use Rattle.dht_fops.specs.Links.{SawLink, SawNoCopy, WasMoved, IsMadeBy, RestsOnLinks, FopsChangeLinks}
 use Rattle.dht_fops.specs.Places.{last_place, IsPlaced, FopsPlaceAnswers}
-use Rattle.dht_fops.specs.Renames.{adds_link, moves, bears, replaces, changes_names, other_set, target_found, target_ending, looks_for_target, renames_file, source_at, source_found, second_set, renames_from}
-use Rattle.dht_fops.specs.Volumes.{Kept, known_set, sets_from, entry}
+use Rattle.dht_fops.specs.Renames.{adds_link, moves, bears, replaces, changes_names, other_set, target_found, target_ending, looks_for_target, source_at, source_found, second_set}
+use Rattle.dht_fops.specs.Volumes.{Kept, kept_spans, set_in, known_set, sets_from}
 use Rattle.dht_fops.specs.declared.look.Seen.{Seen}
 use Rattle.dht_fops.specs.declared.rename.Renaming.{Renaming}
 use Rattle.dht_fops.specs.declared.rename.Source.{Source}
 use Rattle.dht_fops.specs.declared.volume.Volume.{Volume}
+use Rattle.fop_types.specs.Cells.{root}
 use Rattle.fop_types.specs.FileBytes.{file_limit}
 use Rattle.fop_types.specs.Limits.{max_item_name}
 use Rattle.fop_types.specs.Names.{attr_named, has_real_name, is_directory, is_same_name}
+use Rattle.fop_types.specs.Orders.{gfid_cmp}
 use Rattle.fop_types.specs.StoreOps.{attrs_of}
-use Rattle.fop_types.specs.declared.answers.FopAnswer.{FopAnswer}
 use Rattle.fop_types.specs.declared.answers.FopAnswer.TheVariants as fop_answer
 use Rattle.fop_types.specs.declared.answers.Answer.TheVariants as answer
 use Rattle.fop_types.specs.declared.cells.Cell.{Cell}
 use Rattle.fop_types.specs.declared.cells.Gfid.{Gfid}
 use Rattle.fop_types.specs.declared.contents.Attr.{Attr}
-use Rattle.fop_types.specs.declared.contents.Content.{Content}
 use Rattle.fop_types.specs.declared.contents.Item.{Item}
+use Rattle.fop_types.specs.declared.contents.Span.{Span}
 use Rattle.fop_types.specs.declared.fops.Fop.{Fop}
 use Rattle.fop_types.specs.declared.fops.Fop.TheVariants as fop
 use Rattle.fop_types.specs.declared.fops.Object.{Object}
@@ -97,14 +100,24 @@ named_traced : (g : Given) (handed : Handed) (parent : Object) (name : List ℕ)
 named_traced g handed parent name place next at k =
     if_traced g handed _ _ (is_directory parent.kind) (λ dir. if_traced g handed _ _ (nat_lt max_item_name (length name)) (λ long. sym at) (λ short. k)) (λ file. sym at)
 
+-- the set to which a name belongs, by what is known of it or was read
+set_known : (known : Option ℕ) (count : ℕ) (handed : Handed) (dir : Gfid) (name : List ℕ) (set : ℕ) → known ≡ Some set → IsSetBy known count handed dir name set
+set_known None count handed dir name set e = absurd cc
+set_known (Some own) count handed dir name set e = let same : own ≡ set = cc in sym same
+
+set_read : (known : Option ℕ) (count : ℕ) (handed : Handed) (dir : Gfid) (name : List ℕ) (set : ℕ) → known ≡ None → SawLayout count handed dir name set → IsSetBy known count handed dir name set
+set_read None count handed dir name set e read = read
+set_read (Some own) count handed dir name set e read = absurd cc
+
 on_name_traced : (g : Given) (v : Volume) (names : List (List ℕ)) (kept : Kept) (parent : Object) (name : List ℕ) (ending : ℕ → Ending) → ((hashed : ℕ) (handed : Handed) → IsSetOf v (length names) kept handed parent.gfid name hashed → EndsTraced g handed parent.gfid name hashed 0 (ending hashed))
     → Traces g [] (on_name v names kept parent name ending)
 on_name_traced g v names kept parent name ending ends =
     named_traced g [] parent name None _ refl
     (finds_traced g (length names) parent.gfid (known_set v kept parent.gfid name) _ _ []
-    (λ set known. looks_traced g parent.gfid name names 0 ending set [] (ends set [] (inl known)))
-    (λ whole later l w saw. looks_traced g parent.gfid name names 0 ending (hashed_set whole name) later
-    (ends (hashed_set whole name) later (inr (record { spans = whole; whole = w; saw = saw; set_is = refl })))))
+    (λ set known. looks_traced g parent.gfid name names 0 ending set [] (ends set [] (set_known (known_set v kept parent.gfid name) (length names) [] parent.gfid name set known)))
+    (λ unknown whole later l w saw. looks_traced g parent.gfid name names 0 ending (hashed_set whole name) later
+    (ends (hashed_set whole name) later
+    (set_read (known_set v kept parent.gfid name) (length names) later parent.gfid name (hashed_set whole name) unknown (record { spans = whole; whole = w; saw = saw; set_is = refl })))))
 
 lookup_traced : (g : Given) (handed : Handed) (dir : Gfid) (name : List ℕ) (hashed : ℕ) → EndsTraced g handed dir name hashed 0 lookup_found
 lookup_traced g handed dir name hashed = λ result seen later l r h. by_found later result seen r h.place
@@ -126,9 +139,12 @@ mkdir_traced g v handed parent name mode drawn hashed made = λ result seen late
     by_found later found.Absent seen r at = births_traced g v parent name mode drawn (sets_from v 1) later made
     by_found later (found.Io error) seen r at = absurd r
 
+set_by_later : (known : Option ℕ) (count : ℕ) (a b : Handed) (dir : Gfid) (name : List ℕ) (set : ℕ) → Later a b → IsSetBy known count a dir name set → IsSetBy known count b dir name set
+set_by_later None count a b dir name set l read = record { spans = read.spans; whole = read.whole; saw = saw_spans_later a b dir 0 read.spans l read.saw; set_is = read.set_is }
+set_by_later (Some own) count a b dir name set l on = on
+
 set_later : (g : Given) (a b : Handed) (dir : Gfid) (name : List ℕ) (set : ℕ) → Later a b → IsSetOf g.volume (length g.names) g.kept a dir name set → IsSetOf g.volume (length g.names) g.kept b dir name set
-set_later g a b dir name set l (inl known) = inl known
-set_later g a b dir name set l (inr read) = inr (record { spans = read.spans; whole = read.whole; saw = saw_spans_later a b dir 0 read.spans l read.saw; set_is = read.set_is })
+set_later g a b dir name set l on = set_by_later (known_set g.volume g.kept dir name) (length g.names) a b dir name set l on
 
 create_traced : (g : Given) (v : Volume) (handed : Handed) (parent : Gfid) (name : List ℕ) (mode : ℕ) (drawn : Gfid) (hashed : ℕ) → IsSetOf g.volume (length g.names) g.kept handed parent name hashed → EndsTraced g handed parent name hashed 0 (create_found v parent name mode drawn hashed)
 create_traced g v handed parent name mode drawn hashed on = λ result seen later l r h. by_found later result seen r h.place (set_later g handed later parent name hashed l on)
@@ -141,7 +157,7 @@ create_traced g v handed parent name mode drawn hashed on = λ result seen later
 -- a change of a link leaves the place
 drops_link_traced : (g : Given) (parent : Gfid) (name : List ℕ) (hashed : ℕ) (has_link : Bool) (number : Option ℕ) (handed : Handed) → last_place handed ≡ number → (has_link ≡ true → SawLink handed parent name hashed)
     → Traces g handed (drops_link parent name hashed has_link number)
-drops_link_traced g parent name hashed true number handed at saw = (saw refl, λ r. sym at)
+drops_link_traced g parent name hashed true number handed at saw = ((saw refl, tt), λ r. sym at)
 drops_link_traced g parent name hashed false number handed at saw = sym at
 
 unlink_traced : (g : Given) (v : Volume) (handed : Handed) (parent : Gfid) (name : List ℕ) (hashed : ℕ) → EndsTraced g handed parent name hashed 0 (unlink_found v parent name hashed)
@@ -183,73 +199,136 @@ SawOldLink handed source = source.has_link ≡ true → SawLink handed source.pa
 old_later : (a b : Handed) (source : Source) → Later a b → SawOldLink a source → SawOldLink b source
 old_later a b source l s = λ has. link_later a b source.parent source.name source.hashed l (s has)
 
-adds_link_traced : (g : Given) (r : Renaming) (number : Option ℕ) (handed : Handed) → last_place handed ≡ number → SawOldLink handed r.source → ((r.hashed == r.source.set) ≡ false → WasMoved handed r.target r.new_name r.hashed)
-    → Traces g handed (adds_link r number)
-adds_link_traced g r number handed at old moved = if_traced g handed _ _ (r.hashed == r.source.set)
-    (λ same. drops_link_traced g r.source.parent r.source.name r.source.hashed r.source.has_link number handed at old)
-    (λ other. ((refl, moved other), λ said. drops_link_traced g r.source.parent r.source.name r.source.hashed r.source.has_link number _ at (old_later handed _ r.source (later_push _ handed) old)))
+-- the set to which the new name belongs is that of the new link
+pub record KnowsLinks (g : Given) (handed : Handed) (r : Renaming) : Type 0 where
+  pub old : SawOldLink handed r.source
+  pub new : IsSetOf g.volume (length g.names) g.kept handed r.target r.new_name r.hashed
 
-moves_traced : (g : Given) (v : Volume) (r : Renaming) (handed : Handed) → SawOldLink handed r.source → Traces g handed (moves v r)
-moves_traced g v r handed old =
+links_later : (g : Given) (a b : Handed) (r : Renaming) → Later a b → KnowsLinks g a r → KnowsLinks g b r
+links_later g a b r l k = record { old = old_later a b r.source l k.old; new = set_later g a b r.target r.new_name r.hashed l k.new }
+
+adds_link_traced : (g : Given) (r : Renaming) (number : Option ℕ) (handed : Handed) → last_place handed ≡ number → KnowsLinks g handed r → ((r.hashed == r.source.set) ≡ false → WasMoved handed r.target r.new_name r.hashed)
+    → Traces g handed (adds_link r number)
+adds_link_traced g r number handed at k moved = if_traced g handed _ _ (r.hashed == r.source.set)
+    (λ same. drops_link_traced g r.source.parent r.source.name r.source.hashed r.source.has_link number handed at k.old)
+    (λ other. (((refl, moved other), k.new), λ said. drops_link_traced g r.source.parent r.source.name r.source.hashed r.source.has_link number _ at (old_later handed _ r.source (later_push _ handed) k.old)))
+
+moves_traced : (g : Given) (v : Volume) (r : Renaming) (handed : Handed) → KnowsLinks g handed r → Traces g handed (moves v r)
+moves_traced g v r handed k =
     change_traced g handed r.source.set _ 0 _ _ _ tt
-    (λ said number done at. adds_link_traced g r number _ at (old_later handed _ r.source (later_push _ handed) old)
+    (λ said number done at. adds_link_traced g r number _ at (links_later g handed _ r (later_push _ handed) k)
     (λ other. inl (record { parent = r.source.parent; old = r.source.name; is_move = refl }, done, other)))
 
-bears_traced : (g : Given) (v : Volume) (r : Renaming) (copy : Bool) (handed : Handed) → SawOldLink handed r.source → (copy ≡ false → SawNoCopy handed r.target r.source.set) → Traces g handed (bears v r copy)
-bears_traced g v r true handed old none = moves_traced g v r handed old
-bears_traced g v r false handed old none =
-    birth_traced g handed r.source.set _ _ _ (inr (none refl)) (λ later number l at. moves_traced g v r later (old_later handed later r.source l old))
+bears_traced : (g : Given) (v : Volume) (r : Renaming) (copy : Bool) (handed : Handed) → KnowsLinks g handed r → (copy ≡ false → SawNoCopy handed r.target r.source.set) → Traces g handed (bears v r copy)
+bears_traced g v r true handed k none = moves_traced g v r handed k
+bears_traced g v r false handed k none =
+    birth_traced g handed r.source.set _ _ _ (inr (none refl)) (λ later number l at. moves_traced g v r later (links_later g handed later r l k))
 
-replaces_traced : (g : Given) (v : Volume) (r : Renaming) (replaced : Option ℕ) (copy : Bool) (handed : Handed) → SawOldLink handed r.source → (copy ≡ false → SawNoCopy handed r.target r.source.set) → Traces g handed (replaces v r replaced copy)
-replaces_traced g v r None copy handed old none = bears_traced g v r copy handed old none
-replaces_traced g v r (Some set) copy handed old none =
+replaces_traced : (g : Given) (v : Volume) (r : Renaming) (replaced : Option ℕ) (copy : Bool) (handed : Handed) → KnowsLinks g handed r → (copy ≡ false → SawNoCopy handed r.target r.source.set) → Traces g handed (replaces v r replaced copy)
+replaces_traced g v r None copy handed k none = bears_traced g v r copy handed k none
+replaces_traced g v r (Some set) copy handed k none =
     change_traced g handed set _ 0 _ _ _ tt
-    (λ said number done at. bears_traced g v r copy _ (old_later handed _ r.source (later_push _ handed) old) (λ e. no_copy_later handed _ r.target r.source.set (later_push _ handed) (none e)))
+    (λ said number done at. bears_traced g v r copy _ (links_later g handed _ r (later_push _ handed) k) (λ e. no_copy_later handed _ r.target r.source.set (later_push _ handed) (none e)))
 
-changes_traced : (g : Given) (v : Volume) (r : Renaming) (replaced : Option ℕ) (copy : Option Bool) (handed : Handed) → SawOldLink handed r.source → (copy ≡ Some false → SawNoCopy handed r.target r.source.set)
+changes_traced : (g : Given) (v : Volume) (r : Renaming) (replaced : Option ℕ) (copy : Option Bool) (handed : Handed) → KnowsLinks g handed r → (copy ≡ Some false → SawNoCopy handed r.target r.source.set)
     → Traces g handed (changes_names v r replaced copy)
-changes_traced g v r replaced (Some copy) handed old none = replaces_traced g v r replaced copy handed old (λ e. none (ap Some e))
-changes_traced g v r replaced None handed old none =
+changes_traced g v r replaced (Some copy) handed k none = replaces_traced g v r replaced copy handed k (λ e. none (ap Some e))
+changes_traced g v r replaced None handed k none =
     names_traced g handed r.source.set r.target _
-    (λ later shown l saw at. replaces_traced g v r replaced shown.has_copy later (old_later handed later r.source l old) (λ e. record { shown = shown; saw = saw; none = e }))
+    (λ later shown l saw at. replaces_traced g v r replaced shown.has_copy later (links_later g handed later r l k) (λ e. record { shown = shown; saw = saw; none = e }))
 
-target_traced : (g : Given) (v : Volume) (handed : Handed) (r : Renaming) → SawOldLink handed r.source → EndsTraced g handed r.target r.new_name r.hashed r.source.set (target_found v r)
-target_traced g v handed r old = λ result seen later l read h. by_found later result seen read h (old_later handed later r.source l old)
+target_traced : (g : Given) (v : Volume) (handed : Handed) (r : Renaming) → KnowsLinks g handed r → EndsTraced g handed r.target r.new_name r.hashed r.source.set (target_found v r)
+target_traced g v handed r k = λ result seen later l read h. by_found later result seen read h (links_later g handed later r l k)
   where
-    by_found : (later : Handed) (result : Found) (seen : Seen) → IsRead result → IsInHand later r.target r.new_name r.hashed r.source.set seen → SawOldLink later r.source → Traces g later (target_found v r result seen)
-    by_found later (found.Item set gfid kind) seen read h old =
-        if_traced g later _ _ (is_directory kind) (λ dir. sym h.place) (λ file. changes_traced g v r (other_set set r.source.set) seen.copy later old h.copy)
-    by_found later found.Absent seen read h old = changes_traced g v r None seen.copy later old h.copy
-    by_found later (found.Io error) seen read h old = absurd read
+    by_found : (later : Handed) (result : Found) (seen : Seen) → IsRead result → IsInHand later r.target r.new_name r.hashed r.source.set seen → KnowsLinks g later r → Traces g later (target_found v r result seen)
+    by_found later (found.Item set gfid kind) seen read h now =
+        if_traced g later _ _ (is_directory kind) (λ dir. sym h.place) (λ file. changes_traced g v r (other_set set r.source.set) seen.copy later now h.copy)
+    by_found later found.Absent seen read h now = changes_traced g v r None seen.copy later now h.copy
+    by_found later (found.Io error) seen read h now = absurd read
 
-looks_for_target_traced : (g : Given) (v : Volume) (source : Source) (target : Gfid) (new_name : List ℕ) (names : List (List ℕ)) (second : Option ℕ) (handed : Handed) → SawOldLink handed source
-    → Traces g handed (looks_for_target v source target new_name names second)
-looks_for_target_traced g v source target new_name names second handed old =
-    finds_traced g (length names) target second _ _ handed
-    (λ set known. looks_traced g target new_name names source.set (target_ending v source target new_name names) set handed (target_traced g v handed _ old))
-    (λ whole later l w saw. looks_traced g target new_name names source.set (target_ending v source target new_name names) (hashed_set whole new_name) later (target_traced g v later _ (old_later handed later source l old)))
+-- ---- the look at the new name
 
-source_traced : (g : Given) (v : Volume) (handed : Handed) (parent : Gfid) (name : List ℕ) (names : List (List ℕ)) (target : Object) (new_name : List ℕ) (second : Option ℕ) (hashed : ℕ)
-    → EndsTraced g handed parent name hashed 0 (source_found v parent name names target new_name second hashed)
-source_traced g v handed parent name names target new_name second hashed = λ result seen later l r h. by_found later result seen r h
+-- the set of the new name, where it is known before the look: the name belongs to it, and no layout gives another
+abbrev pub KnowsSecond : Given → Handed → Gfid → List ℕ → Option ℕ → Type 0
+KnowsSecond g handed target new_name second =
+    ((set : ℕ) → second ≡ Some set → IsSetOf g.volume (length g.names) g.kept handed target new_name set) × (second ≡ None → known_set g.volume g.kept target new_name ≡ None)
+
+second_later : (g : Given) (a b : Handed) (target : Gfid) (new_name : List ℕ) (second : Option ℕ) → Later a b → KnowsSecond g a target new_name second → KnowsSecond g b target new_name second
+second_later g a b target new_name second l k = (λ set e. set_later g a b target new_name set l (k.0 set e), k.1)
+
+known_knows : (g : Given) (handed : Handed) (target : Gfid) (new_name : List ℕ) → KnowsSecond g handed target new_name (known_set g.volume g.kept target new_name)
+known_knows g handed target new_name = (λ set e. set_known (known_set g.volume g.kept target new_name) (length g.names) handed target new_name set e, λ e. e)
+
+-- whether a set is known does not depend on the name
+none_by : (v : Volume) (name other : List ℕ) (one is_root : Bool) (spans : Option (List (Option Span))) → (if one then Some 0 else (if is_root then Some (hashed_set (even_layout v.root_sets) name) else set_in spans name)) ≡ None
+    → (if one then Some 0 else (if is_root then Some (hashed_set (even_layout v.root_sets) other) else set_in spans other)) ≡ None
+none_by v name other true is_root spans e = absurd cc
+none_by v name other false true spans e = absurd cc
+none_by v name other false false None e = refl
+none_by v name other false false (Some spans) e = absurd cc
+
+known_none : (v : Volume) (kept : Kept) (dir : Gfid) (name other : List ℕ) → known_set v kept dir name ≡ None → known_set v kept dir other ≡ None
+known_none v kept dir name other e = none_by v name other (v.sets == 1) (is_eq (gfid_cmp dir root)) (kept_spans v.sets kept dir) e
+
+same_set : (a b : ℕ) → Some a ≡ Some b → a ≡ b
+same_set a b e = let same : a ≡ b = cc in same
+
+-- after the layout of the first name's directory was read
+second_knows : (g : Given) (handed : Handed) (parent target : Gfid) (name new_name : List ℕ) (whole : List (Option Span)) → known_set g.volume g.kept parent name ≡ None → length whole ≡ length g.names → SawSpans handed parent 0 whole
+    → KnowsSecond g handed target new_name (second_set parent target new_name (known_set g.volume g.kept target new_name) whole)
+second_knows g handed parent target name new_name whole unknown w saw = by_same (is_eq (gfid_cmp parent target)) refl
   where
-    by_found : (later : Handed) (result : Found) (seen : Seen) → IsRead result → IsInHand later parent name hashed 0 seen → Traces g later (source_found v parent name names target new_name second hashed result seen)
-    by_found later (found.Item set gfid kind) seen r h =
+    none : parent ≡ target → known_set g.volume g.kept target new_name ≡ None
+    none same = subst (λ (dir : Gfid). known_set g.volume g.kept dir new_name ≡ None) same (known_none g.volume g.kept parent name new_name unknown)
+
+    layout : parent ≡ target → (set : ℕ) → Some (hashed_set whole new_name) ≡ Some set → SawLayout (length g.names) handed target new_name set
+    layout same set e = record { spans = whole; whole = w; saw = subst (λ (dir : Gfid). SawSpans handed dir 0 whole) same saw; set_is = same_set (hashed_set whole new_name) set e }
+
+    by_same : (b : Bool) → is_eq (gfid_cmp parent target) ≡ b → KnowsSecond g handed target new_name (if b then Some (hashed_set whole new_name) else known_set g.volume g.kept target new_name)
+    by_same true one =
+        let same = is_eq_equal parent target one in
+        (λ set e. set_read (known_set g.volume g.kept target new_name) (length g.names) handed target new_name set (none same) (layout same set e), λ e. none same)
+    by_same false one = known_knows g handed target new_name
+
+abbrev renaming_of : Source → Gfid → List ℕ → List (List ℕ) → ℕ → Renaming
+renaming_of source target new_name names hashed = record { source = source; target = target; new_name = new_name; hashed = hashed; set_name = slice_index_or names source.set [] }
+
+looks_for_target_traced : (g : Given) (v : Volume) (source : Source) (target : Gfid) (new_name : List ℕ) (second : Option ℕ) (handed : Handed) → SawOldLink handed source → KnowsSecond g handed target new_name second
+    → Traces g handed (looks_for_target v source target new_name g.names second)
+looks_for_target_traced g v source target new_name second handed old k =
+    finds_traced g (length g.names) target second _ _ handed
+    (λ set known. looks_traced g target new_name g.names source.set (target_ending v source target new_name g.names) set handed
+    (target_traced g v handed (renaming_of source target new_name g.names set) (record { old = old; new = k.0 set known })))
+    (λ unknown whole later l w saw. looks_traced g target new_name g.names source.set (target_ending v source target new_name g.names) (hashed_set whole new_name) later
+    (target_traced g v later (renaming_of source target new_name g.names (hashed_set whole new_name))
+    (record {
+      old = old_later handed later source l old;
+      new = set_read (known_set g.volume g.kept target new_name) (length g.names) later target new_name (hashed_set whole new_name) (k.1 unknown) (record { spans = whole; whole = w; saw = saw; set_is = refl });
+    })))
+
+source_traced : (g : Given) (v : Volume) (handed : Handed) (parent : Gfid) (name : List ℕ) (target : Object) (new_name : List ℕ) (second : Option ℕ) (hashed : ℕ) → KnowsSecond g handed target.gfid new_name second
+    → EndsTraced g handed parent name hashed 0 (source_found v parent name g.names target new_name second hashed)
+source_traced g v handed parent name target new_name second hashed k = λ result seen later l r h. by_found later result seen r h (second_later g handed later target.gfid new_name second l k)
+  where
+    by_found : (later : Handed) (result : Found) (seen : Seen) → IsRead result → IsInHand later parent name hashed 0 seen → KnowsSecond g later target.gfid new_name second → Traces g later (source_found v parent name g.names target new_name second hashed result seen)
+    by_found later (found.Item set gfid kind) seen r h now =
         if_traced g later _ _ (is_directory kind) (λ dir. sym h.place)
         (λ file. named_traced g later target new_name (Some seen.place) _ h.place
         (if_traced g later _ _ (is_same_name parent name target.gfid new_name) (λ same. sym h.place)
-        (λ other. looks_for_target_traced g v (source_at parent name hashed seen.has_link set gfid) target.gfid new_name names second later h.link)))
-    by_found later found.Absent seen r h = sym h.place
-    by_found later (found.Io error) seen r h = absurd r
+        (λ other. looks_for_target_traced g v (source_at parent name hashed seen.has_link set gfid) target.gfid new_name second later h.link now)))
+    by_found later found.Absent seen r h now = sym h.place
+    by_found later (found.Io error) seen r h now = absurd r
 
-renames_traced : (g : Given) (v : Volume) (names : List (List ℕ)) (kept : Kept) (parent : Object) (name : List ℕ) (target : Object) (new_name : List ℕ) → Traces g [] (renames v names kept parent name target new_name)
-renames_traced g v names kept parent name target new_name =
+renames_traced : (g : Given) (parent : Object) (name : List ℕ) (target : Object) (new_name : List ℕ) → Traces g [] (renames g.volume g.names g.kept parent name target new_name)
+renames_traced g parent name target new_name =
     named_traced g [] parent name None _ refl
-    (finds_traced g (length names) parent.gfid (known_set v kept parent.gfid name) _ _ []
-    (λ set known. looks_traced g parent.gfid name names 0 (source_found v parent.gfid name names target new_name (known_set v kept target.gfid new_name)) set []
-    (source_traced g v [] parent.gfid name names target new_name (known_set v kept target.gfid new_name) set))
-    (λ whole later l w saw. looks_traced g parent.gfid name names 0 (source_found v parent.gfid name names target new_name (second_set parent.gfid target.gfid new_name (known_set v kept target.gfid new_name) whole)) (hashed_set whole name) later
-    (source_traced g v later parent.gfid name names target new_name (second_set parent.gfid target.gfid new_name (known_set v kept target.gfid new_name) whole) (hashed_set whole name))))
+    (finds_traced g (length g.names) parent.gfid (known_set g.volume g.kept parent.gfid name) _ _ []
+    (λ set known. looks_traced g parent.gfid name g.names 0 (source_found g.volume parent.gfid name g.names target new_name (known_set g.volume g.kept target.gfid new_name)) set []
+    (source_traced g g.volume [] parent.gfid name target new_name (known_set g.volume g.kept target.gfid new_name) set (known_knows g [] target.gfid new_name)))
+    (λ unknown whole later l w saw. looks_traced g parent.gfid name g.names 0
+    (source_found g.volume parent.gfid name g.names target new_name (second_set parent.gfid target.gfid new_name (known_set g.volume g.kept target.gfid new_name) whole)) (hashed_set whole name) later
+    (source_traced g g.volume later parent.gfid name target new_name (second_set parent.gfid target.gfid new_name (known_set g.volume g.kept target.gfid new_name) whole) (hashed_set whole name)
+    (second_knows g later parent.gfid target.gfid name new_name whole unknown w saw))))
 
 -- ---- fops of the mount itself
 
@@ -274,7 +353,7 @@ traced g (fop.Mkdir parent name mode drawn) e =
 traced g (fop.Rmdir parent name) e = on_name_traced g g.volume g.names g.kept parent name _ (λ hashed handed on. rmdir_traced g g.volume handed parent.gfid name hashed)
 traced g (fop.Create fd parent name mode drawn) e = on_name_traced g g.volume g.names g.kept parent name _ (λ hashed handed on. create_traced g g.volume handed parent.gfid name mode drawn hashed on)
 traced g (fop.Unlink parent name) e = on_name_traced g g.volume g.names g.kept parent name _ (λ hashed handed on. unlink_traced g g.volume handed parent.gfid name hashed)
-traced g (fop.Rename parent name target new_name) e = renames_traced g g.volume g.names g.kept parent name target new_name
+traced g (fop.Rename parent name target new_name) e = renames_traced g parent name target new_name
 traced g (fop.Open fd object) e = opens_traced g object fd
 traced g (fop.Stat object) e = stats_traced g object
 traced g (fop.List object) e = if_traced g [] _ _ (is_directory object.kind) (λ dir. lists_traced g object.gfid (sets_from g.volume 0) [] None [] refl) (λ file. refl)
@@ -297,7 +376,7 @@ places_of g handed (Ends answer place) t = t
 
 job_links : (g : Given) (handed : Handed) (set : ℕ) (j : Job) → IsRested g handed set j → RestsOnLinks g.fop handed set j
 job_links g handed set (job.Change cells fd o (Some entry)) r = tt
-job_links g handed set (job.Change cells fd o None) r = r
+job_links g handed set (job.Change cells fd o None) r = r.0
 job_links g handed set (job.Birth cells o) r = r
 job_links g handed set (job.Read cells fd dir) r = tt
 job_links g handed set (job.Open fd gfid) r = tt
@@ -311,7 +390,7 @@ links_of g handed (Ends answer place) t = tt
 
 job_adds : (g : Given) (handed : Handed) (set : ℕ) (j : Job) → IsRested g handed set j → AddsOnSet g.volume (length g.names) g.kept handed set j
 job_adds g handed set (job.Change cells fd o (Some entry)) r = r
-job_adds g handed set (job.Change cells fd o None) r = tt
+job_adds g handed set (job.Change cells fd o None) r = r.1
 job_adds g handed set (job.Birth cells o) r = tt
 job_adds g handed set (job.Read cells fd dir) r = tt
 job_adds g handed set (job.Open fd gfid) r = tt

@@ -1,5 +1,5 @@
--- On which set mkdir and create add a name: a directory's on the first, and a file's on the set to which its name belongs,
--- by the layout that is known, or by the ranges that the sets showed.
+-- On which set a name is added: a directory's on the first, and a file's or a link's on the set to which the name belongs, by
+-- the layout that is known, and where none is by the ranges that the sets showed.
 use Rattle.std.specs.Prelude.{◌≡◌, ◌⊎◌, ℕ, ◌+◌, List, [], ◌∷◌, length, Option, Some, None, Result, Ok, Err}
 use Rattle.dht_linkto.specs.DirNames.{first_content}
 use Rattle.dht_linkto.specs.Search.{hashed_set}
@@ -49,9 +49,14 @@ pub record SawLayout (count : ℕ) (handed : Handed) (dir : Gfid) (name : List �
   pub saw : SawSpans handed dir 0 spans
   pub set_is : hashed_set spans name ≡ set
 
+-- by the set that is known, or, where none is, by the ranges that so many sets showed
+abbrev pub IsSetBy : Option ℕ → ℕ → Handed → Gfid → List ℕ → ℕ → Type 0
+IsSetBy (Some known) count handed dir name set = set ≡ known
+IsSetBy None count handed dir name set = SawLayout count handed dir name set
+
 -- the set, of so many, to which a name of the directory belongs
 abbrev pub IsSetOf : Volume → ℕ → Kept → Handed → Gfid → List ℕ → ℕ → Type 0
-IsSetOf v count kept handed dir name set = (known_set v kept dir name ≡ Some set) ⊎ SawLayout count handed dir name set
+IsSetOf v count kept handed dir name set = IsSetBy (known_set v kept dir name) count handed dir name set
 
 -- ---- jobs
 
@@ -72,15 +77,28 @@ IsOnSet v count kept handed set (op.SetAttr gfid attr) = Unit {0}
 IsOnSet v count kept handed set (op.DelAttr gfid name) = Unit {0}
 IsOnSet v count kept handed set (op.MakeCopy gfid span) = Unit {0}
 
+-- a link is added on the set to which its name belongs
+abbrev pub IsLinkOnSet : Volume → ℕ → Kept → Handed → ℕ → StoreOp → Type 0
+IsLinkOnSet v count kept handed set (op.AddName parent item mode span) = IsSetOf v count kept handed parent item.name set
+IsLinkOnSet v count kept handed set (op.DropName parent name) = Unit {0}
+IsLinkOnSet v count kept handed set (op.DropDir parent name gfid) = Unit {0}
+IsLinkOnSet v count kept handed set (op.Move parent name target new_name) = Unit {0}
+IsLinkOnSet v count kept handed set (op.Write gfid offset bytes) = Unit {0}
+IsLinkOnSet v count kept handed set (op.Truncate gfid size) = Unit {0}
+IsLinkOnSet v count kept handed set (op.SetMode gfid mode) = Unit {0}
+IsLinkOnSet v count kept handed set (op.SetAttr gfid attr) = Unit {0}
+IsLinkOnSet v count kept handed set (op.DelAttr gfid name) = Unit {0}
+IsLinkOnSet v count kept handed set (op.MakeCopy gfid span) = Unit {0}
+
 abbrev pub AddsOnSet : Volume → ℕ → Kept → Handed → ℕ → Job → Type 0
 AddsOnSet v count kept handed set (job.Change cells fd o (Some entry)) = IsOnSet v count kept handed set o
-AddsOnSet v count kept handed set (job.Change cells fd o None) = Unit {0}
+AddsOnSet v count kept handed set (job.Change cells fd o None) = IsLinkOnSet v count kept handed set o
 AddsOnSet v count kept handed set (job.Birth cells o) = Unit {0}
 AddsOnSet v count kept handed set (job.Read cells fd dir) = Unit {0}
 AddsOnSet v count kept handed set (job.Open fd gfid) = Unit {0}
 AddsOnSet v count kept handed set job.Index = Unit {0}
 AddsOnSet v count kept handed set (job.Heal cell) = Unit {0}
 
--- Each change with an effect that adds a name is on that set, of as many as there are names of sets, whatever the replies are.
+-- Each change that adds a name is on that set, of as many as there are names of sets, whatever the replies are.
 abbrev pub FopsAddOnSets : Type 0
 FopsAddOnSets = (v : Volume) (names : List (List ℕ)) (kept : Kept) (f : Fop) → Always (AddsOnSet v (length names) kept) AnyHold AnyAnswer [] (fop_course v names kept f)

@@ -1,12 +1,15 @@
 pub mod Additions
 pub mod Answers
+pub mod Births
 pub mod Bounds
 pub mod Costs
 pub mod Courses
+pub mod Endings
 pub mod Entries
 pub mod Fops
 pub mod Founded
 pub mod Handed
+pub mod Homes
 pub mod Internal
 pub mod Links
 pub mod Looks

@@ -1,7 +1,9 @@
 -- What a change without an effect rests on, and a birth: a link that was seen, or a move that was made, and a directory that
 -- is new, or of which the set showed no copy.
-use Rattle.std.specs.Prelude.{◌≡◌, ◌⊎◌, ℕ, ◌==◌, true, false, List, [], ◌∷◌, Option, Some, None}
+use Rattle.std.specs.Prelude.{◌≡◌, ◌⊎◌, ℕ, ◌==◌, true, false, List, [], ◌∷◌, Some, None}
 use Rattle.dht_linkto.specs.declared.names.DirNames.{DirNames}
+use Rattle.dht_fops.specs.Courses.{Course}
+use Rattle.dht_fops.specs.Courses.Course.{Asks, Extends, Ends}
 use Rattle.dht_fops.specs.Fops.{fop_course}
 use Rattle.dht_fops.specs.Founded.{IsNoError}
 use Rattle.dht_fops.specs.Handed.{Handed, Event, Always, AnyHold, AnyAnswer, Saw}
@@ -16,6 +18,7 @@ use Rattle.fop_types.specs.declared.fops.Fop.TheVariants as fop
 use Rattle.fop_types.specs.declared.fops.Object.{Object}
 use Rattle.fop_types.specs.declared.jobs.Job.{Job}
 use Rattle.fop_types.specs.declared.jobs.Job.TheVariants as job
+use Rattle.fop_types.specs.declared.jobs.SetReply.{SetReply}
 use Rattle.fop_types.specs.declared.store_ops.StoreOp.{StoreOp}
 use Rattle.fop_types.specs.declared.store_ops.StoreOp.TheVariants as op
 
@@ -104,3 +107,24 @@ RestsOnLinks f handed set (job.Heal cell) = Unit {0}
 -- Each change of a link and each birth of a fop rests on this, whatever the volume, the replies and the fop's values are.
 abbrev pub FopsChangeLinks : Type 0
 FopsChangeLinks = (v : Volume) (names : List (List ℕ)) (kept : Kept) (f : Fop) → Always (RestsOnLinks f) AnyHold AnyAnswer [] (fop_course v names kept f)
+
+-- ---- replies
+
+-- what follows a change of a link, or the heal of a cell, is one course, whatever the reply is
+abbrev pub IsUnheeded : Job → (SetReply → Course) → Type 0
+IsUnheeded (job.Change cells fd o None) next = (one other : SetReply) → next one ≡ next other
+IsUnheeded (job.Change cells fd o (Some entry)) next = Unit {0}
+IsUnheeded (job.Birth cells o) next = Unit {0}
+IsUnheeded (job.Read cells fd dir) next = Unit {0}
+IsUnheeded (job.Open fd gfid) next = Unit {0}
+IsUnheeded job.Index next = Unit {0}
+IsUnheeded (job.Heal cell) next = (one other : SetReply) → next one ≡ next other
+
+abbrev pub IgnoresLinks : Course → Type 0
+IgnoresLinks (Asks set asked next) = IsUnheeded asked next × ((reply : SetReply) → IgnoresLinks (next reply))
+IgnoresLinks (Extends dir next) = IgnoresLinks next
+IgnoresLinks (Ends answer place) = Unit {0}
+
+-- No reply of a change of a link changes what a fop asks or answers afterwards: an I/O error, a number, or any other.
+abbrev pub FopsIgnoreLinks : Type 0
+FopsIgnoreLinks = (v : Volume) (names : List (List ℕ)) (kept : Kept) (f : Fop) → IgnoresLinks (fop_course v names kept f)

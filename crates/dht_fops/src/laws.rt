@@ -1,9 +1,12 @@
 ghost use Rattle.dht_fops.specs.Additions.{FopsAddOnSets};
 ghost use Rattle.dht_fops.specs.Answers.{FopsAnswerAsFlat};
+ghost use Rattle.dht_fops.specs.Births.{FopsBearFirst, FopsBearOnce};
 ghost use Rattle.dht_fops.specs.Bounds.{FopsKeepBounds, AnswersHaveBounds};
 ghost use Rattle.dht_fops.specs.Costs.{FopsAskFew};
+ghost use Rattle.dht_fops.specs.Endings.{FopsAnswerChanges, FlatAnswersChanges};
 ghost use Rattle.dht_fops.specs.Founded.{FopsAskWell};
-ghost use Rattle.dht_fops.specs.Links.{FopsChangeLinks};
+ghost use Rattle.dht_fops.specs.Homes.{FopsChangeOnSets};
+ghost use Rattle.dht_fops.specs.Links.{FopsChangeLinks, FopsIgnoreLinks};
 ghost use Rattle.dht_fops.specs.Places.{FopsPlaceAnswers};
 ghost use Rattle.dht_fops.specs.code.Within.{CoursesKeepFops};
 
@@ -33,6 +36,16 @@ pub fn fops_place_answers()
     ensures { FopsPlaceAnswers }
 {}
 
+/// What a fop answers after a change with an effect: Done, the count of the bytes that it wrote, or the file that it made on
+/// its set, at the number of the change's entry, and only once that change is the fop's own operation. Where a job that it
+/// needs failed, no other follows, and the job's I/O error is the answer. A link is changed after the fop's own operation, and
+/// then nothing else. And these are the answers of the flat file system, where it accepts the operation. The call does nothing:
+/// its contract exports this.
+pub fn fops_answer_changes()
+    ensures fops { FopsAnswerChanges }
+    ensures flat { FlatAnswersChanges }
+{}
+
 /// What a change without an effect rests on, and a birth: a link that is dropped was seen on that set; a link is added for a
 /// name to which a file was moved on another set; and a copy is born of the directory that the fop makes, or of one of
 /// which that set showed no copy. The call does nothing: its contract exports this.
@@ -40,10 +53,32 @@ pub fn fops_change_links()
     ensures { FopsChangeLinks }
 {}
 
-/// On which set a name is added: a directory's on the first, and a file's on the set to which its name belongs, by the layout
-/// that is known, or by the ranges that the sets showed. The call does nothing: its contract exports this.
+/// The reply of a change of a link is not heeded, an I/O error or any other: what a fop asks for afterwards, and what it
+/// answers, is one and the same. So is it with the heal of a cell. The call does nothing: its contract exports this.
+pub fn fops_ignore_links()
+    ensures { FopsIgnoreLinks }
+{}
+
+/// On which set a name is added: a directory's on the first, and a file's or a link's on the set to which the name belongs, by
+/// the layout that is known, and where none is by the ranges that the sets showed. The call does nothing: its contract exports
+/// this.
 pub fn fops_add_on_sets()
     ensures { FopsAddOnSets }
+{}
+
+/// On which set a fop reads and changes: a file's bytes, mode and attributes on the set that has the file, and a directory's
+/// mode and attributes on the first, where a directory is removed too. Each other cell of a job is a directory's: one that
+/// the fop names, that a set showed, or that the fop makes. The call does nothing: its contract exports this.
+pub fn fops_change_on_sets()
+    ensures { FopsChangeOnSets }
+{}
+
+/// The copies of a new directory: its name is added after the birth of each further copy was answered, each with its own range
+/// of the even split; a copy that a rename bears has no range. And each set is asked for at most one birth, in the order of the
+/// sets. The call does nothing: its contract exports this.
+pub fn fops_bear_first()
+    ensures names { FopsBearFirst }
+    ensures once { FopsBearOnce }
 {}
 
 /// How many jobs a fop asks for at most: 4 for each set and 16; a migration one for each descriptor; a heal one for each
