@@ -215,7 +215,7 @@ module _ (size : Size) (m : State) (r : IsReached size m) (step : Step) (allowed
         by_ask : ((new.txns t).left k ≡ true) ⊎ ((new.txns t).waits k ≡ true) → (m.changes u).done k ≡ true
         by_ask (inl left) = was.posts t u k posts (inl (g.left k left))
         by_ask (inr waits) = by_waits posts (waits_from size m (waits_fit size m r) step allowed t k waits)
-      by_move (SendMove.Settles group adopts step_is h at is) = absurd (let e : Posting u ≡ Settling h.change group adopts = at in cc)
+      by_move (SendMove.SettlesAs group adopts step_is h at is) = absurd (let e : Posting u ≡ Settling h.change group adopts = at in cc)
       by_move (SendMove.Posts step_is h stage_is is) = by_ask asks where
         at : u ≡ h.change
         at = same_change h.change stage_is where
@@ -303,7 +303,7 @@ module _ (size : Size) (m : State) (r : IsReached size m) (step : Step) (allowed
 
     confirmed_after : (t u k : ℕ) → (new.txns t).stage ≡ Posting u → is_unsettled (new.changes u).verdict ≡ true → (new.txns t).confirmed k ≡ true → SendMove size m step t (Posting u) (new.txns t) →
         ((new.changes u).done k ≡ true) × AccusesAll new k (new.changes u).cells (outside size (new.changes u).done)
-    confirmed_after t u k stage unsettled confirmed (SendMove.Settles group adopts step_is h at is) = absurd (let e : Posting u ≡ Settling h.change group adopts = at in cc)
+    confirmed_after t u k stage unsettled confirmed (SendMove.SettlesAs group adopts step_is h at is) = absurd (let e : Posting u ≡ Settling h.change group adopts = at in cc)
     confirmed_after t u k stage unsettled confirmed (SendMove.Posts step_is h at is) = absurd (let e : false ≡ true = sym (ap (λ (z : Txn). z.confirmed k) is) ∙ confirmed in cc)
     confirmed_after t u k stage unsettled confirmed (SendMove.Keeps posts g) = by_case (g.confirmed k confirmed) where
       then_on : ((m.changes u).done k ≡ true) × AccusesAll m k (m.changes u).cells (outside size (m.changes u).done) → ((new.changes u).done k ≡ true) × AccusesAll new k (new.changes u).cells (outside size (new.changes u).done)
