@@ -250,11 +250,11 @@ module _ (size : Size) (m : State) (r : IsReached size m) (step : Step) (allowed
         let used_then = out_back size m r step allowed by.txn number.begun k used in
         let a = front_asked k by (Post u cells accused) rest front current_then used_then refl in
         renewed by.txn u k a.0 (accuses_now k u cells accused stored a.1.0 a.1.1) where
-      accuses_now : (k u : ℕ) (cells : List Cell) (accused : Replicas) → (new.bricks k).store ≡ stored_by (Post u cells accused) (m.bricks k).store → cells ≡ (m.changes u).cells → accused ≡ outside size (m.changes u).done → AccusesAll new k (m.changes u).cells (outside size (m.changes u).done)
-      accuses_now k u cells accused stored cells_are accused_are cell i has in_it =
-          ap (λ (st : Store). accuses_at st cell i) stored ∙ accusers_follow (Post u cells accused) (m.bricks k).store cell i
-          ∙ or_left (has_cell cells cell && accused i) (accuses_at (m.bricks k).store cell i && not false)
-          (both (has_cell cells cell) (accused i) (ap (λ cs. has_cell cs cell) cells_are ∙ has) (ap (λ (f : Replicas). f i) accused_are ∙ in_it))
+          accuses_now : (k u : ℕ) (cells : List Cell) (accused : Replicas) → (new.bricks k).store ≡ stored_by (Post u cells accused) (m.bricks k).store → cells ≡ (m.changes u).cells → accused ≡ outside size (m.changes u).done → AccusesAll new k (m.changes u).cells (outside size (m.changes u).done)
+          accuses_now k u cells accused stored cells_are accused_are cell i has in_it =
+              ap (λ (st : Store). accuses_at st cell i) stored ∙ accusers_follow (Post u cells accused) (m.bricks k).store cell i
+              ∙ or_left (has_cell cells cell && accused i) (accuses_at (m.bricks k).store cell i && not false)
+              (both (has_cell cells cell) (accused i) (ap (λ cs. has_cell cs cell) cells_are ∙ has) (ap (λ (f : Replicas). f i) accused_are ∙ in_it))
     shows_now k by other rest front stored = tt
 
     otherwise : (k : ℕ) → HoldsOtherwise (λ by ask answer. answer ≡ Done → ShowsPosted size (after size m step) k by ask)
