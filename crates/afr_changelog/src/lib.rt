@@ -25,6 +25,3 @@ pub use attribute::{read12, write12};
 pub use counters::{lower, raise};
 pub use masks::common_source;
 pub use soundness::sound;
-
-#[cfg(test)]
-mod tests;

@@ -31,6 +31,3 @@ mod unsettled;
 pub use fop_types::Entry;
 pub use ledger::Ledger;
 pub use unsettled::Unsettled;
-
-#[cfg(test)]
-mod tests;

@@ -43,6 +43,3 @@ pub use replies::{cells_in, content_in, is_fault, is_plain_done, rows_in};
 pub use sending::sends;
 pub use shown::Shown;
 pub use wave::Wave;
-
-#[cfg(test)]
-mod tests;

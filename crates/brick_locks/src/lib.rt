@@ -41,6 +41,3 @@ mod walk;
 
 pub use locks::{Asked, BrickLocks, Dropped};
 pub use owner::Owner;
-
-#[cfg(test)]
-mod tests;

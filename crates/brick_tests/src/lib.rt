@@ -1,5 +1,5 @@
 //! Cases of a brick, in bytes: journals with the outputs that they cause, taken by hand from the format and the rules
-//! of a brick; and what a brick shows of its store.
+//! of a brick; what a brick shows of its store; and who holds and who waits for its locks.
 #![tactic(auto)]
 
 #[cfg(test)]
@@ -12,6 +12,8 @@ mod journals;
 mod locks;
 #[cfg(test)]
 mod losses;
+#[cfg(test)]
+mod owners;
 #[cfg(test)]
 mod refusals;
 #[cfg(test)]

@@ -22,6 +22,3 @@ mod names;
 pub use attribute::{read16, write16};
 pub use layout::{even, even_span, find};
 pub use names::hash;
-
-#[cfg(test)]
-mod tests;

@@ -39,6 +39,3 @@ pub use lookup::Lookup;
 pub use names::{DirNames, names_in, names_job};
 pub use set_names::SetNames;
 pub use sets::{hashed_set, is_link};
-
-#[cfg(test)]
-mod tests;

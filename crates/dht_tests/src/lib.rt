@@ -1,8 +1,9 @@
-//! Tests of the fops over sets: what each asks of the sets, job by job, and how it is answered.
+//! Tests of distribute: hashes and layouts (`layouts`), searches for a name (`searches`), and the fops over sets: what
+//! each asks of the sets, job by job, and how it is answered.
 //!
-//! A row is a line: the number of sets and the fop, and then its turns with `;` between them. A turn has the set that
-//! is asked, its job and what it gives, or `hold`, the directory and `ok`. The last turn has the answer and its place,
-//! which is `-` where there is none.
+//! A row of a fop is a line: the number of sets and the fop, and then its turns with `;` between them. A turn has the
+//! set that is asked, its job and what it gives, or `hold`, the directory and `ok`. The last turn has the answer and its
+//! place, which is `-` where there is none.
 //!
 //! ```text
 //!   2 unlink / foo: 1 names foo:s0; 0 names foo:file; 0 drop.1[1e,1/foo] 3; 1 link- ok; ok 3
@@ -30,6 +31,8 @@ mod in_order;
 #[cfg(test)]
 mod jobs;
 #[cfg(test)]
+mod layouts;
+#[cfg(test)]
 mod lookups;
 #[cfg(test)]
 mod new_names;
@@ -41,5 +44,7 @@ mod play;
 mod renames;
 #[cfg(test)]
 mod replies;
+#[cfg(test)]
+mod searches;
 #[cfg(test)]
 mod text;

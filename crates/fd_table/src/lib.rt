@@ -16,8 +16,6 @@
 
 mod fd;
 mod table;
-#[cfg(test)]
-mod tests;
 
 pub use fd::{Fd, FdKey, FdOpen};
 pub use table::FdTable;

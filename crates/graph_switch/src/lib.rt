@@ -20,8 +20,6 @@
 
 mod followings;
 mod reopening;
-#[cfg(test)]
-mod tests;
 
 pub use followings::may_follow;
 pub use reopening::{Reopen, reopen_list};

@@ -17,8 +17,6 @@
 
 mod inode;
 mod table;
-#[cfg(test)]
-mod tests;
 
 pub use inode::Inode;
 pub use table::InodeTable;

@@ -19,6 +19,3 @@ mod page_key;
 mod pages;
 
 pub use page_cache::PageCache;
-
-#[cfg(test)]
-mod tests;

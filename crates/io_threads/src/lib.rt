@@ -19,6 +19,3 @@ mod queues;
 
 pub use priority::Priority;
 pub use queues::Queues;
-
-#[cfg(test)]
-mod tests;

@@ -16,6 +16,3 @@ mod lanes;
 pub mod plain;
 
 pub use lanes::{all_zero, differ};
-
-#[cfg(test)]
-mod tests;

@@ -35,8 +35,6 @@
 mod locks;
 mod queue;
 mod request;
-#[cfg(test)]
-mod tests;
 mod walk;
 
 pub use locks::MountLocks;

@@ -25,8 +25,6 @@ mod graphs;
 mod lines;
 mod printing;
 mod report;
-#[cfg(test)]
-mod tests;
 mod text;
 mod words;
 

@@ -24,8 +24,3 @@ pub use laws::{
 };
 pub use run::CopyRun;
 pub use stage::{CopyNeed, Origin, Stage};
-
-#[cfg(test)]
-mod cases;
-#[cfg(test)]
-mod tests;

@@ -39,6 +39,3 @@ pub use std_sinks::StdSink;
 pub use std_sources::StdSource;
 pub use whole_reads::read_all;
 pub use whole_writes::write_all;
-
-#[cfg(test)]
-mod tests;

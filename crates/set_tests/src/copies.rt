@@ -1,11 +1,12 @@
-use super::cases::{CASES, Case, Needs, Says};
-use super::*;
+use crate::copy_cases::{CASES, Case, Needs, Says};
 use Needs::{Clear, Ends, Fetch, Replace, Wait};
 use Says::{Bytes, Done, Fault, Gone, Names, Unfit};
 use afr_phases::mask_of;
 use fop_types::{
-    Aspect, BrickRep, BrickReq, Cell, Content, DoneArm, Gfid, Mask, Row, Seq, SplitRow,
+    Aspect, BrickRep, BrickReq, Cell, Content, CopyDone, CopyJob, DoneArm, Gfid, Mask, Row, Seq,
+    SplitRow,
 };
+use self_heal::{CopyNeed, CopyRun};
 use std::alloc::{AllocError, Global};
 use std::test::*;
 

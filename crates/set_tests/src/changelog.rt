@@ -1,4 +1,4 @@
-use super::*;
+use afr_changelog::{common_source, sound, write12};
 use fop_types::{Mask, Row};
 use std::test::*;
 

@@ -1,8 +1,10 @@
 ghost use Rattle.std.specs.Prelude.{◌<◌, ◌-◌, ◌^◌};
 
-use super::*;
 use std::alloc::Global;
 use std::test::Fail;
+use xl_base::{
+    MemSink, MemSource, ReadError, Source, StdSink, StdSource, hex, read_all, write_all,
+};
 
 // The bytes of a source of at most three, and none where they could not be read.
 fn whole<S: Source>(alloc: Global, source: &mut S) -> Vec<u8>

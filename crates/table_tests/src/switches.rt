@@ -1,7 +1,7 @@
-use super::*;
 use fd_table::FdTable;
 use fop_types::{Gfid, Seq, SetPlan};
 use graph_build::Plan;
+use graph_switch::{Reopen, may_follow, reopen_list};
 use std::alloc::{AllocError, Global};
 use std::test::*;
 

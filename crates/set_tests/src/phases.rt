@@ -1,4 +1,6 @@
-use super::*;
+use afr_phases::{
+    Flags, LockStep, Locks, Outs, Shown, Wave, flags_of, hear, mask_of, names, next_lock, sends,
+};
 use fop_types::{BrickRep, BrickReq, DoneArm, Mask, Row, Seq};
 use std::alloc::{AllocError, Global};
 use std::test::*;

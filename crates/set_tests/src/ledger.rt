@@ -1,8 +1,8 @@
 ghost use Rattle.std.specs.Prelude.{◌≡◌, [], ◌∷◌, Some, IsSome, IfOk};
 ghost use Rattle.afr_ledger.specs.Changes.{numbered, without};
 
-use super::*;
-use fop_types::{Aspect, Cell, Gfid, Seq};
+use afr_ledger::{Ledger, Unsettled};
+use fop_types::{Aspect, Cell, Entry, Gfid, Seq};
 use std::alloc::{AllocError, Global};
 use std::test::*;
 

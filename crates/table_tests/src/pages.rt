@@ -1,5 +1,5 @@
-use super::*;
 use fop_types::{Gfid, Seq};
+use io_cache::PageCache;
 use std::test::*;
 
 const FILE: Gfid = Gfid { hi: 0, lo: 2 };

@@ -1,4 +1,4 @@
-use super::*;
+use dht_layout::{even, find, hash, write16};
 use fop_types::Span;
 use std::test::*;
 

@@ -1,4 +1,4 @@
-use super::*;
+use io_threads::{Priority, Queues};
 use std::test::*;
 
 const PUSHED: [(Priority, u32); 5] = [

@@ -1,5 +1,5 @@
-use super::*;
 use fop_types::Gfid;
+use mount_locks::{Held, MountLocks};
 use std::test::*;
 
 const ROOT: Gfid = Gfid { hi: 0, lo: 1 };

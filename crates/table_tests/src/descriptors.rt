@@ -1,4 +1,4 @@
-use super::*;
+use fd_table::{FdOpen, FdTable};
 use fop_types::Gfid;
 use std::alloc::{AllocError, Global};
 use std::test::*;

@@ -1,4 +1,4 @@
-use super::*;
+use brick_locks::{Asked, BrickLocks, Owner};
 use fop_types::{Aspect, Cell, Gfid};
 use std::alloc::{AllocError, Global};
 use std::test::*;

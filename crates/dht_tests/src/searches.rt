@@ -1,6 +1,6 @@
 ghost use Rattle.std.specs.Prelude.{◌≡◌, ◌≤◌, length, IfOk};
 
-use super::*;
+use dht_linkto::{Found, Lookup, Next, names_in, names_job};
 use fop_types::{Content, Gfid, IoError, Item, Job, Kind, Seq, SetReply, Span};
 use std::alloc::{AllocError, Global};
 use std::test::*;

@@ -1,5 +1,5 @@
-use super::*;
 use fop_types::{Gfid, Kind};
+use inode_table::InodeTable;
 use std::test::*;
 
 const FILE: Gfid = Gfid { hi: 0, lo: 2 };

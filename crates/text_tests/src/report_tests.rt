@@ -1,44 +1,7 @@
-use crate::text::Text;
-use crate::{Report, ReportAnswer, ReportCall, ReportGraph, ReportIo, ReportRow, print};
 use fop_types::{AppError, Aspect, Cell, Gfid, Kind, Seq, SkipCause};
+use report_text::{Report, ReportAnswer, ReportCall, ReportGraph, ReportIo, ReportRow, print};
 use std::alloc::{AllocError, Global};
 use std::test::Fail;
-
-// Answers and their words.
-const ANSWERS: [(ReportAnswer, &[u8]); 5] = [
-    (ReportAnswer::Count(65536), b"ok 65536"),
-    (
-        ReportAnswer::Stat {
-            kind: Kind::Dir,
-            mode: 0o755,
-            size: 0,
-        },
-        b"ok dir 755 0",
-    ),
-    (
-        ReportAnswer::Stat {
-            kind: Kind::File,
-            mode: 0,
-            size: 4294967295,
-        },
-        b"ok file 0 4294967295",
-    ),
-    (ReportAnswer::App(AppError::Enoent), b"error 2 ENOENT"),
-    (
-        ReportAnswer::App(AppError::Eopnotsupp),
-        b"error 95 EOPNOTSUPP",
-    ),
-];
-
-#[test]
-fn answers(rt: HostRuntime) -> Result<(), Fail> {
-    for (answer, words) in &ANSWERS {
-        let mut text = Text::new(rt.alloc());
-        text.answer(answer)?;
-        assert!(rt; text.into_bytes().as_slice() == *words);
-    }
-    Ok(())
-}
 
 const CELL: Cell = Cell {
     gfid: Gfid {
@@ -67,13 +30,14 @@ fn split_brain(alloc: Global) -> Result<ReportAnswer, AllocError> {
     }))
 }
 
-fn calls(alloc: Global) -> Result<Seq<ReportCall>, AllocError> {
+// One call with this answer.
+fn calls(alloc: Global, answer: ReportAnswer) -> Result<Seq<ReportCall>, AllocError> {
     let call = ReportCall {
         call: 1,
         session: name(alloc)?,
         line: 11,
         places: Seq::from_vec(Vec::from_slice(alloc, &[2, 10])?),
-        answer: split_brain(alloc)?,
+        answer,
     };
     Ok(Seq::from_vec(vec![in alloc; call]?))
 }
@@ -106,7 +70,7 @@ enum Lines {
 // Puts lines of one kind into a report.
 fn put(alloc: Global, report: &mut Report, lines: Lines) -> Result<(), AllocError> {
     match lines {
-        Lines::Calls => report.calls = calls(alloc)?,
+        Lines::Calls => report.calls = calls(alloc, split_brain(alloc)?)?,
         Lines::History => {
             report.history = Seq::from_vec(Vec::from_slice(alloc, &[(3, 1), (12, 2)])?);
         }
@@ -186,6 +150,58 @@ fn reports(rt: HostRuntime) -> Result<(), Fail> {
     let alloc = rt.alloc();
     for (kinds, want) in &REPORTS {
         let report = report_with(alloc, kinds)?;
+        let text = print(alloc, &report)?;
+        assert!(rt; text.as_slice() == *want);
+    }
+    Ok(())
+}
+
+// An answer of few words.
+#[derive(Clone, Copy)]
+enum Says {
+    Count(u32),
+    Stat(Kind, u16, u32),
+    App(AppError),
+}
+
+fn answer(says: Says) -> ReportAnswer {
+    match says {
+        Says::Count(count) => ReportAnswer::Count(count),
+        Says::Stat(kind, mode, size) => ReportAnswer::Stat { kind, mode, size },
+        Says::App(error) => ReportAnswer::App(error),
+    }
+}
+
+// Answers, and the report of one call with each.
+const ANSWERS: [(Says, &[u8]); 5] = [
+    (
+        Says::Count(65536),
+        b"report 1\ncall 1 session b1 line 11 places 2,10 ok 65536\nhistory 0\nend\n",
+    ),
+    (
+        Says::Stat(Kind::Dir, 0o755, 0),
+        b"report 1\ncall 1 session b1 line 11 places 2,10 ok dir 755 0\nhistory 0\nend\n",
+    ),
+    (
+        Says::Stat(Kind::File, 0, 4294967295),
+        b"report 1\ncall 1 session b1 line 11 places 2,10 ok file 0 4294967295\nhistory 0\nend\n",
+    ),
+    (
+        Says::App(AppError::Enoent),
+        b"report 1\ncall 1 session b1 line 11 places 2,10 error 2 ENOENT\nhistory 0\nend\n",
+    ),
+    (
+        Says::App(AppError::Eopnotsupp),
+        b"report 1\ncall 1 session b1 line 11 places 2,10 error 95 EOPNOTSUPP\nhistory 0\nend\n",
+    ),
+];
+
+#[test]
+fn answers(rt: HostRuntime) -> Result<(), Fail> {
+    let alloc = rt.alloc();
+    for (says, want) in &ANSWERS {
+        let mut report = report_with(alloc, &[])?;
+        report.calls = calls(alloc, answer(*says))?;
         let text = print(alloc, &report)?;
         assert!(rt; text.as_slice() == *want);
     }

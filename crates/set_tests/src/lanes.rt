@@ -1,4 +1,4 @@
-use super::*;
+use lane_scan::{all_zero, differ, plain};
 use std::test::*;
 
 // A block with ones at these places and else zeros.
