@@ -215,7 +215,7 @@ module _ (size : Size) (m : State) (r : IsReached size m) (step : Step) (allowed
         by_ask : ((new.txns t).left k ≡ true) ⊎ ((new.txns t).waits k ≡ true) → (m.changes u).done k ≡ true
         by_ask (inl left) = was.posts t u k posts (inl (g.left k left))
         by_ask (inr waits) = by_waits posts (waits_from size m (waits_fit size m r) step allowed t k waits)
-      by_move (SendMove.Settles group adopts step_is h at is) = absurd (let e : Posting u ≡ Settling h.change group adopts = at in cc)
+      by_move (SendMove.SettlesAs group adopts step_is h at is) = absurd (let e : Posting u ≡ Settling h.change group adopts = at in cc)
       by_move (SendMove.Posts step_is h stage_is is) = by_ask asks where
         at : u ≡ h.change
         at = same_change h.change stage_is where
@@ -250,11 +250,11 @@ module _ (size : Size) (m : State) (r : IsReached size m) (step : Step) (allowed
         let used_then = out_back size m r step allowed by.txn number.begun k used in
         let a = front_asked k by (Post u cells accused) rest front current_then used_then refl in
         renewed by.txn u k a.0 (accuses_now k u cells accused stored a.1.0 a.1.1) where
-      accuses_now : (k u : ℕ) (cells : List Cell) (accused : Replicas) → (new.bricks k).store ≡ stored_by (Post u cells accused) (m.bricks k).store → cells ≡ (m.changes u).cells → accused ≡ outside size (m.changes u).done → AccusesAll new k (m.changes u).cells (outside size (m.changes u).done)
-      accuses_now k u cells accused stored cells_are accused_are cell i has in_it =
-          ap (λ (st : Store). accuses_at st cell i) stored ∙ accusers_follow (Post u cells accused) (m.bricks k).store cell i
-          ∙ or_left (has_cell cells cell && accused i) (accuses_at (m.bricks k).store cell i && not false)
-          (both (has_cell cells cell) (accused i) (ap (λ cs. has_cell cs cell) cells_are ∙ has) (ap (λ (f : Replicas). f i) accused_are ∙ in_it))
+          accuses_now : (k u : ℕ) (cells : List Cell) (accused : Replicas) → (new.bricks k).store ≡ stored_by (Post u cells accused) (m.bricks k).store → cells ≡ (m.changes u).cells → accused ≡ outside size (m.changes u).done → AccusesAll new k (m.changes u).cells (outside size (m.changes u).done)
+          accuses_now k u cells accused stored cells_are accused_are cell i has in_it =
+              ap (λ (st : Store). accuses_at st cell i) stored ∙ accusers_follow (Post u cells accused) (m.bricks k).store cell i
+              ∙ or_left (has_cell cells cell && accused i) (accuses_at (m.bricks k).store cell i && not false)
+              (both (has_cell cells cell) (accused i) (ap (λ cs. has_cell cs cell) cells_are ∙ has) (ap (λ (f : Replicas). f i) accused_are ∙ in_it))
     shows_now k by other rest front stored = tt
 
     otherwise : (k : ℕ) → HoldsOtherwise (λ by ask answer. answer ≡ Done → ShowsPosted size (after size m step) k by ask)
@@ -303,7 +303,7 @@ module _ (size : Size) (m : State) (r : IsReached size m) (step : Step) (allowed
 
     confirmed_after : (t u k : ℕ) → (new.txns t).stage ≡ Posting u → is_unsettled (new.changes u).verdict ≡ true → (new.txns t).confirmed k ≡ true → SendMove size m step t (Posting u) (new.txns t) →
         ((new.changes u).done k ≡ true) × AccusesAll new k (new.changes u).cells (outside size (new.changes u).done)
-    confirmed_after t u k stage unsettled confirmed (SendMove.Settles group adopts step_is h at is) = absurd (let e : Posting u ≡ Settling h.change group adopts = at in cc)
+    confirmed_after t u k stage unsettled confirmed (SendMove.SettlesAs group adopts step_is h at is) = absurd (let e : Posting u ≡ Settling h.change group adopts = at in cc)
     confirmed_after t u k stage unsettled confirmed (SendMove.Posts step_is h at is) = absurd (let e : false ≡ true = sym (ap (λ (z : Txn). z.confirmed k) is) ∙ confirmed in cc)
     confirmed_after t u k stage unsettled confirmed (SendMove.Keeps posts g) = by_case (g.confirmed k confirmed) where
       then_on : ((m.changes u).done k ≡ true) × AccusesAll m k (m.changes u).cells (outside size (m.changes u).done) → ((new.changes u).done k ≡ true) × AccusesAll new k (new.changes u).cells (outside size (new.changes u).done)

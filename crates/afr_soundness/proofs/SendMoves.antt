@@ -41,7 +41,7 @@ pub record GoesOnSending (m : State) (step : Step) (t : ℕ) (y : Txn) : Type 0 
 pub data SendMove (size : Size) (m : State) (step : Step) (t : ℕ) (stage : Stage) (y : Txn) : Type 0 where
   Keeps : (m.txns t).stage ≡ stage → GoesOnSending m step t y → SendMove size m step t stage y
   Posts : step ≡ Step.Turns t Turn.Posts → (h : MayPostNow size m t) → stage ≡ Posting h.change → y ≡ entering (m.txns t) (Posting h.change) (m.changes h.change).done → SendMove size m step t stage y
-  Settles : (group : Replicas) → (adopts : Bool) → step ≡ Step.Turns t (Turn.SettlesAs group adopts) → (h : MaySettleNow size m t group adopts) → stage ≡ Settling h.change group adopts → y ≡ entering (m.txns t) (Settling h.change group adopts) (members m t) → SendMove size m step t stage y
+  SettlesAs : (group : Replicas) → (adopts : Bool) → step ≡ Step.Turns t (Turn.SettlesAs group adopts) → (h : MaySettleNow size m t group adopts) → stage ≡ Settling h.change group adopts → y ≡ entering (m.txns t) (Settling h.change group adopts) (members m t) → SendMove size m step t stage y
 
 -- the stages in which posts or settles are sent
 abbrev pub is_sending : Stage → Bool
@@ -109,7 +109,7 @@ module _ (size : Size) (m : State) where
         (only (Step.Turns t Turn.Posts) t (entering x (Posting h.change) (m.changes h.change).done) (λ s sends is. SendMove.Posts refl h (sym is) refl))
     turned (Turn.SettlesAs group adopts) h =
         table (Step.Turns t (Turn.SettlesAs group adopts)) (with_at m.txns t (entering x (Settling h.change group adopts) (members m t))) ((settling size m t x.work group adopts).txns) (ap (λ w. (settling size m t w group adopts).txns) h.work_is)
-        (only (Step.Turns t (Turn.SettlesAs group adopts)) t (entering x (Settling h.change group adopts) (members m t)) (λ s sends is. SendMove.Settles group adopts refl h (sym is) refl))
+        (only (Step.Turns t (Turn.SettlesAs group adopts)) t (entering x (Settling h.change group adopts) (members m t)) (λ s sends is. SendMove.SettlesAs group adopts refl h (sym is) refl))
     turned Turn.Bears h =
         table (Step.Turns t Turn.Bears) (with_at m.txns t (entering x Bearing (members m t))) ((bearing m t x.job).txns) (ap (λ j. (bearing m t j).txns) h.job_is) (quiet Turn.Bears (entering x Bearing (members m t)) refl)
     turned Turn.Confirms h = stays (Step.Turns t Turn.Confirms)

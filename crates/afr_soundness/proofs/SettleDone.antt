@@ -45,6 +45,7 @@ use Rattle.afr_soundness.proofs.Copied.Steps.{asked_now}
 use Rattle.afr_soundness.proofs.SettleLines.{settles_quietly}
 use Rattle.afr_soundness.proofs.SendMoves.{IsConfirmedNow, SendMove, send_moves}
 use Rattle.afr_soundness.proofs.States.{phase_stays}
+use Rattle.afr_soundness.proofs.Posted.{front_numbered, front_asked}
 
 abbrev is_settling : Stage → Bool
 is_settling (Settling u group adopts) = true
@@ -129,13 +130,13 @@ module _ (size : Size) (m : State) (r : IsReached size m) (step : Step) (allowed
         let used_then = out_back size m r step allowed by.txn n.begun k used in
         let a = asked_now size m r k by (Settle u cells accused) answer reply current_then used_then refl in
         of_move k by u cells accused group adopts current_then used_then a.waits unsettled (h done) (send_moves size m step allowed by.txn (Settling u group adopts) refl stage) where
-      of_move : (k : ℕ) (by : Sender) (u : ℕ) (cells : List Cell) (accused group : Replicas) (adopts : Bool) → is_current (m.links k by.graph) by.connection ≡ true → (m.txns by.txn).out k ≡ false → (m.txns by.txn).waits k ≡ true → is_unsettled (new.changes u).verdict ≡ true →
-          ShowsSettled size m k by (Settle u cells accused) → SendMove size m step by.txn (Settling u group adopts) (new.txns by.txn) → AccusesAll new k (new.changes u).cells (outside size group)
-      of_move k by u cells accused group adopts current used waits unsettled h (SendMove.Keeps settles g) =
-          accuses_stay by.txn u group adopts settles k (before by.txn u group adopts settles unsettled) (asked_are_members size m r by.txn k (ap is_behind settles) waits).reached (outside size group)
-          (h current group adopts settles used (before by.txn u group adopts settles unsettled))
-      of_move k by u cells accused group adopts current used waits unsettled h (SendMove.Posts step_is may at is) = absurd (let e : Settling u group adopts ≡ Posting may.change = at in cc)
-      of_move k by u cells accused group adopts current used waits unsettled h (SendMove.Settles other verdict step_is may at is) = apart_bools waits (may.answered.waits k (waits_fit size m r by.txn k waits).replica)
+          of_move : (k : ℕ) (by : Sender) (u : ℕ) (cells : List Cell) (accused group : Replicas) (adopts : Bool) → is_current (m.links k by.graph) by.connection ≡ true → (m.txns by.txn).out k ≡ false → (m.txns by.txn).waits k ≡ true → is_unsettled (new.changes u).verdict ≡ true →
+              ShowsSettled size m k by (Settle u cells accused) → SendMove size m step by.txn (Settling u group adopts) (new.txns by.txn) → AccusesAll new k (new.changes u).cells (outside size group)
+          of_move k by u cells accused group adopts current used waits unsettled h (SendMove.Keeps settles g) =
+              accuses_stay by.txn u group adopts settles k (before by.txn u group adopts settles unsettled) (asked_are_members size m r by.txn k (ap is_behind settles) waits).reached (outside size group)
+              (h current group adopts settles used (before by.txn u group adopts settles unsettled))
+          of_move k by u cells accused group adopts current used waits unsettled h (SendMove.Posts step_is may at is) = absurd (let e : Settling u group adopts ≡ Posting may.change = at in cc)
+          of_move k by u cells accused group adopts current used waits unsettled h (SendMove.SettlesAs other verdict step_is may at is) = apart_bools waits (may.answered.waits k (waits_fit size m r by.txn k waits).replica)
     shows_on k by other answer reply h done = tt
 
     -- a settle that is served now
@@ -146,19 +147,19 @@ module _ (size : Size) (m : State) (r : IsReached size m) (step : Step) (allowed
         let used_then = out_back size m r step allowed by.txn number.begun k used in
         let a = front_asked size m r step allowed k by (Settle u cells accused) rest front current_then used_then refl in
         of_move k by u cells accused group adopts stored unsettled a (send_moves size m step allowed by.txn (Settling u group adopts) refl stage) where
-      accuses_now : (k u : ℕ) (cells : List Cell) (accused group : Replicas) → (new.bricks k).store ≡ stored_by (Settle u cells accused) (m.bricks k).store → cells ≡ (new.changes u).cells → accused ≡ outside size group → AccusesAll new k (new.changes u).cells (outside size group)
-      accuses_now k u cells accused group stored cells_are accused_are cell i has in_it =
-          ap (λ (st : Store). accuses_at st cell i) stored ∙ accusers_follow (Settle u cells accused) (m.bricks k).store cell i
-          ∙ or_left (has_cell cells cell && accused i) (accuses_at (m.bricks k).store cell i && not false)
-          (both (has_cell cells cell) (accused i) (ap (λ cs. has_cell cs cell) cells_are ∙ has) (ap (λ (f : Replicas). f i) accused_are ∙ in_it))
+          accuses_now : (k u : ℕ) (cells : List Cell) (accused group : Replicas) → (new.bricks k).store ≡ stored_by (Settle u cells accused) (m.bricks k).store → cells ≡ (new.changes u).cells → accused ≡ outside size group → AccusesAll new k (new.changes u).cells (outside size group)
+          accuses_now k u cells accused group stored cells_are accused_are cell i has in_it =
+              ap (λ (st : Store). accuses_at st cell i) stored ∙ accusers_follow (Settle u cells accused) (m.bricks k).store cell i
+              ∙ or_left (has_cell cells cell && accused i) (accuses_at (m.bricks k).store cell i && not false)
+              (both (has_cell cells cell) (accused i) (ap (λ cs. has_cell cs cell) cells_are ∙ has) (ap (λ (f : Replicas). f i) accused_are ∙ in_it))
 
-      of_move : (k : ℕ) (by : Sender) (u : ℕ) (cells : List Cell) (accused group : Replicas) (adopts : Bool) → (new.bricks k).store ≡ stored_by (Settle u cells accused) (m.bricks k).store → is_unsettled (new.changes u).verdict ≡ true →
-          IsAskedBy size m.changes (m.txns by.txn).job (m.txns by.txn).stage k (Settle u cells accused) → SendMove size m step by.txn (Settling u group adopts) (new.txns by.txn) → AccusesAll new k (new.changes u).cells (outside size group)
-      of_move k by u cells accused group adopts stored unsettled a (SendMove.Keeps settles g) =
-          let b : IsSettlingBy size (Settling u group adopts) u accused = subst (λ s. IsSettlingBy size s u accused) settles a.0 in
-          accuses_now k u cells accused group stored (a.1 ∙ sym (cells_stay size m step allowed u (drawn_from size m r step allowed u (UnsettledFrom.Was (before by.txn u group adopts settles unsettled))))) b.1
-      of_move k by u cells accused group adopts stored unsettled a (SendMove.Posts step_is may at is) = absurd (let e : Settling u group adopts ≡ Posting may.change = at in cc)
-      of_move k by u cells accused group adopts stored unsettled a (SendMove.Settles other verdict step_is may at is) = absurd (subst (λ s. IsSettlingBy size s u accused) may.turn a.0)
+          of_move : (k : ℕ) (by : Sender) (u : ℕ) (cells : List Cell) (accused group : Replicas) (adopts : Bool) → (new.bricks k).store ≡ stored_by (Settle u cells accused) (m.bricks k).store → is_unsettled (new.changes u).verdict ≡ true →
+              IsAskedBy size m.changes (m.txns by.txn).job (m.txns by.txn).stage k (Settle u cells accused) → SendMove size m step by.txn (Settling u group adopts) (new.txns by.txn) → AccusesAll new k (new.changes u).cells (outside size group)
+          of_move k by u cells accused group adopts stored unsettled a (SendMove.Keeps settles g) =
+              let b : IsSettlingBy size (Settling u group adopts) u accused = subst (λ s. IsSettlingBy size s u accused) settles a.0 in
+              accuses_now k u cells accused group stored (a.1 ∙ sym (cells_stay size m step allowed u (drawn_from size m r step allowed u (UnsettledFrom.Was (before by.txn u group adopts settles unsettled))))) b.1
+          of_move k by u cells accused group adopts stored unsettled a (SendMove.Posts step_is may at is) = absurd (let e : Settling u group adopts ≡ Posting may.change = at in cc)
+          of_move k by u cells accused group adopts stored unsettled a (SendMove.SettlesAs other verdict step_is may at is) = absurd (subst (λ s. IsSettlingBy size s u accused) may.turn a.0)
     shows_now k by other rest front stored = tt
 
     otherwise : (k : ℕ) → HoldsOtherwise (λ by ask answer. answer ≡ Done → ShowsSettled size (after size m step) k by ask)
@@ -208,7 +209,7 @@ module _ (size : Size) (m : State) (r : IsReached size m) (step : Step) (allowed
     confirmed_after : (t u k : ℕ) (group : Replicas) (adopts : Bool) → (new.txns t).stage ≡ Settling u group adopts → is_unsettled (new.changes u).verdict ≡ true → (new.txns t).confirmed k ≡ true → SendMove size m step t (Settling u group adopts) (new.txns t) →
         ((phase_of new t).reached k ≡ true) × AccusesAll new k (new.changes u).cells (outside size group)
     confirmed_after t u k group adopts stage unsettled confirmed (SendMove.Posts step_is h at is) = absurd (let e : Settling u group adopts ≡ Posting h.change = at in cc)
-    confirmed_after t u k group adopts stage unsettled confirmed (SendMove.Settles other verdict step_is h at is) = absurd (let e : false ≡ true = sym (ap (λ (z : Txn). z.confirmed k) is) ∙ confirmed in cc)
+    confirmed_after t u k group adopts stage unsettled confirmed (SendMove.SettlesAs other verdict step_is h at is) = absurd (let e : false ≡ true = sym (ap (λ (z : Txn). z.confirmed k) is) ∙ confirmed in cc)
     confirmed_after t u k group adopts stage unsettled confirmed (SendMove.Keeps settles g) = by_case (g.confirmed k confirmed) where
       phase : (new.txns t).phase ≡ (m.txns t).phase
       phase = phase_stays size m r step allowed t (ap is_behind settles)

@@ -378,7 +378,7 @@ module _ (size : Size) (m : State) (r : IsReached size m) (step : Step) (allowed
           let has_then = cells_then replaces u before cell has in (
             fetched t u may.run cell found may.turn may.fetched before has_then,
             stays_without replaces u before k (λ s. absurd (let e : Step.Asks t k first (Replace cell found) ≡ Step.Asks s.txn k s.first (Op u s.op) = sym is ∙ s.is in cc))
-            (apart t u k may.run cell may.turn may.of_run before has_then may.member.reached (opens m t k (record { grant = may.member.grant.grant; granted = may.member.grant.granted; current = may.member.grant.still_open }))),
+                (apart t u k may.run cell may.turn may.of_run before has_then may.member.reached (opens m t k (record { grant = may.member.grant.grant; granted = may.member.grant.granted; current = may.member.grant.still_open }))),
           )
     sent_apart t first (Clear cells who) is may = λ u cell unsettled has touches. by_case u cell has touches (unsettled_from size m r step allowed u unsettled) where
       by_case : (u : ℕ) (cell : Cell) → has_cell cells cell ≡ true → has_cell (new.changes u).cells cell ≡ true → UnsettledFrom size m r step allowed u → IsWithout new u k
