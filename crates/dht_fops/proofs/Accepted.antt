@@ -3,8 +3,8 @@ use Rattle.std.proofs.Common.{◌≡◌, ◌∙◌, ℕ, ◌+◌, Bool, true, fa
 use Rattle.dht_fops.specs.Answers.{added, change_of}
 use Rattle.dht_fops.specs.Endings.{answer_to, added_answer, call_answer, FlatAnswersChanges}
 use Rattle.fop_types.specs.FileBytes.{file_limit}
-use Rattle.fop_types.specs.Files.{Files, object_at, names_at, object_attrs}
-use Rattle.fop_types.specs.Flat.{Outcome, flat, checked, where_free, rmdir_kind, rmdir_outcome, is_empty, unlink_kind, unlink_outcome, where_file, where_replaceable, rename_outcome, chmod_outcome, truncate_outcome, setattr_outcome, where_attr, delattr_outcome, write_of, write_outcome}
+use Rattle.fop_types.specs.Files.{Files, object_at, names_at, object_attrs, new_directory, new_file}
+use Rattle.fop_types.specs.Flat.{Outcome, flat, checked, done, entry_error, item_of, with_new, where_free, rmdir_kind, rmdir_outcome, is_empty, unlink_kind, unlink_outcome, where_file, where_replaceable, rename_outcome, chmod_outcome, truncate_outcome, setattr_outcome, where_attr, delattr_outcome, write_of, write_outcome}
 use Rattle.fop_types.specs.Flat.Outcome.{Answers, Changes}
 use Rattle.fop_types.specs.Names.{attr_named, item_named, is_same_name}
 use Rattle.fop_types.specs.declared.answers.Answer.{Answer}
@@ -69,10 +69,14 @@ attr_answers a (Some attr) outcome w = w
 -- ---- operations on a name
 
 mkdir_answers : (files : Files) (parent : Gfid) (name : List ℕ) (mode : ℕ) (drawn : Gfid) → AnswersWith answer.Done (flat files (op.Mkdir parent name mode drawn))
-mkdir_answers files parent name mode drawn = checked_answers answer.Done _ _ (free_answers answer.Done _ _ refl)
+mkdir_answers files parent name mode drawn =
+    checked_answers answer.Done (entry_error (object_at files parent) name) _
+    (free_answers answer.Done (item_named (names_at files parent) name) (done (with_new files parent (item_of name drawn kind.Dir) (new_directory mode))) refl)
 
 create_answers : (files : Files) (parent : Gfid) (name : List ℕ) (mode : ℕ) (drawn : Gfid) → AnswersWith answer.Done (flat files (op.Create parent name mode drawn))
-create_answers files parent name mode drawn = checked_answers answer.Done _ _ (free_answers answer.Done _ _ refl)
+create_answers files parent name mode drawn =
+    checked_answers answer.Done (entry_error (object_at files parent) name) _
+    (free_answers answer.Done (item_named (names_at files parent) name) (done (with_new files parent (item_of name drawn kind.File) (new_file mode))) refl)
 
 rmdir_answers : (files : Files) (parent : Gfid) (name : List ℕ) → AnswersWith answer.Done (flat files (op.Rmdir parent name))
 rmdir_answers files parent name = checked_answers answer.Done _ _ (by_item (item_named (names_at files parent) name))

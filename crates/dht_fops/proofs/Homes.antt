@@ -83,9 +83,9 @@ pub both_in_place : (f : Fop) (handed : Handed) (set : ℕ) (a b : Gfid) → IsD
 both_in_place f handed set a b x y = by_order (gfid_cmp a b) refl
   where
     by_order : (o : Ordering) → gfid_cmp a b ≡ o → AreInPlace f handed set (both_names a b)
-    by_order Less e = rw e (inr x, inr y, tt)
+    by_order Less e = rw e (inr x, (inr y, tt))
     by_order Equal e = rw e (inr x, tt)
-    by_order Greater e = rw e (inr y, inr x, tt)
+    by_order Greater e = rw e (inr y, (inr x, tt))
 
 -- ---- what a reply leads to
 

@@ -64,7 +64,7 @@ own_dir f object named dir = record { object = object; named = named; gfid_is = 
 opens_set : (v : Volume) (object : Object) (fd : ℕ) → SetsWell v (fop.Open fd object) [] (opens object fd)
 opens_set v object fd =
     if_set v (fop.Open fd object) [] _ _ (is_directory object.kind) (λ dir. tt)
-    (λ file. (((refl, (refl, refl)), tt), λ reply. number_leads v (fop.Open fd object) (Replied object.set (job.Open fd object.gfid) reply ∷ []) _ (number_in reply) (λ number e. tt)))
+    (λ file. (((refl, refl, refl), tt), λ reply. number_leads v (fop.Open fd object) (Replied object.set (job.Open fd object.gfid) reply ∷ []) _ (number_in reply) (λ number e. tt)))
 
 stats_set : (v : Volume) (object : Object) → SetsWell v (fop.Stat object) [] (stats object)
 stats_set v object =
@@ -139,7 +139,7 @@ births_set v f parent name mode drawn zero first handed own made ranged some all
 births_set v f parent name mode drawn (suc n) first handed own made ranged some all born =
     birth_set v f handed first drawn (Some (even_span v.sets first)) _ (inr (inr made)) (ranged first some)
     (λ reply number done. births_set v f parent name mode drawn n (first + 1) (Replied first (birth_job drawn (Some (even_span v.sets first))) reply ∷ handed) own made ranged (omega arith) (omega arith)
-    (born_push v (Replied first (birth_job drawn (Some (even_span v.sets first))) reply) handed drawn first (refl, (refl, done)) born))
+    (born_push v (Replied first (birth_job drawn (Some (even_span v.sets first))) reply) handed drawn first (refl, refl, done) born))
 
 mkdir_set : (v : Volume) (f : Fop) (handed : Handed) (parent : Gfid) (name : List ℕ) (mode : ℕ) (drawn : Gfid) → IsOwnDir f parent → IsMadeBy f drawn → BearsOwn v f drawn → EndsSet v f handed parent name (mkdir_found v parent name mode drawn)
 mkdir_set v f handed parent name mode drawn own made ranged =
@@ -266,7 +266,7 @@ renames_set v names kept parent name target new_name some within e =
 
 opens_again_set : (v : Volume) (f : Fop) (fds : List OpenFd) (handed : Handed) → ((set fd : ℕ) (gfid : Gfid) → IsOneOf fds set fd gfid → IsOpenedAt f set fd gfid) → SetsWell v f handed (opens_again fds)
 opens_again_set v f [] handed k = tt
-opens_again_set v f (one ∷ fds) handed k = ((k one.set one.fd one.gfid (inl (refl, (refl, refl))), tt), λ reply. opens_again_set v f fds _ (λ set fd gfid is. k set fd gfid (inr is)))
+opens_again_set v f (one ∷ fds) handed k = ((k one.set one.fd one.gfid (inl (refl, refl, refl)), tt), λ reply. opens_again_set v f fds _ (λ set fd gfid is. k set fd gfid (inr is)))
 
 heals_set : (v : Volume) (f : Fop) (cells : List (ℕ × Cell)) (handed : Handed) → SetsWell v f handed (heals cells)
 heals_set v f [] handed = tt
@@ -283,7 +283,7 @@ set_well v names kept (fop.Lookup parent name) some within e =
     on_name_set v (fop.Lookup parent name) names kept parent name _ some within e (λ set. tt) refl (λ hashed handed own. lookup_set v (fop.Lookup parent name) handed parent.gfid name)
 set_well v names kept (fop.Mkdir parent name mode drawn) some within e =
     on_name_set v (fop.Mkdir parent name mode drawn) names kept parent name _ some within e (λ set. tt) refl
-    (λ hashed handed own. mkdir_set v (fop.Mkdir parent name mode drawn) handed parent.gfid name mode drawn own (record { parent = parent; name = name; mode = mode; is_mkdir = refl }) (λ set after. (refl, (after, refl))))
+    (λ hashed handed own. mkdir_set v (fop.Mkdir parent name mode drawn) handed parent.gfid name mode drawn own (record { parent = parent; name = name; mode = mode; is_mkdir = refl }) (λ set after. (refl, after, refl)))
 set_well v names kept (fop.Rmdir parent name) some within e =
     on_name_set v (fop.Rmdir parent name) names kept parent name _ some within e (λ set. tt) refl (λ hashed handed own. rmdir_set v (fop.Rmdir parent name) handed parent.gfid name (λ set. tt) own)
 set_well v names kept (fop.Create fd parent name mode drawn) some within e =
