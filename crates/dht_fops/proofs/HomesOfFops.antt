@@ -179,8 +179,11 @@ rmdir_set : (v : Volume) (f : Fop) (handed : Handed) (parent : Gfid) (name : Lis
 rmdir_set v f handed parent name free own =
     ends_by v f handed parent name (rmdir_found v parent name)
     (λ set gfid k seen later l saw. if_set v f later _ _ (is_directory k)
-    (λ dir. (tt, empties_set v f parent name gfid (sets_from v 0) (Held gfid ∷ later) free own
-    (saw_later later (Held gfid ∷ later) gfid (later_push (Held gfid) later) (record { parent = parent; name = name; set = set; saw = dir_by later parent name set gfid k saw dir }))))
+    (λ dir. (
+      tt,
+      empties_set v f parent name gfid (sets_from v 0) (Held gfid ∷ later) free own
+          (saw_later later (Held gfid ∷ later) gfid (later_push (Held gfid) later) (record { parent = parent; name = name; set = set; saw = dir_by later parent name set gfid k saw dir })),
+    ))
     (λ file. tt))
     (λ seen later. tt) (λ error seen later. tt)
 
