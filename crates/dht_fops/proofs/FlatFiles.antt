@@ -14,6 +14,7 @@ use Rattle.fop_types.specs.FileBytes.{file_limit, read_from, resized, written}
 use Rattle.fop_types.specs.Files.{object_at, object_attrs, with_object, object_with_mode, object_with_attrs}
 use Rattle.fop_types.specs.Flat.{flat, refused, attr_outcome}
 use Rattle.fop_types.specs.Flat.Outcome.{Answers}
+use Rattle.fop_types.specs.Jobs.{may_lack}
 use Rattle.fop_types.specs.Limits.{max_data}
 use Rattle.fop_types.specs.Names.{is_directory, attr_named, with_attr, without_attr}
 use Rattle.fop_types.specs.StoreOps.{attrs_of}
@@ -47,15 +48,21 @@ opens_flat n object fd =
 
 -- ---- stat
 
-pub first_is : (s : Volumes) (set : ℕ) (cell : Cell) (contents : List (Option Content)) → HaveContents (s.contents set) (cell ∷ []) contents → first_content contents ≡ s.contents set cell
+pub first_is : (s : Volumes) (set : ℕ) (cell : Cell) (contents : List (Option Content)) → HaveContents false (s.contents set) (cell ∷ []) contents → first_content contents ≡ s.contents set cell
 first_is s set cell [] h = absurd h
 first_is s set cell (content ∷ contents) h = sym h.0
+
+-- the first set lacks no cell of a directory
+first_of_first : (s : Volumes) (object : Object) (contents : List (Option Content)) → is_directory object.kind ≡ true
+    → HaveContents (may_lack 0 (is_directory object.kind)) (s.contents 0) (meta_cell object.gfid ∷ []) contents → first_content contents ≡ s.contents 0 (meta_cell object.gfid)
+first_of_first s object contents dir h =
+    first_is s 0 (meta_cell object.gfid) contents (subst (λ (b : Bool). HaveContents (may_lack 0 b) (s.contents 0) (meta_cell object.gfid ∷ []) contents) dir h)
 
 pub record AreTwo (s : Volumes) (set : ℕ) (a b : Cell) (contents : List (Option Content)) : Type 0 where
   pub one : first_content contents ≡ s.contents set a
   pub two : second_content contents ≡ s.contents set b
 
-pub two_are : (s : Volumes) (set : ℕ) (a b : Cell) (contents : List (Option Content)) → HaveContents (s.contents set) (a ∷ b ∷ []) contents → AreTwo s set a b contents
+pub two_are : (s : Volumes) (set : ℕ) (a b : Cell) (contents : List (Option Content)) → HaveContents false (s.contents set) (a ∷ b ∷ []) contents → AreTwo s set a b contents
 two_are s set a b [] h = absurd h
 two_are s set a b (one ∷ []) h = absurd h.1
 two_are s set a b (one ∷ two ∷ contents) h = record { one = sym h.0; two = sym h.1.0 }
@@ -79,7 +86,7 @@ stat_of_file s object contents f few d e = rw (f.object_is, d, e, f.data_is, f.m
 pub stats_flat : (n : ℕ) (object : Object) → GoesFlat n (fop.Stat object) [] (stats object)
 stats_flat n object =
     if_flat n (fop.Stat object) [] _ _ (is_directory object.kind)
-    (λ dir. read_flat n (fop.Stat object) [] 0 _ 0 _ _ (λ contents place none s a m still. stat_of_directory s n object contents (made_directory s n object a m dir) (first_is s 0 (meta_cell object.gfid) contents still.0)))
+    (λ dir. read_flat n (fop.Stat object) [] 0 _ 0 _ _ (λ contents place none s a m still. stat_of_directory s n object contents (made_directory s n object a m dir) (first_of_first s object contents dir still.0)))
     (λ file. read_flat n (fop.Stat object) [] object.set _ 0 _ _
     (λ contents place none s a m still.
     let f = made_file s n object a m file in
@@ -94,7 +101,7 @@ pub record HasAttrs (s : Volumes) (object : Object) (contents : List (Option Con
   pub attrs_are : attrs_of (first_content contents) ≡ object_attrs it
 
 pub attrs_by : (s : Volumes) (n : ℕ) (object : Object) (contents : List (Option Content)) → AreSound s n → IsMade s object → (b : Bool) → is_directory object.kind ≡ b
-    → HaveContents (s.contents (if b then 0 else object.set)) (meta_cell object.gfid ∷ []) contents → HasAttrs s object contents
+    → HaveContents (may_lack (if b then 0 else object.set) b) (s.contents (if b then 0 else object.set)) (meta_cell object.gfid ∷ []) contents → HasAttrs s object contents
 attrs_by s n object contents a m true e h =
     let d = made_directory s n object a m e in
     record { it = Directory _ d.mode d.attrs _; object_is = d.object_is; attrs_are = ap attrs_of (first_is s 0 (meta_cell object.gfid) contents h ∙ d.meta_is) }
@@ -106,7 +113,7 @@ attrs_by s n object contents a m false e h =
       attrs_are = ap attrs_of (first_is s object.set (meta_cell object.gfid) contents h ∙ at_home s n object (meta_cell object.gfid) m e ∙ f.meta_is);
     }
 
-pub attrs_read : (s : Volumes) (n : ℕ) (object : Object) (contents : List (Option Content)) → AreSound s n → IsMade s object → HaveContents (s.contents (home object)) (meta_cell object.gfid ∷ []) contents → HasAttrs s object contents
+pub attrs_read : (s : Volumes) (n : ℕ) (object : Object) (contents : List (Option Content)) → AreSound s n → IsMade s object → HaveContents (may_lack (home object) (is_directory object.kind)) (s.contents (home object)) (meta_cell object.gfid ∷ []) contents → HasAttrs s object contents
 attrs_read s n object contents a m h = attrs_by s n object contents a m (is_directory object.kind) refl h
 
 pub get_flat : (s : Volumes) (object : Object) (name : List ℕ) (contents : List (Option Content)) → HasAttrs s object contents → flat s.files (op.GetAttr object.gfid name) ≡ attr_outcome (attr_named (attrs_of (first_content contents)) name)

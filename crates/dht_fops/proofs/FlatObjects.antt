@@ -10,10 +10,11 @@ use Rattle.dht_fops.proofs.ShownNames.{real_of, real_named, real_in, over_none, 
 use Rattle.dht_fops.specs.Handed.{Handed, Saw, SawName, SawNowhere}
 use Rattle.dht_fops.specs.Handed.Event.{Replied, Held}
 use Rattle.dht_fops.specs.Shown.{names_over, object_shown}
-use Rattle.dht_fops.specs.Standing.{Volumes, AreSound, IsMade, StillShown, StillIs, StillReads}
+use Rattle.dht_fops.specs.Standing.{Volumes, AreSound, IsMade, HasContent, StillShown, StillIs, StillReads}
 use Rattle.fop_types.specs.Cells.{data_cell, meta_cell, names_cell}
 use Rattle.fop_types.specs.Files.{object_at, names_at, names_of}
 use Rattle.fop_types.specs.Flat.{Outcome, entry_error, checked, refused}
+use Rattle.fop_types.specs.Jobs.{may_lack}
 use Rattle.fop_types.specs.Limits.{max_item_name}
 use Rattle.fop_types.specs.Names.{item_named, is_link, is_directory}
 use Rattle.fop_types.specs.StoreOps.{Contents, items_of, is_removed, is_taken, item_in, holds_bytes, holds_meta}
@@ -138,30 +139,43 @@ pub record Agrees (contents : Contents) (dir : Gfid) (shown : DirNames) : Type 0
   pub items : shown.items ≡ items_of (contents (names_cell dir))
   pub removed : shown.removed ≡ is_removed (contents (names_cell dir))
 
-reply_agrees : (contents : Contents) (dir : Gfid) (r : SetReply) (shown : DirNames) → StillReads contents (names_cell dir ∷ []) r → names_in r ≡ Ok shown → Agrees contents dir shown
-reply_agrees contents dir (reply.Contents [] place) shown h e = absurd h
-reply_agrees contents dir (reply.Contents (content ∷ more) place) shown h e =
+pub record ShowsSame (shown now : Option Content) : Type 0 where
+  pub items : items_of shown ≡ items_of now
+  pub removed : is_removed shown ≡ is_removed now
+
+same_shown : (shown now : Option Content) → now ≡ shown → ShowsSame shown now
+same_shown shown now e = record { items = sym (ap items_of e); removed = sym (ap is_removed e) }
+
+-- also where a copy was born since
+shows_same : (may_lack : Bool) (shown now : Option Content) → HasContent may_lack now shown → ShowsSame shown now
+shows_same false shown now e = same_shown shown now e
+shows_same true None now none = record { items = sym none.items; removed = sym none.kept }
+shows_same true (Some content) now e = same_shown (Some content) now e
+
+reply_agrees : (may_lack : Bool) (contents : Contents) (dir : Gfid) (r : SetReply) (shown : DirNames) → StillReads may_lack contents (names_cell dir ∷ []) r → names_in r ≡ Ok shown → Agrees contents dir shown
+reply_agrees may_lack contents dir (reply.Contents [] place) shown h e = absurd h
+reply_agrees may_lack contents dir (reply.Contents (content ∷ more) place) shown h e =
     let same : names_shown content place ≡ shown = same_of (names_shown content place) shown e in
-    let here : content ≡ contents (names_cell dir) = sym h.0 in
+    let here = shows_same may_lack content (contents (names_cell dir)) h.0 in
     record {
-      items = sym (ap (λ (d : DirNames). d.items) same) ∙ ap items_of here;
-      removed = sym (ap (λ (d : DirNames). d.removed) same) ∙ ap is_removed here;
+      items = sym (ap (λ (d : DirNames). d.items) same) ∙ here.items;
+      removed = sym (ap (λ (d : DirNames). d.removed) same) ∙ here.removed;
     }
   where
     same_of : (one two : DirNames) → ◌≡◌ {A = Result DirNames IoError} (Ok one) (Ok two) → one ≡ two
     same_of one two f = cc
-reply_agrees contents dir (reply.Decided number) shown h e = absurd h
-reply_agrees contents dir reply.Opened shown h e = absurd h
-reply_agrees contents dir (reply.Listed cells answered short) shown h e = absurd h
-reply_agrees contents dir (reply.Healed records) shown h e = absurd h
-reply_agrees contents dir (reply.Skipped cause) shown h e = absurd h
-reply_agrees contents dir (reply.Io error) shown h e = absurd (let wrong : ◌≡◌ {A = Result DirNames IoError} (Err error) (Ok shown) = e in cc)
+reply_agrees may_lack contents dir (reply.Decided number) shown h e = absurd h
+reply_agrees may_lack contents dir reply.Opened shown h e = absurd h
+reply_agrees may_lack contents dir (reply.Listed cells answered short) shown h e = absurd h
+reply_agrees may_lack contents dir (reply.Healed records) shown h e = absurd h
+reply_agrees may_lack contents dir (reply.Skipped cause) shown h e = absurd h
+reply_agrees may_lack contents dir (reply.Io error) shown h e = absurd (let wrong : ◌≡◌ {A = Result DirNames IoError} (Err error) (Ok shown) = e in cc)
 
 pub saw_agrees : (s : Volumes) (handed : Handed) (dir : Gfid) (set : ℕ) (shown : DirNames) → Saw handed dir set shown → StillShown s.contents handed → Agrees (s.contents set) dir shown
 saw_agrees s [] dir set shown saw still = absurd saw
 saw_agrees s (Replied one job reply ∷ handed) dir set shown (inl n) still =
     let reads : StillIs s.contents (Replied one (names_job dir) reply) = subst (λ (j : Job). StillIs s.contents (Replied one j reply)) n.1 still.0 in
-    subst (λ (at : ℕ). Agrees (s.contents at) dir shown) n.0 (reply_agrees (s.contents one) dir reply shown reads n.2)
+    subst (λ (at : ℕ). Agrees (s.contents at) dir shown) n.0 (reply_agrees (may_lack one true) (s.contents one) dir reply shown reads n.2)
 saw_agrees s (Held held ∷ handed) dir set shown (inl n) still = absurd n
 saw_agrees s (event ∷ handed) dir set shown (inr saw) still = saw_agrees s handed dir set shown saw still.1
 

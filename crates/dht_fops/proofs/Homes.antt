@@ -19,8 +19,9 @@ use Rattle.dht_fops.specs.Courses.Course.{Asks}
 use Rattle.dht_fops.specs.Entries.{birth_job}
 use Rattle.dht_fops.specs.Fops.{on_name}
 use Rattle.dht_fops.specs.Founded.{IsNoError}
-use Rattle.dht_fops.specs.Handed.{Handed, Event, Always, AnyHold, AnyAnswer, Saw, SawName}
+use Rattle.dht_fops.specs.Handed.{Handed, Event, Always, AnyAnswer, Saw, SawName}
 use Rattle.dht_fops.specs.Handed.Event.{Replied}
+use Rattle.dht_fops.specs.Holds.{IsOwnHold}
 use Rattle.dht_fops.specs.Homes.{IsNamedBy, IsHome, IsOwnDir, IsDirectoryOf, IsInPlace, AreInPlace, IsReadAt, IsChangedAt, IsJobAtHome}
 use Rattle.dht_fops.specs.Looks.{Ending, where_named, where_kept, looks_in, finds}
 use Rattle.dht_fops.specs.Objects.{home}
@@ -45,12 +46,12 @@ use Rattle.fop_types.specs.declared.jobs.Job.TheVariants as job
 use Rattle.fop_types.specs.declared.jobs.SetReply.{SetReply}
 use Rattle.fop_types.specs.declared.store_ops.StoreOp.{StoreOp}
 
--- both facts of a job
+-- both facts of a job; and a hold is extended by the fop's own directory
 abbrev pub IsSetWell : Volume → Fop → Handed → ℕ → Job → Type 0
 IsSetWell v f handed set j = IsJobAtHome f handed set j × IsBornInTime v f handed set j
 
 abbrev pub SetsWell : Volume → Fop → Handed → Course → Type 0
-SetsWell v f handed course = Always (IsSetWell v f) AnyHold AnyAnswer handed course
+SetsWell v f handed course = Always (IsSetWell v f) (IsOwnHold f) AnyAnswer handed course
 
 -- ---- objects
 
@@ -157,7 +158,7 @@ named_set v f handed parent name place next k =
 abbrev pub ReadsAnywhere : Fop → Type 0
 ReadsAnywhere f = (set : ℕ) → IsReadAt f set
 
-reads_set : (v : Volume) (f : Fop) (handed : Handed) (dir : Gfid) → ReadsAnywhere f → IsOwnDir f dir → Reading (IsSetWell v f) AnyHold AnyAnswer v.sets handed dir
+reads_set : (v : Volume) (f : Fop) (handed : Handed) (dir : Gfid) → ReadsAnywhere f → IsOwnDir f dir → Reading (IsSetWell v f) (IsOwnHold f) AnyAnswer v.sets handed dir
 reads_set v f handed dir free own = record {
   names = λ later set l i. ((free set, (inr (inl own), tt)), tt);
   spans = λ later set l i. ((free set, (inr (inl own), tt)), tt);
@@ -166,19 +167,19 @@ reads_set v f handed dir free own = record {
 }
 
 abbrev pub EndsSet : Volume → Fop → Handed → Gfid → List ℕ → Ending → Type 0
-EndsSet v f handed dir name ending = EndsRight (IsSetWell v f) AnyHold AnyAnswer v.sets handed dir name ending
+EndsSet v f handed dir name ending = EndsRight (IsSetWell v f) (IsOwnHold f) AnyAnswer v.sets handed dir name ending
 
 pub look_set : (v : Volume) (f : Fop) (dir : Gfid) (name : List ℕ) (names : List (List ℕ)) (watched : ℕ) (ending : ℕ → Ending) (hashed : ℕ) (handed : Handed) → length names ≡ v.sets → hashed < v.sets → ReadsAnywhere f → IsOwnDir f dir
     → EndsSet v f handed dir name (ending hashed) → SetsWell v f handed (looks_in dir name names watched ending hashed)
 look_set v f dir name names watched ending hashed handed e i free own ends =
-    looks_in_goes (IsSetWell v f) AnyHold AnyAnswer v.sets dir name names watched ending hashed handed e i (reads_set v f handed dir free own) ends
+    looks_in_goes (IsSetWell v f) (IsOwnHold f) AnyAnswer v.sets dir name names watched ending hashed handed e i (reads_set v f handed dir free own) ends
 
 pub finds_set : (v : Volume) (f : Fop) (count : ℕ) (dir : Gfid) (known : Option ℕ) (next : ℕ → Course) (after : List (Option Span) → Course) (handed : Handed) → count ≡ v.sets → ReadsAnywhere f → IsOwnDir f dir → IfSome known (λ set. set < v.sets)
     → ((set : ℕ) → set < v.sets → SetsWell v f handed (next set))
     → ((whole : List (Option Span)) (later : Handed) → length whole ≡ v.sets → Later handed later → SetsWell v f later (after whole))
     → SetsWell v f handed (finds count dir known next after)
 finds_set v f count dir known next after handed e free own below k m =
-    finds_go (IsSetWell v f) AnyHold AnyAnswer v.sets count dir known next after handed e (reads_set v f handed dir free own) below k m
+    finds_go (IsSetWell v f) (IsOwnHold f) AnyAnswer v.sets count dir known next after handed e (reads_set v f handed dir free own) below k m
 
 -- an ending goes well by what was found
 pub ends_by : (v : Volume) (f : Fop) (handed : Handed) (dir : Gfid) (name : List ℕ) (ending : Ending)

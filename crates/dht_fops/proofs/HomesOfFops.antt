@@ -16,8 +16,9 @@ use Rattle.dht_fops.specs.Courses.{Course, number_in}
 use Rattle.dht_fops.specs.Courses.Course.{Asks, Extends, Ends}
 use Rattle.dht_fops.specs.Entries.{birth_job, lookup_found, lists_from, births_from, mkdir_found, create_found, drops_link, unlink_found, empties, rmdir_found}
 use Rattle.dht_fops.specs.Fops.{renames, fop_course}
-use Rattle.dht_fops.specs.Handed.{Handed, Always, AnyHold, AnyAnswer}
+use Rattle.dht_fops.specs.Handed.{Handed, Always, AnyJob, AnyHold, AnyAnswer}
 use Rattle.dht_fops.specs.Handed.Event.{Replied, Held}
+use Rattle.dht_fops.specs.Holds.{IsOwnHold, FopsExtendHolds}
 use Rattle.dht_fops.specs.Homes.{IsNamedBy, IsFileOn, IsOwnDir, SawDirectory, IsInPlace, IsChangedAt, IsOneOf, IsOpenedAt, IsJobAtHome, FopsChangeOnSets}
 use Rattle.dht_fops.specs.Internal.{opens_again, heals, indexes, with_cells, cells_in}
 use Rattle.dht_fops.specs.Links.{IsMadeBy}
@@ -175,14 +176,14 @@ empties_set v f parent name gfid (set ∷ sets) handed free own saw =
     names_set v f handed set gfid _ (free set) (inr (inl saw))
     (λ later shown l seen. if_set v f later _ _ (has_real_name shown.items) (λ full. tt) (λ none. empties_set v f parent name gfid sets later free own (saw_later handed later gfid l saw)))
 
-rmdir_set : (v : Volume) (f : Fop) (handed : Handed) (parent : Gfid) (name : List ℕ) → ReadsAnywhere f → IsOwnDir f parent → EndsSet v f handed parent name (rmdir_found v parent name)
-rmdir_set v f handed parent name free own =
-    ends_by v f handed parent name (rmdir_found v parent name)
+rmdir_set : (v : Volume) (f : Fop) (handed : Handed) (object : Object) (name : List ℕ) → f ≡ fop.Rmdir object name → ReadsAnywhere f → IsOwnDir f object.gfid → EndsSet v f handed object.gfid name (rmdir_found v object.gfid name)
+rmdir_set v f handed object name is free own =
+    ends_by v f handed object.gfid name (rmdir_found v object.gfid name)
     (λ set gfid k seen later l saw. if_set v f later _ _ (is_directory k)
     (λ dir. (
-      tt,
-      empties_set v f parent name gfid (sets_from v 0) (Held gfid ∷ later) free own
-          (saw_later later (Held gfid ∷ later) gfid (later_push (Held gfid) later) (record { parent = parent; name = name; set = set; saw = dir_by later parent name set gfid k saw dir })),
+      record { parent = object; name = name; is_rmdir = is; set = set; saw = dir_by later object.gfid name set gfid k saw dir },
+      empties_set v f object.gfid name gfid (sets_from v 0) (Held gfid ∷ later) free own
+          (saw_later later (Held gfid ∷ later) gfid (later_push (Held gfid) later) (record { parent = object.gfid; name = name; set = set; saw = dir_by later object.gfid name set gfid k saw dir })),
     ))
     (λ file. tt))
     (λ seen later. tt) (λ error seen later. tt)
@@ -288,7 +289,7 @@ set_well v names kept (fop.Mkdir parent name mode drawn) some within e =
     on_name_set v (fop.Mkdir parent name mode drawn) names kept parent name _ some within e (λ set. tt) refl
     (λ hashed handed own. mkdir_set v (fop.Mkdir parent name mode drawn) handed parent.gfid name mode drawn own (record { parent = parent; name = name; mode = mode; is_mkdir = refl }) (λ set after. (refl, after, refl)))
 set_well v names kept (fop.Rmdir parent name) some within e =
-    on_name_set v (fop.Rmdir parent name) names kept parent name _ some within e (λ set. tt) refl (λ hashed handed own. rmdir_set v (fop.Rmdir parent name) handed parent.gfid name (λ set. tt) own)
+    on_name_set v (fop.Rmdir parent name) names kept parent name _ some within e (λ set. tt) refl (λ hashed handed own. rmdir_set v (fop.Rmdir parent name) handed parent name refl (λ set. tt) own)
 set_well v names kept (fop.Create fd parent name mode drawn) some within e =
     on_name_set v (fop.Create fd parent name mode drawn) names kept parent name _ some within e (λ set. tt) refl (λ hashed handed own. create_set v (fop.Create fd parent name mode drawn) handed parent.gfid name mode drawn hashed own)
 set_well v names kept (fop.Unlink parent name) some within e =
@@ -321,6 +322,14 @@ births_of : (v : Volume) (f : Fop) (handed : Handed) (course : Course) → SetsW
 births_of v f handed (Asks set j next) a = (a.0.1, λ reply. births_of v f (Replied set j reply ∷ handed) (next reply) (a.1 reply))
 births_of v f handed (Extends dir next) a = (tt, births_of v f (Held dir ∷ handed) next a.1)
 births_of v f handed (Ends answer place) a = tt
+
+holds_of : (v : Volume) (f : Fop) (handed : Handed) (course : Course) → SetsWell v f handed course → Always AnyJob (IsOwnHold f) AnyAnswer handed course
+holds_of v f handed (Asks set j next) a = (tt, λ reply. holds_of v f (Replied set j reply ∷ handed) (next reply) (a.1 reply))
+holds_of v f handed (Extends dir next) a = (a.0, holds_of v f (Held dir ∷ handed) next a.1)
+holds_of v f handed (Ends answer place) a = tt
+
+pub fops_extend : FopsExtendHolds
+fops_extend = λ v names kept f some within e. holds_of v f [] (fop_course v names kept f) (set_well v names kept f some within e)
 
 pub fops_change_on : FopsChangeOnSets
 fops_change_on = λ v names kept f some within e. homes_of v f [] (fop_course v names kept f) (set_well v names kept f some within e)

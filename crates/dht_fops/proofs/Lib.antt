@@ -3,6 +3,7 @@ pub mod AskEntries
 pub mod AskFops
 pub mod AskLooks
 pub mod AskRenames
+pub mod Asking
 pub mod Costs
 pub mod CostsOfFops
 pub mod Begun

@@ -12,9 +12,11 @@ use Rattle.dht_linkto.specs.declared.names.DirNames.{DirNames}
 use Rattle.dht_fops.specs.Courses.{Course, refuses, on_contents, after_read, contents_in, on_names, after_names, on_number, after_change, number_in, changes}
 use Rattle.dht_fops.specs.Courses.Course.{Asks}
 use Rattle.dht_fops.proofs.Handing.{Later, later_same, later_push, later_then, no_error}
+use Rattle.dht_fops.specs.Births.{WasBorn}
+use Rattle.dht_fops.specs.Entries.{birth_job}
 use Rattle.dht_fops.specs.Founded.{IsNoError}
 use Rattle.dht_fops.specs.Handed.{Handed, Always, AnyHold, Saw}
-use Rattle.dht_fops.specs.Links.{SawLink, SawNoCopy, IsOfLink, IsOfCopy}
+use Rattle.dht_fops.specs.Links.{SawLink, SawNoCopy, SawCopy, IsOfLink, IsOfCopy, IsIntoCopy}
 use Rattle.dht_fops.specs.Additions.{SawSpan, SawSpans, ShowsSpan, IsOnSet, IsLinkOnSet}
 use Rattle.dht_fops.specs.Volumes.{Kept}
 use Rattle.dht_fops.specs.declared.volume.Volume.{Volume}
@@ -36,6 +38,7 @@ use Rattle.fop_types.specs.declared.jobs.Job.TheVariants as job
 use Rattle.fop_types.specs.declared.jobs.SetReply.{SetReply}
 use Rattle.fop_types.specs.declared.jobs.SetReply.TheVariants as reply
 use Rattle.fop_types.specs.declared.store_ops.StoreOp.{StoreOp}
+use Rattle.fop_types.specs.declared.store_ops.StoreOp.TheVariants as op
 
 -- the fop, its volume, the names of the sets, and the layouts that are kept
 pub record Given : Type 0 where
@@ -46,7 +49,7 @@ pub record Given : Type 0 where
 
 -- what a job rests on, and where names are added
 abbrev pub IsRested : Given → Handed → ℕ → Job → Type 0
-IsRested g handed set (job.Change cells fd o (Some entry)) = IsOnSet g.volume (length g.names) g.kept handed set o
+IsRested g handed set (job.Change cells fd o (Some entry)) = IsIntoCopy handed set o × IsOnSet g.volume (length g.names) g.kept handed set o
 IsRested g handed set (job.Change cells fd o None) = IsOfLink handed set o × IsLinkOnSet g.volume (length g.names) g.kept handed set o
 IsRested g handed set (job.Birth cells o) = IsOfCopy g.fop handed set o
 IsRested g handed set (job.Read cells fd dir) = Unit {0}
@@ -147,20 +150,23 @@ change_leads : (g : Given) (handed : Handed) (set : ℕ) (cells : List Cell) (fd
 change_leads g handed set cells fd op entry r next (Ok number) e k = k r number (no_error r number e) (ap place_made e)
 change_leads g handed set cells fd op entry r next (Err error) e k = (refl, number_error r error e)
 
-pub change_traced : (g : Given) (handed : Handed) (set : ℕ) (cells : List Cell) (fd : ℕ) (op : StoreOp) (entry : Entry) (next : Option ℕ → Course) → IsOnSet g.volume (length g.names) g.kept handed set op → OnMade g handed set cells fd op entry next → Traces g handed (changes set cells fd op (Some entry) next)
-change_traced g handed set cells fd op entry next b k = (b, λ r. change_leads g handed set cells fd op entry r next (number_in r) refl k)
+pub change_traced : (g : Given) (handed : Handed) (set : ℕ) (cells : List Cell) (fd : ℕ) (op : StoreOp) (entry : Entry) (next : Option ℕ → Course) → IsIntoCopy handed set op → IsOnSet g.volume (length g.names) g.kept handed set op → OnMade g handed set cells fd op entry next → Traces g handed (changes set cells fd op (Some entry) next)
+change_traced g handed set cells fd op entry next c b k = ((c, b), λ r. change_leads g handed set cells fd op entry r next (number_in r) refl k)
 
 -- a birth leaves the place
-abbrev pub OnBorn : Given → Handed → (Option ℕ → Course) → Type 0
-OnBorn g handed next = (later : Handed) (number : Option ℕ) → Later handed later → last_place later ≡ last_place handed → Traces g later (next number)
+abbrev pub OnBorn : Given → Handed → ℕ → Gfid → Option Span → (Option ℕ → Course) → Type 0
+OnBorn g handed set gfid span next =
+    (later : Handed) (number : Option ℕ) → Later handed later → WasBorn later set gfid span → last_place later ≡ last_place handed → Traces g later (next number)
 
-birth_leads : (g : Given) (handed : Handed) (set : ℕ) (cells : List Cell) (op : StoreOp) (r : SetReply) (next : Option ℕ → Course) (read : Result (Option ℕ) IoError) → number_in r ≡ read → OnBorn g handed next
-    → Traces g (Replied set (job.Birth cells op) r ∷ handed) (on_number next read)
-birth_leads g handed set cells op r next (Ok number) e k = k (Replied set (job.Birth cells op) r ∷ handed) number (later_push (Replied set (job.Birth cells op) r) handed) refl
-birth_leads g handed set cells op r next (Err error) e k = (refl, number_error r error e)
+birth_leads : (g : Given) (handed : Handed) (set : ℕ) (gfid : Gfid) (span : Option Span) (r : SetReply) (next : Option ℕ → Course) (read : Result (Option ℕ) IoError) → number_in r ≡ read → OnBorn g handed set gfid span next
+    → Traces g (Replied set (birth_job gfid span) r ∷ handed) (on_number next read)
+birth_leads g handed set gfid span r next (Ok number) e k =
+    k (Replied set (birth_job gfid span) r ∷ handed) number (later_push (Replied set (birth_job gfid span) r) handed) (inl (refl, refl, no_error r number e)) refl
+birth_leads g handed set gfid span r next (Err error) e k = (refl, number_error r error e)
 
-pub birth_traced : (g : Given) (handed : Handed) (set : ℕ) (cells : List Cell) (op : StoreOp) (next : Option ℕ → Course) → IsRested g handed set (job.Birth cells op) → OnBorn g handed next → Traces g handed (Asks set (job.Birth cells op) (after_change next))
-birth_traced g handed set cells op next b k = (b, λ r. birth_leads g handed set cells op r next (number_in r) refl k)
+pub birth_traced : (g : Given) (handed : Handed) (set : ℕ) (gfid : Gfid) (span : Option Span) (next : Option ℕ → Course) → IsOfCopy g.fop handed set (op.MakeCopy gfid span) → OnBorn g handed set gfid span next
+    → Traces g handed (Asks set (birth_job gfid span) (after_change next))
+birth_traced g handed set gfid span next b k = (b, λ r. birth_leads g handed set gfid span r next (number_in r) refl k)
 
 -- and so does the opening of a descriptor
 open_leads : (g : Given) (handed : Handed) (set fd : ℕ) (gfid : Gfid) (r : SetReply) (next : Option ℕ → Course) (read : Result (Option ℕ) IoError) → number_in r ≡ read
@@ -192,27 +198,39 @@ IsRead (found.Io error) = ⊥
 pub link_later : (a b : Handed) (dir : Gfid) (name : List ℕ) (set : ℕ) → Later a b → SawLink a dir name set → SawLink b dir name set
 link_later a b dir name set l s = record { shown = s.shown; saw = l.saw dir set s.shown s.saw; item = s.item; named = s.named; link = s.link }
 
-pub no_copy_later : (a b : Handed) (dir : Gfid) (set : ℕ) → Later a b → SawNoCopy a dir set → SawNoCopy b dir set
-no_copy_later a b dir set l s = record { shown = s.shown; saw = l.saw dir set s.shown s.saw; none = s.none }
+-- whether the set showed a copy of the directory
+pub record SawWhether (handed : Handed) (dir : Gfid) (set : ℕ) (there : Bool) : Type 0 where
+  pub shown : DirNames
+  pub saw : Saw handed dir set shown
+  pub there_is : shown.has_copy ≡ there
+
+pub whether_later : (a b : Handed) (dir : Gfid) (set : ℕ) (there : Bool) → Later a b → SawWhether a dir set there → SawWhether b dir set there
+whether_later a b dir set there l s = record { shown = s.shown; saw = l.saw dir set s.shown s.saw; there_is = s.there_is }
+
+pub saw_copy : (handed : Handed) (dir : Gfid) (set : ℕ) → SawWhether handed dir set true → SawCopy handed dir set
+saw_copy handed dir set s = record { shown = s.shown; saw = s.saw; there = s.there_is }
+
+pub saw_no_copy : (handed : Handed) (dir : Gfid) (set : ℕ) → SawWhether handed dir set false → SawNoCopy handed dir set
+saw_no_copy handed dir set s = record { shown = s.shown; saw = s.saw; none = s.there_is }
 
 -- a look has in hand what the sets showed
 pub record IsInHand (handed : Handed) (dir : Gfid) (name : List ℕ) (hashed watched : ℕ) (seen : Seen) : Type 0 where
   pub place : last_place handed ≡ Some seen.place
   pub link : seen.has_link ≡ true → SawLink handed dir name hashed
-  pub copy : seen.copy ≡ Some false → SawNoCopy handed dir watched
+  pub copy : (there : Bool) → seen.copy ≡ Some there → SawWhether handed dir watched there
 
 -- what was in hand of links and copies before one more set is read
 pub record WasInHand (handed : Handed) (dir : Gfid) (name : List ℕ) (hashed watched : ℕ) (seen : Seen) : Type 0 where
   pub link : seen.has_link ≡ true → SawLink handed dir name hashed
-  pub copy : seen.copy ≡ Some false → SawNoCopy handed dir watched
+  pub copy : (there : Bool) → seen.copy ≡ Some there → SawWhether handed dir watched there
 
-copy_by : (handed later : Handed) (dir : Gfid) (set watched : ℕ) (seen : Option Bool) (shown : DirNames) (b : Bool) → (set == watched) ≡ b → Later handed later → Saw later dir set shown → (seen ≡ Some false → SawNoCopy handed dir watched)
-    → (if b then Some shown.has_copy else seen) ≡ Some false → SawNoCopy later dir watched
-copy_by handed later dir set watched seen shown true e l saw before none =
-    let same : shown.has_copy ≡ false = cc in
+copy_by : (handed later : Handed) (dir : Gfid) (set watched : ℕ) (seen : Option Bool) (shown : DirNames) (b : Bool) → (set == watched) ≡ b → Later handed later → Saw later dir set shown
+    → ((there : Bool) → seen ≡ Some there → SawWhether handed dir watched there) → (there : Bool) → (if b then Some shown.has_copy else seen) ≡ Some there → SawWhether later dir watched there
+copy_by handed later dir set watched seen shown true e l saw before there is =
+    let same : shown.has_copy ≡ there = cc in
     let here : set ≡ watched = eqb-true set watched e in
-    record { shown = shown; saw = subst (λ (one : ℕ). Saw later dir one shown) here saw; none = same }
-copy_by handed later dir set watched seen shown false e l saw before none = no_copy_later handed later dir watched l (before none)
+    record { shown = shown; saw = subst (λ (one : ℕ). Saw later dir one shown) here saw; there_is = same }
+copy_by handed later dir set watched seen shown false e l saw before there is = whether_later handed later dir watched there l (before there is)
 
 in_hand : (handed later : Handed) (dir : Gfid) (name : List ℕ) (hashed watched set : ℕ) (seen : Seen) (shown : DirNames) → Later handed later → Saw later dir set shown → last_place later ≡ Some shown.place
     → WasInHand handed dir name hashed watched seen → IsInHand later dir name hashed watched (seen_on watched set seen shown)
@@ -267,7 +285,7 @@ looks_traced g dir name names watched ending hashed handed ends =
     (λ later shown l saw at.
     kept_traced g later shown _ at
     (on_traced g (search_of dir name names hashed) watched (seen_on watched hashed unseen shown) (ending hashed) shown (item_named shown.items name) later refl saw
-    (in_hand handed later dir name hashed watched hashed unseen shown l saw at (record { link = λ has. absurd cc; copy = λ none. absurd cc }))
+    (in_hand handed later dir name hashed watched hashed unseen shown l saw at (record { link = λ has. absurd cc; copy = λ there none. absurd cc }))
     (ends_later g handed later dir name hashed watched (ending hashed) l ends)))
 
 pub saw_spans_later : (a b : Handed) (dir : Gfid) (set : ℕ) (spans : List (Option Span)) → Later a b → SawSpans a dir set spans → SawSpans b dir set spans

@@ -1,6 +1,6 @@
 -- Every fop's answers are placed at the latest read or change with an effect, and its changes of links and births rest on
 -- what was seen.
-use Rattle.std.proofs.Common.{◌≡◌, ℕ, ◌+◌, inl, inr, ◌==◌, Bool, true, false, List, [], ◌∷◌, Option, Some, None, if◌then◌else◌, nat_lt, length, refl, ap, sym, subst}
+use Rattle.std.proofs.Common.{◌≡◌, ◌⊎◌, ℕ, ◌+◌, inl, inr, ◌==◌, Bool, true, false, List, [], ◌∷◌, Option, Some, None, if◌then◌else◌, nat_lt, length, refl, ap, sym, subst}
 use Rattle.std.specs.Ordering.{is_eq}
 use Rattle.std.specs.Prelude.{slice_index_or}
 use Rattle.dht_linkto.specs.DirNames.{first_content}
@@ -10,7 +10,8 @@ use Rattle.dht_linkto.specs.declared.found.Found.TheVariants as found
 use Rattle.dht_layout.specs.Layouts.{even_layout}
 use Rattle.dht_fops.proofs.FlatRenames.{is_eq_equal}
 use Rattle.dht_fops.proofs.Handing.{Later, later_push}
-use Rattle.dht_fops.proofs.Traces.{Given, Traces, IsRested, saw_spans_later, EndsTraced, IsRead, IsInHand, names_traced, read_traced, change_traced, birth_traced, open_traced, if_traced, kept_traced, looks_traced, finds_traced, link_later, no_copy_later}
+use Rattle.dht_fops.proofs.Traces.{Given, Traces, IsRested, saw_spans_later, EndsTraced, IsRead, IsInHand, names_traced, read_traced, change_traced, birth_traced, open_traced, if_traced, kept_traced, looks_traced, finds_traced, link_later, SawWhether, whether_later, saw_copy, saw_no_copy}
+use Rattle.dht_fops.specs.Births.{WasBorn}
 use Rattle.dht_fops.specs.Courses.{Course}
 use Rattle.dht_fops.specs.Courses.Course.{Asks, Extends, Ends}
 use Rattle.dht_fops.specs.Entries.{lookup_found, lists_from, births_from, mkdir_found, create_found, drops_link, unlink_found, empties, rmdir_found}
@@ -22,7 +23,7 @@ use Rattle.dht_fops.specs.Looks.{Ending, where_named}
 use Rattle.dht_fops.specs.Merges.{merged, real_items}
 use Rattle.dht_fops.specs.Objects.{opens, stats, attr_value, gets_attr, drops_attr, dels_attr, reads_bytes, changes_cell, truncates, writes_some, writes, home}
 use Rattle.dht_fops.specs.Additions.{SawSpans, SawLayout, IsSetBy, IsSetOf, IsOnSet, AddsOnSet, FopsAddOnSets}
-use Rattle.dht_fops.specs.Links.{SawLink, SawNoCopy, WasMoved, IsMadeBy, RestsOnLinks, FopsChangeLinks}
+use Rattle.dht_fops.specs.Links.{SawLink, SawCopy, WasMoved, IsMadeBy, IsIntoCopy, RestsOnLinks, FopsChangeLinks}
 use Rattle.dht_fops.specs.Places.{last_place, IsPlaced, FopsPlaceAnswers}
 use Rattle.dht_fops.specs.Renames.{adds_link, moves, bears, replaces, changes_names, other_set, target_found, target_ending, looks_for_target, source_at, source_found, second_set}
 use Rattle.dht_fops.specs.Volumes.{Kept, kept_spans, set_in, known_set, sets_from}
@@ -53,11 +54,11 @@ use Rattle.fop_types.specs.declared.store_ops.StoreOp.{StoreOp}
 
 -- ---- fops on an object
 
-cell_done : (g : Given) (v : Volume) (set : ℕ) (cell : Cell) (fd : ℕ) (op : StoreOp) (handed : Handed) → IsOnSet g.volume (length g.names) g.kept handed set op → Traces g handed (changes_cell v set cell fd op (fop_answer.Call answer.Done))
-cell_done g v set cell fd op handed b = change_traced g handed set _ fd op _ _ b (λ said number done at. sym at)
+cell_done : (g : Given) (v : Volume) (set : ℕ) (cell : Cell) (fd : ℕ) (op : StoreOp) (handed : Handed) → IsIntoCopy handed set op → IsOnSet g.volume (length g.names) g.kept handed set op → Traces g handed (changes_cell v set cell fd op (fop_answer.Call answer.Done))
+cell_done g v set cell fd op handed c b = change_traced g handed set _ fd op _ _ c b (λ said number done at. sym at)
 
-cell_counted : (g : Given) (v : Volume) (set : ℕ) (cell : Cell) (fd : ℕ) (op : StoreOp) (n : ℕ) (handed : Handed) → IsOnSet g.volume (length g.names) g.kept handed set op → Traces g handed (changes_cell v set cell fd op (fop_answer.Call (answer.Count n)))
-cell_counted g v set cell fd op n handed b = change_traced g handed set _ fd op _ _ b (λ said number done at. sym at)
+cell_counted : (g : Given) (v : Volume) (set : ℕ) (cell : Cell) (fd : ℕ) (op : StoreOp) (n : ℕ) (handed : Handed) → IsIntoCopy handed set op → IsOnSet g.volume (length g.names) g.kept handed set op → Traces g handed (changes_cell v set cell fd op (fop_answer.Call (answer.Count n)))
+cell_counted g v set cell fd op n handed c b = change_traced g handed set _ fd op _ _ c b (λ said number done at. sym at)
 
 opens_traced : (g : Given) (object : Object) (fd : ℕ) → Traces g [] (opens object fd)
 opens_traced g object fd = if_traced g [] _ _ (is_directory object.kind) (λ dir. refl) (λ file. open_traced g [] object.set fd object.gfid _ (λ later number at. sym at))
@@ -78,20 +79,20 @@ dels_traced g v object name = read_traced g [] (home object) _ 0 _ _ (λ later c
   where
     by_attr : (later : Handed) (attr : Option Attr) (place : ℕ) → last_place later ≡ Some place → Traces g later (drops_attr v object name attr place)
     by_attr later None place at = sym at
-    by_attr later (Some attr) place at = cell_done g v (home object) _ 0 _ later tt
+    by_attr later (Some attr) place at = cell_done g v (home object) _ 0 _ later tt tt
 
 reads_traced : (g : Given) (object : Object) (fd offset count : ℕ) → Traces g [] (reads_bytes object fd offset count)
 reads_traced g object fd offset count = if_traced g [] _ _ (is_directory object.kind) (λ dir. refl) (λ file. read_traced g [] object.set _ fd false _ (λ later contents place l at shows. sym at))
 
 truncates_traced : (g : Given) (v : Volume) (object : Object) (size : ℕ) → Traces g [] (truncates v object size)
-truncates_traced g v object size = if_traced g [] _ _ (is_directory object.kind) (λ dir. refl) (λ file. if_traced g [] _ _ (nat_lt file_limit size) (λ big. refl) (λ fits. cell_done g v object.set _ 0 _ [] tt))
+truncates_traced g v object size = if_traced g [] _ _ (is_directory object.kind) (λ dir. refl) (λ file. if_traced g [] _ _ (nat_lt file_limit size) (λ big. refl) (λ fits. cell_done g v object.set _ 0 _ [] tt tt))
 
 writes_traced : (g : Given) (v : Volume) (object : Object) (fd offset : ℕ) (bytes : List ℕ) → Traces g [] (writes v object fd offset bytes)
 writes_traced g v object fd offset bytes = if_traced g [] _ _ (is_directory object.kind) (λ dir. refl) (λ file. if_traced g [] _ _ (nat_lt file_limit (offset + length bytes)) (λ big. refl) (λ fits. by_bytes bytes))
   where
     by_bytes : (bytes : List ℕ) → Traces g [] (writes_some v object fd offset bytes)
     by_bytes [] = refl
-    by_bytes (first ∷ rest) = cell_counted g v object.set _ fd _ (length (first ∷ rest)) [] tt
+    by_bytes (first ∷ rest) = cell_counted g v object.set _ fd _ (length (first ∷ rest)) [] tt tt
 
 -- ---- fops on a name
 
@@ -128,8 +129,8 @@ lookup_traced g handed dir name hashed = λ result seen later l r h. by_found la
     by_found later (found.Io error) seen r at = absurd r
 
 births_traced : (g : Given) (v : Volume) (parent : Gfid) (name : List ℕ) (mode : ℕ) (drawn : Gfid) (sets : List ℕ) (handed : Handed) → IsMadeBy g.fop drawn → Traces g handed (births_from v parent name mode drawn sets)
-births_traced g v parent name mode drawn [] handed made = change_traced g handed 0 _ 0 _ _ _ refl (λ said number done at. sym at)
-births_traced g v parent name mode drawn (set ∷ sets) handed made = birth_traced g handed set _ _ _ (inl made) (λ later number l at. births_traced g v parent name mode drawn sets later made)
+births_traced g v parent name mode drawn [] handed made = change_traced g handed 0 _ 0 _ _ _ tt refl (λ said number done at. sym at)
+births_traced g v parent name mode drawn (set ∷ sets) handed made = birth_traced g handed set drawn _ _ (inl made) (λ later number l born at. births_traced g v parent name mode drawn sets later made)
 
 mkdir_traced : (g : Given) (v : Volume) (handed : Handed) (parent : Gfid) (name : List ℕ) (mode : ℕ) (drawn : Gfid) (hashed : ℕ) → IsMadeBy g.fop drawn → EndsTraced g handed parent name hashed 0 (mkdir_found v parent name mode drawn)
 mkdir_traced g v handed parent name mode drawn hashed made = λ result seen later l r h. by_found later result seen r h.place
@@ -151,7 +152,7 @@ create_traced g v handed parent name mode drawn hashed on = λ result seen later
   where
     by_found : (later : Handed) (result : Found) (seen : Seen) → IsRead result → last_place later ≡ Some seen.place → IsSetOf g.volume (length g.names) g.kept later parent name hashed → Traces g later (create_found v parent name mode drawn hashed result seen)
     by_found later (found.Item set gfid kind) seen r at on = sym at
-    by_found later found.Absent seen r at on = change_traced g later hashed _ 0 _ _ _ on (λ said number done e. sym e)
+    by_found later found.Absent seen r at on = change_traced g later hashed _ 0 _ _ _ tt on (λ said number done e. sym e)
     by_found later (found.Io error) seen r at on = absurd r
 
 -- a change of a link leaves the place
@@ -166,13 +167,13 @@ unlink_traced g v handed parent name hashed = λ result seen later l r h. by_fou
     by_found : (later : Handed) (result : Found) (seen : Seen) → IsRead result → IsInHand later parent name hashed 0 seen → Traces g later (unlink_found v parent name hashed result seen)
     by_found later (found.Item set gfid kind) seen r h =
         if_traced g later _ _ (is_directory kind) (λ dir. sym h.place)
-        (λ file. change_traced g later set _ 0 _ _ _ tt
+        (λ file. change_traced g later set _ 0 _ _ _ tt tt
         (λ said number done e. drops_link_traced g parent name hashed seen.has_link number _ e (λ has. link_later later _ parent name hashed (later_push _ later) (h.link has))))
     by_found later found.Absent seen r h = sym h.place
     by_found later (found.Io error) seen r h = absurd r
 
 empties_traced : (g : Given) (v : Volume) (parent : Gfid) (name : List ℕ) (gfid : Gfid) (sets : List ℕ) (handed : Handed) → Traces g handed (empties v parent name gfid sets)
-empties_traced g v parent name gfid [] handed = change_traced g handed 0 _ 0 _ _ _ tt (λ said number done at. sym at)
+empties_traced g v parent name gfid [] handed = change_traced g handed 0 _ 0 _ _ _ tt tt (λ said number done at. sym at)
 empties_traced g v parent name gfid (set ∷ sets) handed =
     names_traced g handed set gfid _ (λ later shown l saw at. if_traced g later _ _ (has_real_name shown.items) (λ full. sym at) (λ none. empties_traced g v parent name gfid sets later))
 
@@ -213,29 +214,33 @@ adds_link_traced g r number handed at k moved = if_traced g handed _ _ (r.hashed
     (λ same. drops_link_traced g r.source.parent r.source.name r.source.hashed r.source.has_link number handed at k.old)
     (λ other. (((refl, moved other), k.new), λ said. drops_link_traced g r.source.parent r.source.name r.source.hashed r.source.has_link number _ at (old_later handed _ r.source (later_push _ handed) k.old)))
 
-moves_traced : (g : Given) (v : Volume) (r : Renaming) (handed : Handed) → KnowsLinks g handed r → Traces g handed (moves v r)
-moves_traced g v r handed k =
-    change_traced g handed r.source.set _ 0 _ _ _ tt
+-- the file's set has a copy of the new parent
+abbrev pub HasTarget : Handed → Renaming → Type 0
+HasTarget handed r = SawCopy handed r.target r.source.set ⊎ WasBorn handed r.source.set r.target None
+
+moves_traced : (g : Given) (v : Volume) (r : Renaming) (handed : Handed) → KnowsLinks g handed r → HasTarget handed r → Traces g handed (moves v r)
+moves_traced g v r handed k copy =
+    change_traced g handed r.source.set _ 0 _ _ _ copy tt
     (λ said number done at. adds_link_traced g r number _ at (links_later g handed _ r (later_push _ handed) k)
     (λ other. inl (record { parent = r.source.parent; old = r.source.name; is_move = refl }, done, other)))
 
-bears_traced : (g : Given) (v : Volume) (r : Renaming) (copy : Bool) (handed : Handed) → KnowsLinks g handed r → (copy ≡ false → SawNoCopy handed r.target r.source.set) → Traces g handed (bears v r copy)
-bears_traced g v r true handed k none = moves_traced g v r handed k
-bears_traced g v r false handed k none =
-    birth_traced g handed r.source.set _ _ _ (inr (none refl)) (λ later number l at. moves_traced g v r later (links_later g handed later r l k))
+bears_traced : (g : Given) (v : Volume) (r : Renaming) (copy : Bool) (handed : Handed) → KnowsLinks g handed r → SawWhether handed r.target r.source.set copy → Traces g handed (bears v r copy)
+bears_traced g v r true handed k saw = moves_traced g v r handed k (inl (saw_copy handed r.target r.source.set saw))
+bears_traced g v r false handed k saw =
+    birth_traced g handed r.source.set r.target None _ (inr (saw_no_copy handed r.target r.source.set saw)) (λ later number l born at. moves_traced g v r later (links_later g handed later r l k) (inr born))
 
-replaces_traced : (g : Given) (v : Volume) (r : Renaming) (replaced : Option ℕ) (copy : Bool) (handed : Handed) → KnowsLinks g handed r → (copy ≡ false → SawNoCopy handed r.target r.source.set) → Traces g handed (replaces v r replaced copy)
-replaces_traced g v r None copy handed k none = bears_traced g v r copy handed k none
-replaces_traced g v r (Some set) copy handed k none =
-    change_traced g handed set _ 0 _ _ _ tt
-    (λ said number done at. bears_traced g v r copy _ (links_later g handed _ r (later_push _ handed) k) (λ e. no_copy_later handed _ r.target r.source.set (later_push _ handed) (none e)))
+replaces_traced : (g : Given) (v : Volume) (r : Renaming) (replaced : Option ℕ) (copy : Bool) (handed : Handed) → KnowsLinks g handed r → SawWhether handed r.target r.source.set copy → Traces g handed (replaces v r replaced copy)
+replaces_traced g v r None copy handed k saw = bears_traced g v r copy handed k saw
+replaces_traced g v r (Some set) copy handed k saw =
+    change_traced g handed set _ 0 _ _ _ tt tt
+    (λ said number done at. bears_traced g v r copy _ (links_later g handed _ r (later_push _ handed) k) (whether_later handed _ r.target r.source.set copy (later_push _ handed) saw))
 
-changes_traced : (g : Given) (v : Volume) (r : Renaming) (replaced : Option ℕ) (copy : Option Bool) (handed : Handed) → KnowsLinks g handed r → (copy ≡ Some false → SawNoCopy handed r.target r.source.set)
+changes_traced : (g : Given) (v : Volume) (r : Renaming) (replaced : Option ℕ) (copy : Option Bool) (handed : Handed) → KnowsLinks g handed r → ((there : Bool) → copy ≡ Some there → SawWhether handed r.target r.source.set there)
     → Traces g handed (changes_names v r replaced copy)
-changes_traced g v r replaced (Some copy) handed k none = replaces_traced g v r replaced copy handed k (λ e. none (ap Some e))
-changes_traced g v r replaced None handed k none =
+changes_traced g v r replaced (Some copy) handed k saw = replaces_traced g v r replaced copy handed k (saw copy refl)
+changes_traced g v r replaced None handed k saw =
     names_traced g handed r.source.set r.target _
-    (λ later shown l saw at. replaces_traced g v r replaced shown.has_copy later (links_later g handed later r l k) (λ e. record { shown = shown; saw = saw; none = e }))
+    (λ later shown l seen at. replaces_traced g v r replaced shown.has_copy later (links_later g handed later r l k) (record { shown = shown; saw = seen; there_is = refl }))
 
 target_traced : (g : Given) (v : Volume) (handed : Handed) (r : Renaming) → KnowsLinks g handed r → EndsTraced g handed r.target r.new_name r.hashed r.source.set (target_found v r)
 target_traced g v handed r k = λ result seen later l read h. by_found later result seen read h (links_later g handed later r l k)
@@ -357,9 +362,9 @@ traced g (fop.Rename parent name target new_name) e = renames_traced g parent na
 traced g (fop.Open fd object) e = opens_traced g object fd
 traced g (fop.Stat object) e = stats_traced g object
 traced g (fop.List object) e = if_traced g [] _ _ (is_directory object.kind) (λ dir. lists_traced g object.gfid (sets_from g.volume 0) [] None [] refl) (λ file. refl)
-traced g (fop.Chmod object mode) e = cell_done g g.volume (home object) _ 0 _ [] tt
+traced g (fop.Chmod object mode) e = cell_done g g.volume (home object) _ 0 _ [] tt tt
 traced g (fop.Truncate object size) e = truncates_traced g g.volume object size
-traced g (fop.SetAttr object attr) e = cell_done g g.volume (home object) _ 0 _ [] tt
+traced g (fop.SetAttr object attr) e = cell_done g g.volume (home object) _ 0 _ [] tt tt
 traced g (fop.GetAttr object name) e = gets_traced g object name
 traced g (fop.DelAttr object name) e = dels_traced g g.volume object name
 traced g (fop.Read fd object offset count) e = reads_traced g object fd offset count
@@ -375,7 +380,7 @@ places_of g handed (Extends dir next) t = (tt, places_of g (Held dir ∷ handed)
 places_of g handed (Ends answer place) t = t
 
 job_links : (g : Given) (handed : Handed) (set : ℕ) (j : Job) → IsRested g handed set j → RestsOnLinks g.fop handed set j
-job_links g handed set (job.Change cells fd o (Some entry)) r = tt
+job_links g handed set (job.Change cells fd o (Some entry)) r = r.0
 job_links g handed set (job.Change cells fd o None) r = r.0
 job_links g handed set (job.Birth cells o) r = r
 job_links g handed set (job.Read cells fd dir) r = tt
@@ -389,7 +394,7 @@ links_of g handed (Extends dir next) t = (tt, links_of g (Held dir ∷ handed) n
 links_of g handed (Ends answer place) t = tt
 
 job_adds : (g : Given) (handed : Handed) (set : ℕ) (j : Job) → IsRested g handed set j → AddsOnSet g.volume (length g.names) g.kept handed set j
-job_adds g handed set (job.Change cells fd o (Some entry)) r = r
+job_adds g handed set (job.Change cells fd o (Some entry)) r = r.1
 job_adds g handed set (job.Change cells fd o None) r = r.1
 job_adds g handed set (job.Birth cells o) r = tt
 job_adds g handed set (job.Read cells fd dir) r = tt

@@ -1,5 +1,6 @@
 pub mod Additions
 pub mod Answers
+pub mod Asking
 pub mod Births
 pub mod Bounds
 pub mod Costs
@@ -9,6 +10,7 @@ pub mod Entries
 pub mod Fops
 pub mod Founded
 pub mod Handed
+pub mod Holds
 pub mod Homes
 pub mod Internal
 pub mod Links

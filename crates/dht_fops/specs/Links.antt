@@ -1,7 +1,8 @@
--- What a change without an effect rests on, and a birth: a link that was seen, or a move that was made, and a directory that
--- is new, or of which the set showed no copy.
+-- What a change without an effect rests on, a birth and a move: a link that was seen, or a move that was made; a directory that
+-- is new, or of which the set showed no copy; and a copy of the directory into which a name is moved.
 use Rattle.std.specs.Prelude.{◌≡◌, ◌⊎◌, ℕ, ◌==◌, true, false, List, [], ◌∷◌, Some, None}
 use Rattle.dht_linkto.specs.declared.names.DirNames.{DirNames}
+use Rattle.dht_fops.specs.Births.{WasBorn}
 use Rattle.dht_fops.specs.Courses.{Course}
 use Rattle.dht_fops.specs.Courses.Course.{Asks, Extends, Ends}
 use Rattle.dht_fops.specs.Fops.{fop_course}
@@ -37,6 +38,12 @@ pub record SawNoCopy (handed : Handed) (dir : Gfid) (set : ℕ) : Type 0 where
   pub shown : DirNames
   pub saw : Saw handed dir set shown
   pub none : shown.has_copy ≡ false
+
+-- the set showed a copy of the directory
+pub record SawCopy (handed : Handed) (dir : Gfid) (set : ℕ) : Type 0 where
+  pub shown : DirNames
+  pub saw : Saw handed dir set shown
+  pub there : shown.has_copy ≡ true
 
 -- ---- what was done
 
@@ -95,16 +102,29 @@ IsOfCopy f handed set (op.SetMode gfid mode) = ⊥
 IsOfCopy f handed set (op.SetAttr gfid attr) = ⊥
 IsOfCopy f handed set (op.DelAttr gfid name) = ⊥
 
+-- A name is moved into a directory of which the set showed a copy, or was asked for one.
+abbrev pub IsIntoCopy : Handed → ℕ → StoreOp → Type 0
+IsIntoCopy handed set (op.Move parent name target new_name) = SawCopy handed target set ⊎ WasBorn handed set target None
+IsIntoCopy handed set (op.AddName parent item mode span) = Unit {0}
+IsIntoCopy handed set (op.DropName parent name) = Unit {0}
+IsIntoCopy handed set (op.DropDir parent name gfid) = Unit {0}
+IsIntoCopy handed set (op.Write gfid offset bytes) = Unit {0}
+IsIntoCopy handed set (op.Truncate gfid size) = Unit {0}
+IsIntoCopy handed set (op.SetMode gfid mode) = Unit {0}
+IsIntoCopy handed set (op.SetAttr gfid attr) = Unit {0}
+IsIntoCopy handed set (op.DelAttr gfid name) = Unit {0}
+IsIntoCopy handed set (op.MakeCopy gfid span) = Unit {0}
+
 abbrev pub RestsOnLinks : Fop → Handed → ℕ → Job → Type 0
 RestsOnLinks f handed set (job.Change cells fd o None) = IsOfLink handed set o
-RestsOnLinks f handed set (job.Change cells fd o (Some entry)) = Unit {0}
+RestsOnLinks f handed set (job.Change cells fd o (Some entry)) = IsIntoCopy handed set o
 RestsOnLinks f handed set (job.Birth cells o) = IsOfCopy f handed set o
 RestsOnLinks f handed set (job.Read cells fd dir) = Unit {0}
 RestsOnLinks f handed set (job.Open fd gfid) = Unit {0}
 RestsOnLinks f handed set job.Index = Unit {0}
 RestsOnLinks f handed set (job.Heal cell) = Unit {0}
 
--- Each change of a link and each birth of a fop rests on this, whatever the volume, the replies and the fop's values are.
+-- Each change of a link, each birth and each move of a fop rests on this, whatever the volume, the replies and the fop's values are.
 abbrev pub FopsChangeLinks : Type 0
 FopsChangeLinks = (v : Volume) (names : List (List ℕ)) (kept : Kept) (f : Fop) → Always (RestsOnLinks f) AnyHold AnyAnswer [] (fop_course v names kept f)
 

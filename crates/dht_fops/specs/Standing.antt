@@ -1,10 +1,11 @@
 -- What a fop was handed in, against what the sets have now.
-use Rattle.std.specs.Prelude.{◌≡◌, ℕ, ◌<◌, ◌≤◌, length, true, false, List, [], ◌∷◌, Option, Some, None}
+use Rattle.std.specs.Prelude.{◌≡◌, ℕ, ◌<◌, ◌≤◌, length, Bool, true, false, List, [], ◌∷◌, Option, Some, None}
 use Rattle.dht_fops.specs.Handed.{Handed, Event}
 use Rattle.dht_fops.specs.Handed.Event.{Replied, Held}
 use Rattle.dht_fops.specs.Shown.{SetContents, Homes, Shows}
 use Rattle.fop_types.specs.Cells.{data_cell, meta_cell, names_cell}
 use Rattle.fop_types.specs.Files.{Files}
+use Rattle.fop_types.specs.Jobs.{may_lack}
 use Rattle.fop_types.specs.Names.{item_named, is_link}
 use Rattle.fop_types.specs.StoreOps.{Contents, items_of, is_removed, is_taken, item_in, holds_bytes, holds_meta}
 use Rattle.fop_types.specs.declared.cells.Cell.{Cell}
@@ -56,25 +57,37 @@ pub record IsMade (s : Volumes) (object : Object) : Type 0 where
 
 -- ---- what still is so
 
-abbrev pub HaveContents : Contents → List Cell → List (Option Content) → Type 0
-HaveContents contents [] [] = Unit {0}
-HaveContents contents [] (shown ∷ more) = ⊥
-HaveContents contents (cell ∷ cells) [] = ⊥
-HaveContents contents (cell ∷ cells) (shown ∷ more) = (contents cell ≡ shown) × HaveContents contents cells more
+-- no names, and no mark of a removal
+pub record HasNoNames (content : Option Content) : Type 0 where
+  pub items : items_of content ≡ []
+  pub kept : is_removed content ≡ false
+
+-- The cell has what was shown of it. Where a set may lack the cell and showed none, it has no names still: a rename may have
+-- made the copy since.
+abbrev pub HasContent : Bool → Option Content → Option Content → Type 0
+HasContent false now shown = now ≡ shown
+HasContent true now None = HasNoNames now
+HasContent true now (Some content) = now ≡ Some content
+
+abbrev pub HaveContents : Bool → Contents → List Cell → List (Option Content) → Type 0
+HaveContents may_lack contents [] [] = Unit {0}
+HaveContents may_lack contents [] (shown ∷ more) = ⊥
+HaveContents may_lack contents (cell ∷ cells) [] = ⊥
+HaveContents may_lack contents (cell ∷ cells) (shown ∷ more) = HasContent may_lack (contents cell) shown × HaveContents may_lack contents cells more
 
 -- a read that failed showed nothing; other replies are none to a read
-abbrev pub StillReads : Contents → List Cell → SetReply → Type 0
-StillReads contents cells (reply.Contents shown place) = HaveContents contents cells shown
-StillReads contents cells (reply.Decided number) = ⊥
-StillReads contents cells reply.Opened = ⊥
-StillReads contents cells (reply.Listed listed answered short) = ⊥
-StillReads contents cells (reply.Healed records) = ⊥
-StillReads contents cells (reply.Skipped cause) = ⊥
-StillReads contents cells (reply.Io error) = Unit {0}
+abbrev pub StillReads : Bool → Contents → List Cell → SetReply → Type 0
+StillReads may_lack contents cells (reply.Contents shown place) = HaveContents may_lack contents cells shown
+StillReads may_lack contents cells (reply.Decided number) = ⊥
+StillReads may_lack contents cells reply.Opened = ⊥
+StillReads may_lack contents cells (reply.Listed listed answered short) = ⊥
+StillReads may_lack contents cells (reply.Healed records) = ⊥
+StillReads may_lack contents cells (reply.Skipped cause) = ⊥
+StillReads may_lack contents cells (reply.Io error) = Unit {0}
 
 abbrev pub StillIs : SetContents → Event → Type 0
 StillIs contents (Held dir) = Unit {0}
-StillIs contents (Replied set (job.Read cells fd dir) reply) = StillReads (contents set) cells reply
+StillIs contents (Replied set (job.Read cells fd dir) reply) = StillReads (may_lack set dir) (contents set) cells reply
 StillIs contents (Replied set (job.Change cells fd op effect) reply) = Unit {0}
 StillIs contents (Replied set (job.Birth cells op) reply) = Unit {0}
 StillIs contents (Replied set (job.Open fd gfid) reply) = Unit {0}

@@ -1,10 +1,12 @@
 ghost use Rattle.dht_fops.specs.Additions.{FopsAddOnSets};
 ghost use Rattle.dht_fops.specs.Answers.{FopsAnswerAsFlat};
+ghost use Rattle.dht_fops.specs.Asking.{FopsAskAll};
 ghost use Rattle.dht_fops.specs.Births.{FopsBearFirst, FopsBearOnce};
 ghost use Rattle.dht_fops.specs.Bounds.{FopsKeepBounds, AnswersHaveBounds};
 ghost use Rattle.dht_fops.specs.Costs.{FopsAskFew};
 ghost use Rattle.dht_fops.specs.Endings.{FopsAnswerChanges, FlatAnswersChanges};
 ghost use Rattle.dht_fops.specs.Founded.{FopsAskWell};
+ghost use Rattle.dht_fops.specs.Holds.{FopsExtendHolds};
 ghost use Rattle.dht_fops.specs.Homes.{FopsChangeOnSets};
 ghost use Rattle.dht_fops.specs.Links.{FopsChangeLinks, FopsIgnoreLinks};
 ghost use Rattle.dht_fops.specs.Places.{FopsPlaceAnswers};
@@ -46,9 +48,10 @@ pub fn fops_answer_changes()
     ensures flat { FlatAnswersChanges }
 {}
 
-/// What a change without an effect rests on, and a birth: a link that is dropped was seen on that set; a link is added for a
-/// name to which a file was moved on another set; and a copy is born of the directory that the fop makes, or of one of
-/// which that set showed no copy. The call does nothing: its contract exports this.
+/// What a change without an effect rests on, a birth and a move: a link that is dropped was seen on that set; a link is added
+/// for a name to which a file was moved on another set; a copy is born of the directory that the fop makes, or of one of
+/// which that set showed no copy; and a name is moved into a directory of which that set showed a copy, or bore one. The call
+/// does nothing: its contract exports this.
 pub fn fops_change_links()
     ensures { FopsChangeLinks }
 {}
@@ -79,6 +82,18 @@ pub fn fops_change_on_sets()
 pub fn fops_bear_first()
     ensures names { FopsBearFirst }
     ensures once { FopsBearOnce }
+{}
+
+/// By which directory the hold of a call is extended: rmdir's by the directory that it removes, which a set showed under the
+/// name in the directory that is held; no other fop's is. The call does nothing: its contract exports this.
+pub fn fops_extend_holds()
+    ensures { FopsExtendHolds }
+{}
+
+/// What is asked for before these fops are answered: an open that is done its descriptor; the opening of descriptors in a new
+/// graph each of them; and a heal the index of every set. The call does nothing: its contract exports this.
+pub fn fops_ask_all()
+    ensures { FopsAskAll }
 {}
 
 /// How many jobs a fop asks for at most: 4 for each set and 16; a migration one for each descriptor; a heal one for each
