@@ -6,6 +6,7 @@ pub mod LockSteps
 pub mod LostSince
 pub mod Reached
 pub mod Rows
+pub mod OneEach
 pub mod Short
 pub mod Sound
 pub mod Stays

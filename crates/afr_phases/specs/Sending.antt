@@ -1,5 +1,5 @@
 -- What a phase sends: one request to each of some replicas, rising.
-use Rattle.std.specs.Prelude.{ℕ, Bool, List, [], ◌∷◌, Option, Some, None, if◌then◌else◌}
+use Rattle.std.specs.Prelude.{ℕ, Bool, true, false, List, [], ◌∷◌, Option, Some, None, if◌then◌else◌}
 use Rattle.fop_types.specs.declared.messages.BrickReq.{BrickReq}
 use Rattle.afr_phases.specs.Flags.{flag}
 
@@ -14,3 +14,8 @@ sends to req = sends_among (0 ∷ 1 ∷ 2 ∷ 3 ∷ 4 ∷ []) to req
 abbrev pub one_to : Option ℕ → BrickReq → List (ℕ × BrickReq)
 one_to None req = []
 one_to (Some k) req = (k, req) ∷ []
+
+-- the request to this replica, where it is asked
+abbrev pub one_if : Bool → ℕ → BrickReq → List (ℕ × BrickReq)
+one_if true k req = (k, req) ∷ []
+one_if false k req = []
