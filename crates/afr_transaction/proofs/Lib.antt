@@ -3,18 +3,13 @@ pub mod CopyParts
 pub mod EachTurn
 pub mod Encodings
 pub mod Entries
-pub mod Failures
 pub mod FewCells
-pub mod Freed
 pub mod Joins
-pub mod LostMarks
 pub mod Marked
 pub mod Moves
 pub mod Posts
-pub mod Quorums
 pub mod Replies
 pub mod Turned
-pub mod ShownRows
 pub mod Steps
 pub mod TurnsAnswers
 pub mod TurnsBase
@@ -22,4 +17,3 @@ pub mod TurnsCopies
 pub mod TurnsLocked
 pub mod TurnsReads
 pub mod TurnsReady
-pub mod Working

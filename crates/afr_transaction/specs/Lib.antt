@@ -1,11 +1,8 @@
 -- In reading order: what the replicas' rows say of a job's cells; the copies that a job needs; the job under way; the
 -- lock phase; a read; copies; a change; a settling; how each job goes on after its copies and its locks; jobs without locks;
--- the turn of an answer or a copy; the begin; the laws; a transaction between two turns, and what
--- its phases ask for; what a turn does to the ledger; that
--- requests have an encoding, and replies are within their bounds; the causes of I/O errors, when
--- there is none for a split, with which marks they list replicas, and
--- by whose rows; that an op follows its mark; and
--- that requests end.
+-- the turn of an answer or a copy; the begin; a transaction between two turns, and what its phases ask for; what a turn does
+-- to the ledger; that requests have an encoding, and replies are within their bounds; the causes of I/O errors; and that an op
+-- follows its mark.
 pub mod Sound
 pub mod Jobs
 pub mod Txns
@@ -21,15 +18,10 @@ pub mod Listing
 pub mod Polls
 pub mod Answers
 pub mod Begins
-pub mod Laws
 pub mod Shapes
 pub mod Requests
 pub mod Moves
 pub mod Encodings
 pub mod Replies
 pub mod Causes
-pub mod Free
-pub mod Marks
-pub mod Handed
 pub mod Ops
-pub mod Work

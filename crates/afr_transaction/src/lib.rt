@@ -37,9 +37,7 @@ mod txn;
 
 pub use jobs::Kind;
 pub use laws::{
-    failures_have_causes, marks_are_handed_in, quorums_decide, replies_are_within_bounds,
-    requests_are_encoded, requests_are_of_phases, requests_end, rows_are_handed_in,
-    splits_lack_free, transactions_go_on, turns_move_the_ledger,
+    replies_are_within_bounds, requests_are_encoded, requests_are_of_phases, transactions_go_on,
 };
 pub use listed::Listed;
 pub use need::Need;

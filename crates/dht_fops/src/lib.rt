@@ -45,10 +45,6 @@ mod step;
 mod volume;
 
 pub use dht_fop::DhtFop;
-pub use laws::{
-    fops_add_on_sets, fops_answer_as_flat, fops_answer_changes, fops_ask_all, fops_ask_few,
-    fops_ask_well, fops_bear_first, fops_change_links, fops_change_on_sets, fops_extend_holds,
-    fops_ignore_links, fops_keep_bounds, fops_place_answers,
-};
+pub use laws::fops_keep_bounds;
 pub use layouts::Layout;
 pub use step::DhtNext;

@@ -1,5 +1,0 @@
-use Rattle.dht_fops.proofs.TracesOfFops.{fops_add}
-use Rattle.dht_fops.proofs.laws.fops_add_on_sets.Goals as goal
-
-pub returns : goal.returns
-returns c = fops_add

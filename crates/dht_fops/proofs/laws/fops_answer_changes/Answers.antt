@@ -1,9 +1,0 @@
-use Rattle.dht_fops.proofs.Accepted.{flat_answers}
-use Rattle.dht_fops.proofs.EndingsOfFops.{fops_answer}
-use Rattle.dht_fops.proofs.laws.fops_answer_changes.Goals as goal
-
-pub returns-clause-fops : goal.returns-clause-fops
-returns-clause-fops c = fops_answer
-
-pub returns-clause-flat : goal.returns-clause-flat
-returns-clause-flat c = flat_answers

@@ -1,5 +1,0 @@
-use Rattle.dht_fops.proofs.Asking.{asks_all}
-use Rattle.dht_fops.proofs.laws.fops_ask_all.Goals as goal
-
-pub returns : goal.returns
-returns c = asks_all

@@ -1,5 +1,0 @@
-use Rattle.dht_fops.proofs.CostsOfFops.{asks_few}
-use Rattle.dht_fops.proofs.laws.fops_ask_few.Goals as goal
-
-pub returns : goal.returns
-returns c = asks_few

@@ -1,5 +1,0 @@
-use Rattle.dht_fops.proofs.TracesOfFops.{fops_change_links}
-use Rattle.dht_fops.proofs.laws.fops_change_links.Goals as goal
-
-pub returns : goal.returns
-returns c = fops_change_links

@@ -1,5 +1,0 @@
-use Rattle.dht_fops.proofs.HomesOfFops.{fops_extend}
-use Rattle.dht_fops.proofs.laws.fops_extend_holds.Goals as goal
-
-pub returns : goal.returns
-returns c = fops_extend

@@ -1,5 +1,0 @@
-use Rattle.dht_fops.proofs.TracesOfFops.{fops_place}
-use Rattle.dht_fops.proofs.laws.fops_place_answers.Goals as goal
-
-pub returns : goal.returns
-returns c = fops_place

@@ -1,0 +1,7 @@
+-- In reading order: decisions; when a split has no cause; with which marks I/O errors list replicas, and by whose rows; and that
+-- requests end.
+pub mod Laws
+pub mod Free
+pub mod Marks
+pub mod Handed
+pub mod Work
