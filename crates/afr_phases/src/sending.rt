@@ -21,7 +21,6 @@ pub fn sends(alloc: Global, to: &Flags, req: BrickReq) -> Result<Seq<(u8, BrickR
 }
 
 // A copy of the request to each of some replicas but the last of them, which is the result.
-#[tactic(auto, using(crate::proofs::OneEach::five_asked))]
 fn push_copies(
     alloc: Global,
     list: &mut Vec<(u8, BrickReq)>,
