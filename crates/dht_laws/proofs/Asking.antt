@@ -1,16 +1,16 @@
 -- An open asks for its descriptor, the opening of descriptors for each of them, and a heal for the index of every set.
-use Rattle.std.proofs.Common.{◌≡◌, ◌∙◌, ℕ, zero, suc, ◌+◌, ◌-◌, ◌<◌, ◌≤◌, ◌++◌, inl, inr, Bool, true, false, List, [], ◌∷◌, Option, Some, None, Result, Ok, Err, if◌then◌else◌, nat_lt, refl, sym, subst, arith}
+use Rattle.std.proofs.Common.{◌≡◌, ◌∙◌, ℕ, zero, suc, ◌+◌, ◌-◌, ◌<◌, ◌≤◌, ◌++◌, inl, inr, Bool, true, false, List, [], ◌∷◌, Option, None, Result, Ok, Err, if◌then◌else◌, nat_lt, refl, sym, subst, arith}
 use Rattle.std.specs.List.{range_with_len}
 use Rattle.std.proofs.lemmas.Bool.{ltb-true, ltb-false}
 use Rattle.dht_laws.specs.Asking.{WasOpened, WasIndexed, HasAsked, FopsAskAll}
 use Rattle.dht_fops.specs.Courses.{Course, on_number, number_in}
 use Rattle.dht_fops.specs.Courses.Course.{Asks, Extends, Ends}
 use Rattle.dht_fops.specs.Fops.{fop_course}
-use Rattle.dht_fops.specs.Handed.{Handed, Event, Always, AnyJob, AnyHold}
+use Rattle.dht_fops.specs.Handed.{Handed, Always, AnyJob, AnyHold}
 use Rattle.dht_fops.specs.Handed.Event.{Replied, Held}
 use Rattle.dht_fops.specs.Internal.{opens_again, heals, indexes, with_cells, cells_in}
 use Rattle.dht_fops.specs.Objects.{opens, opened}
-use Rattle.dht_fops.specs.Volumes.{Kept, sets_from}
+use Rattle.dht_fops.specs.Volumes.{Kept}
 use Rattle.dht_fops.specs.declared.volume.Volume.{Volume}
 use Rattle.fop_types.specs.Bounds.{Each}
 use Rattle.fop_types.specs.Names.{is_directory}

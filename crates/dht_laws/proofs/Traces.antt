@@ -9,7 +9,7 @@ use Rattle.dht_linkto.specs.Search.{Search, search_of, led, set_named}
 use Rattle.dht_linkto.specs.declared.found.Found.{Found}
 use Rattle.dht_linkto.specs.declared.found.Found.TheVariants as found
 use Rattle.dht_linkto.specs.declared.names.DirNames.{DirNames}
-use Rattle.dht_fops.specs.Courses.{Course, refuses, on_contents, after_read, contents_in, on_names, after_names, on_number, after_change, number_in, changes}
+use Rattle.dht_fops.specs.Courses.{Course, on_contents, after_read, contents_in, on_names, after_names, on_number, after_change, number_in, changes}
 use Rattle.dht_fops.specs.Courses.Course.{Asks}
 use Rattle.dht_fops.proofs.Handing.{Later, later_same, later_push, later_then, no_error}
 use Rattle.dht_laws.specs.Births.{WasBorn}
@@ -21,7 +21,7 @@ use Rattle.dht_fops.specs.Additions.{SawSpan, SawSpans, ShowsSpan, IsOnSet, IsLi
 use Rattle.dht_fops.specs.Volumes.{Kept}
 use Rattle.dht_fops.specs.declared.volume.Volume.{Volume}
 use Rattle.dht_fops.specs.Handed.Event.{Replied}
-use Rattle.dht_fops.specs.Looks.{Ending, where_kept, span_job, by_item, looks_along, looks_on, looks, looks_in, finds, reads_spans, span_of, seen_on, unseen}
+use Rattle.dht_fops.specs.Looks.{Ending, where_kept, span_job, by_item, looks_along, looks_on, looks_in, finds, reads_spans, span_of, seen_on, unseen}
 use Rattle.dht_laws.specs.Places.{last_place, place_read, place_made, IsPlaced}
 use Rattle.dht_fops.specs.declared.look.Seen.{Seen}
 use Rattle.fop_types.specs.Names.{item_named, is_link}

@@ -1,6 +1,6 @@
 -- Every fop's answers are placed at the latest read or change with an effect, and its changes of links and births rest on
 -- what was seen.
-use Rattle.std.proofs.Common.{◌≡◌, ◌⊎◌, ℕ, ◌+◌, inl, inr, ◌==◌, Bool, true, false, List, [], ◌∷◌, Option, Some, None, if◌then◌else◌, nat_lt, length, refl, ap, sym, subst}
+use Rattle.std.proofs.Common.{◌≡◌, ◌⊎◌, ℕ, ◌+◌, inl, inr, ◌==◌, Bool, true, false, List, [], ◌∷◌, Option, Some, None, if◌then◌else◌, nat_lt, length, refl, sym, subst}
 use Rattle.std.specs.Ordering.{is_eq}
 use Rattle.std.specs.Prelude.{slice_index_or}
 use Rattle.dht_linkto.specs.DirNames.{first_content}

@@ -10,7 +10,7 @@ use Rattle.dht_linkto.specs.declared.found.Found.TheVariants as found
 use Rattle.dht_linkto.specs.declared.names.DirNames.{DirNames}
 use Rattle.dht_layout.specs.Layouts.{even_span}
 use Rattle.dht_laws.specs.Births.{IsBirthFrom, after_birth, BearsFrom, FopsBearOnce}
-use Rattle.dht_fops.specs.Courses.{Course, answers, refuses, on_contents, after_read, contents_in, on_names, after_names, on_number, after_change, number_in, after_any, changes}
+use Rattle.dht_fops.specs.Courses.{Course, answers, refuses, on_contents, after_read, contents_in, on_names, after_names, on_number, after_change, number_in, after_any}
 use Rattle.dht_fops.specs.Courses.Course.{Asks, Extends, Ends}
 use Rattle.dht_fops.specs.Entries.{birth_job, lookup_found, lists_from, births_from, mkdir_found, create_found, drops_link, unlink_found, empties, rmdir_found}
 use Rattle.dht_fops.specs.Fops.{on_name, renames, fop_course}

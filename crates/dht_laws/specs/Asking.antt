@@ -2,7 +2,7 @@
 -- a new graph each of them, and a heal the index of every set.
 use Rattle.std.specs.Prelude.{◌≡◌, ◌⊎◌, ℕ, ◌<◌, List, [], ◌∷◌, Option}
 use Rattle.dht_fops.specs.Fops.{fop_course}
-use Rattle.dht_fops.specs.Handed.{Handed, Event, Always, AnyJob, AnyHold}
+use Rattle.dht_fops.specs.Handed.{Handed, Always, AnyJob, AnyHold}
 use Rattle.dht_fops.specs.Handed.Event.{Replied, Held}
 use Rattle.dht_fops.specs.Volumes.{Kept}
 use Rattle.dht_fops.specs.declared.volume.Volume.{Volume}

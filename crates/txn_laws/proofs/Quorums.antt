@@ -1,12 +1,10 @@
 -- A change is decided exactly with the q-th confirmation.
-use Rattle.std.proofs.Common.{◌≡◌, ℕ, ◌<◌, ◌≤◌, Bool, true, false, ◌&&◌, nat_le, nat_lt, length, Option, Some, None, refl, sym, ap, arith}
+use Rattle.std.proofs.Common.{◌≡◌, ℕ, ◌<◌, ◌≤◌, Bool, true, false, ◌&&◌, nat_le, nat_lt, length, Option, refl, ap, arith}
 use Rattle.std.proofs.lemmas.Bool.Decides.{nat_tests}
 use Rattle.fop_types.specs.declared.cells.Cell.{Cell}
-use Rattle.afr_ledger.specs.Changes.{numbered}
-use Rattle.afr_ledger.specs.Ledger.{State, decided}
+use Rattle.afr_ledger.specs.Ledger.{State}
 use Rattle.afr_ledger.specs.declared.unsettled.Unsettled.{Unsettled}
 use Rattle.afr_phases.specs.Waves.{confirmations}
-use Rattle.afr_transaction.specs.declared.phase.Adopted.{Adopted}
 use Rattle.afr_transaction.specs.declared.phase.Verdict.{Verdict}
 use Rattle.afr_transaction.specs.declared.txn.Txn.{Txn}
 use Rattle.afr_transaction.specs.Changes.{decides, adopted_by}
