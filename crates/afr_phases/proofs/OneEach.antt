@@ -3,7 +3,7 @@ use Rattle.std.proofs.Common.{◌≡◌, ◌∙◌, ℕ, Bool, true, false, List
 use Rattle.std.proofs.lemmas.List.{append_assoc, append-nil}
 use Rattle.fop_types.specs.declared.messages.BrickReq.{BrickReq}
 use Rattle.afr_phases.specs.Flags.{flag}
-use Rattle.afr_phases.specs.Sending.{sends, one_to, one_if}
+use Rattle.afr_phases.specs.Sending.{sends, one_if}
 
 abbrev Requests : Type 0
 Requests = List (ℕ × BrickReq)
