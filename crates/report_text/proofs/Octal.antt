@@ -49,7 +49,7 @@ octal_digit n h =
     digits_onto_nil n ∙ digits_onto_last 63 n [] (omega arith)
     ∙ ap (λ (d : ℕ). digit_glyph false d ∷ []) same ∙ ap (λ (d : ℕ). d ∷ []) (glyph_of_digit n h)
 
-octal_step : (n : ℕ) → 8 ≤ n → n < 2 ^ 16 → digits 8 false n ≡ digits 8 false (n / 8) ++ (48 + n % 8) ∷ []
+pub octal_step : (n : ℕ) → 8 ≤ n → n < 2 ^ 16 → digits 8 false n ≡ digits 8 false (n / 8) ++ (48 + n % 8) ∷ []
 octal_step n low high =
     let g : ℕ = digit_glyph false (n % 8) in
     let some : n / 8 ≡ 0 → ⊥ = λ e. omega arith in

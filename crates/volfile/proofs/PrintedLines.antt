@@ -91,13 +91,13 @@ quoted_front (b ∷ bs) rest h =
     rw (and_false (b == 35)) (rw quote (ap (λ l. b ∷ l) (quoted_front bs rest (second_so (not (b == 34)) (list_all (λ b. not (is_quote b)) bs) h))))
 
 module _ (test : ℕ → Bool) where
-  parts_front : (w : List ℕ) (c : ℕ) (rest : List ℕ) → list_all (λ b. not (test b)) w ≡ true → test c ≡ true → parts_between test (w ++ c ∷ rest) ≡ w ∷ parts_between test rest
+  pub parts_front : (w : List ℕ) (c : ℕ) (rest : List ℕ) → list_all (λ b. not (test b)) w ≡ true → test c ≡ true → parts_between test (w ++ c ∷ rest) ≡ w ∷ parts_between test rest
   parts_front [] c rest h is = rw is refl
   parts_front (b ∷ bs) c rest h is =
       rw (untrue (test b) (first_so (not (test b)) (list_all (λ b. not (test b)) bs) h))
       (ap (onto_first b) (parts_front bs c rest (second_so (not (test b)) (list_all (λ b. not (test b)) bs) h) is))
 
-  parts_alone : (w : List ℕ) → list_all (λ b. not (test b)) w ≡ true → parts_between test w ≡ w ∷ []
+  pub parts_alone : (w : List ℕ) → list_all (λ b. not (test b)) w ≡ true → parts_between test w ≡ w ∷ []
   parts_alone [] h = refl
   parts_alone (b ∷ bs) h =
       rw (untrue (test b) (first_so (not (test b)) (list_all (λ b. not (test b)) bs) h))

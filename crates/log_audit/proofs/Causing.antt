@@ -1,0 +1,120 @@
+-- The causes of what was sent, from what an audit finds.
+use Rattle.std.proofs.Common.{◌≡◌, refl, sym, ap, subst, ◌∙◌, arith, get_or}
+use Rattle.std.specs.Prelude.{ℕ, zero, suc, ◌≢◌, ◌<◌, ◌≤◌, ◌+◌, ◌-◌, ◌==◌, if◌then◌else◌, nat_lt, Bool, true, false, List, [], ◌∷◌, ◌++◌, Option, None, Some, is_some, Result, Ok, Err, IfOk, length, take, slice_get}
+use Rattle.std.proofs.lemmas.Bool.{ltb-true, ltb-false, eqb-true, eqb-false}
+use Rattle.std.proofs.lemmas.List.{take_more}
+use Rattle.fop_types.specs.declared.messages.Input.TheVariants as input
+use Rattle.fop_types.specs.declared.messages.Output.{Output}
+use Rattle.fop_types.specs.declared.messages.Proc.{Proc}
+use Rattle.script_lang.specs.declared.scripts.Action.TheVariants as action
+use Rattle.wire_xdr.specs.WireText.{input_text}
+use Rattle.wire_messages.specs.Messages.{output_in}
+use Rattle.wire_messages.specs.declared.messages.Message.{Message}
+use Rattle.wire_messages.specs.declared.messages.Message.TheVariants.{Whole, Wrong}
+use Rattle.mount_log.specs.Connections.{IsConnected, AtSwitch, AtOpened, IsForDown, ByArmed}
+use Rattle.mount_log.specs.Follows.{IsEvent}
+use Rattle.mount_log.specs.Graphs.{switches_in, switched_by}
+use Rattle.mount_log.specs.Procedures.{proc_in}
+use Rattle.mount_log.specs.declared.logs.HubEvent.{HubEvent}
+use Rattle.mount_log.specs.declared.logs.HubEvent.TheVariants as logged
+use Rattle.mount_log.specs.declared.logs.Log.{Log}
+use Rattle.mount_log.specs.declared.logs.SentLine.{SentLine}
+use Rattle.log_audit.specs.Caused.{event_of, IsOpening, IsConnecting, IsCounted, IsBeforeRequest}
+use Rattle.log_audit.specs.declared.causes.Switched.{Switched}
+
+-- a true answer means more
+pub ok_gives : {E A B : Type 0} → (r : Result Bool E) → IfOk r (λ yes. yes ≡ true → A) → (A → B) → IfOk r (λ yes. yes ≡ true → B)
+ok_gives (Ok b) a f = λ is. f (a is)
+ok_gives (Err e) a f = a
+
+pub event_there : (log : Log) (number : ℕ) (e : HubEvent) → event_of log number ≡ Some e → IsEvent log number e
+event_there log number e is = by (number == 0) refl is where
+  from_one : (n : ℕ) → n ≢ 0 → 1 ≤ n
+  from_one zero ne = absurd (ne refl)
+  from_one (suc n) ne = omega arith
+
+  by : (b : Bool) → (number == 0) ≡ b → (if b then None else slice_get log.events (number - 1)) ≡ Some e → IsEvent log number e
+  by true z none = absurd cc
+  by false z there = record { from_one = from_one number (eqb-false number 0 z); there = there }
+
+-- ---- switches so far
+
+switches_push : (es : List HubEvent) (e : HubEvent) (n : ℕ) → ((rest : List ℕ) → length (switched_by e rest) ≡ n + length rest) → length (switches_in (es ++ e ∷ [])) ≡ length (switches_in es) + n
+switches_push [] e n one = let o = one [] in omega (arith, o)
+switches_push (logged.Act (action.Switch volfile) ∷ es) e n one = let ih = switches_push es e n one in omega (arith, ih)
+switches_push (logged.Act (action.Down brick serve) ∷ es) e n one = switches_push es e n one
+switches_push (logged.Act (action.Up brick) ∷ es) e n one = switches_push es e n one
+switches_push (logged.Act (action.Cut brick) ∷ es) e n one = switches_push es e n one
+switches_push (logged.Act (action.Fault brick p number) ∷ es) e n one = switches_push es e n one
+switches_push (logged.Act action.Heal ∷ es) e n one = switches_push es e n one
+switches_push (logged.Submit session line ∷ es) e n one = switches_push es e n one
+switches_push (logged.Arrive brick bytes ∷ es) e n one = switches_push es e n one
+switches_push (logged.Run graph task ∷ es) e n one = switches_push es e n one
+switches_push (logged.Arm brick p count a ∷ es) e n one = switches_push es e n one
+
+pub counted_next : (events : List HubEvent) (p : Switched) (e : HubEvent) (n : ℕ) → p.next < length events → e ≡ get_or events p.next e → ((rest : List ℕ) → length (switched_by e rest) ≡ n + length rest) → n ≤ 1
+    → IsCounted events p → IsCounted events (record { next = p.next + 1; count = p.count + n })
+counted_next events p e n lt is one few c =
+    let more = take_more events p.next e lt ∙ ap (λ (x : HubEvent). take p.next events ++ x ∷ []) (sym is) in
+    let pushed = ap (λ (l : List HubEvent). length (switches_in l)) more ∙ switches_push (take p.next events) e n one in
+    let a = c.count in let b = c.few in
+    record { count = omega (arith, pushed, a); few = omega (arith, few, b) }
+
+-- ---- connects
+
+module _ (log : Log) (line : SentLine) (graph : ℕ) (passed : Switched) (made : Bool) where
+  opened : (from : ℕ) (bytes : List ℕ) → IsEvent log line.event (logged.Arrive from bytes) → from ≡ line.brick → (m : Message Output) → output_in bytes ≡ m → IsOpening m → IsConnected log line graph
+  opened from bytes event same (Whole output) is kind = AtOpened bytes output (subst (λ (b : ℕ). IsEvent log line.event (logged.Arrive b bytes)) same event) is kind
+  opened from bytes event same (Wrong place) is none = absurd none
+
+  pub connected : (e : HubEvent) → IsCounted log.events passed → event_of log line.event ≡ Some e → (made ≡ true → passed.next ≡ line.event) → (made ≡ true → graph ≡ 1 + passed.count)
+      → IsConnecting line.brick made e → IsConnected log line graph
+  connected (logged.Act (action.Switch volfile)) counted there number graph_is c =
+      AtSwitch volfile (event_there log line.event (logged.Act (action.Switch volfile)) there)
+      (graph_is c.1 ∙ ap (λ (n : ℕ). 1 + n) (counted.count ∙ ap (λ (n : ℕ). length (switches_in (take n log.events))) (number c.1)))
+  connected (logged.Act (action.Down brick serve)) counted there number graph_is c = absurd c.0
+  connected (logged.Act (action.Up brick)) counted there number graph_is c = absurd c.0
+  connected (logged.Act (action.Cut brick)) counted there number graph_is c = absurd c.0
+  connected (logged.Act (action.Fault brick p n)) counted there number graph_is c = absurd c.0
+  connected (logged.Act action.Heal) counted there number graph_is c = absurd c.0
+  connected (logged.Arrive from bytes) counted there number graph_is c = opened from bytes (event_there log line.event (logged.Arrive from bytes) there) c.0 (output_in bytes) refl c.1
+  connected (logged.Submit session l) counted there number graph_is c = absurd c
+  connected (logged.Run g task) counted there number graph_is c = absurd c
+  connected (logged.Arm at p count a) counted there number graph_is c = absurd c
+
+-- ---- downs
+
+abbrev with_bytes : SentLine → List ℕ → SentLine
+with_bytes line bytes = record { event = line.event; brick = line.brick; bytes = bytes }
+
+pub armed : (log : Log) (k : ℕ) (line : SentLine) (serve : ℕ) → slice_get log.sent k ≡ Some line → line.bytes ≡ input_text (input.Down serve) → IsBeforeRequest log.sent (k + 1) line → IsForDown log line serve
+armed log k line serve there bytes before = by (proc_in before.request.bytes) refl before.is_request where
+  by : (o : Option Proc) → proc_in before.request.bytes ≡ o → is_some o ≡ true → IsForDown log line serve
+  by None is none = absurd cc
+  by (Some p) is some = ByArmed p (record {
+    place = k;
+    sent = input.Down serve;
+    request = before.request;
+    is_input = refl;
+    first = there ∙ ap (λ (b : List ℕ). Some (with_bytes line b)) bytes;
+    next = before.there;
+    same_brick = before.same_brick;
+    same_event = before.same_event;
+    is_request = is;
+  })
+
+-- ---- each of a list
+
+-- what holds of the items before a place holds of the next, too
+pub each_next : {X : Type 0} → (P : ℕ → X → Type 0) (xs : List X) (n : ℕ) (x : X) → slice_get xs n ≡ Some x → P n x → ((k : ℕ) (y : X) → k < n → slice_get xs k ≡ Some y → P k y)
+    → (k : ℕ) (y : X) → k < n + 1 → slice_get xs k ≡ Some y → P k y
+each_next {X = X} P xs n x there own before k y lt is = by (nat_lt k n) refl where
+  some : (a b : X) → Some a ≡ Some b → a ≡ b
+  some a b e = cc
+
+  by : (t : Bool) → nat_lt k n ≡ t → P k y
+  by true e = before k y (ltb-true k n e) is
+  by false e =
+      let le = ltb-false k n e in let same : n ≡ k = omega (arith, lt, le) in
+      let x_is : x ≡ y = some x y (sym there ∙ ap (slice_get xs) same ∙ is) in
+      subst (λ (z : X). P k z) x_is (subst (λ (m : ℕ). P m x) same own)

@@ -1,0 +1,141 @@
+-- Where the log is honest of each brick, its arrivals are honest.
+use Rattle.std.proofs.Common.{◌≡◌, refl, sym, ap, subst, ◌∙◌, arith}
+use Rattle.std.specs.Prelude.{ℕ, zero, suc, ◌<◌, ◌≤◌, ◌+◌, ◌==◌, nat_lt, Bool, true, false, List, [], ◌∷◌, ◌++◌, Option, None, Some, length, map, take, drop, slice_get, if◌then◌else◌}
+use Rattle.std.specs.List.{AllByRecursion}
+use Rattle.std.proofs.lemmas.Bool.{ltb-true, ltb-false, eqb-true, eqb-false, false_from_ne_true}
+use Rattle.std.proofs.lemmas.Option.{slice_get_within, slice_get-get_or}
+use Rattle.fop_types.specs.declared.messages.Output.{Output}
+use Rattle.wire_xdr.specs.WireText.{output_text}
+use Rattle.wire_messages.specs.Messages.{output_in}
+use Rattle.wire_messages.specs.declared.messages.Message.{Message}
+use Rattle.wire_messages.specs.declared.messages.Message.TheVariants.{Whole}
+use Rattle.brick_machine.specs.Journal.{Journal}
+use Rattle.brick_machine.specs.Laws.{OutputsStay}
+use Rattle.brick_machine.specs.Machine.{texts_of, outputs_of}
+use Rattle.mount_log.specs.Arrivals.{inputs_to, arrivals_from, arrival_from, sent_before}
+use Rattle.mount_log.specs.declared.logs.HubEvent.{HubEvent}
+use Rattle.mount_log.specs.declared.logs.HubEvent.TheVariants as logged
+use Rattle.mount_log.specs.declared.logs.Log.{Log}
+use Rattle.log_audit.specs.Arriving.{AreTimely, IsTimely, CountsAtMost}
+use Rattle.log_audit.specs.Honest.{IsHonestAt, IsFrom, HasHonestArrivals, HasJournals}
+
+module _ {X : Type 0} where
+  both_parts : (n : ℕ) (xs : List X) → xs ≡ take n xs ++ drop n xs
+  both_parts zero xs = refl
+  both_parts (suc n) [] = refl
+  both_parts (suc n) (x ∷ xs) = ap (λ l. x ∷ l) (both_parts n xs)
+
+  -- a prefix of a prefix
+  take_twice : (n m : ℕ) (xs : List X) → n ≤ m → take n (take m xs) ≡ take n xs
+  take_twice zero m xs le = refl
+  take_twice (suc n) zero xs le = absurd (omega (arith, le))
+  take_twice (suc n) (suc m) [] le = refl
+  take_twice (suc n) (suc m) (x ∷ xs) le = ap (λ l. x ∷ l) (take_twice n m xs (omega (arith, le)))
+
+  -- what is a prefix of xs is one of all, where xs is one of all
+  prefix_of : (ys xs all : List X) → take (length ys) xs ≡ ys → take (length xs) all ≡ xs → take (length ys) all ≡ ys
+  prefix_of [] xs all a b = refl
+  prefix_of (y ∷ ys) [] all a b = absurd cc
+  prefix_of (y ∷ ys) (x ∷ xs) [] a b = absurd cc
+  prefix_of (y ∷ ys) (x ∷ xs) (z ∷ all) a b =
+      ap (λ l. z ∷ l) (prefix_of ys xs all (tails x y (take (length ys) xs) ys a) (tails z x (take (length xs) all) xs b))
+      ∙ ap (λ w. w ∷ ys) (heads z x (take (length xs) all) xs b ∙ heads x y (take (length ys) xs) ys a) where
+        heads : (a b : X) (us vs : List X) → a ∷ us ≡ b ∷ vs → a ≡ b
+        heads a b us vs e = cc
+
+        tails : (a b : X) (us vs : List X) → a ∷ us ≡ b ∷ vs → us ≡ vs
+        tails a b us vs e = cc
+
+module _ {X Y : Type 0} where
+  map_take : (f : X → Y) (n : ℕ) (xs : List X) → map f (take n xs) ≡ take n (map f xs)
+  map_take f zero xs = refl
+  map_take f (suc n) [] = refl
+  map_take f (suc n) (x ∷ xs) = ap (λ l. f x ∷ l) (map_take f n xs)
+
+  long_map : (f : X → Y) (xs : List X) → length (map f xs) ≡ length xs
+  long_map f [] = refl
+  long_map f (x ∷ xs) = ap suc (long_map f xs)
+
+module _ (stay : OutputsStay) where
+  texts_stay : (xs ys : List (List ℕ)) → take (length (texts_of xs)) (texts_of (xs ++ ys)) ≡ texts_of xs
+  texts_stay xs ys =
+      ap (λ n. take n (texts_of (xs ++ ys))) (long_map output_text (outputs_of xs))
+      ∙ sym (map_take output_text (length (outputs_of xs)) (outputs_of (xs ++ ys))) ∙ ap (map output_text) (stay xs ys)
+
+  texts_of_prefix : (n : ℕ) (all journal : List (List ℕ)) → take n all ≡ journal → take (length (texts_of journal)) (texts_of all) ≡ texts_of journal
+  texts_of_prefix n all journal is =
+      ap (λ (l : List (List ℕ)). take (length (texts_of journal)) (texts_of l)) (both_parts n all ∙ ap (λ l. l ++ drop n all) is) ∙ texts_stay journal (drop n all)
+
+  prefix_at : (log : Log) (brick : ℕ) (b : Journal) → IsHonestAt log brick b → arrivals_from brick log.events ≡ take (length (arrivals_from brick log.events)) (texts_of (inputs_to brick log.sent))
+  prefix_at log brick b h =
+      sym (prefix_of (arrivals_from brick log.events) (texts_of b.journal) (texts_of (inputs_to brick log.sent)) h.arrivals (texts_of_prefix (length b.journal) (inputs_to brick log.sent) b.journal h.journal))
+
+-- nothing arrives from a brick that is not there
+none_one : (many brick : ℕ) (e : HubEvent) (rest : List (List ℕ)) → IsFrom many e → many ≤ brick → arrival_from brick e rest ≡ rest
+none_one many brick (logged.Arrive from bytes) rest f le =
+    let ne : (from == brick) ≡ false = false_from_ne_true (from == brick) (λ e. let s = eqb-true from brick e in absurd (omega (arith, s, f, le))) in
+    ap (λ (b : Bool). if b then bytes ∷ rest else rest) ne
+none_one many brick (logged.Submit session line) rest f le = refl
+none_one many brick (logged.Run graph task) rest f le = refl
+none_one many brick (logged.Act a) rest f le = refl
+none_one many brick (logged.Arm at p count a) rest f le = refl
+
+none_arrive : (many brick : ℕ) (events : List HubEvent) → AllByRecursion (IsFrom many) events → many ≤ brick → arrivals_from brick events ≡ []
+none_arrive many brick [] all le = refl
+none_arrive many brick (e ∷ es) all le = none_one many brick e (arrivals_from brick es) all.0 le ∙ none_arrive many brick es all.1 le
+
+each_from : (many : ℕ) (events : List HubEvent) (k : ℕ) (e : HubEvent) → AllByRecursion (IsFrom many) events → slice_get events k ≡ Some e → IsFrom many e
+each_from many [] k e all is = absurd cc
+each_from many (x ∷ events) zero e all is = subst (λ (y : HubEvent). IsFrom many y) (some x e is) all.0 where
+  some : (a b : HubEvent) → Some a ≡ Some b → a ≡ b
+  some a b f = cc
+each_from many (x ∷ events) (suc k) e all is = each_from many events k e all.1 is
+
+there_is : {X : Type 0} (xs : List X) (k : ℕ) → k < length xs → (o : Option X) → slice_get xs k ≡ o → o ≡ None → ⊥
+there_is [] k lt o is none = absurd (omega (arith, lt))
+there_is (x ∷ xs) zero lt None is none = absurd cc
+there_is (x ∷ xs) zero lt (Some y) is none = absurd cc
+there_is (x ∷ xs) (suc k) lt o is none = there_is xs k (omega (arith, lt)) o is none
+
+module _ (stay : OutputsStay) (log : Log) (bricks : List Journal) (from : AllByRecursion (IsFrom (length bricks)) log.events)
+    (each : (k : ℕ) (b : Journal) → k < length bricks → slice_get bricks k ≡ Some b → IsHonestAt log k b) where
+  prefix_by : (brick : ℕ) (o : Option Journal) → slice_get bricks brick ≡ o → (b : Bool) → nat_lt brick (length bricks) ≡ b → arrivals_from brick log.events ≡ take (length (arrivals_from brick log.events)) (texts_of (inputs_to brick log.sent))
+  prefix_by brick (Some j) is true lt = prefix_at stay log brick j (each brick j (ltb-true brick (length bricks) lt) is)
+  prefix_by brick None is true lt = absurd (there_is bricks brick (ltb-true brick (length bricks) lt) None is refl)
+  prefix_by brick o is false lt =
+      let none = none_arrive (length bricks) brick log.events from (ltb-false brick (length bricks) lt) in
+      subst (λ (l : List (List ℕ)). l ≡ take (length l) (texts_of (inputs_to brick log.sent))) (sym none) refl
+
+  timely_by : (k brick : ℕ) (bytes : List ℕ) (output : Output) → slice_get log.events k ≡ Some (logged.Arrive brick bytes) → output_in bytes ≡ Whole output
+      → (o : Option Journal) → slice_get bricks brick ≡ o → output.taken ≤ sent_before (k + 1) brick log.sent
+  timely_by k brick bytes output there whole (Some j) is =
+      let lt : brick < length bricks = each_from (length bricks) log.events k (logged.Arrive brick bytes) from there in
+      let t : CountsAtMost (output_in bytes) (sent_before (k + 1) brick log.sent) = (each brick j lt is).timely.each k (logged.Arrive brick bytes) there refl in
+      subst (λ (m : Message Output). CountsAtMost m (sent_before (k + 1) brick log.sent)) whole t
+  timely_by k brick bytes output there whole None is =
+      let lt : brick < length bricks = each_from (length bricks) log.events k (logged.Arrive brick bytes) from there in
+      absurd (there_is bricks brick lt None is refl)
+
+  pub honest : HasHonestArrivals log
+  honest = record {
+    prefix = λ brick. prefix_by brick (slice_get bricks brick) refl (nat_lt brick (length bricks)) refl;
+    timely = λ k brick bytes output there whole. timely_by k brick bytes output there whole (slice_get bricks brick) refl;
+  }
+
+  pub journals : HasJournals log bricks
+  journals = record { journals = λ brick b there. (each brick b (slice_get_within bricks brick b there) there).journal }
+
+-- one brick more
+pub one_more : (log : Log) (bricks : List Journal) (n : ℕ) (j : Journal) → slice_get bricks n ≡ Some j → IsHonestAt log n j
+    → ((k : ℕ) (b : Journal) → k < n → slice_get bricks k ≡ Some b → IsHonestAt log k b)
+    → (k : ℕ) (b : Journal) → k < n + 1 → slice_get bricks k ≡ Some b → IsHonestAt log k b
+one_more log bricks n j there own before k b lt is = by (nat_lt k n) refl where
+  some : (x y : Journal) → Some x ≡ Some y → x ≡ y
+  some x y f = cc
+
+  by : (t : Bool) → nat_lt k n ≡ t → IsHonestAt log k b
+  by true e = before k b (ltb-true k n e) is
+  by false e =
+      let le = ltb-false k n e in let same : k ≡ n = omega (arith, lt, le) in
+      let jb : j ≡ b = some j b (sym there ∙ ap (slice_get bricks) (sym same) ∙ is) in
+      subst (λ (x : Journal). IsHonestAt log k x) jb (subst (λ (m : ℕ). IsHonestAt log m j) (sym same) own)

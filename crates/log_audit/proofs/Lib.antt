@@ -1,0 +1,11 @@
+pub mod Counts
+pub mod Steps
+pub mod Balanced
+pub mod Prefixes
+pub mod Earlier
+pub mod Honesty
+pub mod Submitting
+pub mod Seen
+pub mod Endings
+pub mod Causing
+pub mod Carrying

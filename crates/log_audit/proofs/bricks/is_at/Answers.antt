@@ -1,0 +1,10 @@
+use Rattle.std.proofs.Common.{◌≡◌, sym, ap, ◌∙◌}
+use Rattle.std.specs.Prelude.{Some}
+use Rattle.std.proofs.lemmas.Option.{slice_get-get_or}
+use Rattle.log_audit.proofs.Prefixes.{same_list}
+use Rattle.log_audit.proofs.bricks.is_at.Goals as goal
+
+pub returns-in-Some : goal.returns-in-Some
+returns-in-Some c = λ yes.
+    slice_get-get_or c.args.list.now c.args.at c.in-Some.found.now c.in-Some.ensures.lookup.3.0
+    ∙ ap Some (sym (c.in-Some.ensures.lookup.3.1 c.in-Some.found.now) ∙ sym c.as_slice.ensures ∙ same_list _ _ (sym c.eq.ensures ∙ yes) ∙ c.as_slice-in-Some.ensures)

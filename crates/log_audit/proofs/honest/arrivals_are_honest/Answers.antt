@@ -1,0 +1,26 @@
+use Rattle.std.proofs.Common.{◌≡◌, sym, ap, subst, ◌∙◌, arith}
+use Rattle.std.specs.Prelude.{◌<◌, Some, length, slice_get}
+use Rattle.std.specs.List.{AllByRecursion}
+use Rattle.std.proofs.lemmas.Option.{slice_get-get_or}
+use Rattle.mount_log.specs.declared.logs.HubEvent.{HubEvent}
+use Rattle.log_audit.specs.Honest.{IsFrom}
+use Rattle.log_audit.proofs.Honesty.{honest, journals, one_more}
+use Rattle.log_audit.proofs.honest.arrivals_are_honest.Goals as goal
+
+pub loop-brick-preserved : goal.loop-brick-preserved
+loop-brick-preserved c =
+    one_more c.args.log.now c.args.bricks.now c.loop-brick.brick c.index-bricks-brick.result
+    (slice_get-get_or c.args.bricks.now c.loop-brick.brick c.index-bricks-brick.result c.loop-brick-test.true ∙ ap Some (sym c.index-bricks-brick.is))
+    (c.in_ok-is_honest.ensures c.if-not-branch.false) c.loop-brick.invariant
+
+pub returns-clause-honest : goal.returns-clause-honest
+returns-clause-honest c = λ _.
+    honest c.outputs_are_in_order.ensures.stay c.args.log.now c.args.bricks.now
+    (subst (λ es. AllByRecursion (IsFrom (length c.args.bricks.now)) es) c.as_slice.ensures (c.are_from.ensures c.if-not-are_from.false))
+    (λ k b lt is. c.loop-brick.invariant k b (omega (arith, lt, c.loop-brick-test.false)) is)
+
+pub returns-clause-journals : goal.returns-clause-journals
+returns-clause-journals c = λ _.
+    journals c.outputs_are_in_order.ensures.stay c.args.log.now c.args.bricks.now
+    (subst (λ es. AllByRecursion (IsFrom (length c.args.bricks.now)) es) c.as_slice.ensures (c.are_from.ensures c.if-not-are_from.false))
+    (λ k b lt is. c.loop-brick.invariant k b (omega (arith, lt, c.loop-brick-test.false)) is)

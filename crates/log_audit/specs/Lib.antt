@@ -1,0 +1,9 @@
+-- In reading order: the last wind of each slot; what it says of the winds so far; prefixes; timely arrivals; causes of what was sent.
+pub mod Slots
+pub mod Agreeing
+pub mod Prefixes
+pub mod Arriving
+pub mod Honest
+pub mod Submitted
+pub mod Replied
+pub mod Caused

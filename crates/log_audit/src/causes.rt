@@ -1,0 +1,322 @@
+//! Whether each input that connects a graph, or has a brick go down or up, was sent for a cause.
+ghost use Rattle.std.specs.Prelude.{◌≡◌, ◌≤◌, ◌+◌, ℕ, List, Some, true, length, option_copied, is_some, slice_get, IfOk};
+ghost use Rattle.script_lang.specs.declared.scripts.Action.TheVariants as action;
+ghost use Rattle.mount_log.specs.declared.logs.HubEvent.TheVariants as logged;
+ghost use Rattle.mount_log.specs.Connections.{IsConnected, IsForDown};
+ghost use Rattle.mount_log.specs.Follows.{IsEvent};
+ghost use Rattle.mount_log.specs.Procedures.{proc_in};
+ghost use Rattle.mount_log.specs.Graphs.{with_switch, switched_by};
+ghost use Rattle.fop_types.specs.declared.messages.Input.TheVariants as input;
+ghost use Rattle.fop_types.specs.declared.messages.OutKind.TheVariants.{Opened};
+ghost use Rattle.wire_xdr.specs.WireText.{input_text};
+ghost use Rattle.wire_messages.specs.Messages.{input_in, output_in};
+ghost use Rattle.log_audit.specs.Caused.{event_of, IsSwitch, IsOpening, IsConnecting, IsCounted, IsBeforeRequest, IsInputCaused, IsCaused, AreCaused};
+
+use crate::requests::is_request;
+use fop_types::{Input, OutKind};
+use mount_log::{HubEvent, Log, SentLine};
+use script_lang::Action;
+use std::alloc::{AllocError, Global};
+use wire_messages::{Message, input_of, output_of};
+
+/// How many events were passed, and how many of them switched to another volfile.
+#[derive(Clone, Copy)]
+pub struct Switched {
+    pub next: usize,
+    pub count: usize,
+}
+
+// The event of this number, from 1.
+fn event_at(log: &Log, number: u64) -> Option<&HubEvent>
+    ensures { option_copied result ≡ event_of log.now number }
+{
+    if number == 0 {
+        return None;
+    }
+    log.events.as_slice().get((number - 1) as usize)
+}
+
+/// The line that was sent at this place.
+pub fn line_at(log: &Log, at: usize) -> Option<&SentLine>
+    ensures { option_copied result ≡ slice_get log.now.sent at }
+{
+    log.sent.as_slice().get(at)
+}
+
+// ---- up
+
+fn is_up(a: &Action, brick: u8) -> bool
+    ensures { result ≡ true → a.now ≡ action.Up brick }
+{
+    match a {
+        Action::Up(at) => *at == brick,
+        _ => false,
+    }
+}
+
+fn acts_up(event: &HubEvent, brick: u8) -> bool
+    ensures { result ≡ true → event.now ≡ logged.Act (action.Up brick) }
+{
+    match event {
+        HubEvent::Act(a) => is_up(a, brick),
+        _ => false,
+    }
+}
+
+fn is_up_caused(log: &Log, line: &SentLine) -> bool
+    ensures { result ≡ true → IsEvent log.now line.now.event (logged.Act (action.Up line.now.brick)) }
+{
+    match event_at(log, line.event) {
+        Some(event) => acts_up(event, line.brick),
+        None => false,
+    }
+}
+
+// ---- connect
+
+fn is_switch(a: &Action) -> bool
+    ensures { result ≡ true → IsSwitch a.now }
+{
+    match a {
+        Action::Switch(_) => true,
+        _ => false,
+    }
+}
+
+fn switch_of(a: &Action) -> usize
+    ensures value { (rest : List ℕ) → length (with_switch a.now rest) ≡ result + length rest }
+    ensures few { result ≤ 1 }
+{
+    match a {
+        Action::Switch(_) => 1,
+        _ => 0,
+    }
+}
+
+fn switch_in(event: &HubEvent) -> usize
+    ensures value { (rest : List ℕ) → length (switched_by event.now rest) ≡ result + length rest }
+    ensures few { result ≤ 1 }
+{
+    match event {
+        HubEvent::Act(a) => switch_of(a),
+        _ => 0,
+    }
+}
+
+// The events up to this number are passed, behind those that were passed before.
+fn count_to(events: &[HubEvent], number: u64, passed: Switched) -> Switched
+    requires { IsCounted events.now passed }
+    ensures { IsCounted events.now result }
+{
+    let mut now = passed;
+    while now.next < events.len() {
+        let event = &events[now.next];
+        if now.next as u64 >= number {
+            return now;
+        }
+        now = Switched {
+            next: now.next + 1,
+            count: now.count + switch_in(event),
+        };
+    }
+    now
+}
+
+fn passed_to(log: &Log, number: u64, passed: Switched) -> Switched
+    requires { IsCounted log.now.events passed }
+    ensures { IsCounted log.now.events result }
+{
+    count_to(log.events.as_slice(), number, passed)
+}
+
+fn is_opened(kind: &OutKind) -> bool
+    ensures { result ≡ true → kind.now ≡ Opened }
+{
+    match kind {
+        OutKind::Opened => true,
+        _ => false,
+    }
+}
+
+fn says_opened(alloc: Global, bytes: &[u8]) -> Result<bool, AllocError>
+    ensures { IfOk result (λ yes. yes ≡ true → IsOpening (output_in bytes.now)) }
+{
+    match output_of(alloc, bytes)? {
+        Message::Whole(output) => Ok(is_opened(&output.kind)),
+        Message::Wrong { place: _ } => Ok(false),
+    }
+}
+
+// Whether an event connects a graph to a brick, where a switch would make the graph or not.
+fn connects(alloc: Global, event: &HubEvent, brick: u8, made: bool) -> Result<bool, AllocError>
+    ensures { IfOk result (λ yes. yes ≡ true → IsConnecting brick made event.now) }
+{
+    match event {
+        HubEvent::Act(a) => Ok(made && is_switch(a)),
+        HubEvent::Arrive { brick: from, bytes } => {
+            if *from != brick {
+                return Ok(false);
+            }
+            says_opened(alloc, bytes.as_slice())
+        }
+        _ => Ok(false),
+    }
+}
+
+// Whether the switch of this event, the last that was passed, makes the graph.
+fn makes(number: u64, graph: u32, passed: Switched) -> bool
+    ensures number { result ≡ true → passed.next ≡ number }
+    ensures graph { result ≡ true → graph ≡ 1 + passed.count }
+{
+    if passed.next as u64 != number || graph == 0 {
+        return false;
+    }
+    graph as usize - 1 == passed.count
+}
+
+fn is_connect_caused(
+    alloc: Global,
+    log: &Log,
+    line: &SentLine,
+    graph: u32,
+    passed: Switched,
+) -> Result<bool, AllocError>
+    requires { IsCounted log.now.events passed }
+    ensures { IfOk result (λ yes. yes ≡ true → IsConnected log.now line.now graph) }
+{
+    if line.event == 0 {
+        return Ok(graph == 1);
+    }
+    let made = makes(line.event, graph, passed);
+    match event_at(log, line.event) {
+        Some(event) => connects(alloc, event, line.brick, made),
+        None => Ok(false),
+    }
+}
+
+// ---- down
+
+fn is_down(a: &Action, brick: u8, serve: u32) -> bool
+    ensures { result ≡ true → a.now ≡ action.Down brick serve }
+{
+    match a {
+        Action::Down(at, number) => *at == brick && *number == serve,
+        _ => false,
+    }
+}
+
+fn acts_down(event: &HubEvent, brick: u8, serve: u32) -> bool
+    ensures { result ≡ true → event.now ≡ logged.Act (action.Down brick serve) }
+{
+    match event {
+        HubEvent::Act(a) => is_down(a, brick, serve),
+        _ => false,
+    }
+}
+
+fn is_act_of_down(log: &Log, line: &SentLine, serve: u32) -> bool
+    ensures { result ≡ true → IsEvent log.now line.now.event (logged.Act (action.Down line.now.brick serve)) }
+{
+    match event_at(log, line.event) {
+        Some(event) => acts_down(event, line.brick, serve),
+        None => false,
+    }
+}
+
+fn is_request_line(line: &SentLine) -> bool
+    ensures { result ≡ is_some (proc_in line.now.bytes) }
+{
+    is_request(line.bytes.as_slice())
+}
+
+// Whether two lines were sent to the same brick in the same event.
+fn are_together(a: &SentLine, b: &SentLine) -> bool
+    ensures brick { result ≡ true → a.now.brick ≡ b.now.brick }
+    ensures event { result ≡ true → a.now.event ≡ b.now.event }
+{
+    a.brick == b.brick && a.event == b.event
+}
+
+// Whether the line at a place is a request to the same brick in the same event as another line.
+fn is_before_request(log: &Log, next: usize, line: &SentLine) -> bool
+    ensures { result ≡ true → IsBeforeRequest log.now.sent next line.now }
+{
+    match line_at(log, next) {
+        Some(request) => are_together(request, line) && is_request_line(request),
+        None => false,
+    }
+}
+
+fn is_down_caused(log: &Log, k: usize, line: &SentLine, serve: u32) -> bool
+    requires there { slice_get log.now.sent k ≡ Some line.now }
+    requires bytes { line.now.bytes ≡ input_text (input.Down serve) }
+    ensures { result ≡ true → IsForDown log.now line.now serve }
+{
+    if is_act_of_down(log, line, serve) {
+        return true;
+    }
+    if k >= log.sent.len() {
+        return false;
+    }
+    is_before_request(log, k + 1, line)
+}
+
+// ---- all
+
+fn is_input_caused(
+    alloc: Global,
+    log: &Log,
+    k: usize,
+    line: &SentLine,
+    input: &Input,
+    passed: Switched,
+) -> Result<bool, AllocError>
+    requires there { slice_get log.now.sent k ≡ Some line.now }
+    requires bytes { line.now.bytes ≡ input_text input.now }
+    requires counted { IsCounted log.now.events passed }
+    ensures { IfOk result (λ yes. yes ≡ true → IsInputCaused log.now line.now input.now) }
+{
+    match input {
+        Input::Up => Ok(is_up_caused(log, line)),
+        Input::Connect { graph, .. } => is_connect_caused(alloc, log, line, *graph, passed),
+        Input::Down { serve } => Ok(is_down_caused(log, k, line, *serve)),
+        _ => Ok(true),
+    }
+}
+
+fn is_caused(
+    alloc: Global,
+    log: &Log,
+    k: usize,
+    line: &SentLine,
+    passed: Switched,
+) -> Result<bool, AllocError>
+    requires there { slice_get log.now.sent k ≡ Some line.now }
+    requires counted { IsCounted log.now.events passed }
+    ensures { IfOk result (λ yes. yes ≡ true → IsCaused log.now line.now (input_in line.now.bytes)) }
+{
+    match input_of(alloc, line.bytes.as_slice())? {
+        Message::Whole(input) => is_input_caused(alloc, log, k, line, &input, passed),
+        Message::Wrong { place: _ } => Ok(true),
+    }
+}
+
+/// Whether each line that was sent has its cause, as far as it connects a graph or has a brick go down or up.
+///
+/// # Errors
+/// Out of memory.
+pub fn lines_are_caused(alloc: Global, log: &Log) -> Result<bool, AllocError>
+    ensures { IfOk result (λ yes. yes ≡ true → AreCaused log.now) }
+{
+    let mut passed = Switched { next: 0, count: 0 };
+    for k in 0..log.sent.len() {
+        let Some(line) = line_at(log, k) else {
+            return Ok(false);
+        };
+        passed = passed_to(log, line.event, passed);
+        if !is_caused(alloc, log, k, line, passed)? {
+            return Ok(false);
+        }
+    }
+    Ok(true)
+}

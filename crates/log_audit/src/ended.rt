@@ -1,0 +1,50 @@
+//! Whether each call of a script was submitted and has one reply.
+ghost use Rattle.std.specs.Prelude.{◌≡◌, ◌≤◌, true, length, IfOk};
+ghost use Rattle.script_lang.specs.Accepted.{IsAccepted, calls_of};
+ghost use Rattle.mount_log.specs.Follows.{AreInOrder, IsFinished};
+ghost use Rattle.log_audit.specs.Submitted.{submits_among};
+
+use crate::finished::have_one_reply;
+use mount_log::{HubEvent, Log};
+use script_lang::{Phase, Script};
+use std::alloc::{AllocError, Global};
+
+fn count_submits(events: &[HubEvent]) -> usize
+    ensures { result ≡ submits_among events.now }
+{
+    let mut count = 0usize;
+    for event in events {
+        let HubEvent::Submit { .. } = event else {
+            continue;
+        };
+        count += 1;
+    }
+    count
+}
+
+fn count_calls(phases: &[Phase]) -> usize
+    requires { length (calls_of phases.now) ≤ 4096 }
+    ensures { result ≡ length (calls_of phases.now) }
+{
+    let mut count = 0usize;
+    for phase in phases {
+        count += phase.calls.len();
+    }
+    count
+}
+
+/// Whether each call of the script was submitted and has one reply, where sessions submit their lines in order.
+///
+/// # Errors
+/// Out of memory.
+pub fn is_finished(alloc: Global, script: &Script, log: &Log) -> Result<bool, AllocError>
+    requires { IsAccepted script.now }
+    ensures { IfOk result (λ yes. yes ≡ true → AreInOrder script.now log.now → IsFinished script.now log.now) }
+{
+    let calls = count_calls(script.phases.as_slice());
+    if count_submits(log.events.as_slice()) != calls {
+        return Ok(false);
+    }
+    let one = have_one_reply(alloc, calls, log.replies.as_slice())?;
+    Ok(one)
+}

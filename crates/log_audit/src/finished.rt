@@ -1,0 +1,63 @@
+//! Whether each call has one reply.
+ghost use Rattle.std.specs.Prelude.{◌≡◌, ◌≤◌, ℕ, true, [], IfOk};
+ghost use Rattle.log_audit.specs.Replied.{HaveOne, AreSeen, Sees, all_seen};
+
+use mount_log::ReplyLine;
+use std::alloc::{AllocError, Global};
+
+// No call of so many was seen.
+fn none_seen(alloc: Global, calls: usize) -> Result<Vec<bool>, AllocError>
+    ensures { IfOk result (λ seen. AreSeen calls [] seen.items) }
+{
+    let mut seen = Vec::with_capacity(alloc, calls)?;
+    for _ in 0..calls {
+        seen.push(false)?;
+    }
+    Ok(seen)
+}
+
+// A reply to a call is seen. It is false, with nothing changed, where the call is none of those, or was seen before.
+fn see(seen: &mut Vec<bool>, call: u32) -> bool
+    ensures { result ≡ true → Sees seen.old.items call seen.new.items }
+{
+    if call == 0 {
+        return false;
+    }
+    let index = call as usize - 1;
+    if index >= seen.len() || seen[index] {
+        return false;
+    }
+    seen[index] = true;
+    true
+}
+
+fn are_all(seen: &[bool]) -> bool
+    ensures { result ≡ all_seen seen.now }
+{
+    for one in seen {
+        if !*one {
+            return false;
+        }
+    }
+    true
+}
+
+/// Whether each call of so many, by their numbers from 1, has one reply.
+///
+/// # Errors
+/// Out of memory.
+pub fn have_one_reply(
+    alloc: Global,
+    calls: usize,
+    replies: &[ReplyLine],
+) -> Result<bool, AllocError>
+    ensures { IfOk result (λ yes. yes ≡ true → HaveOne calls replies.now) }
+{
+    let mut seen = none_seen(alloc, calls)?;
+    for reply in replies {
+        if !see(&mut seen, reply.call) {
+            return Ok(false);
+        }
+    }
+    Ok(are_all(seen.as_slice()))
+}

@@ -1,0 +1,49 @@
+//! The procedure of a request, by its encoding.
+ghost use Rattle.std.specs.Prelude.{◌≡◌, is_some};
+ghost use Rattle.mount_log.specs.Procedures.{rank_in, proc_in};
+
+use fop_types::Proc;
+
+const PROCS: [Proc; 12] = [
+    Proc::Lock,
+    Proc::Unlock,
+    Proc::Mark,
+    Proc::Op,
+    Proc::Post,
+    Proc::Fetch,
+    Proc::Replace,
+    Proc::Clear,
+    Proc::Settle,
+    Proc::Index,
+    Proc::Open,
+    Proc::Release,
+];
+
+const KINDS: usize = 16;
+
+const REQUEST: [u8; 4] = [0, 0, 0, 0];
+
+fn rank(input: &[u8]) -> Option<u8>
+    ensures { result ≡ rank_in input.now }
+{
+    if input.len() < KINDS + 4 || &input[..4] != REQUEST.as_slice() {
+        return None;
+    }
+    let number = input[KINDS + 3];
+    if number == 0 { None } else { Some(number - 1) }
+}
+
+// The procedure of an input that is a request, and `None` of other inputs.
+fn request_proc(input: &[u8]) -> Option<Proc>
+    ensures { result ≡ proc_in input.now }
+{
+    let rank = rank(input)?;
+    PROCS.get(rank as usize).copied()
+}
+
+/// Whether an input is a request.
+pub fn is_request(input: &[u8]) -> bool
+    ensures { result ≡ is_some (proc_in input.now) }
+{
+    request_proc(input).is_some()
+}

@@ -1,0 +1,92 @@
+//! Whether outputs arrive after the inputs that they count.
+ghost use Rattle.std.specs.Prelude.{◌≡◌, ◌≤◌, ◌==◌, ℕ, List, true, if◌then◌else◌, IfOk};
+ghost use Rattle.mount_log.specs.declared.logs.SentLine.{SentLine as Line};
+ghost use Rattle.mount_log.specs.Arrivals.{sent_before};
+ghost use Rattle.log_audit.specs.Arriving.{CountsAtMost, IsTimely, AreTimely, IsLow};
+ghost use Rattle.wire_messages.specs.Messages.{output_in};
+
+use mount_log::{HubEvent, SentLine};
+use std::alloc::{AllocError, Global};
+use wire_messages::{Message, output_of};
+
+/// How many lines were passed, and how many of them were sent to a brick.
+#[derive(Clone, Copy)]
+pub struct Passed {
+    pub next: usize,
+    pub count: usize,
+}
+
+// Counts a line, if it was sent to the brick.
+fn sent_to_it(line: &SentLine, brick: u8) -> usize
+    ensures value { result ≡ (if line.now.brick == brick then 1 else 0) }
+    ensures few { result ≤ 1 }
+{
+    if line.brick == brick { 1 } else { 0 }
+}
+
+// The lines that were sent before an event are passed, behind those that were passed before an earlier one.
+fn pass_to(brick: u8, sent: &[SentLine], number: u64, passed: Passed, before: u64) -> Passed
+    requires low { IsLow brick before sent.now passed }
+    requires later { before ≤ number }
+    ensures low { IsLow brick number sent.now result }
+{
+    let mut now = passed;
+    while now.next < sent.len() {
+        let line = &sent[now.next];
+        if line.event >= number {
+            return now;
+        }
+        now = Passed {
+            next: now.next + 1,
+            count: now.count + sent_to_it(line, brick),
+        };
+    }
+    now
+}
+
+// Whether an output, by its bytes, counts at most so many inputs.
+fn counts_at_most(alloc: Global, bytes: &[u8], many: usize) -> Result<bool, AllocError>
+    ensures { IfOk result (λ yes. yes ≡ true → CountsAtMost (output_in bytes.now) many) }
+{
+    match output_of(alloc, bytes)? {
+        Message::Whole(output) => Ok(output.taken <= many as u64),
+        Message::Wrong { place: _ } => Ok(true),
+    }
+}
+
+// Whether what arrives in an event is timely, where so many inputs were sent to the brick before.
+fn is_timely(alloc: Global, brick: u8, event: &HubEvent, many: usize) -> Result<bool, AllocError>
+    ensures { IfOk result (λ yes. yes ≡ true → (sent : List Line) (number : ℕ) → many ≤ sent_before number brick sent → IsTimely brick sent number event.now) }
+{
+    match event {
+        HubEvent::Arrive { brick: from, bytes } => {
+            if *from != brick {
+                return Ok(true);
+            }
+            counts_at_most(alloc, bytes.as_slice(), many)
+        }
+        _ => Ok(true),
+    }
+}
+
+/// Whether each output that arrives from a brick counts no more inputs than were sent to the brick before.
+///
+/// # Errors
+/// Out of memory.
+pub fn are_timely(
+    alloc: Global,
+    brick: u8,
+    events: &[HubEvent],
+    sent: &[SentLine],
+) -> Result<bool, AllocError>
+    ensures { IfOk result (λ yes. yes ≡ true → AreTimely brick events.now sent.now) }
+{
+    let mut passed = Passed { next: 0, count: 0 };
+    for k in 0..events.len() {
+        passed = pass_to(brick, sent, k as u64 + 1, passed, k as u64);
+        if !is_timely(alloc, brick, &events[k], passed.count)? {
+            return Ok(false);
+        }
+    }
+    Ok(true)
+}

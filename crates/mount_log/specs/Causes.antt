@@ -1,0 +1,136 @@
+-- What an I/O error rests on: bricks that were lost to the call's graph, each with the number of its last connection; bricks
+-- that answered a request of the call by a fault, each with its place in the journal; or rows that bricks showed with the
+-- locks of the call.
+use Rattle.std.specs.Prelude.{◌≡◌, ◌≢◌, ℕ, ◌+◌, ◌-◌, ◌<◌, ◌≤◌, ◌==◌, false, List, [], ◌++◌, Option, None, Some, Contains, length, map, slice_get}
+use Rattle.std.specs.List.{AllByRecursion, IsDistinct}
+use Rattle.fop_types.specs.declared.answers.Answer.{Answer}
+use Rattle.fop_types.specs.declared.answers.Answer.TheVariants as answer
+use Rattle.fop_types.specs.declared.answers.IoError.{IoError}
+use Rattle.fop_types.specs.declared.answers.IoError.TheVariants as io
+use Rattle.fop_types.specs.declared.answers.SplitRow.{SplitRow}
+use Rattle.fop_types.specs.declared.contents.Row.{Row}
+use Rattle.fop_types.specs.declared.jobs.SetPlan.{SetPlan}
+use Rattle.fop_types.specs.declared.messages.BrickRep.{BrickRep}
+use Rattle.fop_types.specs.declared.messages.BrickRep.TheVariants as rep
+use Rattle.fop_types.specs.declared.messages.DoneArm.TheVariants as done
+use Rattle.fop_types.specs.declared.messages.OutKind.TheVariants as out
+use Rattle.fop_types.specs.declared.messages.Output.{Output}
+use Rattle.graph_build.specs.declared.plans.Plan.{Plan}
+use Rattle.script_lang.specs.declared.scripts.Script.{Script}
+use Rattle.wire_messages.specs.Messages.{output_in}
+use Rattle.wire_messages.specs.declared.messages.Message.TheVariants.{Whole}
+use Rattle.xlator_law.specs.Numbers.{wind_number}
+use Rattle.mount_log.specs.declared.logs.HubEvent.TheVariants as logged
+use Rattle.mount_log.specs.declared.logs.Log.{Log}
+use Rattle.mount_log.specs.declared.logs.ReplyLine.{ReplyLine}
+use Rattle.mount_log.specs.declared.logs.WindLine.{WindLine}
+use Rattle.mount_log.specs.Connections.{is_open_after, last_connection, graph_of_call}
+use Rattle.mount_log.specs.Graphs.{volfiles_of}
+use Rattle.mount_log.specs.Submissions.{submitted_at}
+
+-- ---- the set
+
+abbrev pub set_of_plan : Option Plan → ℕ → Option SetPlan
+set_of_plan None set = None
+set_of_plan (Some plan) set = slice_get plan.sets set
+
+abbrev pub plan_of_volfile : List Plan → Option ℕ → Option Plan
+plan_of_volfile plans None = None
+plan_of_volfile plans (Some volfile) = slice_get plans volfile
+
+-- a set, by the plan of the graph in which a call is carried out
+abbrev pub set_of_call : Script → List Plan → Log → ℕ → ℕ → Option SetPlan
+set_of_call script plans log call set =
+    set_of_plan (plan_of_volfile plans (slice_get (volfiles_of script log) (graph_of_call log call - 1))) set
+
+-- ---- the evidence
+
+-- A brick of the set was without an open connection in the call's graph at some moment between the call's submission and
+-- this event, after `moment` events; it is named with the number of its last connection then.
+pub record IsLost (log : Log) (plan : SetPlan) (call until : ℕ) (pair : ℕ × ℕ) : Type 0 where
+  pub member : Contains plan.bricks pair.0
+  pub moment : ℕ
+  pub since : submitted_at log call ≤ moment + 1
+  pub before : moment ≤ until
+  pub closed : is_open_after log (graph_of_call log call) pair.0 moment ≡ false
+  pub number : pair.1 ≡ last_connection log (graph_of_call log call) pair.0 moment
+
+-- a wind of a call was opened in the log
+pub record IsWindOf (log : Log) (call wind : ℕ) : Type 0 where
+  pub place : ℕ
+  pub line : WindLine
+  pub there : slice_get log.winds place ≡ Some line
+  pub call_is : line.call ≡ call
+  pub wind_is : wind_number line.wind ≡ wind
+
+-- the brick answered this to a request of the call, by the event of this number
+pub record IsRepliedBy (log : Log) (call until brick wind : ℕ) (r : BrickRep) (output : Output) : Type 0 where
+  pub place : ℕ
+  pub bytes : List ℕ
+  pub arrives : slice_get log.events place ≡ Some (logged.Arrive brick bytes)
+  pub by_then : place < until
+  pub read : output_in bytes ≡ Whole output
+  pub reply : output.kind ≡ out.Reply wind r
+  pub of_call : IsWindOf log call wind
+
+-- a brick answered Fault to a request of the call at this place in its journal; a lock is never answered late by a fault
+pub record IsFaulted (log : Log) (plan : SetPlan) (call until : ℕ) (pair : ℕ × ℕ) : Type 0 where
+  pub member : Contains plan.bricks pair.0
+  pub wind : ℕ
+  pub output : Output
+  pub answered : IsRepliedBy log call until pair.0 wind rep.Fault output
+  pub place : pair.1 ≡ output.taken
+
+-- a brick showed this row with a lock of the call
+pub record IsShown (log : Log) (plan : SetPlan) (call until : ℕ) (row : SplitRow) : Type 0 where
+  pub member : Contains plan.bricks row.brick
+  pub wind : ℕ
+  pub output : Output
+  pub rows : List Row
+  pub answered : IsRepliedBy log call until row.brick wind (rep.Done (done.Rows rows)) output
+  pub among : Contains rows row.row
+
+abbrev pub brick_of : ℕ × ℕ → ℕ
+brick_of pair = pair.0
+
+-- enough bricks that the others are no quorum
+abbrev pub AreEnough : SetPlan → List ℕ → Type 0
+AreEnough plan bricks = IsDistinct ◌==◌ bricks × (length plan.bricks - plan.q + 1 ≤ length bricks)
+
+pub record IsQuorumLost (log : Log) (plan : SetPlan) (call until : ℕ) (lost : List (ℕ × ℕ)) : Type 0 where
+  pub each : AllByRecursion (IsLost log plan call until) lost
+  pub enough : AreEnough plan (map brick_of lost)
+
+pub record IsFault (log : Log) (plan : SetPlan) (call until : ℕ) (faults lost : List (ℕ × ℕ)) : Type 0 where
+  pub some : faults ≢ []
+  pub each_fault : AllByRecursion (IsFaulted log plan call until) faults
+  pub each_lost : AllByRecursion (IsLost log plan call until) lost
+  pub enough : AreEnough plan (map brick_of faults ++ map brick_of lost)
+
+-- the rows that bricks showed; that no brick is sound by them is a clause of its own, over the rows of one lock phase
+pub record IsSplit (log : Log) (plan : SetPlan) (call until : ℕ) (rows : List SplitRow) : Type 0 where
+  pub each : AllByRecursion (IsShown log plan call until) rows
+
+-- ---- an I/O error has its cause
+
+abbrev pub set_named : IoError → ℕ
+set_named (io.Quorum set lost) = set
+set_named (io.Split set rows) = set
+set_named (io.Fault set faults lost) = set
+
+abbrev pub HasEvidence : Log → SetPlan → ℕ → ℕ → IoError → Type 0
+HasEvidence log plan call until (io.Quorum set lost) = IsQuorumLost log plan call until lost
+HasEvidence log plan call until (io.Split set rows) = IsSplit log plan call until rows
+HasEvidence log plan call until (io.Fault set faults lost) = IsFault log plan call until faults lost
+
+pub record HasCause (script : Script) (plans : List Plan) (log : Log) (reply : ReplyLine) (error : IoError) : Type 0 where
+  pub plan : SetPlan
+  pub set : set_of_call script plans log reply.call (set_named error) ≡ Some plan
+  pub evidence : HasEvidence log plan reply.call reply.event error
+
+abbrev pub IsCaused : Script → List Plan → Log → ReplyLine → Answer → Type 0
+IsCaused script plans log reply (answer.Io error) = HasCause script plans log reply error
+IsCaused script plans log reply other = Unit {0}
+
+abbrev pub AreCaused : Script → List Plan → Log → Type 0
+AreCaused script plans log = (k : ℕ) (reply : ReplyLine) → slice_get log.replies k ≡ Some reply → IsCaused script plans log reply reply.answer

@@ -1,0 +1,130 @@
+-- When a log follows a script, and when it is finished. Each session's calls are submitted in order, those of a phase once
+-- all earlier phases have ended; each control of a phase is carried out once, as an event of its own, or, where it was armed,
+-- directly before its request; and there is no other action.
+use Rattle.std.specs.Prelude.{◌≡◌, ℕ, ◌+◌, ◌-◌, ◌<◌, ◌≤◌, ◌==◌, List, [], ◌∷◌, Option, Some, None, length, slice_get, take, if◌then◌else◌}
+use Rattle.fop_types.specs.declared.messages.Input.{Input}
+use Rattle.fop_types.specs.declared.messages.Input.TheVariants as input
+use Rattle.fop_types.specs.declared.messages.Proc.{Proc}
+use Rattle.script_lang.specs.Accepted.{calls_of}
+use Rattle.script_lang.specs.declared.scripts.Action.{Action}
+use Rattle.script_lang.specs.declared.scripts.Action.TheVariants as action
+use Rattle.script_lang.specs.declared.scripts.CallLine.{CallLine}
+use Rattle.script_lang.specs.declared.scripts.ControlLine.{ControlLine}
+use Rattle.script_lang.specs.declared.scripts.Phase.{Phase}
+use Rattle.script_lang.specs.declared.scripts.Script.{Script}
+use Rattle.script_lang.specs.declared.scripts.When.TheVariants as moment
+use Rattle.wire_xdr.specs.WireText.{input_text}
+use Rattle.mount_log.specs.Procedures.{proc_in}
+use Rattle.mount_log.specs.declared.logs.HubEvent.{HubEvent}
+use Rattle.mount_log.specs.declared.logs.HubEvent.TheVariants as logged
+use Rattle.mount_log.specs.declared.logs.Log.{Log}
+use Rattle.mount_log.specs.declared.logs.ReplyLine.{ReplyLine}
+use Rattle.mount_log.specs.declared.logs.SentLine.{SentLine}
+use Rattle.mount_log.specs.declared.places.LineAt.{LineAt}
+use Rattle.mount_log.specs.Submissions.{session_line, place_of_line, submits_of, submissions_of, submitted_at, replied_at}
+
+-- the event of this number, from 1
+pub record IsEvent (log : Log) (number : ℕ) (e : HubEvent) : Type 0 where
+  pub from_one : 1 ≤ number
+  pub there : slice_get log.events (number - 1) ≡ Some e
+
+-- the control at a place of a phase
+abbrev pub control_in : Option Phase → ℕ → Option ControlLine
+control_in None at = None
+control_in (Some phase) at = slice_get phase.controls at
+
+abbrev pub control_at : Script → ℕ → ℕ → Option ControlLine
+control_at script phase at = control_in (slice_get script.phases phase) at
+
+-- ---- submissions
+
+-- a session's next line is submitted, with its number in the script
+pub record IsNextLine (script : Script) (log : Log) (k session line : ℕ) : Type 0 where
+  pub there : CallLine
+  pub next : session_line script session (submits_of session (take k log.events)) ≡ Some there
+  pub number : line ≡ there.line
+
+abbrev pub AreInOrder : Script → Log → Type 0
+AreInOrder script log = (k session line : ℕ) → slice_get log.events k ≡ Some (logged.Submit session line) → IsNextLine script log k session line
+
+-- ---- controls
+
+-- the input that an action sends to its brick, if it is one that can be armed
+abbrev pub input_of : Action → Option Input
+input_of (action.Down brick serve) = Some (input.Down serve)
+input_of (action.Fault brick p number) = Some (input.FaultAt p number)
+input_of (action.Up brick) = None
+input_of (action.Cut brick) = None
+input_of action.Heal = None
+input_of (action.Switch volfile) = None
+
+-- in this event the action's input is sent to a brick directly before a request of this procedure
+pub record IsSentBefore (log : Log) (number brick : ℕ) (p : Proc) (a : Action) : Type 0 where
+  pub place : ℕ
+  pub sent : Input
+  pub request : SentLine
+  pub is_input : input_of a ≡ Some sent
+  pub first : slice_get log.sent place ≡ Some (record { event = number; brick = brick; bytes = input_text sent })
+  pub next : slice_get log.sent (place + 1) ≡ Some request
+  pub same_brick : request.brick ≡ brick
+  pub same_event : request.event ≡ number
+  pub is_request : proc_in request.bytes ≡ Some p
+
+-- how a control is carried out in an event
+pub data IsCarriedIn (log : Log) (number : ℕ) (c : ControlLine) : Type 0 where
+  ByEvent : IsEvent log number (logged.Act c.action) → IsCarriedIn log number c
+  ByRequest : (brick : ℕ) (p : Proc) (count : ℕ) → c.when ≡ moment.Before brick p count → IsSentBefore log number brick p c.action → IsCarriedIn log number c
+
+-- the action of an event is that of a control which is carried out there
+pub record IsCarriedAt (script : Script) (carried_at : ℕ → ℕ → ℕ) (number : ℕ) (a : Action) : Type 0 where
+  pub phase : ℕ
+  pub at : ℕ
+  pub control : ControlLine
+  pub there : control_at script phase at ≡ Some control
+  pub number_is : carried_at phase at ≡ number
+  pub action_is : control.action ≡ a
+
+-- what is armed is a control of the script, for its request
+pub record IsControlBefore (script : Script) (brick : ℕ) (p : Proc) (count : ℕ) (a : Action) : Type 0 where
+  pub phase : ℕ
+  pub at : ℕ
+  pub control : ControlLine
+  pub there : control_at script phase at ≡ Some control
+  pub when_is : control.when ≡ moment.Before brick p count
+  pub action_is : control.action ≡ a
+
+-- a plan of the run: the event in which each control is carried out, and the last event of each phase
+pub record RunOf (script : Script) (log : Log) : Type 0 where
+  pub carried_at : ℕ → ℕ → ℕ
+  pub ended_at : ℕ → ℕ
+  pub carried : (phase at : ℕ) (c : ControlLine) → control_at script phase at ≡ Some c → IsCarriedIn log (carried_at phase at) c
+  pub within : (phase at : ℕ) (c : ControlLine) → control_at script phase at ≡ Some c → carried_at phase at ≤ ended_at phase
+  pub after : (phase at : ℕ) (c : ControlLine) → control_at script (phase + 1) at ≡ Some c → ended_at phase < carried_at (phase + 1) at
+  -- controls without a condition are carried out in their order
+  pub in_order : (phase i j : ℕ) (a b : ControlLine) → control_at script phase i ≡ Some a → control_at script phase j ≡ Some b
+      → a.when ≡ moment.Now → b.when ≡ moment.Now → i < j → carried_at phase i < carried_at phase j
+  -- a call is submitted once the phases before its own have ended, and answered before its own ends
+  pub submitted : (k session line : ℕ) (at : LineAt) → slice_get log.events k ≡ Some (logged.Submit session line)
+      → place_of_line script session (submits_of session (take k log.events)) ≡ Some at
+      → (k < ended_at at.phase) × ((earlier : ℕ) → earlier < at.phase → ended_at earlier ≤ k)
+  pub answered : (k session line number : ℕ) (at : LineAt) → slice_get log.events k ≡ Some (logged.Submit session line)
+      → place_of_line script session (submits_of session (take k log.events)) ≡ Some at → submitted_at log number ≡ k + 1
+      → replied_at log number ≤ ended_at at.phase
+  -- there is no other action, and nothing is armed but controls
+  pub no_other : (number : ℕ) (a : Action) → IsEvent log number (logged.Act a) → IsCarriedAt script carried_at number a
+  pub armed : (number brick count : ℕ) (p : Proc) (a : Action) → IsEvent log number (logged.Arm brick p count a) → IsControlBefore script brick p count a
+
+pub record FollowsScript (script : Script) (log : Log) : Type 0 where
+  pub submitted : AreInOrder script log
+  pub run : RunOf script log
+
+-- ---- finished
+
+abbrev pub replies_to : ℕ → List ReplyLine → ℕ
+replies_to number [] = 0
+replies_to number (reply ∷ replies) = (if reply.call == number then 1 else 0) + replies_to number replies
+
+-- every call was submitted and has one reply; that every control was carried out is in the plan of the run
+pub record IsFinished (script : Script) (log : Log) : Type 0 where
+  pub submitted : length (submissions_of script log) ≡ length (calls_of script.phases)
+  pub replied : (number : ℕ) → 1 ≤ number → number ≤ length (calls_of script.phases) → replies_to number log.replies ≡ 1

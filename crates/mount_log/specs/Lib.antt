@@ -1,0 +1,12 @@
+-- In reading order: the log; lines of a script; submissions and replies; the graphs of a run; winds; the procedure of a
+-- request; when a log follows its script; connections; causes of I/O errors.
+pub mod Logs
+pub mod Lines
+pub mod Submissions
+pub mod Graphs
+pub mod Winds
+pub mod Arrivals
+pub mod Procedures
+pub mod Follows
+pub mod Connections
+pub mod Causes

@@ -1,0 +1,5 @@
+pub mod Calls
+pub mod Counting
+pub mod Graphs
+pub mod Numbers
+pub mod Sets
