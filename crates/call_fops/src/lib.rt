@@ -31,6 +31,7 @@ pub use asking::next_fop;
 pub use holding::{Hold, next_hold};
 pub use laws::{descriptors_follow, fops_are_bounded, lookups_are_counted, walks_are_lawful};
 pub use moving::move_fd;
+pub use paths::{first_path, second_path};
 pub use replies::{After, CallReply, FdMove};
 pub use walk::Walk;
 pub use without_fop::at_once;

@@ -18,7 +18,7 @@ fn parent(path: &Path) -> &[Seq<u8>]
 }
 
 /// The components of a call's first path that are looked up, none where it has no path.
-pub(crate) fn first_path(call: &Call) -> &[Seq<u8>]
+pub fn first_path(call: &Call) -> &[Seq<u8>]
     ensures { result.now ≡ first_of (looked_up call.now) }
 {
     match call {
@@ -43,7 +43,7 @@ pub(crate) fn first_path(call: &Call) -> &[Seq<u8>]
 }
 
 /// The components of a rename's second path that are looked up, none of any other call.
-pub(crate) fn second_path(call: &Call) -> &[Seq<u8>]
+pub fn second_path(call: &Call) -> &[Seq<u8>]
     ensures { result.now ≡ second_of (looked_up call.now) }
 {
     match call {

@@ -1,8 +1,8 @@
 -- Outcomes of the flat file system's operations on names, by what was found before.
-use Rattle.std.specs.Prelude.{ℕ, Bool, false, List, Option, Some, None, if◌then◌else◌}
+use Rattle.std.specs.Prelude.{ℕ, Bool, true, false, List, Option, Some, None, if◌then◌else◌}
 use Rattle.fop_types.specs.Files.{Files, object_at, names_at, with_removed}
 use Rattle.fop_types.specs.Flat.{Outcome, refused, done, entry_error, checked, where_free, with_new, without_name, with_name, is_empty, is_same_name, rmdir_kind, unlink_kind, where_file, where_replaceable}
-use Rattle.fop_types.specs.Flat.Outcome.{Answers}
+use Rattle.fop_types.specs.Flat.Outcome.{Answers, Changes}
 use Rattle.fop_types.specs.Names.{item_named, is_directory}
 use Rattle.fop_types.specs.declared.answers.Answer.TheVariants as answer
 use Rattle.fop_types.specs.declared.answers.AppError.TheVariants.{Enotempty}
@@ -43,3 +43,8 @@ moved_child files parent name target moved = where_file moved.kind (moved_file f
 abbrev pub names_directory : Option Item → Bool
 names_directory None = false
 names_directory (Some item) = is_directory item.kind
+
+-- whether an outcome is a change
+abbrev pub is_accepted : Outcome → Bool
+is_accepted (Answers a) = false
+is_accepted (Changes a files) = true

@@ -77,7 +77,7 @@ fn rename_at_once(path: &Path, target: &Path) -> Option<Answer>
 }
 
 /// What a call answers by its session's descriptors and its path alone.
-pub(crate) fn at_once(fds: &Fds, call: &Call) -> Option<Answer>
+pub fn at_once(fds: &Fds, call: &Call) -> Option<Answer>
     ensures { result ≡ at_once_of fds.now call.now }
 {
     match call {

@@ -10,7 +10,7 @@ use std::marker::Model;
 
 /// An open descriptor: its file, and its offset in bytes.
 #[derive(Drop)]
-pub(crate) struct Fd {
+pub struct Fd {
     of: Gfid,
     at: u32,
 }
@@ -33,13 +33,13 @@ impl Fd {
         Fd { of, at }
     }
 
-    pub(crate) fn file(&self) -> Gfid
+    pub fn file(&self) -> Gfid
         ensures { result ≡ self.now.file }
     {
         self.of
     }
 
-    pub(crate) fn offset(&self) -> u32
+    pub fn offset(&self) -> u32
         ensures { result ≡ self.now.offset }
     {
         self.at
@@ -48,7 +48,7 @@ impl Fd {
 
 /// The open descriptors of one session by number.
 #[derive(Drop)]
-pub(crate) struct Fds {
+pub struct Fds {
     held: BTreeMap<u8, Fd>,
 }
 
@@ -65,7 +65,7 @@ impl Model for Fds {
 }
 
 impl Fds {
-    pub(crate) fn new(alloc: Global) -> Fds
+    pub fn new(alloc: Global) -> Fds
         ensures { result ≡ map.empty }
     {
         Fds {
@@ -73,7 +73,7 @@ impl Fds {
         }
     }
 
-    pub(crate) fn get(&self, fd: u8) -> Option<&Fd>
+    pub fn get(&self, fd: u8) -> Option<&Fd>
         ensures { option_copied result ≡ map.get self.now fd }
     {
         self.held.get(&fd)
@@ -144,12 +144,7 @@ impl Fds {
     ///
     /// # Errors
     /// Out of memory.
-    pub(crate) fn after_answer(
-        &mut self,
-        call: &Call,
-        of: Gfid,
-        answer: &Answer,
-    ) -> Result<(), AllocError>
+    pub fn after_answer(&mut self, call: &Call, of: Gfid, answer: &Answer) -> Result<(), AllocError>
         ensures { OnOk result (self.new ≡ after_answer_of self.old call.now of answer.now) }
     {
         match call {

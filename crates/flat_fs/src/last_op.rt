@@ -159,7 +159,7 @@ fn op_on_two(
 ///
 /// # Errors
 /// Out of memory.
-pub(crate) fn last_op(
+pub fn last_op(
     alloc: Global,
     call: &Call,
     found: Found,

@@ -14,17 +14,19 @@
 #![tactic(auto)]
 
 mod apply;
-mod at_once;
+pub mod at_once;
 mod edits;
 mod fds;
 mod flat_fs;
 mod held;
-mod last_op;
+pub mod last_op;
 mod mount;
 mod name_ops;
 mod object_ops;
 mod rename;
 mod walk;
 
+pub use fds::{Fd, Fds};
 pub use flat_fs::FlatFs;
 pub use mount::FlatMount;
+pub use walk::Found;

@@ -1,8 +1,8 @@
 ghost use Rattle.std.specs.Prelude.{◌≡◌, OnOk, IfOk};
 ghost use Rattle.fop_types.specs.Files.{names_at};
-ghost use Rattle.fop_types.specs.Flat.{flat_answer, flat_after, answer_in, files_in, is_same_name as is_same_name_of, with_name, without_name};
+ghost use Rattle.fop_types.specs.Flat.{flat, flat_answer, flat_after, answer_in, files_in, is_same_name as is_same_name_of, with_name, without_name};
 ghost use Rattle.fop_types.specs.Names.{item_named};
-ghost use Rattle.flat_fs.specs.Outcomes.{moved_file, moved_child, names_directory};
+ghost use Rattle.flat_fs.specs.Outcomes.{is_accepted, moved_file, moved_child, names_directory};
 
 use crate::edits::Edit;
 use crate::flat_fs::FlatFs;
@@ -114,6 +114,36 @@ impl FlatFs {
                 };
                 self.rename_child(alloc, parent, name, target, moved)
             }
+        }
+    }
+
+    #[tactic(auto, using(crate::proofs::Outcomes::replaceable_is))]
+    fn accepts_file(&self, parent: Gfid, name: &[u8], target: Gfid, new_name: &[u8]) -> bool
+        ensures { (moved : Item) → moved.name ≡ new_name.now → result ≡ is_accepted (moved_file self.now parent name.now target moved) }
+    {
+        if self.entry_error(target, new_name).is_some() {
+            return false;
+        }
+        if self.is_directory_name(target, new_name) {
+            return false;
+        }
+        !is_same_name(parent, name, target, new_name)
+    }
+
+    /// Whether a rename would be made now.
+    pub fn accepts_rename(&self, parent: Gfid, name: &[u8], target: Gfid, new_name: &[u8]) -> bool
+        ensures { result ≡ is_accepted (flat self.now (FlatOp.Rename parent name.now target new_name.now)) }
+    {
+        if self.entry_error(parent, name).is_some() {
+            return false;
+        }
+        match self.item(parent, name) {
+            None => false,
+            Some(item) => match item.kind {
+                Kind::File => self.accepts_file(parent, name, target, new_name),
+                Kind::Dir => false,
+                Kind::Link => self.accepts_file(parent, name, target, new_name),
+            },
         }
     }
 }

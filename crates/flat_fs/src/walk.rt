@@ -10,7 +10,7 @@ use fop_types::{Answer, AppError, Call, FlatAnswer, FlatOp, Gfid, Path, Seq};
 
 /// The objects that a call's paths led to.
 #[derive(Clone, Copy)]
-pub(crate) enum Found {
+pub enum Found {
     Nothing,
     One(Gfid),
     Two(Gfid, Gfid),

@@ -1,0 +1,12 @@
+use Rattle.std.proofs.Common.{refl}
+use Rattle.graph_nodes.proofs.Living.{others_same}
+use Rattle.graph_nodes.proofs.graph.Graph.wake_parked.Goals as goal
+
+pub returns-clause-kept : goal.returns-clause-kept
+returns-clause-kept c = record { number = c.wake.ensures.graph; top = refl; wiring = refl; promises = refl; others = others_same c.args.self.now.board.graph c.args.self.now.board.stack _ c.wake.ensures.stack }
+
+pub returns-clause-works : goal.returns-clause-works
+returns-clause-works c = λ ps is. c.in_ok-wake.ensures.works ps c.args.self.now.nodes.items c.args.self.now.wiring is
+
+pub returns-in_err-wake-clause-kept : goal.returns-in_err-wake-clause-kept
+returns-in_err-wake-clause-kept c = record { number = c.wake.ensures.graph; top = refl; wiring = refl; promises = refl; others = others_same c.args.self.now.board.graph c.args.self.now.board.stack _ c.wake.ensures.stack }

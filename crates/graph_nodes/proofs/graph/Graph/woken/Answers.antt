@@ -1,0 +1,14 @@
+use Rattle.graph_nodes.proofs.Living.{work_by, keeps_then, settles_by}
+use Rattle.graph_nodes.proofs.graph.Graph.woken.Goals as goal
+
+pub run-requires : goal.run-requires
+run-requires c = record { work = work_by c.args.self.now c.wake_parked.new.self c.args.parked.now.keys c.wake_parked.new.parked.keys c.requires.work c.in_ok-wake_parked.ensures.works }
+
+pub returns-clause-kept : goal.returns-clause-kept
+returns-clause-kept c = keeps_then c.args.self.now c.wake_parked.new.self _ c.wake_parked.ensures.kept c.run.ensures.kept
+
+pub returns-clause-well : goal.returns-clause-well
+returns-clause-well c = settles_by c.args.self.now c.wake_parked.new.self _ c.args.parked.now.keys c.wake_parked.new.parked.keys _ c.in_ok-wake_parked.ensures.works c.in_ok-moved.ensures.well
+
+pub returns-in_err-moved-clause-kept : goal.returns-in_err-moved-clause-kept
+returns-in_err-moved-clause-kept c = keeps_then c.args.self.now c.wake_parked.new.self _ c.wake_parked.ensures.kept c.run.ensures.kept

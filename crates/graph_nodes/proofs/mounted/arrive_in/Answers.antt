@@ -1,0 +1,37 @@
+use Rattle.std.proofs.Common.{ap}
+use Rattle.std.specs.Prelude.{ℕ, is_some}
+use Rattle.std.specs.BTreeMap.{BTreeMap, keys}
+use Rattle.graph_nodes.specs.declared.graph.Graph.{Graph}
+use Rattle.graph_nodes.proofs.Together.{one_found, called_through, all_same}
+use Rattle.graph_nodes.proofs.mounted.arrive_in.Goals as goal
+
+pub arrive-requires-clause-live : goal.arrive-requires-clause-live
+arrive-requires-clause-live c = one_found c.args.live.now c.args.number c.in-Some.graph.now c.args.mount.now c.requires.live c.in-Some.ensures.value
+
+pub returns-in_ok-arrived-in-Some-clause-live : goal.returns-in_ok-arrived-in-Some-clause-live
+returns-in_ok-arrived-in-Some-clause-live c = called_through c.args.live.now _ c.args.number c.in-Some.graph.now c.arrive.new.self c.args.mount.now c.arrive.new.mount c.requires.live c.in-Some.ensures.value
+    (c.get_mut.follows.holds c.arrive.new.self) c.in_ok-arrived-in-Some.ensures.live c.arrive.ensures.kept
+
+pub returns-in_ok-arrived-in-Some-clause-numbers : goal.returns-in_ok-arrived-in-Some-clause-numbers
+returns-in_ok-arrived-in-Some-clause-numbers c = (c.get_mut.follows.holds c.arrive.new.self).1
+
+pub returns-in_ok-arrived-in-Some-clause-inodes : goal.returns-in_ok-arrived-in-Some-clause-inodes
+returns-in_ok-arrived-in-Some-clause-inodes c = c.arrive.ensures.kept.inodes
+
+pub returns-in_err-arrived-in-Some-clause-numbers : goal.returns-in_err-arrived-in-Some-clause-numbers
+returns-in_err-arrived-in-Some-clause-numbers c = (c.get_mut.follows.holds c.arrive.new.self).1
+
+pub returns-in_err-arrived-in-Some-clause-inodes : goal.returns-in_err-arrived-in-Some-clause-inodes
+returns-in_err-arrived-in-Some-clause-inodes c = c.arrive.ensures.kept.inodes
+
+pub returns-in-None-clause-live : goal.returns-in-None-clause-live
+returns-in-None-clause-live c = all_same c.args.live.now _ c.args.mount.now c.get_mut.follows.holds-at-none c.requires.live
+
+pub returns-in-None-clause-numbers : goal.returns-in-None-clause-numbers
+returns-in-None-clause-numbers c = ap (λ (m : BTreeMap ℕ Graph). keys m) c.get_mut.follows.holds-at-none
+
+pub returns-in_ok-arrived-in-Some-clause-there : goal.returns-in_ok-arrived-in-Some-clause-there
+returns-in_ok-arrived-in-Some-clause-there c = ap is_some c.in-Some.ensures.value
+
+pub returns-in-None-clause-there : goal.returns-in-None-clause-there
+returns-in-None-clause-there c = ap is_some c.in-None.ensures.value

@@ -1,0 +1,21 @@
+use Rattle.std.proofs.Common.{refl, ap}
+use Rattle.std.specs.Prelude.{map}
+use Rattle.frame_driver.specs.declared.board.Board.{Board}
+use Rattle.graph_items.specs.declared.items.Down.{Down}
+use Rattle.graph_items.specs.declared.items.Up.{Up}
+use Rattle.graph_nodes.specs.declared.locals.Local.{Local}
+use Rattle.graph_nodes.specs.Promises.{node_promise}
+use Rattle.graph_nodes.proofs.Living.{turned_live, keeps_all}
+use Rattle.graph_nodes.proofs.mounted.connect_next.Goals as goal
+
+pub returns-then-free-clause-stays : goal.returns-then-free-clause-stays
+returns-then-free-clause-stays c = λ mount. turned_live c.args.graph.now c.connect-number.new.self mount c.connect-number.ensures.board c.connect-number.ensures.wiring c.connect-number.ensures.top (ap (map node_promise) c.connect-number.ensures.nodes)
+
+pub returns-then-free-clause-kept : goal.returns-then-free-clause-kept
+returns-then-free-clause-kept c = λ mount. keeps_all c.args.graph.now c.connect-number.new.self mount (ap (λ (b : Board Down Up Local). b.graph) c.connect-number.ensures.board)
+
+pub returns-clause-stays : goal.returns-clause-stays
+returns-clause-stays c = λ mount ps live. live
+
+pub returns-clause-kept : goal.returns-clause-kept
+returns-clause-kept c = λ mount. keeps_all c.args.graph.now c.args.graph.now mount refl

@@ -1,0 +1,13 @@
+use Rattle.std.proofs.Common.{ap}
+use Rattle.frame_driver.specs.declared.board.Board.{Board}
+use Rattle.graph_items.specs.declared.items.Down.{Down}
+use Rattle.graph_items.specs.declared.items.Up.{Up}
+use Rattle.graph_nodes.specs.declared.locals.Local.{Local}
+use Rattle.graph_nodes.proofs.Living.{turned_live, keeps_all}
+use Rattle.graph_nodes.proofs.mounted.drop_pages_of.Goals as goal
+
+pub returns-clause-stays : goal.returns-clause-stays
+returns-clause-stays c = λ mount. turned_live c.args.graph.now c.drop_pages.new.self mount c.drop_pages.ensures.board c.drop_pages.ensures.wiring c.drop_pages.ensures.top c.drop_pages.ensures.promises
+
+pub returns-clause-kept : goal.returns-clause-kept
+returns-clause-kept c = λ mount. keeps_all c.args.graph.now c.drop_pages.new.self mount (ap (λ (b : Board Down Up Local). b.graph) c.drop_pages.ensures.board)

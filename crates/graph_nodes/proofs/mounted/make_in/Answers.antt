@@ -1,0 +1,16 @@
+use Rattle.std.proofs.Common.{sym, ◌∙◌}
+use Rattle.graph_nodes.proofs.Together.{made_all, absent_by, put_numbers, same_numbers}
+use Rattle.graph_nodes.proofs.mounted.make_in.Goals as goal
+
+pub returns-clause-live : goal.returns-clause-live
+returns-clause-live c = λ mount all. made_all c.args.live.now c.insert.new.self c.args.number c.in_ok-graph.graph mount all
+    (absent_by _ (sym c.contains_key-there.ensures ∙ c.if-there.false)) c.in_ok-insert.ensures.updates.0 c.in_ok-graph.ensures.board c.in_ok-graph.ensures.fits c.in_ok-graph.ensures.top
+
+pub returns-clause-numbers : goal.returns-clause-numbers
+returns-clause-numbers c = put_numbers c.args.live.now c.insert.new.self c.args.number c.in_ok-graph.graph c.in_ok-insert.ensures.updates.0
+
+pub returns-then-there-clause-live : goal.returns-then-there-clause-live
+returns-then-there-clause-live c = λ mount all. all
+
+pub returns-then-there-clause-numbers : goal.returns-then-there-clause-numbers
+returns-then-there-clause-numbers c = same_numbers c.args.live.now c.args.number (sym c.contains_key-there.ensures ∙ c.if-there.true)

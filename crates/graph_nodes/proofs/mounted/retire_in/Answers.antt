@@ -1,0 +1,19 @@
+use Rattle.std.proofs.Common.{ap}
+use Rattle.std.specs.Prelude.{ℕ}
+use Rattle.std.specs.BTreeMap.{BTreeMap, keys}
+use Rattle.graph_nodes.specs.declared.graph.Graph.{Graph}
+use Rattle.graph_nodes.proofs.Together.{called_through, all_same}
+use Rattle.graph_nodes.proofs.mounted.retire_in.Goals as goal
+
+pub returns-in-Some-clause-live : goal.returns-in-Some-clause-live
+returns-in-Some-clause-live c = λ mount all. called_through c.args.live.now _ c.args.number c.in-Some.graph.now c.retire_of.new.graph mount mount all c.in-Some.ensures.value
+    (c.get_mut.follows.holds c.retire_of.new.graph) (c.retire_of.ensures.stays mount) (c.retire_of.ensures.kept mount)
+
+pub returns-in-Some-clause-numbers : goal.returns-in-Some-clause-numbers
+returns-in-Some-clause-numbers c = (c.get_mut.follows.holds c.retire_of.new.graph).1
+
+pub returns-in-None-clause-live : goal.returns-in-None-clause-live
+returns-in-None-clause-live c = λ mount all. all_same c.args.live.now _ mount c.get_mut.follows.holds-at-none all
+
+pub returns-in-None-clause-numbers : goal.returns-in-None-clause-numbers
+returns-in-None-clause-numbers c = ap (λ (m : BTreeMap ℕ Graph). keys m) c.get_mut.follows.holds-at-none

@@ -1,0 +1,13 @@
+use Rattle.std.proofs.Common.{ap}
+use Rattle.frame_driver.specs.declared.board.Board.{Board}
+use Rattle.graph_items.specs.declared.items.Down.{Down}
+use Rattle.graph_items.specs.declared.items.Up.{Up}
+use Rattle.graph_nodes.specs.declared.locals.Local.{Local}
+use Rattle.graph_nodes.proofs.Living.{turned_live, keeps_all}
+use Rattle.graph_nodes.proofs.mounted.retire_of.Goals as goal
+
+pub returns-clause-stays : goal.returns-clause-stays
+returns-clause-stays c = λ mount. turned_live c.args.graph.now c.retire.new.self mount c.retire.ensures.board c.retire.ensures.wiring c.retire.ensures.top c.retire.ensures.promises
+
+pub returns-clause-kept : goal.returns-clause-kept
+returns-clause-kept c = λ mount. keeps_all c.args.graph.now c.retire.new.self mount (ap (λ (b : Board Down Up Local). b.graph) c.retire.ensures.board)

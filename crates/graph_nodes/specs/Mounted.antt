@@ -1,0 +1,35 @@
+-- What contracts see of the graphs of a mount: their numbers, rising, the inodes in use, and whether they are spent: a call
+-- failed, and none does anything from then on. Frames are not seen. Ours.
+use Rattle.std.specs.Prelude.{ℕ, ◌≡◌, Bool, true, false, List, refl}
+use Rattle.std.specs.BTreeMap.{is_at}
+use Rattle.std.specs.List.{list_any}
+use Rattle.std.specs.Ordering.{nat_cmp}
+use Rattle.std.specs.Coded.{Coded, code_by, coded×, coded_ℕ, coded_bool, coded_list}
+use Rattle.inode_table.specs.Inodes.{Inodes, inodes_code}
+
+-- whether there is a graph of this number
+abbrev pub has : List ℕ → ℕ → Bool
+has numbers n = list_any (is_at (nat_cmp n)) numbers
+
+pub record Mounted : Type 0 where
+  pub numbers : List ℕ
+  pub inodes : Inodes
+  pub spent : Bool
+
+-- how one is distinguished from another: by its fields
+abbrev pub mounted_code : Coded Mounted
+mounted_code =
+    code_by (List ℕ × (Inodes × Bool)) (coded× (coded_list coded_ℕ) (coded× inodes_code coded_bool)) (λ m. (m.numbers, (m.inodes, m.spent))) (λ p. record { numbers = p.0; inodes = p.1.0; spent = p.1.1 }) (λ _. refl)
+
+-- a call that was made: the graphs were not spent, and are the same ones
+pub record KeepsMounted (old new : Mounted) : Type 0 where
+  pub fresh : old.spent ≡ false
+  pub numbers : new.numbers ≡ old.numbers
+  pub inodes : new.inodes ≡ old.inodes
+  pub usable : new.spent ≡ false
+
+-- a call that failed: the graphs are spent
+pub record IsSpentBy (old new : Mounted) : Type 0 where
+  pub numbers : new.numbers ≡ old.numbers
+  pub inodes : new.inodes ≡ old.inodes
+  pub spent : new.spent ≡ true

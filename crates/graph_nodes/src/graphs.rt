@@ -1,0 +1,273 @@
+//! The graphs of a mount by their numbers, with what they share.
+ghost use Rattle.std.specs.Prelude.{ℕ, ◌≡◌, ◌||◌, ◌&&◌, not, true, false, [], is_some, IfOk, OnOk, OnErr};
+ghost use Rattle.std.specs.BTreeMap.{is_at};
+ghost use Rattle.std.specs.Ordering.{nat_cmp};
+ghost use Rattle.std.specs.FinMap as map;
+ghost use Rattle.fop_types.specs.Bounds.{IsFop, IsRep};
+ghost use Rattle.graph_nodes.specs.Mounted.{has, KeepsMounted, IsSpentBy};
+ghost use Rattle.graph_nodes.specs.Plans.{IsPlan};
+ghost use Rattle.inode_table.specs.Inodes.{CanLink, inode_at, with_link, with_release};
+
+use crate::graph::Graph;
+use crate::mounted::{
+    arrive_in, bail_in, connect_in, drop_pages_in, held_in, make_in, remove_in, retire_in,
+    run_task_in, submit_in,
+};
+use crate::moved::{Mount, Moved};
+use fop_types::{BrickRep, Fop, Gfid, Kind, Seq};
+use graph_build::Plan;
+use inode_table::InodeTable;
+use std::alloc::{AllocError, Global};
+use std::collections::BTreeMap;
+use std::marker::Model;
+use xlator_law::{Settled, Stop, WindNo};
+
+/// The graphs of a mount and what they share. Each call names a graph by its number, and answers `None` where there is
+/// no such graph.
+///
+/// Contracts see the numbers, the inodes in use, and whether the graphs are spent: once a call failed, each answers so from
+/// then on.
+#[derive(Drop)]
+pub struct Graphs {
+    pub(crate) live: BTreeMap<u32, Graph>,
+    pub(crate) mount: Mount,
+    is_spent: bool,
+}
+
+impl Model for Graphs {
+    ghost use Rattle.std.specs.Prelude.{MatchBool};
+    ghost use Rattle.std.specs.BTreeMap.{keys};
+    ghost use Rattle.graph_nodes.specs.Live.{AllLive};
+    ghost use Rattle.graph_nodes.specs.Mounted.{Mounted, mounted_code};
+
+    ghost Value = { Mounted };
+
+    ghost coded = { mounted_code };
+
+    ghost view = { λ g. record { numbers = keys g.live; inodes = g.mount.inodes; spent = g.is_spent } };
+
+    ghost invariant = { λ g. MatchBool g.is_spent (Unit {0}) (AllLive g.live g.mount) };
+}
+
+impl Graphs {
+    /// No graphs, in a mount whose first graph will have so many sets. It takes no memory.
+    pub fn new(alloc: Global, root_sets: u8) -> Graphs
+        ensures { result ≡ record { numbers = []; inodes = map.empty; spent = false } }
+    {
+        Graphs {
+            live: BTreeMap::new(alloc),
+            mount: Mount::new(alloc, root_sets),
+            is_spent: false,
+        }
+    }
+
+    /// Makes a graph of a plan that `build` gives, under this number. False comes where there is one of this number.
+    ///
+    /// # Errors
+    /// Out of memory, now or in an earlier call. The graphs are spent.
+    pub fn make(&mut self, alloc: Global, plan: &Plan, number: u32) -> Result<bool, Stop>
+        requires { IsPlan plan.now }
+        ensures inodes { self.new.inodes ≡ self.old.inodes }
+        ensures ok { OnOk result ((self.old.spent ≡ false) × (self.new.spent ≡ false)) }
+        ensures numbers { OnOk result ((q : ℕ) → has self.new.numbers q ≡ (is_at (nat_cmp number) q || has self.old.numbers q)) }
+        ensures err { OnErr result (IsSpentBy self.old self.new) }
+    {
+        if self.is_spent {
+            return Err(Stop::Mem);
+        }
+        self.is_spent = true;
+        let made = make_in(alloc, &mut self.live, plan, number)?;
+        self.is_spent = false;
+        Ok(made)
+    }
+
+    /// Drops a graph without frames. False comes where it has some, or there is no such graph.
+    pub fn remove(&mut self, number: u32) -> bool
+        ensures inodes { self.new.inodes ≡ self.old.inodes }
+        ensures spent { self.new.spent ≡ self.old.spent }
+        ensures numbers { (q : ℕ) → has self.new.numbers q ≡ (not (result && is_at (nat_cmp number) q) && has self.old.numbers q) }
+    {
+        remove_in(&mut self.live, number)
+    }
+
+    /// A fop of a call enters a graph.
+    ///
+    /// # Errors
+    /// As for [`Graph::submit`], now or in an earlier call. The graphs are spent.
+    pub fn submit(
+        &mut self,
+        alloc: Global,
+        number: u32,
+        call: u32,
+        fop: Fop,
+    ) -> Result<Option<Moved>, Stop>
+        requires { IsFop fop }
+        ensures ok { OnOk result (KeepsMounted self.old self.new) }
+        ensures there { IfOk result (λ moved. is_some moved ≡ has self.old.numbers number) }
+        ensures err { OnErr result (IsSpentBy self.old self.new) }
+    {
+        if self.is_spent {
+            return Err(Stop::Mem);
+        }
+        self.is_spent = true;
+        let moved = submit_in(alloc, &mut self.live, &mut self.mount, number, call, fop)?;
+        self.is_spent = false;
+        Ok(moved)
+    }
+
+    /// The hold of a call that waits for it in a graph was granted.
+    ///
+    /// # Errors
+    /// As for [`Graphs::submit`].
+    pub fn held(&mut self, alloc: Global, number: u32, call: u32) -> Result<Option<Moved>, Stop>
+        ensures ok { OnOk result (KeepsMounted self.old self.new) }
+        ensures there { IfOk result (λ moved. is_some moved ≡ has self.old.numbers number) }
+        ensures err { OnErr result (IsSpentBy self.old self.new) }
+    {
+        if self.is_spent {
+            return Err(Stop::Mem);
+        }
+        self.is_spent = true;
+        let moved = held_in(alloc, &mut self.live, &mut self.mount, number, call)?;
+        self.is_spent = false;
+        Ok(moved)
+    }
+
+    /// A graph takes a brick's output for a wind, as [`Graph::arrive`] does.
+    ///
+    /// # Errors
+    /// As for [`Graphs::submit`].
+    pub fn arrive(
+        &mut self,
+        alloc: Global,
+        number: u32,
+        wind: WindNo,
+        rep: BrickRep,
+        taken: u64,
+    ) -> Result<Option<(Option<Settled>, Moved)>, Stop>
+        requires { IsRep true rep }
+        ensures ok { OnOk result (KeepsMounted self.old self.new) }
+        ensures there { IfOk result (λ arrived. is_some arrived ≡ has self.old.numbers number) }
+        ensures err { OnErr result (IsSpentBy self.old self.new) }
+    {
+        if self.is_spent {
+            return Err(Stop::Mem);
+        }
+        self.is_spent = true;
+        let arrived = arrive_in(
+            alloc,
+            &mut self.live,
+            &mut self.mount,
+            number,
+            wind,
+            rep,
+            taken,
+        )?;
+        self.is_spent = false;
+        Ok(arrived)
+    }
+
+    /// Ends a graph's connection to a brick with the winds that are open there, as [`Graph::bail`] does.
+    ///
+    /// # Errors
+    /// As for [`Graphs::submit`].
+    pub fn bail(
+        &mut self,
+        alloc: Global,
+        number: u32,
+        brick: u8,
+    ) -> Result<Option<(u32, Moved)>, Stop>
+        ensures ok { OnOk result (KeepsMounted self.old self.new) }
+        ensures there { IfOk result (λ bailed. is_some bailed ≡ has self.old.numbers number) }
+        ensures err { OnErr result (IsSpentBy self.old self.new) }
+    {
+        if self.is_spent {
+            return Err(Stop::Mem);
+        }
+        self.is_spent = true;
+        let bailed = bail_in(alloc, &mut self.live, &mut self.mount, number, brick)?;
+        self.is_spent = false;
+        Ok(bailed)
+    }
+
+    /// Runs a task of a graph. `None` comes too where the task is not ready.
+    ///
+    /// # Errors
+    /// As for [`Graphs::submit`].
+    pub fn run_task(&mut self, alloc: Global, number: u32, task: u32) -> Result<Option<Moved>, Stop>
+        ensures ok { OnOk result (KeepsMounted self.old self.new) }
+        ensures err { OnErr result (IsSpentBy self.old self.new) }
+    {
+        if self.is_spent {
+            return Err(Stop::Mem);
+        }
+        self.is_spent = true;
+        let moved = run_task_in(alloc, &mut self.live, &mut self.mount, number, task)?;
+        self.is_spent = false;
+        Ok(moved)
+    }
+
+    /// A graph opens its next connection to a brick, whose number this gives. `None` comes too where the graph does not use
+    /// the brick, or has an open connection to it, or has opened 4,294,967,295.
+    pub fn connect(&mut self, number: u32, brick: u8) -> Option<u32>
+        ensures { self.new ≡ self.old }
+    {
+        connect_in(&mut self.live, number, brick)
+    }
+
+    /// A graph drops the pages of a file. False comes where there is no such graph.
+    pub fn drop_pages(&mut self, number: u32, gfid: Gfid) -> bool
+        ensures { self.new ≡ self.old }
+    {
+        drop_pages_in(&mut self.live, number, gfid)
+    }
+
+    /// A graph drops all its pages, and keeps none from now on. False comes where there is no such graph.
+    pub fn retire(&mut self, number: u32) -> bool
+        ensures { self.new ≡ self.old }
+    {
+        retire_in(&mut self.live, number)
+    }
+
+    /// The inodes in use.
+    pub fn inodes(&self) -> &InodeTable
+        ensures { result.now ≡ self.now.inodes }
+    {
+        &self.mount.inodes
+    }
+
+    /// Takes a reference to an inode, as `InodeTable::link` does.
+    ///
+    /// # Errors
+    /// Out of memory, and nothing changed.
+    pub fn link(&mut self, alloc: Global, gfid: Gfid, kind: Kind, set: u8) -> Result<(), AllocError>
+        requires { CanLink kind (inode_at self.old.inodes gfid) }
+        ensures ok { OnOk result (self.new ≡ record self.old { inodes = with_link self.old.inodes gfid kind set }) }
+        ensures err { OnErr result (self.new ≡ self.old) }
+    {
+        self.mount.inodes.link(alloc, gfid, kind, set)?;
+        Ok(())
+    }
+
+    /// Gives a reference to an inode back, as `InodeTable::release` does.
+    pub fn release(&mut self, gfid: Gfid)
+        ensures { self.new ≡ record self.old { inodes = with_release self.old.inodes gfid } }
+    {
+        self.mount.inodes.release(gfid);
+    }
+
+    /// Whether a call failed.
+    pub fn is_spent(&self) -> bool
+        ensures { result ≡ self.now.spent }
+    {
+        self.is_spent
+    }
+
+    /// The lines of the winds before a call that failed, which were not given.
+    pub fn last_lines(&mut self, _alloc: Global) -> Seq<(WindNo, u32, bool)>
+        requires { self.old.spent ≡ true }
+        ensures { self.new ≡ self.old }
+    {
+        Seq::from_vec(self.mount.frames.lines())
+    }
+}

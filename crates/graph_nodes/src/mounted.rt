@@ -1,0 +1,274 @@
+//! Calls of one graph among those of a mount: what they leave of the others.
+ghost use Rattle.std.specs.Prelude.{ℕ, ◌≡◌, ◌<◌, ◌||◌, ◌&&◌, not, true, length, is_some, IsSomeAnd, IfOk, OnOk, OnErr};
+ghost use Rattle.std.specs.BTreeMap.{get, is_at, keys};
+ghost use Rattle.std.specs.Ordering.{nat_cmp};
+ghost use Rattle.fop_types.specs.Bounds.{IsFop, IsRep};
+ghost use Rattle.graph_items.specs.Clients.{last_at};
+ghost use Rattle.graph_nodes.specs.declared.moved.Mount.{Mount};
+ghost use Rattle.graph_nodes.specs.Live.{AllLive, KeepsMount, StaysLive};
+ghost use Rattle.graph_nodes.specs.Plans.{IsPlan};
+
+use crate::graph::Graph;
+use crate::moved::{Mount, Moved};
+use fop_types::{BrickRep, Fop, Gfid};
+use graph_build::Plan;
+use std::alloc::{AllocError, Global};
+use std::collections::BTreeMap;
+use xlator_law::{Settled, Stop, WindNo};
+
+/// A graph of this number comes, unless there is one.
+///
+/// # Errors
+/// Out of memory.
+pub(crate) fn make_in(
+    alloc: Global,
+    live: &mut BTreeMap<u32, Graph>,
+    plan: &Plan,
+    number: u32,
+) -> Result<bool, AllocError>
+    requires plan { IsPlan plan.now }
+    ensures live { OnOk result ((mount : Mount) → AllLive live.old mount → AllLive live.new mount) }
+    ensures numbers { OnOk result ((q : ℕ) → is_some (get nat_cmp live.new q) ≡ (is_at (nat_cmp number) q || is_some (get nat_cmp live.old q))) }
+    ensures err { OnErr result (keys live.new ≡ keys live.old) }
+{
+    let there = live.contains_key(&number);
+    if there {
+        return Ok(false);
+    }
+    let graph = Graph::new(alloc, plan, number)?;
+    live.insert(number, graph)?;
+    Ok(true)
+}
+
+// Whether there is a graph of this number, without frames.
+fn is_drained_in(live: &BTreeMap<u32, Graph>, number: u32) -> bool
+    ensures { result ≡ true → IsSomeAnd (get nat_cmp live.now number) (λ g. g.board.frames ≡ 0) }
+{
+    match live.get(&number) {
+        Some(graph) => graph.is_drained(),
+        None => false,
+    }
+}
+
+/// A graph without frames goes.
+pub(crate) fn remove_in(live: &mut BTreeMap<u32, Graph>, number: u32) -> bool
+    ensures live { (mount : Mount) → AllLive live.old mount → AllLive live.new mount }
+    ensures numbers { (q : ℕ) → is_some (get nat_cmp live.new q) ≡ (not (result && is_at (nat_cmp number) q) && is_some (get nat_cmp live.old q)) }
+{
+    let drained = is_drained_in(live, number);
+    if drained {
+        live.remove(&number);
+        return true;
+    }
+    false
+}
+
+/// A fop of a call enters a graph.
+///
+/// # Errors
+/// As for [`Graph::submit`].
+pub(crate) fn submit_in(
+    alloc: Global,
+    live: &mut BTreeMap<u32, Graph>,
+    mount: &mut Mount,
+    number: u32,
+    call: u32,
+    fop: Fop,
+) -> Result<Option<Moved>, Stop>
+    requires fop { IsFop fop }
+    requires live { AllLive live.old mount.old }
+    ensures live { OnOk result (AllLive live.new mount.new) }
+    ensures there { IfOk result (λ moved. is_some moved ≡ is_some (get nat_cmp live.old number)) }
+    ensures numbers { keys live.new ≡ keys live.old }
+    ensures inodes { mount.new.inodes ≡ mount.old.inodes }
+{
+    match live.get_mut(&number) {
+        Some(graph) => {
+            let moved = graph.submit(alloc, call, fop, mount)?;
+            Ok(Some(moved))
+        }
+        None => Ok(None),
+    }
+}
+
+/// The hold of a call was granted.
+///
+/// # Errors
+/// As for [`Graph::submit`].
+pub(crate) fn held_in(
+    alloc: Global,
+    live: &mut BTreeMap<u32, Graph>,
+    mount: &mut Mount,
+    number: u32,
+    call: u32,
+) -> Result<Option<Moved>, Stop>
+    requires live { AllLive live.old mount.old }
+    ensures live { OnOk result (AllLive live.new mount.new) }
+    ensures there { IfOk result (λ moved. is_some moved ≡ is_some (get nat_cmp live.old number)) }
+    ensures numbers { keys live.new ≡ keys live.old }
+    ensures inodes { mount.new.inodes ≡ mount.old.inodes }
+{
+    match live.get_mut(&number) {
+        Some(graph) => {
+            let moved = graph.held(alloc, call, mount)?;
+            Ok(Some(moved))
+        }
+        None => Ok(None),
+    }
+}
+
+/// An output arrives for a graph.
+///
+/// # Errors
+/// As for [`Graph::submit`].
+pub(crate) fn arrive_in(
+    alloc: Global,
+    live: &mut BTreeMap<u32, Graph>,
+    mount: &mut Mount,
+    number: u32,
+    wind: WindNo,
+    rep: BrickRep,
+    taken: u64,
+) -> Result<Option<(Option<Settled>, Moved)>, Stop>
+    requires encoded { IsRep true rep }
+    requires live { AllLive live.old mount.old }
+    ensures live { OnOk result (AllLive live.new mount.new) }
+    ensures there { IfOk result (λ arrived. is_some arrived ≡ is_some (get nat_cmp live.old number)) }
+    ensures numbers { keys live.new ≡ keys live.old }
+    ensures inodes { mount.new.inodes ≡ mount.old.inodes }
+{
+    match live.get_mut(&number) {
+        Some(graph) => {
+            let arrived = graph.arrive(alloc, wind, rep, taken, mount)?;
+            Ok(Some(arrived))
+        }
+        None => Ok(None),
+    }
+}
+
+/// The connection of a graph to a brick ends.
+///
+/// # Errors
+/// As for [`Graph::submit`].
+pub(crate) fn bail_in(
+    alloc: Global,
+    live: &mut BTreeMap<u32, Graph>,
+    mount: &mut Mount,
+    number: u32,
+    brick: u8,
+) -> Result<Option<(u32, Moved)>, Stop>
+    requires live { AllLive live.old mount.old }
+    ensures live { OnOk result (AllLive live.new mount.new) }
+    ensures there { IfOk result (λ bailed. is_some bailed ≡ is_some (get nat_cmp live.old number)) }
+    ensures numbers { keys live.new ≡ keys live.old }
+    ensures inodes { mount.new.inodes ≡ mount.old.inodes }
+{
+    match live.get_mut(&number) {
+        Some(graph) => {
+            let bailed = graph.bail(alloc, brick, mount)?;
+            Ok(Some(bailed))
+        }
+        None => Ok(None),
+    }
+}
+
+/// A task of a graph is run.
+///
+/// # Errors
+/// As for [`Graph::submit`].
+pub(crate) fn run_task_in(
+    alloc: Global,
+    live: &mut BTreeMap<u32, Graph>,
+    mount: &mut Mount,
+    number: u32,
+    task: u32,
+) -> Result<Option<Moved>, Stop>
+    requires live { AllLive live.old mount.old }
+    ensures live { OnOk result (AllLive live.new mount.new) }
+    ensures numbers { keys live.new ≡ keys live.old }
+    ensures inodes { mount.new.inodes ≡ mount.old.inodes }
+{
+    match live.get_mut(&number) {
+        Some(graph) => {
+            let moved = graph.run_task(alloc, task, mount)?;
+            Ok(moved)
+        }
+        None => Ok(None),
+    }
+}
+
+// A graph opens its next connection to a brick that it uses and has no open connection to, unless the numbers of its
+// connections have come to their end.
+fn connect_next(graph: &mut Graph, brick: u8) -> Option<u32>
+    ensures stays { (mount : Mount) → StaysLive graph.old mount graph.new mount }
+    ensures kept { (mount : Mount) → KeepsMount graph.old mount graph.new mount }
+{
+    let free = may_connect(graph, brick);
+    if free {
+        let number = graph.connect(brick);
+        return Some(number);
+    }
+    None
+}
+
+fn may_connect(graph: &Graph, brick: u8) -> bool
+    ensures { result ≡ true → (brick < length graph.now.cx.clients) × (last_at graph.now.cx.clients brick < 4294967295) }
+{
+    if graph.connection(brick).is_some() {
+        return false;
+    }
+    graph.has_brick(brick) && graph.last(brick) < u32::MAX
+}
+
+/// A graph opens its next connection to a brick.
+pub(crate) fn connect_in(live: &mut BTreeMap<u32, Graph>, number: u32, brick: u8) -> Option<u32>
+    ensures live { (mount : Mount) → AllLive live.old mount → AllLive live.new mount }
+    ensures numbers { keys live.new ≡ keys live.old }
+{
+    match live.get_mut(&number) {
+        Some(graph) => connect_next(graph, brick),
+        None => None,
+    }
+}
+
+fn drop_pages_of(graph: &mut Graph, gfid: Gfid)
+    ensures stays { (mount : Mount) → StaysLive graph.old mount graph.new mount }
+    ensures kept { (mount : Mount) → KeepsMount graph.old mount graph.new mount }
+{
+    graph.drop_pages(gfid);
+}
+
+/// A graph drops the pages of a file. False comes where there is no such graph.
+pub(crate) fn drop_pages_in(live: &mut BTreeMap<u32, Graph>, number: u32, gfid: Gfid) -> bool
+    ensures live { (mount : Mount) → AllLive live.old mount → AllLive live.new mount }
+    ensures numbers { keys live.new ≡ keys live.old }
+{
+    match live.get_mut(&number) {
+        Some(graph) => {
+            drop_pages_of(graph, gfid);
+            true
+        }
+        None => false,
+    }
+}
+
+fn retire_of(graph: &mut Graph)
+    ensures stays { (mount : Mount) → StaysLive graph.old mount graph.new mount }
+    ensures kept { (mount : Mount) → KeepsMount graph.old mount graph.new mount }
+{
+    graph.retire();
+}
+
+/// A graph drops its pages, and keeps none from now on. False comes where there is no such graph.
+pub(crate) fn retire_in(live: &mut BTreeMap<u32, Graph>, number: u32) -> bool
+    ensures live { (mount : Mount) → AllLive live.old mount → AllLive live.new mount }
+    ensures numbers { keys live.new ≡ keys live.old }
+{
+    match live.get_mut(&number) {
+        Some(graph) => {
+            retire_of(graph);
+            true
+        }
+        None => false,
+    }
+}

@@ -1,0 +1,382 @@
+//! The distribute node: it runs a fop over the sets, one job at a time, and keeps the layouts that fops have read.
+ghost use Rattle.std.specs.Prelude.{◌≡◌, ◌≤◌, ◌<◌, IfOk, OnOk, Some, length, drop, true, is_none};
+ghost use Rattle.fop_types.specs.Bounds.{IsFop};
+ghost use Rattle.fop_types.specs.Jobs.{IsJob, IsSetReply};
+ghost use Rattle.graph_nodes.specs.Distribute.{IsBegun, Begins, IsFopBegun, GoesOn, OnReply, OnExtended, TakesReply, IsHeld, Gives, IsKept, AreJobs, are_below, names_sets, refused, first_asked, asked_move, kept_with, waiting};
+ghost use Rattle.graph_nodes.specs.Kept.{IsFopKept};
+ghost use Rattle.graph_nodes.specs.Moves.{IsMove};
+ghost use Rattle.graph_nodes.specs.Moves.Move.{Waits};
+ghost use Rattle.graph_nodes.specs.Turns.{IsFopTurn};
+
+use crate::context::{Context, HoldWait};
+use crate::costs::{fop_units, jobs_for};
+use crate::kinds::Distribute;
+use crate::locals::{FopFrame, FopState, Local};
+use crate::nodes::{lost, one};
+use dht_fops::{DhtFop, DhtNext, Layout, fops_keep_bounds};
+use fop_types::{Answer, Fop, FopAnswer, Gfid, Job, OpenFd, Seq, SetReply};
+use frame_driver::Queue;
+use graph_items::{Down, SetJob, Up};
+use std::alloc::{AllocError, Global};
+use xlator_law::{Entry, Step};
+
+// The answer where a fop can't be run: that of a set without a quorum.
+fn refused(alloc: Global) -> Step<Down, Up, Local>
+    ensures { IsMove refused result }
+{
+    Step::Unwind(Up::Answer(FopAnswer::Call(Answer::Io(lost(alloc, 0))), None))
+}
+
+// Whether the sets of descriptors are among so many.
+fn are_below(fds: &[OpenFd], sets: u8) -> bool
+    ensures { result ≡ are_below sets fds.now }
+{
+    for open_fd in fds {
+        if open_fd.set >= sets {
+            return false;
+        }
+    }
+    true
+}
+
+// Whether the sets that a fop names are among so many.
+fn names_sets(fop: &Fop, sets: u8) -> bool
+    ensures { result ≡ names_sets sets fop.now }
+{
+    match fop {
+        Fop::Open { object, .. } => object.set < sets,
+        Fop::Stat { object } => object.set < sets,
+        Fop::Chmod { object, .. } => object.set < sets,
+        Fop::Truncate { object, .. } => object.set < sets,
+        Fop::SetAttr { object, .. } => object.set < sets,
+        Fop::GetAttr { object, .. } => object.set < sets,
+        Fop::DelAttr { object, .. } => object.set < sets,
+        Fop::Read { object, .. } => object.set < sets,
+        Fop::Write { object, .. } => object.set < sets,
+        Fop::Migrate { fds } => are_below(fds.as_slice(), sets),
+        _ => true,
+    }
+}
+
+impl Distribute {
+    /// Takes a fop.
+    ///
+    /// # Errors
+    /// Out of memory.
+    pub(crate) fn enter(
+        &self,
+        alloc: Global,
+        cx: &mut Context,
+        entry: Entry,
+        down: Down,
+    ) -> Result<Step<Down, Up, Local>, AllocError>
+        ensures { IfOk result (λ step. IsBegun self.now cx.old entry down step cx.new) }
+    {
+        match down {
+            Down::Fop(op) => {
+                let step = self.begin(alloc, cx, entry, op.into_fop())?;
+                Ok(step)
+            }
+            Down::Job(_) => Ok(refused(alloc)),
+            Down::Request(_) => Ok(refused(alloc)),
+        }
+    }
+
+    // A fop begins where the first graph's sets are sets of this node, and it names none but those.
+    fn begin(
+        &self,
+        alloc: Global,
+        cx: &mut Context,
+        entry: Entry,
+        fop: Fop,
+    ) -> Result<Step<Down, Up, Local>, AllocError>
+        requires fop { IsFop fop }
+        ensures { IfOk result (λ step. Begins self.now cx.old entry fop step cx.new) }
+    {
+        if 1 <= cx.root_sets && cx.root_sets <= self.sets && names_sets(&fop, self.sets) {
+            let step = self.begin_over(alloc, cx, entry, fop)?;
+            return Ok(step);
+        }
+        Ok(refused(alloc))
+    }
+
+    #[tactic(auto, using(crate::proofs::FopTurns::begun_turn, crate::proofs::FopTurns::named_sets))]
+    fn begin_over(
+        &self,
+        alloc: Global,
+        cx: &mut Context,
+        entry: Entry,
+        fop: Fop,
+    ) -> Result<Step<Down, Up, Local>, AllocError>
+        requires fop { IsFop fop }
+        requires some { 1 ≤ cx.old.root_sets }
+        requires within { cx.old.root_sets ≤ self.now.sets }
+        requires named { names_sets self.now.sets fop ≡ true }
+        ensures { IfOk result (λ step. IsFopBegun self.now cx.old entry fop step cx.new) }
+    {
+        fops_keep_bounds();
+        let jobs = jobs_for(self.sets, fop_units(&fop, self.sets));
+        let (fop, next) = DhtFop::begin(
+            alloc,
+            entry.call,
+            fop,
+            self.sets,
+            self.names.as_slice(),
+            cx.root_sets,
+            &self.kept,
+        )?;
+        let state = FopState {
+            entry,
+            fop,
+            learnt: 0,
+            jobs,
+        };
+        let step = self.go(alloc, cx, state, next)?;
+        Ok(step)
+    }
+
+    /// Takes the reply of the set that was asked.
+    ///
+    /// # Errors
+    /// Out of memory.
+    pub(crate) fn resume(
+        &mut self,
+        alloc: Global,
+        cx: &mut Context,
+        frame: FopFrame,
+        reply: Up,
+    ) -> Result<Step<Down, Up, Local>, AllocError>
+        ensures step { IfOk result (λ step. GoesOn self.old cx.old frame reply step self.new cx.new) }
+        ensures sets { self.new.sets ≡ self.old.sets }
+    {
+        match reply {
+            Up::Set(answer) => {
+                let step = self.resume_set(alloc, cx, frame.into_state(), answer.into_reply())?;
+                Ok(step)
+            }
+            Up::Answer(_, _) => Ok(refused(alloc)),
+            Up::Brick(_) => Ok(refused(alloc)),
+        }
+    }
+
+    fn resume_set(
+        &mut self,
+        alloc: Global,
+        cx: &mut Context,
+        state: FopState,
+        reply: SetReply,
+    ) -> Result<Step<Down, Up, Local>, AllocError>
+        requires kept { IsFopKept state.fop }
+        requires bounded { IsSetReply reply }
+        ensures step { IfOk result (λ step. OnReply state.fop.asked self.old cx.old state reply step self.new cx.new) }
+        ensures sets { self.new.sets ≡ self.old.sets }
+    {
+        match state.fop.asked() {
+            Some(set) => {
+                let step = self.take_reply(alloc, cx, state, set, reply)?;
+                Ok(step)
+            }
+            None => Ok(refused(alloc)),
+        }
+    }
+
+    #[tactic(auto, using(crate::proofs::FopTurns::answer_turn))]
+    fn take_reply(
+        &mut self,
+        alloc: Global,
+        cx: &mut Context,
+        state: FopState,
+        set: u8,
+        reply: SetReply,
+    ) -> Result<Step<Down, Up, Local>, AllocError>
+        requires asked { state.fop.asked ≡ Some set }
+        requires kept { IsFopKept state.fop }
+        requires bounded { IsSetReply reply }
+        ensures step { IfOk result (λ step. TakesReply self.old cx.old state reply step self.new cx.new) }
+        ensures sets { self.new.sets ≡ self.old.sets }
+    {
+        fops_keep_bounds();
+        let FopState {
+            entry,
+            fop,
+            learnt,
+            jobs,
+        } = state;
+        let mut fop = fop;
+        let next = fop.answer(alloc, set, reply)?;
+        self.learn(alloc, fop.learnt(), learnt)?;
+        let learnt = fop.learnt().len();
+        let state = FopState {
+            entry,
+            fop,
+            learnt,
+            jobs,
+        };
+        let step = self.go(alloc, cx, state, next)?;
+        Ok(step)
+    }
+
+    /// The call's hold was extended. A fop that waits for no hold is refused.
+    ///
+    /// # Errors
+    /// Out of memory.
+    pub(crate) fn go_on(
+        &self,
+        alloc: Global,
+        cx: &mut Context,
+        frame: FopFrame,
+    ) -> Result<Step<Down, Up, Local>, AllocError>
+        ensures { IfOk result (λ step. OnExtended frame.fop.asked self.now cx.old frame step cx.new) }
+    {
+        let state = frame.into_state();
+        match state.fop.asked() {
+            None => {
+                let step = self.extended(alloc, cx, state)?;
+                Ok(step)
+            }
+            Some(_) => Ok(refused(alloc)),
+        }
+    }
+
+    #[tactic(auto, using(crate::proofs::FopTurns::held_turn))]
+    fn extended(
+        &self,
+        alloc: Global,
+        cx: &mut Context,
+        state: FopState,
+    ) -> Result<Step<Down, Up, Local>, AllocError>
+        requires waits { is_none state.fop.asked ≡ true }
+        requires kept { IsFopKept state.fop }
+        ensures { IfOk result (λ step. IsHeld self.now cx.old state step cx.new) }
+    {
+        fops_keep_bounds();
+        let FopState {
+            entry,
+            fop,
+            learnt,
+            jobs,
+        } = state;
+        let mut fop = fop;
+        let next = fop.held(alloc)?;
+        let state = FopState {
+            entry,
+            fop,
+            learnt,
+            jobs,
+        };
+        let step = self.go(alloc, cx, state, next)?;
+        Ok(step)
+    }
+
+    // Keeps the layouts from one on.
+    #[tactic(auto, using(crate::proofs::Appends::kept_next, crate::proofs::Appends::kept_past))]
+    fn learn(&mut self, alloc: Global, learnt: &[Layout], from: usize) -> Result<(), AllocError>
+        ensures kept { OnOk result (IsKept (kept_with self.old.kept.entries (drop from learnt.now)) self.old self.new) }
+        ensures sets { self.new.sets ≡ self.old.sets }
+    {
+        for at in from..learnt.len() {
+            let layout = &learnt[at];
+            let spans = layout.spans.copy(alloc)?;
+            self.kept.insert(layout.dir, spans)?;
+        }
+        Ok(())
+    }
+
+    // What the fop does next.
+    fn go(
+        &self,
+        alloc: Global,
+        cx: &mut Context,
+        state: FopState,
+        next: DhtNext,
+    ) -> Result<Step<Down, Up, Local>, AllocError>
+        requires turn { IsFopTurn state.fop next }
+        ensures { IfOk result (λ step. Gives self.now.sets state next cx.old step cx.new) }
+    {
+        match next {
+            DhtNext::Jobs(jobs) => {
+                let step = self.ask(alloc, state, jobs)?;
+                Ok(step)
+            }
+            DhtNext::Hold(gfid) => {
+                let step = hold(alloc, cx, state, gfid)?;
+                Ok(step)
+            }
+            DhtNext::Done(answer, place) => Ok(Step::Unwind(Up::Answer(answer, place))),
+        }
+    }
+
+    // The first of the jobs that a fop asks for is asked. It asks for one at a time.
+    fn ask(
+        &self,
+        alloc: Global,
+        state: FopState,
+        jobs: Seq<(u8, Job)>,
+    ) -> Result<Step<Down, Up, Local>, AllocError>
+        requires jobs { AreJobs jobs }
+        requires kept { IsFopKept state.fop }
+        ensures { IfOk result (λ step. IsMove (first_asked self.now.sets state jobs) step) }
+    {
+        let mut jobs = Queue::from_vec(jobs.into_vec());
+        match jobs.pop() {
+            Some((set, job)) => {
+                let step = self.ask_set(alloc, state, set, job)?;
+                Ok(step)
+            }
+            None => Ok(refused(alloc)),
+        }
+    }
+
+    // A set is asked for a job, where there is such a set and the fop has a job left.
+    fn ask_set(
+        &self,
+        alloc: Global,
+        state: FopState,
+        set: u8,
+        job: Job,
+    ) -> Result<Step<Down, Up, Local>, AllocError>
+        requires job { IsJob job }
+        requires kept { IsFopKept state.fop }
+        ensures { IfOk result (λ step. IsMove (asked_move self.now.sets state set job) step) }
+    {
+        if set < self.sets && 0 < state.jobs {
+            let FopState {
+                entry,
+                fop,
+                learnt,
+                jobs,
+            } = state;
+            let state = FopState {
+                entry,
+                fop,
+                learnt,
+                jobs: jobs - 1,
+            };
+            let frame = FopFrame::new(alloc, state)?;
+            let asked = Down::Job(SetJob::new(job));
+            let step = one(alloc, set as u16, asked, Local::Distribute(frame))?;
+            return Ok(step);
+        }
+        Ok(refused(alloc))
+    }
+}
+
+// The fop waits until its call's hold is extended.
+fn hold(
+    alloc: Global,
+    cx: &mut Context,
+    state: FopState,
+    gfid: Gfid,
+) -> Result<Step<Down, Up, Local>, AllocError>
+    requires kept { IsFopKept state.fop }
+    ensures step { IfOk result (λ step. IsMove (Waits (Local.Distribute state)) step) }
+    ensures cx { OnOk result (cx.new ≡ waiting cx.old state.entry gfid) }
+{
+    cx.holds.push(HoldWait {
+        call: state.entry.call,
+        frame: state.entry.frame,
+        gfid,
+    })?;
+    let frame = FopFrame::new(alloc, state)?;
+    Ok(Step::Wait(Local::Distribute(frame)))
+}

@@ -1,0 +1,359 @@
+//! The nodes of a plan, with the root above its top, and which of them is below which.
+ghost use Rattle.std.specs.Prelude.{◌≡◌, ◌<◌, ◌≤◌, IfOk, IfSome, IsSomeAnd, length, map, slice_get};
+ghost use Rattle.fop_types.specs.Jobs.{IsSetPlan};
+ghost use Rattle.frame_driver.specs.Follows.{Fits};
+ghost use Rattle.graph_build.specs.PlanLaw.{AreSets};
+ghost use Rattle.graph_nodes.specs.Plans.{IsPlan, HasNeeds};
+ghost use Rattle.graph_nodes.specs.Promises.{node_promise};
+
+use crate::costs::{Shape, breadth_of, fop_units, shape_of, weight_of};
+use crate::fits::fits;
+use crate::kinds::{BrickClient, Distribute, IoCache, IoThreads, Kind, Node, Replicate};
+use crate::names::SetNames;
+use fop_types::{Fop, Seq, SetPlan};
+use frame_driver::{Child, Wiring};
+use graph_build::{NodeKind, NodePlan, Plan};
+use io_cache::PageCache;
+use io_threads::Queues;
+use std::alloc::{AllocError, Global};
+use std::collections::BTreeMap;
+
+/// The nodes of a graph, and which is below which. The last node is the root.
+#[derive(Drop)]
+pub struct Tree {
+    pub nodes: Vec<Node>,
+    pub wiring: Wiring,
+}
+
+// What one unit costs at a node, and the most winds that a frame of it and all below it have open at once.
+#[derive(Clone, Copy)]
+struct Load {
+    weight: u32,
+    breadth: u32,
+}
+
+fn copy_set(alloc: Global, set: &SetPlan) -> Result<SetPlan, AllocError>
+    ensures { IfOk result (λ s. s ≡ set.now) }
+{
+    let mut clients = Seq::new(alloc);
+    for client in set.clients.as_slice() {
+        let name = client.copy(alloc)?;
+        clients.push(name)?;
+    }
+    Ok(SetPlan {
+        number: set.number,
+        name: set.name.copy(alloc)?,
+        bricks: set.bricks.copy(alloc)?,
+        clients,
+        q: set.q,
+    })
+}
+
+fn names_of(alloc: Global, sets: &[SetPlan]) -> Result<SetNames, AllocError>
+    requires { AreSets sets.now }
+    ensures { IfOk result (λ names. names ≡ map (λ s. s.name) sets.now) }
+{
+    let mut names = SetNames::new(alloc);
+    for set in sets {
+        let name = set.name.copy(alloc)?;
+        names.push(name)?;
+    }
+    Ok(names)
+}
+
+#[tactic(auto, using(crate::proofs::Plans::count_names))]
+fn distribute_of(alloc: Global, sets: &[SetPlan]) -> Result<Kind, AllocError>
+    requires { AreSets sets.now }
+{
+    let names = names_of(alloc, sets)?;
+    Ok(Kind::Distribute(Distribute {
+        names,
+        sets: sets.len() as u8,
+        kept: BTreeMap::new(alloc),
+    }))
+}
+
+#[tactic(auto, using(crate::proofs::Plans::odd_replicas, crate::proofs::Plans::few_replicas, crate::proofs::Plans::half_replicas))]
+fn replicate_of(alloc: Global, set: &SetPlan) -> Result<Kind, AllocError>
+    requires { IsSetPlan set.now }
+{
+    let plan = copy_set(alloc, set)?;
+    Ok(Kind::Replicate(Replicate { plan }))
+}
+
+// The node of the set with this number, which there is.
+fn set_of(alloc: Global, sets: &[SetPlan], number: u8) -> Result<Kind, AllocError>
+    requires { IsSomeAnd (slice_get sets.now number) IsSetPlan }
+{
+    match sets.get(number as usize) {
+        Some(set) => replicate_of(alloc, set),
+        None => unreachable!(),
+    }
+}
+
+fn cache_of(alloc: Global, pages: u32) -> Result<Kind, AllocError>
+    requires { 1 ≤ pages }
+{
+    let pages = PageCache::new(alloc, pages)?;
+    Ok(Kind::IoCache(IoCache {
+        pages,
+        retired: false,
+    }))
+}
+
+// The kind of the node with this number.
+fn kind_of(
+    alloc: Global,
+    sets: &[SetPlan],
+    planned: &NodePlan,
+    number: u16,
+) -> Result<Kind, AllocError>
+    requires { HasNeeds sets.now planned.now }
+{
+    match planned.kind {
+        NodeKind::Client(brick) => Ok(Kind::Client(BrickClient { brick })),
+        NodeKind::Replicate(number) => set_of(alloc, sets, number),
+        NodeKind::Distribute => distribute_of(alloc, sets),
+        NodeKind::IoCache => cache_of(alloc, planned.cache_pages),
+        NodeKind::IoThreads => Ok(Kind::IoThreads(IoThreads {
+            number,
+            queues: Queues::new(alloc),
+            waiting: 0,
+        })),
+        NodeKind::Pass => Ok(Kind::Pass),
+    }
+}
+
+// The greatest of the loads of a node's children.
+fn below(loads: &[Load], children: &[u16]) -> Load {
+    let mut most = Load {
+        weight: 0,
+        breadth: 0,
+    };
+    for child in children {
+        if let Some(load) = loads.get(*child as usize) {
+            most.weight = most.weight.max(load.weight);
+            most.breadth = most.breadth.max(load.breadth);
+        }
+    }
+    most
+}
+
+/// A number that does not fit is the greatest one.
+pub(crate) fn at_most_u32(n: u64) -> u32 {
+    if n > u32::MAX as u64 {
+        u32::MAX
+    } else {
+        n as u32
+    }
+}
+
+fn at_most_u16(n: usize) -> u16 {
+    if n > u16::MAX as usize {
+        u16::MAX
+    } else {
+        n as u16
+    }
+}
+
+// The load of a node over children with this one.
+fn load_of(shape: Shape, sets: u8, under: Load) -> Load {
+    Load {
+        weight: at_most_u32(weight_of(shape, sets, under.weight)),
+        breadth: at_most_u32(breadth_of(shape, under.breadth)),
+    }
+}
+
+// How many replicas a set has, which are at most five.
+fn replicas_of(set: &SetPlan) -> u8 {
+    let count = set.bricks.len();
+    if count > 5 { 5 } else { count as u8 }
+}
+
+fn planned_shape(plan: &Plan, kind: NodeKind) -> Shape {
+    match kind {
+        NodeKind::Client(_) => Shape::Client,
+        NodeKind::Replicate(number) => match plan.sets.as_slice().get(number as usize) {
+            Some(set) => Shape::Set(replicas_of(set)),
+            None => Shape::Relay,
+        },
+        NodeKind::Distribute => Shape::Distribute,
+        NodeKind::IoCache => Shape::Cache,
+        NodeKind::IoThreads => Shape::Queue,
+        NodeKind::Pass => Shape::Relay,
+    }
+}
+
+/// The most winds that a fop causes in a graph of this plan, which is one that `build` gives.
+pub fn cost(plan: &Plan, fop: &Fop) -> u64
+    requires { IsPlan plan.now }
+{
+    let sets = sets_in(plan);
+    fop_units(fop, sets) * (1 + top_weight(plan, sets) as u64)
+}
+
+// How many sets a plan has.
+fn sets_in(plan: &Plan) -> u8
+    requires { IsPlan plan.now }
+    ensures { result ≡ length plan.now.sets }
+{
+    plan.sets.len() as u8
+}
+
+// What one unit costs at the top of a plan, which takes no memory: a plan has fewer than 1,024 nodes.
+fn top_weight(plan: &Plan, sets: u8) -> u32 {
+    let none = Load {
+        weight: 0,
+        breadth: 0,
+    };
+    let mut loads = [none; 1024];
+    let mut top = none;
+    let nodes = plan.nodes.as_slice();
+    for at in 0..nodes.len() {
+        let under = below(&loads, nodes[at].children.as_slice());
+        top = load_of(planned_shape(plan, nodes[at].kind), sets, under);
+        if let Some(load) = loads.get_mut(at) {
+            *load = top;
+        }
+    }
+    top.weight
+}
+
+// The greatest number of children that a node has, and at least 1: the root and each client have one.
+fn width_of(nodes: &[NodePlan]) -> u16 {
+    let mut width: u16 = 1;
+    for node in nodes {
+        width = width.max(at_most_u16(node.children.len()));
+    }
+    width
+}
+
+// The row of a node in the wiring.
+fn push_row(
+    row: &mut Vec<Child>,
+    width: u16,
+    kind: &Kind,
+    children: &[u16],
+) -> Result<(), AllocError> {
+    for at in 0..width as usize {
+        let child = match kind {
+            Kind::Client(_) => outside(at),
+            _ => inside(children, at),
+        };
+        row.push(child)?;
+    }
+    Ok(())
+}
+
+fn outside(at: usize) -> Child {
+    if at == 0 {
+        Child::Outside
+    } else {
+        Child::Nothing
+    }
+}
+
+fn inside(children: &[u16], at: usize) -> Child {
+    match children.get(at) {
+        Some(child) => Child::Node(*child),
+        None => Child::Nothing,
+    }
+}
+
+/// The number of the last node.
+pub(crate) fn last_of(nodes: &[Node]) -> Option<u16>
+    ensures { IfSome result (λ last. last < length nodes.now) }
+{
+    let count = nodes.len();
+    if count == 0 || count > 65535 {
+        return None;
+    }
+    Some((count - 1) as u16)
+}
+
+fn node(kind: Kind, sets: u8, under: Load) -> Node {
+    Node {
+        kind,
+        sets,
+        weight: under.weight,
+        breadth: under.breadth,
+    }
+}
+
+// The nodes of a tree as it grows, what each weighs, and their rows in the wiring.
+#[derive(Drop)]
+struct Growing {
+    sets: u8,
+    width: u16,
+    nodes: Vec<Node>,
+    loads: Vec<Load>,
+    row: Vec<Child>,
+}
+
+impl Growing {
+    // A node over these children.
+    fn push(&mut self, kind: Kind, children: &[u16]) -> Result<(), AllocError> {
+        let under = below(&self.loads, children);
+        self.loads.push(load_of(shape_of(&kind), self.sets, under))?;
+        push_row(&mut self.row, self.width, &kind, children)?;
+        self.nodes.push(node(kind, self.sets, under))?;
+        Ok(())
+    }
+
+    // Each node of the plan.
+    fn push_all(&mut self, alloc: Global, plan: &Plan) -> Result<(), AllocError>
+        requires plan { IsPlan plan.now }
+        requires few { length plan.now.nodes ≤ 65534 }
+    {
+        let planned = plan.nodes.as_slice();
+        let sets = plan.sets.as_slice();
+        for at in 0..planned.len() {
+            let one = &planned[at];
+            let kind = kind_of(alloc, sets, one, at as u16)?;
+            self.push(kind, one.children.as_slice())?;
+        }
+        Ok(())
+    }
+
+    // The root, above the last node.
+    fn push_root(&mut self) -> Result<(), AllocError> {
+        let Some(top) = last_of(self.nodes.as_slice()) else {
+            return Err(AllocError);
+        };
+        self.push(Kind::Root, &[top])
+    }
+}
+
+/// The tree of a plan that `build` gives.
+///
+/// # Errors
+/// Out of memory. A plan with more than 65,534 nodes, or whose costs do not fit their numbers, would be answered so too;
+/// one that `build` gives has fewer nodes, and its paths are too short for that.
+pub(crate) fn tree_of(alloc: Global, plan: &Plan) -> Result<Tree, AllocError>
+    requires plan { IsPlan plan.now }
+    ensures fits { IfOk result (λ t. Fits (map node_promise t.nodes.items) t.wiring) }
+{
+    if plan.nodes.len() > 65534 {
+        return Err(AllocError);
+    }
+    let mut growing = Growing {
+        sets: sets_in(plan),
+        width: width_of(plan.nodes.as_slice()),
+        nodes: Vec::new(alloc),
+        loads: Vec::new(alloc),
+        row: Vec::new(alloc),
+    };
+    growing.push_all(alloc, plan)?;
+    growing.push_root()?;
+    let Growing {
+        width,
+        nodes,
+        row,
+        ..
+    } = growing;
+    let wiring = Wiring { width, below: row };
+    if fits(&nodes, &wiring) {
+        return Ok(Tree { nodes, wiring });
+    }
+    Err(AllocError)
+}

@@ -1,0 +1,16 @@
+pub mod Adding
+pub mod Answers
+pub mod Basics
+pub mod Below
+pub mod Files
+pub mod Folded
+pub mod Indexing
+pub mod Outcomes
+pub mod Parts
+pub mod Paths
+pub mod Earlier
+pub mod Running
+pub mod Shapes
+pub mod Showing
+pub mod Traces
+pub mod Walks

@@ -1,0 +1,247 @@
+-- Steps that run one after another are borne out by their operations.
+use Rattle.std.proofs.Common.{◌≡◌, ◌≢◌, ◌∷◌, ◌++◌, refl, sym, ap, subst, ◌∙◌, ℕ, ◌+◌, ◌<◌, ◌≤◌, ◌==◌, suc, zero, ◌⊎◌, inl, inr, List, [], length, take, get_or, arith, take_at, take_all}
+use Rattle.std.specs.Prelude.{Option, Some, None, slice_get, slice_set}
+use Rattle.std.proofs.lemmas.Bool.{cases_eq}
+use Rattle.fop_types.specs.Files.{Files, first_files}
+use Rattle.fop_types.specs.Flat.{flat, flat_answer, flat_after, IsChange}
+use Rattle.fop_types.specs.History.{Reply, fs_after, files_after}
+use Rattle.fop_types.specs.declared.answers.Answer.{Answer}
+use Rattle.fop_types.specs.declared.flat.FlatAnswer.TheVariants as flat_answers
+use Rattle.fop_types.specs.declared.flat.FlatOp.{FlatOp}
+use Rattle.history_replay.specs.code.Claims.{IsReplied, IsRepliedIf, IsHeld, AreHeld, IsEntered}
+use Rattle.history_replay.specs.code.Runs.{IsHeldOn, AreHeldOn, IsDone, Runs, RunsBy, ops_of, with_op, IsChangeHeld, IsStepHeld, AreBorne, PutsClaim, PutsChange, Puts, Bears}
+use Rattle.history_replay.specs.declared.claims.Claim.{Claim}
+use Rattle.history_replay.specs.declared.claims.Claim.TheVariants as claim
+use Rattle.history_replay.specs.declared.steps.Change.{Change}
+use Rattle.history_replay.specs.declared.steps.Step.{Step}
+use Rattle.history_replay.proofs.Basics.{some_is, same_some, none_some}
+
+-- ---- items of a list
+
+pub get_set : {X : Type 0} (xs : List X) (i : ℕ) (y : X) → i < length xs → slice_get (slice_set xs i y) i ≡ Some y
+get_set [] i y l = absurd (omega (arith, l))
+get_set (x ∷ xs) zero y l = refl
+get_set (x ∷ xs) (suc i) y l = get_set xs i y (omega (arith, l))
+
+pub get_set_other : {X : Type 0} (xs : List X) (i j : ℕ) (y : X) → (i ≡ j → ⊥) → slice_get (slice_set xs i y) j ≡ slice_get xs j
+get_set_other [] i j y differs = refl
+get_set_other (x ∷ xs) zero zero y differs = absurd (differs refl)
+get_set_other (x ∷ xs) zero (suc j) y differs = refl
+get_set_other (x ∷ xs) (suc i) zero y differs = refl
+get_set_other (x ∷ xs) (suc i) (suc j) y differs = get_set_other xs i j y (λ e. differs (ap suc e))
+
+-- ---- claims that are put at their places
+
+pub held_last : (files : Files) (at : ℕ) (replies : List Reply) (xs : List Claim) (y : Claim) → AreHeldOn files at replies (xs ++ y ∷ [])
+    → AreHeldOn files at replies xs × IsHeldOn files at replies y
+held_last files at replies [] y h = (tt, h.0)
+held_last files at replies (x ∷ xs) y h = let rest = held_last files at replies xs y h.1 in ((h.0, rest.0), rest.1)
+
+-- the step with a claim more
+abbrev pub with_claim : Step → Claim → Step
+with_claim step c = record step { claims = step.claims ++ c ∷ [] }
+
+abbrev pub with_change : Step → Change → Step
+with_change step change = record step { change = Some change }
+
+pub puts_claim : (steps : List Step) (place : ℕ) (step : Step) (c : Claim) → slice_get steps place ≡ Some step → place < length steps
+    → PutsClaim steps (slice_set steps place (with_claim step c)) place c
+puts_claim steps place step c there within ops replies borne = (old, (held_last (fs_after ops place) place replies step.claims c here.claims).1) where
+  here : IsStepHeld ops replies place (with_claim step c)
+  here = borne place (with_claim step c) (get_set steps place (with_claim step c) within)
+
+  at_place : (other : Step) → slice_get steps place ≡ Some other → IsStepHeld ops replies place other
+  at_place other o =
+      let same : step ≡ other = same_some step other (slice_get steps place) there o in
+      subst (λ (s : Step). IsStepHeld ops replies place s) same
+      (record { claims = (held_last (fs_after ops place) place replies step.claims c here.claims).0; change = here.change })
+
+  old : AreBorne ops replies steps
+  old at other o = by_place (cases_eq place at) where
+    by_place : (place ≡ at) ⊎ (place ≡ at → ⊥) → IsStepHeld ops replies at other
+    by_place (inl same) = subst (λ (n : ℕ). IsStepHeld ops replies n other) same (at_place other (ap (slice_get steps) same ∙ o))
+    by_place (inr differs) = borne at other (get_set_other steps place at (with_claim step c) differs ∙ o)
+
+pub puts_change : (steps : List Step) (index : ℕ) (step : Step) (change : Change) → slice_get steps index ≡ Some step → index < length steps
+    → step.change ≡ None → PutsChange steps (slice_set steps index (with_change step change)) index change
+puts_change steps index step change there within free ops replies borne = (old, here.change) where
+  here : IsStepHeld ops replies index (with_change step change)
+  here = borne index (with_change step change) (get_set steps index (with_change step change) within)
+
+  at_index : (other : Step) → slice_get steps index ≡ Some other → IsStepHeld ops replies index other
+  at_index other o =
+      let same : step ≡ other = same_some step other (slice_get steps index) there o in
+      subst (λ (s : Step). IsStepHeld ops replies index s) same (record { claims = here.claims; change = subst (IsChangeHeld ops replies index) (sym free) tt })
+
+  old : AreBorne ops replies steps
+  old at other o = by_index (cases_eq index at) where
+    by_index : (index ≡ at) ⊎ (index ≡ at → ⊥) → IsStepHeld ops replies at other
+    by_index (inl same) = subst (λ (n : ℕ). IsStepHeld ops replies n other) same (at_index other (ap (slice_get steps) same ∙ o))
+    by_index (inr differs) = borne at other (get_set_other steps index at (with_change step change) differs ∙ o)
+
+-- a claim that holds on the files at a place holds there
+pub held_there : (ops : List FlatOp) (replies : List Reply) (at : ℕ) (c : Claim) → IsHeldOn (fs_after ops at) at replies c → IsHeld ops replies c
+held_there ops replies at (claim.Finds place parent name found) h = rw h.0 h.1
+held_there ops replies at (claim.Answers place op reply) h = rw h.0 h.1
+held_there ops replies at (claim.Accepts place op) h = rw h.0 h.1
+held_there ops replies at (claim.Says reply answer) h = absurd h
+held_there ops replies at (claim.Enters index op reply) h = absurd h
+
+-- ---- the run
+
+files_more : (files : Files) (ops : List FlatOp) (op : FlatOp) → files_after files (ops ++ op ∷ []) ≡ flat_after (files_after files ops) op
+files_more files [] op = refl
+files_more files (o ∷ ops) op = files_more (flat_after files o) ops op
+
+-- the files after a prefix of operations
+after_prefix : (before ops : List FlatOp) → fs_after (before ++ ops) (length before) ≡ files_after first_files before
+after_prefix before ops = ap (files_after first_files) (take_at before ops (length before) refl)
+
+get_first : (before : List FlatOp) (op : FlatOp) (ops : List FlatOp) → slice_get (before ++ op ∷ ops) (length before) ≡ Some op
+get_first [] op ops = refl
+get_first (b ∷ before) op ops = get_first before op ops
+
+append_one : (before : List FlatOp) (op : FlatOp) (ops : List FlatOp) → (before ++ op ∷ []) ++ ops ≡ before ++ op ∷ ops
+append_one [] op ops = refl
+append_one (b ∷ before) op ops = ap (λ (l : List FlatOp). b ∷ l) (append_one before op ops)
+
+length_one : (before : List FlatOp) (op : FlatOp) → length (before ++ op ∷ []) ≡ length before + 1
+length_one [] op = refl
+length_one (b ∷ before) op = let one = length_one before op in omega (arith, one)
+
+-- the first step is borne out where it runs
+here_held : (replies : List Reply) (before : List FlatOp) (change : Change) (ops : List FlatOp) → IsDone (files_after first_files before) replies change
+    → IsEntered (before ++ change.op ∷ ops) replies (length before) change.op change.reply
+here_held replies before change ops d = record {
+  stands = get_first before change.op ops;
+  accepted = subst (λ (x : Files). IsChange (flat x change.op)) (sym (after_prefix before (change.op ∷ ops))) d.accepted;
+  answered = subst (λ (x : Files). IsRepliedIf replies change.reply (flat_answer x change.op)) (sym (after_prefix before (change.op ∷ ops))) d.answered;
+}
+
+-- the steps behind the first one, whose change is this
+module _ (replies : List Reply) (first : Step) (steps : List Step) (before : List FlatOp) (step : Step) where
+  claims_held : AreHeldOn (files_after first_files before) (length before) replies first.claims → (ops : List FlatOp)
+      → AreHeldOn (fs_after (before ++ ops) (length before)) (length before) replies first.claims
+  claims_held h ops = subst (λ (x : Files). AreHeldOn x (length before) replies first.claims) (sym (after_prefix before ops)) h
+
+  here : length before + 0 ≡ length before
+  here = omega arith
+
+  borne_by : (change : Option Change) → first.change ≡ change → AreHeldOn (files_after first_files before) (length before) replies first.claims
+      → RunsBy change (files_after first_files before) replies steps (λ after. Runs after (length before + 1) replies steps)
+      → ((c : Change) → Runs (files_after first_files (before ++ c.op ∷ [])) (length (before ++ c.op ∷ [])) replies steps → (k : ℕ) → slice_get steps k ≡ Some step
+      → IsStepHeld ((before ++ c.op ∷ []) ++ ops_of steps) replies (length (before ++ c.op ∷ []) + k) step)
+      → (k : ℕ) → slice_get (first ∷ steps) k ≡ Some step → IsStepHeld (before ++ with_op first.change (ops_of steps)) replies (length before + k) step
+  borne_by None is held runs later zero s =
+      subst (λ (n : ℕ). IsStepHeld (before ++ with_op first.change (ops_of steps)) replies n step) (sym here)
+      (subst (λ (x : Step). IsStepHeld (before ++ with_op first.change (ops_of steps)) replies (length before) x) (some_is first step s)
+      (record {
+        claims = claims_held held (with_op first.change (ops_of steps));
+        change = subst (IsChangeHeld (before ++ with_op first.change (ops_of steps)) replies (length before)) (sym is) tt;
+      }))
+  borne_by None is held runs later (suc k) s = absurd (none_some step None refl (subst (λ (l : List Step). slice_get l k ≡ Some step) runs s))
+  borne_by (Some change) is held runs later zero s =
+      let entered : IsChangeHeld (before ++ with_op (Some change) (ops_of steps)) replies (length before) (Some change) =
+      here_held replies before change (ops_of steps) runs.0 in
+      subst (λ (n : ℕ). IsStepHeld (before ++ with_op first.change (ops_of steps)) replies n step) (sym here)
+      (subst (λ (x : Step). IsStepHeld (before ++ with_op first.change (ops_of steps)) replies (length before) x) (some_is first step s)
+      (record {
+        claims = claims_held held (with_op first.change (ops_of steps));
+        change = subst (λ (o : Option Change). IsChangeHeld (before ++ with_op o (ops_of steps)) replies (length before) o) (sym is) entered;
+      }))
+  borne_by (Some change) is held runs later (suc k) s =
+      let one = length_one before change.op in
+      let index : length (before ++ change.op ∷ []) + k ≡ length before + suc k = omega (arith, one) in
+      let runs_on : Runs (files_after first_files (before ++ change.op ∷ [])) (length (before ++ change.op ∷ [])) replies steps =
+      subst (λ (n : ℕ). Runs (files_after first_files (before ++ change.op ∷ [])) n replies steps) (sym one)
+      (subst (λ (x : Files). Runs x (length before + 1) replies steps) (sym (files_more first_files before change.op)) runs.1) in
+      subst (λ (o : Option Change). IsStepHeld (before ++ with_op o (ops_of steps)) replies (length before + suc k) step) (sym is)
+      (subst (λ (l : List FlatOp). IsStepHeld l replies (length before + suc k) step) (append_one before change.op (ops_of steps))
+      (subst (λ (n : ℕ). IsStepHeld ((before ++ change.op ∷ []) ++ ops_of steps) replies n step) index (later change runs_on k s)))
+
+borne_from : (replies : List Reply) (steps : List Step) (before : List FlatOp)
+    → Runs (files_after first_files before) (length before) replies steps
+    → (k : ℕ) (step : Step) → slice_get steps k ≡ Some step → IsStepHeld (before ++ ops_of steps) replies (length before + k) step
+borne_from replies [] before r k step s = absurd r
+borne_from replies (first ∷ steps) before r k step s =
+    borne_by replies first steps before step first.change refl r.0 r.1 (λ c runs j there. borne_from replies steps (before ++ c.op ∷ []) runs j step there) k s
+
+pub runs_bear : (replies : List Reply) (steps : List Step) → Runs first_files 0 replies steps → AreBorne (ops_of steps) replies steps
+runs_bear replies steps r at step s =
+    let none : 0 + at ≡ at = omega arith in
+    subst (λ (n : ℕ). IsStepHeld (ops_of steps) replies n step) none (borne_from replies steps [] r at step s)
+
+count_by : (first : Step) (steps : List Step) (files : Files) (at : ℕ) (replies : List Reply) (change : Option Change)
+    → RunsBy change files replies steps (λ after. Runs after (at + 1) replies steps)
+    → ((after : Files) → Runs after (at + 1) replies steps → length (ops_of steps) + 1 ≡ length steps)
+    → length (with_op change (ops_of steps)) + 1 ≡ length (first ∷ steps)
+count_by first steps files at replies None runs later =
+    let none : ops_of steps ≡ [] = ap ops_of runs in
+    let no_ops : length (ops_of steps) ≡ 0 = ap length none in
+    let no_steps : length steps ≡ 0 = ap length runs in
+    omega (arith, no_ops, no_steps)
+count_by first steps files at replies (Some change) runs later = let rest = later (flat_after files change.op) runs.1 in omega (arith, rest)
+
+pub runs_count : (files : Files) (at : ℕ) (replies : List Reply) (steps : List Step) → Runs files at replies steps → length (ops_of steps) + 1 ≡ length steps
+runs_count files at replies [] r = absurd r
+runs_count files at replies (first ∷ steps) r = count_by first steps files at replies first.change r.1 (λ after runs. runs_count after (at + 1) replies steps runs)
+
+-- a claim that was put at its place
+pub puts_there : (replies : List Reply) (before after : List Step) (place : ℕ) (c : Claim) → PutsClaim before after place c → Puts replies before after c
+puts_there replies before after place c puts ops borne =
+    let both = puts ops replies borne in (both.0, held_there ops replies place c both.1)
+
+pub puts_entry : (replies : List Reply) (before after : List Step) (index : ℕ) (op : FlatOp) (reply : Option ℕ)
+    → PutsChange before after index (record { op = op; reply = reply }) → Puts replies before after (claim.Enters index op reply)
+puts_entry replies before after index op reply puts ops borne = puts ops replies borne
+
+pub puts_said : (replies : List Reply) (before after : List Step) (reply : ℕ) (a : Answer) → after ≡ before → IsReplied replies reply (flat_answers.Call a)
+    → Puts replies before after (claim.Says reply a)
+puts_said replies before after reply a same said ops borne = (subst (AreBorne ops replies) same borne, said)
+
+held_last_claim : (ops : List FlatOp) (replies : List Reply) (xs : List Claim) (y : Claim) → AreHeld ops replies xs → IsHeld ops replies y → AreHeld ops replies (xs ++ y ∷ [])
+held_last_claim ops replies [] y h here = (here, tt)
+held_last_claim ops replies (x ∷ xs) y h here = (h.0, held_last_claim ops replies xs y h.1 here)
+
+-- one claim more that was put
+pub held_next : (replies : List Reply) (before after : List Step) (claims : List Claim) (c : Claim) → Puts replies before after c
+    → ((ops : List FlatOp) → AreBorne ops replies before → AreHeld ops replies claims)
+    → (ops : List FlatOp) → AreBorne ops replies after → AreHeld ops replies (claims ++ c ∷ [])
+held_next replies before after claims c puts so_far ops borne =
+    let both = puts ops borne in held_last_claim ops replies claims c (so_far ops both.0) both.1
+
+-- all claims were put, and the steps run
+pub bears_by : (replies : List Reply) (steps : List Step) (entries : ℕ) (claims : List Claim) → length steps ≡ entries + 1
+    → ((ops : List FlatOp) → AreBorne ops replies steps → AreHeld ops replies claims) → Runs first_files 0 replies steps → Bears replies entries claims
+bears_by replies steps entries claims many put runs =
+    let count = runs_count first_files 0 replies steps runs in
+    record { ops = ops_of steps; as_many = omega (arith, count, many); held = put (ops_of steps) (runs_bear replies steps runs) }
+
+-- ---- the loop over the steps
+
+held_on_last : (files : Files) (at : ℕ) (replies : List Reply) (xs : List Claim) (y : Claim) → AreHeldOn files at replies xs → IsHeldOn files at replies y
+    → AreHeldOn files at replies (xs ++ y ∷ [])
+held_on_last files at replies [] y h here = (here, tt)
+held_on_last files at replies (x ∷ xs) y h here = (h.0, held_on_last files at replies xs y h.1 here)
+
+pub holds_next : (files : Files) (at : ℕ) (replies : List Reply) (xs : List Claim) (y : Claim) → AreHeldOn files at replies xs → IsHeldOn files at replies y
+    → AreHeldOn files at replies (xs ++ y ∷ [])
+holds_next files at replies xs y h here = held_on_last files at replies xs y h here
+
+steps_assoc : (xs : List Step) (y : Step) (zs : List Step) → (xs ++ y ∷ []) ++ zs ≡ xs ++ y ∷ zs
+steps_assoc [] y zs = refl
+steps_assoc (x ∷ xs) y zs = ap (λ (l : List Step). x ∷ l) (steps_assoc xs y zs)
+
+pub run_next : (files : Files) (at : ℕ) (replies : List Reply) (passed : List Step) (step : Step) (change : Change) → step.change ≡ Some change
+    → AreHeldOn files at replies step.claims → IsDone files replies change
+    → ((rest : List Step) → Runs files at replies rest → Runs first_files 0 replies (passed ++ rest))
+    → (rest : List Step) → Runs (flat_after files change.op) (at + 1) replies rest → Runs first_files 0 replies ((passed ++ step ∷ []) ++ rest)
+run_next files at replies passed step change is held done so_far rest runs =
+    subst (Runs first_files 0 replies) (sym (steps_assoc passed step rest))
+    (so_far (step ∷ rest) (held, subst (λ (o : Option Change). RunsBy o files replies rest (λ after. Runs after (at + 1) replies rest)) (sym is) (done, runs)))
+
+pub run_ends : (files : Files) (at : ℕ) (replies : List Reply) (passed : List Step) (step : Step) → step.change ≡ None
+    → AreHeldOn files at replies step.claims → ((rest : List Step) → Runs files at replies rest → Runs first_files 0 replies (passed ++ rest))
+    → Runs first_files 0 replies (passed ++ step ∷ [])
+run_ends files at replies passed step is held so_far =
+    so_far (step ∷ []) (held, subst (λ (o : Option Change). RunsBy o files replies [] (λ after. Runs after (at + 1) replies [])) (sym is) refl)

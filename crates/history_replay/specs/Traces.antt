@@ -1,0 +1,29 @@
+-- What is judged: calls, their replies and a history of changes, with bounds on the places of each call.
+use Rattle.std.specs.Prelude.{ℕ, ◌-◌, List, get_or}
+use Rattle.fop_types.specs.Calls.{Submission}
+use Rattle.fop_types.specs.History.{Reply, IsLegalHistory}
+use Rattle.fop_types.specs.Replies.{AreLawfulReplies}
+use Rattle.fop_types.specs.declared.flat.FlatOp.{FlatOp}
+use Rattle.fop_types.specs.declared.history.Entry.{Entry}
+
+-- The calls are in the order of their numbers, from 1 on. Some have no reply. `since` and `until` have a number for each
+-- call: a lower bound of the places of its fops and of the entries before its first one, and an upper bound of its places.
+pub record Trace : Type 0 where
+  pub calls : List Submission
+  pub replies : List Reply
+  pub history : List Entry
+  pub since : List ℕ
+  pub until : List ℕ
+
+-- the number of a list that is a call's
+abbrev pub of_call : List ℕ → ℕ → ℕ
+of_call numbers call = get_or numbers (call - 1) 0
+
+-- The replies are those of one plain file system after the changes of the history: there is an operation for each entry by
+-- which the history is legal, and the replies are lawful. `answered` is how many fops of a call have a place.
+pub record IsLawfulTrace (t : Trace) : Type 0 where
+  pub ops : List FlatOp
+  pub places : ℕ → List ℕ
+  pub answered : ℕ → ℕ
+  pub legal : IsLegalHistory t.calls t.replies (of_call t.since) places ops t.history
+  pub lawful : AreLawfulReplies t.calls t.replies ops t.history (of_call t.since) (of_call t.until) answered

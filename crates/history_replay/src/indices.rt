@@ -1,0 +1,215 @@
+//! Where each call's reply and entries are.
+ghost use Rattle.std.specs.Prelude.{◌≡◌, ◌+◌, Some, true};
+ghost use Rattle.fop_types.specs.Calls.{last_part_number as last_part_number_of};
+ghost use Rattle.history_replay.specs.code.Runs.{index_by, IsReplyFound, IsEntryFound, IsLastOf, AreRepliesFound, AreEntriesFound, AreLasts, AreIndexed};
+
+use crate::findings::Findings;
+use crate::progress::{index_at, reply_index};
+use crate::trace::{Submitted, Trace};
+use fop_types::{Call, Entry, Seq};
+use std::alloc::{AllocError, Global};
+
+fn last_part_number(call: &Call) -> u8
+    ensures { result ≡ last_part_number_of call.now }
+{
+    match call {
+        Call::Rename { .. } => 2,
+        _ => 1,
+    }
+}
+
+// Where an entry of a call is to be found.
+fn entry_index(f: &Findings, at: usize, entry: Entry, call: &Submitted) -> Option<u32>
+    ensures { result ≡ index_by f.now at entry (Some call.now) }
+{
+    if entry.part == last_part_number(call.call) {
+        return index_at(f.last.as_slice(), at);
+    }
+    if entry.part == 1 {
+        return index_at(f.first.as_slice(), at);
+    }
+    None
+}
+
+// Whether the entry of an index is found by its call.
+fn is_entry_found(trace: &Trace, f: &Findings, index: usize, entry: Entry) -> bool
+    ensures { result ≡ true → IsEntryFound trace.now f.now index entry }
+{
+    let Some(at) = entry.call.checked_sub(1) else {
+        return false;
+    };
+    let at = at as usize;
+    match trace.calls.get(at) {
+        None => false,
+        Some(call) => match entry_index(f, at, entry, call) {
+            None => false,
+            Some(found) => found as usize == index,
+        },
+    }
+}
+
+// Whether the reply of an index is found by its call.
+fn is_reply_found(trace: &Trace, f: &Findings, index: usize, call: u32) -> bool
+    ensures { result ≡ true → IsReplyFound trace.now f.now index call }
+{
+    let Some(at) = call.checked_sub(1) else {
+        return false;
+    };
+    let at = at as usize;
+    if at >= trace.calls.len() {
+        return false;
+    }
+    match reply_index(f, at) {
+        None => false,
+        Some(found) => found == index,
+    }
+}
+
+// Whether the last part of a call, if it is said to have one, is in the history.
+fn is_last(trace: &Trace, at: usize, call: &Submitted, index: Option<u32>) -> bool
+    ensures { result ≡ true → IsLastOf trace.now at call.now index }
+{
+    match index {
+        None => true,
+        Some(index) => match trace.history.get(index as usize) {
+            None => false,
+            Some(entry) => is_entry(*entry, at, last_part_number(call.call)),
+        },
+    }
+}
+
+fn is_entry(entry: Entry, at: usize, part: u8) -> bool
+    ensures { result ≡ true → entry ≡ record { call = at + 1; part = part } }
+{
+    entry.call > 0 && (entry.call - 1) as usize == at && entry.part == part
+}
+
+fn are_lasts(trace: &Trace, f: &Findings) -> bool
+    ensures { result ≡ true → AreLasts trace.now f.now }
+{
+    for at in 0..trace.calls.len() {
+        if !is_last(trace, at, &trace.calls[at], index_at(f.last.as_slice(), at)) {
+            return false;
+        }
+    }
+    true
+}
+
+#[tactic(auto, using(crate::proofs::Indexing::replies_next, crate::proofs::Indexing::replies_all))]
+fn are_replies(trace: &Trace, f: &Findings) -> bool
+    ensures { result ≡ true → AreRepliesFound trace.now f.now }
+{
+    for index in 0..trace.replies.len() {
+        let reply = &trace.replies[index];
+        if !is_reply_found(trace, f, index, reply.call) {
+            return false;
+        }
+    }
+    true
+}
+
+fn are_entries(trace: &Trace, f: &Findings) -> bool
+    ensures { result ≡ true → AreEntriesFound trace.now f.now }
+{
+    for index in 0..trace.history.len() {
+        if !is_entry_found(trace, f, index, trace.history[index]) {
+            return false;
+        }
+    }
+    true
+}
+
+/// Whether each reply and each entry is found by its call.
+#[tactic(auto, using(crate::proofs::Indexing::all_found))]
+pub(crate) fn are_indexed(trace: &Trace, f: &Findings) -> bool
+    ensures { result ≡ true → AreIndexed trace.now f.now }
+{
+    if !are_replies(trace, f) {
+        return false;
+    }
+    if !are_entries(trace, f) {
+        return false;
+    }
+    are_lasts(trace, f)
+}
+
+fn no_indices<T: Copy>(alloc: Global, count: usize) -> Result<Vec<Option<T>>, AllocError> {
+    let mut indices = Vec::new(alloc);
+    for _ in 0..count {
+        indices.push(None)?;
+    }
+    Ok(indices)
+}
+
+fn put_index<T: Copy>(indices: &mut Vec<Option<T>>, at: usize, index: T) {
+    if at < indices.len() && indices[at].is_none() {
+        indices[at] = Some(index);
+    }
+}
+
+/// The indices of the replies, by their calls.
+///
+/// # Errors
+/// Out of memory.
+pub(crate) fn replies_by_call(
+    alloc: Global,
+    trace: &Trace,
+) -> Result<Vec<Option<usize>>, AllocError> {
+    let mut replied = no_indices(alloc, trace.calls.len())?;
+    for index in 0..trace.replies.len() {
+        let reply = &trace.replies[index];
+        if let Some(at) = reply.call.checked_sub(1) {
+            put_index(&mut replied, at as usize, index);
+        }
+    }
+    Ok(replied)
+}
+
+/// The first and the last part of each call in the history.
+#[derive(Drop)]
+pub(crate) struct Parts {
+    pub first: Vec<Option<u32>>,
+    pub last: Vec<Option<u32>>,
+}
+
+impl Parts {
+    /// No part.
+    ///
+    /// # Errors
+    /// Out of memory.
+    pub(crate) fn new(alloc: Global, trace: &Trace) -> Result<Parts, AllocError> {
+        Ok(Parts {
+            first: no_indices(alloc, trace.calls.len())?,
+            last: no_indices(alloc, trace.calls.len())?,
+        })
+    }
+
+    fn enter(&mut self, trace: &Trace, index: u32, entry: Entry) {
+        let Some(at) = entry.call.checked_sub(1) else {
+            return;
+        };
+        let at = at as usize;
+        let Some(call) = trace.calls.get(at) else {
+            return;
+        };
+        if entry.part == last_part_number(call.call) {
+            put_index(&mut self.last, at, index);
+        } else if entry.part == 1 {
+            put_index(&mut self.first, at, index);
+        }
+    }
+}
+
+/// The indices of the entries, by their calls.
+///
+/// # Errors
+/// Out of memory.
+pub(crate) fn parts_by_call(alloc: Global, trace: &Trace) -> Result<Parts, AllocError> {
+    let mut parts = Parts::new(alloc, trace)?;
+    for index in 0..trace.history.len() {
+        if index <= u32::MAX as usize {
+            parts.enter(trace, index as u32, trace.history[index]);
+        }
+    }
+    Ok(parts)
+}

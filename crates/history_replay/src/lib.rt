@@ -1,0 +1,34 @@
+//! The judge of a trace, and of a report: whether calls, answered as they are said to be, are those of one plain file system
+//! after the changes of a history. It knows no graph, brick or hub.
+//!
+//! ```text
+//!   find       one walk over the history: what each lookup found, the operation of each entry
+//!     |
+//!   claims_of  call by call: the claims by which its entries are legal and its reply is lawful
+//!     |
+//!   hold       one run of the flat file system over the operations: each claim at its place
+//! ```
+//!
+//! [`is_lawful`] is the check of any trace: a program can run it over its own log. [`judge`] is the check of a report of a
+//! script. What `find` gives is believed by nobody: a wrong finding makes a claim that does not hold.
+#![tactic(auto)]
+
+mod cases;
+mod claims;
+mod finding;
+mod findings;
+mod indices;
+mod judging;
+mod lawful;
+mod lines;
+mod lookups;
+mod places;
+mod progress;
+mod same;
+mod shown;
+mod steps;
+mod trace;
+
+pub use judging::{Verdict, judge};
+pub use lawful::is_lawful;
+pub use trace::{Replied, Submitted, Trace};

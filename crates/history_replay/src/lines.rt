@@ -1,0 +1,288 @@
+//! The lines of the script that a report's calls are.
+ghost use Rattle.std.specs.Prelude.{◌≡◌, true, map, IfOk};
+ghost use Rattle.history_replay.specs.Reports.{IsCallOf, AreCallsOf, AreInPhases, AreTheseLines, line_numbers, submission_of};
+
+use crate::same::same_bytes;
+use crate::trace::Submitted;
+use report_text::{Report, ReportCall};
+use script_lang::{CallLine, Phase, Script};
+use std::alloc::{AllocError, Global};
+use std::collections::BTreeMap;
+use std::marker::Model;
+
+/// The line of a call.
+#[derive(Drop)]
+pub(crate) struct Named<'a> {
+    pub line: &'a CallLine,
+}
+
+impl<'a> Model for Named<'a> {
+    ghost use Rattle.script_lang.specs.declared.scripts.CallLine.{CallLine as Line};
+
+    ghost Value = { Line };
+
+    ghost view = { λ n. n.line.now };
+}
+
+// ---- the lines by their numbers
+
+// All calls of a script, in the order of its text, with the phase of each; and their places by their numbers.
+#[derive(Drop)]
+struct Lines<'a> {
+    calls: Vec<&'a CallLine>,
+    phases: Vec<usize>,
+    by_number: BTreeMap<u32, usize>,
+}
+
+impl<'a> Lines<'a> {
+    fn new(alloc: Global, script: &'a Script) -> Result<Lines<'a>, AllocError> {
+        let mut lines = Lines {
+            calls: Vec::new(alloc),
+            phases: Vec::new(alloc),
+            by_number: BTreeMap::new(alloc),
+        };
+        let phases = script.phases.as_slice();
+        for phase in 0..phases.len() {
+            for line in phases[phase].calls.as_slice() {
+                lines.by_number.insert(line.line, lines.calls.len())?;
+                lines.calls.push(line)?;
+                lines.phases.push(phase)?;
+            }
+        }
+        Ok(lines)
+    }
+
+    fn place(&self, number: u32) -> Option<usize> {
+        self.by_number.get(&number).copied()
+    }
+}
+
+// The order of calls: each is the next one of its session, and none is of a phase before one that came.
+#[derive(Drop)]
+struct Order {
+    next: Vec<Vec<usize>>,
+    passed: Vec<usize>,
+    phase: usize,
+}
+
+impl Order {
+    fn new(alloc: Global, lines: &Lines) -> Result<Order, AllocError> {
+        let mut order = Order {
+            next: Vec::new(alloc),
+            passed: Vec::new(alloc),
+            phase: 0,
+        };
+        for _ in 0..256usize {
+            order.next.push(Vec::new(alloc))?;
+            order.passed.push(0)?;
+        }
+        for place in 0..lines.calls.len() {
+            if let Some(list) = order.next.get_mut(lines.calls[place].session as usize) {
+                list.push(place)?;
+            }
+        }
+        Ok(order)
+    }
+
+    // Whether the call at this place of the script comes in its turn.
+    fn takes(&mut self, lines: &Lines, place: usize) -> bool {
+        let (Some(line), Some(phase)) = (lines.calls.get(place), lines.phases.get(place)) else {
+            return false;
+        };
+        let session = line.session as usize;
+        let in_phase = *phase >= self.phase;
+        self.phase = self.phase.max(*phase);
+        let (Some(next), Some(passed)) = (self.next.get(session), self.passed.get_mut(session))
+        else {
+            return false;
+        };
+        if next.get(*passed).copied() != Some(place) {
+            return false;
+        }
+        *passed = (*passed).saturating_add(1);
+        in_phase
+    }
+}
+
+/// The lines of a report's calls, by their numbers, and an idle one where no call has the number; and the number of the first
+/// call that is not the next of its session or phase, or the number behind the last one where calls are missing.
+#[derive(Drop)]
+pub(crate) struct Assigned<'a> {
+    pub lines: Vec<Named<'a>>,
+    pub fails: Option<usize>,
+}
+
+/// Finds the line of each call by its number.
+///
+/// # Errors
+/// Out of memory.
+pub(crate) fn assign<'a>(
+    alloc: Global,
+    script: &'a Script,
+    report: &Report,
+    idle: &'a CallLine,
+) -> Result<Assigned<'a>, AllocError> {
+    let lines = Lines::new(alloc, script)?;
+    let mut order = Order::new(alloc, &lines)?;
+    let mut assigned = Assigned {
+        lines: Vec::new(alloc),
+        fails: None,
+    };
+    let calls = report.calls.as_slice();
+    for at in 0..calls.len() {
+        let place = lines.place(calls[at].line);
+        let line = match place {
+            Some(place) => lines.calls.get(place).copied(),
+            None => None,
+        };
+        let fits = match (place, line) {
+            (Some(place), Some(line)) => {
+                order.takes(&lines, place) && is_call_of(script, at + 1, line, &calls[at])
+            }
+            _ => false,
+        };
+        if !fits && assigned.fails.is_none() {
+            assigned.fails = Some(at + 1);
+        }
+        match line {
+            Some(line) => assigned.lines.push(Named { line })?,
+            None => assigned.lines.push(Named { line: idle })?,
+        }
+    }
+    if assigned.fails.is_none() && calls.len() < lines.calls.len() {
+        assigned.fails = Some(calls.len() + 1);
+    }
+    Ok(assigned)
+}
+
+// ---- whether these are the lines
+
+// Whether a call of a report is this line's.
+fn is_call_of(script: &Script, number: usize, line: &CallLine, call: &ReportCall) -> bool
+    ensures { result ≡ true → IsCallOf script.now number line.now call.now }
+{
+    if call.call as usize != number || call.line != line.line {
+        return false;
+    }
+    match script.sessions.as_slice().get(line.session as usize) {
+        Some(name) => same_bytes(name.as_slice(), call.session.as_slice()),
+        None => false,
+    }
+}
+
+fn are_calls_of(script: &Script, lines: &[Named], calls: &[ReportCall]) -> bool
+    ensures { result ≡ true → AreCallsOf script.now 1 lines.now calls.now }
+{
+    if lines.len() != calls.len() {
+        return false;
+    }
+    for at in 0..lines.len() {
+        let named = &lines[at];
+        if !is_call_of(script, at + 1, named.line, &calls[at]) {
+            return false;
+        }
+    }
+    true
+}
+
+fn numbers_named(alloc: Global, lines: &[Named], session: u8) -> Result<Vec<u32>, AllocError>
+    ensures { IfOk result (λ v. v.items ≡ line_numbers session lines.now) }
+{
+    let mut numbers = Vec::new(alloc);
+    for named in lines {
+        if named.line.session == session {
+            numbers.push(named.line.line)?;
+        }
+    }
+    Ok(numbers)
+}
+
+fn numbers_of(alloc: Global, lines: &[CallLine], session: u8) -> Result<Vec<u32>, AllocError>
+    ensures { IfOk result (λ v. v.items ≡ line_numbers session lines.now) }
+{
+    let mut numbers = Vec::new(alloc);
+    for line in lines {
+        if line.session == session {
+            numbers.push(line.line)?;
+        }
+    }
+    Ok(numbers)
+}
+
+fn same_numbers(one: &[u32], other: &[u32]) -> bool
+    ensures { result ≡ true → one.now ≡ other.now }
+{
+    one == other
+}
+
+// Whether the calls of each session are those of the phase, in their order.
+fn are_lines(alloc: Global, lines: &[Named], phase: &[CallLine]) -> Result<bool, AllocError>
+    ensures { IfOk result (λ same. same ≡ true → AreTheseLines lines.now phase.now) }
+{
+    for session in 0..256usize {
+        let one = numbers_named(alloc, lines, session as u8)?;
+        let other = numbers_of(alloc, phase, session as u8)?;
+        if !same_numbers(one.as_slice(), other.as_slice()) {
+            return Ok(false);
+        }
+    }
+    Ok(true)
+}
+
+// Whether lines are those of the phases, one phase after another.
+fn are_in_phases(alloc: Global, lines: &[Named], phases: &[Phase]) -> Result<bool, AllocError>
+    ensures { IfOk result (λ same. same ≡ true → AreInPhases lines.now phases.now) }
+{
+    let mut from = 0;
+    for phase in phases {
+        let count = phase.calls.len();
+        if lines.len() - from < count {
+            return Ok(false);
+        }
+        if !are_lines(alloc, &lines[from..from + count], phase.calls.as_slice())? {
+            return Ok(false);
+        }
+        from += count;
+    }
+    Ok(from == lines.len())
+}
+
+/// Whether these are the lines of a report's calls.
+///
+/// # Errors
+/// Out of memory.
+pub(crate) fn are_the_lines(
+    alloc: Global,
+    script: &Script,
+    report: &Report,
+    lines: &[Named],
+) -> Result<bool, AllocError>
+    ensures calls { IfOk result (λ same. same ≡ true → AreCallsOf script.now 1 lines.now report.now.calls) }
+    ensures phases { IfOk result (λ same. same ≡ true → AreInPhases lines.now script.now.phases) }
+{
+    if !are_calls_of(script, lines, report.calls.as_slice()) {
+        return Ok(false);
+    }
+    are_in_phases(alloc, lines, script.phases.as_slice())
+}
+
+/// The calls of lines.
+///
+/// # Errors
+/// Out of memory.
+pub(crate) fn submissions<'a>(
+    alloc: Global,
+    lines: &[Named<'a>],
+) -> Result<Vec<Submitted<'a>>, AllocError>
+    ensures { IfOk result (λ v. v.items ≡ map submission_of lines.now) }
+{
+    let mut calls = Vec::new(alloc);
+    for named in lines {
+        let line = named.line;
+        calls.push(Submitted {
+            session: line.session,
+            call: &line.call,
+        })?;
+    }
+    Ok(calls)
+}

@@ -1,0 +1,326 @@
+//! The run of the flat file system that bears claims out.
+ghost use Rattle.std.specs.Prelude.{◌≡◌, ◌+◌, true, length, IfOk, OnOk};
+ghost use Rattle.fop_types.specs.Files.{first_files};
+ghost use Rattle.fop_types.specs.Flat.{flat, flat_answer, flat_after, IsChange};
+ghost use Rattle.history_replay.specs.code.Claims.{is_granted as is_granted_of, IsFound, IsReplied};
+ghost use Rattle.history_replay.specs.code.Runs.{IsHeldOn, AreHeldOn, IsDone, Runs, PutsClaim, PutsChange, Puts, Bears};
+
+use crate::claims::Claim;
+use crate::places::{is_change, is_ok};
+use crate::same::same_answer;
+use crate::trace::Replied;
+use flat_fs::FlatFs;
+use fop_types::{Answer, FlatAnswer, FlatOp, Gfid, Seq};
+use std::alloc::{AllocError, Global};
+
+/// The change of an entry; its answer is that of a reply, if it has one.
+#[derive(Drop)]
+pub(crate) struct Change {
+    pub op: FlatOp,
+    pub reply: Option<usize>,
+}
+
+/// What is to hold of the files at a place, and the change that is made there.
+#[derive(Drop)]
+pub(crate) struct Step {
+    pub claims: Seq<Claim>,
+    pub change: Option<Change>,
+}
+
+// So many places without claims, and one more.
+fn empty_steps(alloc: Global, count: usize) -> Result<Vec<Step>, AllocError>
+    ensures { IfOk result (λ steps. length steps.items ≡ count + 1) }
+{
+    let mut steps = Vec::new(alloc);
+    for _ in 0..count {
+        steps.push(Step {
+            claims: Seq::new(alloc),
+            change: None,
+        })?;
+    }
+    steps.push(Step {
+        claims: Seq::new(alloc),
+        change: None,
+    })?;
+    Ok(steps)
+}
+
+// Whether a reply has this answer.
+fn is_answer(replies: &[Replied], reply: usize, answer: &Answer) -> bool
+    ensures { result ≡ true → IsReplied replies.now reply (FlatAnswer.Call answer.now) }
+{
+    match replies.get(reply) {
+        Some(found) => same_answer(found.answer, answer),
+        None => false,
+    }
+}
+
+fn is_replied(replies: &[Replied], reply: usize, answer: &FlatAnswer) -> bool
+    ensures { result ≡ true → IsReplied replies.now reply answer.now }
+{
+    match answer {
+        FlatAnswer::Found { .. } => false,
+        FlatAnswer::Call(answer) => is_answer(replies, reply, answer),
+    }
+}
+
+fn is_found(answer: &FlatAnswer, found: Gfid) -> bool
+    ensures { result ≡ true → IsFound found answer.now }
+{
+    match answer {
+        FlatAnswer::Found { gfid, .. } => *gfid == found,
+        FlatAnswer::Call(_) => false,
+    }
+}
+
+// ---- putting claims at their places
+
+#[tactic(auto, using(crate::proofs::Running::puts_claim))]
+fn put_claim(steps: &mut Vec<Step>, place: u32, claim: Claim) -> Result<bool, AllocError>
+    ensures puts { IfOk result (λ did. did ≡ true → PutsClaim steps.old.items steps.new.items place claim) }
+    ensures count { IfOk result (λ did. length steps.new.items ≡ length steps.old.items) }
+{
+    let index = place as usize;
+    if index >= steps.len() {
+        return Ok(false);
+    }
+    steps[index].claims.push(claim)?;
+    Ok(true)
+}
+
+#[tactic(auto, using(crate::proofs::Running::puts_change))]
+fn put_change(steps: &mut Vec<Step>, index: u32, change: Change) -> bool
+    ensures puts { result ≡ true → PutsChange steps.old.items steps.new.items index change }
+    ensures count { length steps.new.items ≡ length steps.old.items }
+{
+    let index = index as usize;
+    if index >= steps.len() || steps[index].change.is_some() {
+        return false;
+    }
+    steps[index].change = Some(change);
+    true
+}
+
+// Puts a claim at its place.
+#[tactic(auto, using(crate::proofs::Running::puts_there, crate::proofs::Running::puts_entry, crate::proofs::Running::puts_said))]
+fn put(replies: &[Replied], steps: &mut Vec<Step>, claim: Claim) -> Result<bool, AllocError>
+    ensures puts { IfOk result (λ did. did ≡ true → Puts replies.now steps.old.items steps.new.items claim) }
+    ensures count { IfOk result (λ did. length steps.new.items ≡ length steps.old.items) }
+{
+    match claim {
+        Claim::Finds {
+            place,
+            parent,
+            name,
+            found,
+        } => put_claim(
+            steps,
+            place,
+            Claim::Finds {
+                place,
+                parent,
+                name,
+                found,
+            },
+        ),
+        Claim::Answers { place, op, reply } => {
+            put_claim(steps, place, Claim::Answers { place, op, reply })
+        }
+        Claim::Accepts { place, op } => put_claim(steps, place, Claim::Accepts { place, op }),
+        Claim::Says { reply, answer } => Ok(is_answer(replies, reply, &answer)),
+        Claim::Enters { index, op, reply } => Ok(put_change(steps, index, Change { op, reply })),
+    }
+}
+
+// ---- the run
+
+// Whether an operation has the answer of a reply. It is none that would be made.
+#[tactic(auto, using(crate::proofs::Outcomes::kept))]
+fn answers(
+    alloc: Global,
+    files: &mut FlatFs,
+    replies: &[Replied],
+    op: FlatOp,
+    reply: usize,
+) -> Result<bool, AllocError>
+    ensures answer { IfOk result (λ did. did ≡ true → IsReplied replies.now reply (flat_answer files.old op)) }
+    ensures files { IfOk result (λ did. did ≡ true → files.new ≡ files.old) }
+{
+    let changes = is_change(&op);
+    let answer = files.apply(alloc, op)?;
+    if changes && is_granted(&answer) {
+        return Ok(false);
+    }
+    Ok(is_replied(replies, reply, &answer))
+}
+
+fn is_granted(answer: &FlatAnswer) -> bool
+    ensures { result ≡ is_granted_of answer.now }
+{
+    match answer {
+        FlatAnswer::Found { .. } => true,
+        FlatAnswer::Call(answer) => is_ok(answer),
+    }
+}
+
+#[tactic(auto, using(crate::proofs::Outcomes::lookup_keeps))]
+fn finds(
+    alloc: Global,
+    files: &mut FlatFs,
+    parent: Gfid,
+    name: Seq<u8>,
+    found: Gfid,
+) -> Result<bool, AllocError>
+    ensures answer { IfOk result (λ did. did ≡ true → IsFound found (flat_answer files.old (FlatOp.Lookup parent name))) }
+    ensures files { OnOk result (files.new ≡ files.old) }
+{
+    let answer = files.apply(alloc, FlatOp::Lookup { parent, name })?;
+    Ok(is_found(&answer, found))
+}
+
+// Whether a rename would be made. No other operation is asked for.
+#[tactic(auto, using(crate::proofs::Outcomes::accepted_is))]
+fn accepts(files: &FlatFs, op: &FlatOp) -> bool
+    ensures { result ≡ true → IsChange (flat files.now op.now) }
+{
+    match op {
+        FlatOp::Rename {
+            parent,
+            name,
+            target,
+            new_name,
+        } => files.accepts_rename(*parent, name.as_slice(), *target, new_name.as_slice()),
+        _ => false,
+    }
+}
+
+// Whether a claim holds on the files at this place.
+fn holds(
+    alloc: Global,
+    files: &mut FlatFs,
+    at: usize,
+    replies: &[Replied],
+    claim: Claim,
+) -> Result<bool, AllocError>
+    ensures held { IfOk result (λ did. did ≡ true → IsHeldOn files.old at replies.now claim) }
+    ensures files { IfOk result (λ did. did ≡ true → files.new ≡ files.old) }
+{
+    match claim {
+        Claim::Finds {
+            place,
+            parent,
+            name,
+            found,
+        } => {
+            if place as usize != at {
+                return Ok(false);
+            }
+            finds(alloc, files, parent, name, found)
+        }
+        Claim::Answers { place, op, reply } => {
+            if place as usize != at {
+                return Ok(false);
+            }
+            answers(alloc, files, replies, op, reply)
+        }
+        Claim::Accepts { place, op } => {
+            if place as usize != at {
+                return Ok(false);
+            }
+            Ok(accepts(files, &op))
+        }
+        _ => Ok(false),
+    }
+}
+
+// Whether all claims hold on the files at this place.
+#[tactic(auto, using(crate::proofs::Running::holds_next))]
+fn all_hold(
+    alloc: Global,
+    files: &mut FlatFs,
+    at: usize,
+    replies: &[Replied],
+    claims: Seq<Claim>,
+) -> Result<bool, AllocError>
+    ensures held { IfOk result (λ did. did ≡ true → AreHeldOn files.old at replies.now claims) }
+    ensures files { IfOk result (λ did. did ≡ true → files.new ≡ files.old) }
+{
+    for claim in claims.into_vec() {
+        if !holds(alloc, files, at, replies, claim)? {
+            return Ok(false);
+        }
+    }
+    Ok(true)
+}
+
+// Makes the change of an entry. It is false where it is none, or has another answer than the reply's.
+#[tactic(auto, using(crate::proofs::Outcomes::changed))]
+fn make(
+    alloc: Global,
+    files: &mut FlatFs,
+    replies: &[Replied],
+    change: Change,
+) -> Result<bool, AllocError>
+    ensures done { IfOk result (λ did. did ≡ true → IsDone files.old replies.now change) }
+    ensures files { OnOk result (files.new ≡ flat_after files.old change.op) }
+{
+    let changes = is_change(&change.op);
+    let answer = files.apply(alloc, change.op)?;
+    if !changes || !is_granted(&answer) {
+        return Ok(false);
+    }
+    match change.reply {
+        None => Ok(true),
+        Some(reply) => Ok(is_replied(replies, reply, &answer)),
+    }
+}
+
+// Whether the steps hold one after another, from the first files on.
+#[tactic(auto, using(crate::proofs::Running::run_next, crate::proofs::Running::run_ends))]
+fn run(alloc: Global, replies: &[Replied], steps: Vec<Step>) -> Result<bool, AllocError>
+    ensures { IfOk result (λ did. did ≡ true → Runs first_files 0 replies.now steps.items) }
+{
+    let mut files = FlatFs::new(alloc)?;
+    let mut at = 0;
+    let mut ended = false;
+    for step in steps {
+        if ended || !all_hold(alloc, &mut files, at, replies, step.claims)? {
+            return Ok(false);
+        }
+        match step.change {
+            None => ended = true,
+            Some(change) => {
+                if !make(alloc, &mut files, replies, change)? {
+                    return Ok(false);
+                }
+            }
+        }
+        let Some(next) = at.checked_add(1) else {
+            return Err(AllocError);
+        };
+        at = next;
+    }
+    Ok(ended)
+}
+
+/// Whether claims hold: there are operations, one for each of so many entries, with which each claim does.
+///
+/// # Errors
+/// Out of memory.
+#[tactic(auto, using(crate::proofs::Running::held_next, crate::proofs::Running::bears_by))]
+pub(crate) fn hold(
+    alloc: Global,
+    replies: &[Replied],
+    entries: usize,
+    claims: Seq<Claim>,
+) -> Result<bool, AllocError>
+    ensures { IfOk result (λ did. did ≡ true → Bears replies.now entries claims) }
+{
+    let mut steps = empty_steps(alloc, entries)?;
+    for claim in claims.into_vec() {
+        if !put(replies, &mut steps, claim)? {
+            return Ok(false);
+        }
+    }
+    run(alloc, replies, steps)
+}

@@ -1,0 +1,7 @@
+-- In reading order: sets of small numbers; the procedure of a request; the scripts that a hub runs; what may be armed; what
+-- is seen of a hub.
+pub mod SmallSets
+pub mod Requests
+pub mod Plans
+pub mod Arming
+pub mod Hubs

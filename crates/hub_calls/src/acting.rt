@@ -1,0 +1,156 @@
+//! Moves of actions.
+
+use crate::fops::fd_number;
+use crate::parts::Parts;
+use crate::planned::Planned;
+use fop_types::{Fop, OpenFd, Proc, Seq};
+use graph_switch::reopen_list;
+use mount_log::HubEvent;
+use script_lang::Action;
+use std::alloc::{AllocError, Global};
+use xlator_law::Stop;
+
+impl Parts {
+    /// Whether an action may be carried out: its brick or volfile is there, and a heal or a switch finds no internal
+    /// call without an answer.
+    pub(crate) fn may_act(&self, on: &Planned, action: Action) -> bool {
+        match action {
+            Action::Down(brick, _) => on.has_brick(brick),
+            Action::Up(brick) => on.has_brick(brick),
+            Action::Cut(brick) => on.has_brick(brick),
+            Action::Fault(brick, proc, number) => {
+                on.has_brick(brick) && proc != Proc::Unlock && number > 0
+            }
+            Action::Heal => self.internal.is_none(),
+            Action::Switch(volfile) => {
+                self.internal.is_none() && self.graphs.may_follow(on, volfile)
+            }
+        }
+    }
+
+    /// Whether a control without a condition may be carried out next: none before it is under way.
+    pub(crate) fn may_go_on(&self) -> bool {
+        self.internal.is_none()
+    }
+
+    /// Whether the phase has nothing left but controls: its calls are answered, no internal call is under way, no task is
+    /// ready, and each request, Down and Up has its output.
+    pub(crate) fn has_nothing_else(&self) -> bool {
+        self.progress.is_answered()
+            && self.internal.is_none()
+            && self.bricks.owed == 0
+            && self.graphs.ready_len() == 0
+    }
+
+    /// An action is carried out, and with it the control that is due and has this action.
+    ///
+    /// # Errors
+    /// As for `Hub::submit`.
+    pub(crate) fn acted(
+        &mut self,
+        alloc: Global,
+        on: &Planned,
+        action: Action,
+    ) -> Result<(), Stop> {
+        let plain = self.may_go_on();
+        let rest = self.has_nothing_else();
+        if let Some(control) = self.controls.carried_by(action, plain, rest) {
+            self.controls.carried(control);
+        }
+        self.turn.add_event(HubEvent::Act(action))?;
+        self.carry_out(alloc, on, action)
+    }
+
+    /// An action is armed for a request.
+    ///
+    /// # Errors
+    /// As for `Hub::submit`.
+    pub(crate) fn armed(
+        &mut self,
+        brick: u8,
+        before: Proc,
+        count: u32,
+        action: Action,
+    ) -> Result<(), Stop> {
+        self.controls.arm(brick, before, count, action)?;
+        self.turn
+            .add_event(HubEvent::Arm(brick, before, count, action))?;
+        Ok(())
+    }
+
+    fn carry_out(&mut self, alloc: Global, on: &Planned, action: Action) -> Result<(), Stop> {
+        match action {
+            Action::Down(brick, serve) => {
+                self.send_down(alloc, brick, serve)?;
+                Ok(())
+            }
+            Action::Up(brick) => {
+                self.send_up(alloc, brick)?;
+                Ok(())
+            }
+            Action::Cut(brick) => self.cut(alloc, brick),
+            Action::Fault(brick, proc, number) => {
+                self.send_fault(alloc, brick, proc, number)?;
+                Ok(())
+            }
+            Action::Heal => self.internal_call(
+                alloc,
+                Fop::Heal {
+                    count: self.creations,
+                },
+            ),
+            Action::Switch(volfile) => self.switch(alloc, on, volfile),
+        }
+    }
+
+    // An internal call sends its fop in the newest graph. No internal call is under way.
+    fn internal_call(&mut self, alloc: Global, fop: Fop) -> Result<(), Stop> {
+        let graph = self.graphs.newest;
+        self.internal = Some(graph);
+        self.enter(alloc, graph, 0, fop)
+    }
+
+    // The pages of the newest graph go; the next graph is made and connected, and an internal call opens the descriptors
+    // there.
+    fn switch(&mut self, alloc: Global, on: &Planned, volfile: u8) -> Result<(), Stop> {
+        self.graphs.retire_newest();
+        self.make_graph(alloc, on, volfile)?;
+        let fds = self.open_fds(alloc)?;
+        self.internal_call(alloc, Fop::Migrate { fds })
+    }
+
+    /// The next graph is made from the plan of a volfile, and connected to its bricks. The plan follows that of the newest
+    /// graph, if there is one.
+    ///
+    /// # Errors
+    /// As for `Hub::submit`.
+    pub(crate) fn make_graph(
+        &mut self,
+        alloc: Global,
+        on: &Planned,
+        volfile: u8,
+    ) -> Result<(), Stop> {
+        self.make_next(alloc, on, volfile)?;
+        self.connect_newest(alloc, on)
+    }
+
+    fn make_next(&mut self, alloc: Global, on: &Planned, volfile: u8) -> Result<(), Stop> {
+        match on.plan(volfile) {
+            Some(plan) => self.graphs.make(alloc, plan, volfile),
+            None => Ok(()),
+        }
+    }
+
+    // The open descriptors, as a new graph opens them again.
+    fn open_fds(&self, alloc: Global) -> Result<Seq<OpenFd>, AllocError> {
+        let mut fds = Seq::new(alloc);
+        for open in &reopen_list(alloc, &self.fds)? {
+            fds.push(OpenFd {
+                fd: fd_number(open.session, open.fd),
+                gfid: open.gfid,
+                set: open.set,
+            })?;
+        }
+        Ok(fds)
+    }
+}

@@ -1,0 +1,148 @@
+//! Moves of connections: they are opened, and they end with their winds.
+
+use crate::parts::Parts;
+use crate::planned::Planned;
+use std::alloc::Global;
+use xlator_law::Stop;
+
+impl Parts {
+    /// A graph opens its next connection to a brick that it uses. After number 4,294,967,295 it opens none.
+    ///
+    /// # Errors
+    /// As for `Hub::submit`.
+    pub(crate) fn connect(&mut self, alloc: Global, graph: u32, brick: u8) -> Result<(), Stop> {
+        if self.graphs.nodes.connect(graph, brick).is_some() {
+            self.send_connect(alloc, brick, graph)?;
+        }
+        Ok(())
+    }
+
+    /// The newest graph opens a connection to each of its bricks that is not known to be closed.
+    ///
+    /// # Errors
+    /// As for `Hub::submit`.
+    pub(crate) fn connect_newest(&mut self, alloc: Global, on: &Planned) -> Result<(), Stop> {
+        let graph = self.graphs.newest;
+        for brick in 0..on.bricks() {
+            if self.uses(graph, brick) && !self.bricks.closed.has(brick) {
+                self.connect(alloc, graph, brick)?;
+            }
+        }
+        Ok(())
+    }
+
+    fn uses(&self, graph: u32, brick: u8) -> bool {
+        match self.graphs.get(graph) {
+            Some(live) => live.bricks.has(brick),
+            None => false,
+        }
+    }
+
+    /// The connection of a graph to a brick ends with its winds, and the brick is sent a Disconnect.
+    ///
+    /// # Errors
+    /// As for `Hub::submit`.
+    pub(crate) fn lose(&mut self, alloc: Global, graph: u32, brick: u8) -> Result<(), Stop> {
+        if self.graphs.connection(graph, brick).is_none() {
+            return Ok(());
+        }
+        self.bail(alloc, graph, brick)?;
+        self.send_disconnect(alloc, brick, graph)?;
+        Ok(())
+    }
+
+    /// All connections to a brick are cut, graph by graph.
+    ///
+    /// # Errors
+    /// As for `Hub::submit`.
+    pub(crate) fn cut(&mut self, alloc: Global, brick: u8) -> Result<(), Stop> {
+        let mut from = 0;
+        for _ in 0..self.graphs.live.len() {
+            let Some(graph) = self.graphs.first_from(from) else {
+                return Ok(());
+            };
+            self.lose(alloc, graph, brick)?;
+            from = graph.saturating_add(1);
+        }
+        Ok(())
+    }
+
+    /// A brick has closed: all connections to it have ended.
+    ///
+    /// # Errors
+    /// As for `Hub::submit`.
+    pub(crate) fn closed(&mut self, alloc: Global, brick: u8) -> Result<(), Stop> {
+        let mut from = 0;
+        for _ in 0..self.graphs.live.len() {
+            let Some(graph) = self.graphs.first_from(from) else {
+                return Ok(());
+            };
+            if self.graphs.connection(graph, brick).is_some() {
+                self.bail(alloc, graph, brick)?;
+            }
+            from = graph.saturating_add(1);
+        }
+        Ok(())
+    }
+
+    /// A brick has opened: each live graph that uses it and has no connection opens one.
+    ///
+    /// # Errors
+    /// As for `Hub::submit`.
+    pub(crate) fn opened(&mut self, alloc: Global, brick: u8) -> Result<(), Stop> {
+        let mut from = 0;
+        for _ in 0..self.graphs.live.len() {
+            let Some(graph) = self.graphs.first_from(from) else {
+                return Ok(());
+            };
+            if self.uses(graph, brick) && self.graphs.connection(graph, brick).is_none() {
+                self.connect(alloc, graph, brick)?;
+            }
+            from = graph.saturating_add(1);
+        }
+        Ok(())
+    }
+
+    // A graph's bricks are sent a Disconnect.
+    fn disconnect_all(&mut self, alloc: Global, on: &Planned, graph: u32) -> Result<(), Stop> {
+        for brick in 0..on.bricks() {
+            if self.uses(graph, brick) {
+                self.send_disconnect(alloc, brick, graph)?;
+            }
+        }
+        Ok(())
+    }
+
+    // An older graph without frames and without calls is done with: its bricks are sent a Disconnect, and it is live no
+    // more.
+    fn disconnect(&mut self, alloc: Global, on: &Planned, graph: u32) -> Result<(), Stop> {
+        if !self.graphs.nodes.remove(graph) {
+            return Ok(());
+        }
+        self.disconnect_all(alloc, on, graph)?;
+        self.graphs.live.remove(&graph);
+        Ok(())
+    }
+
+    fn is_done(&self, graph: u32) -> bool {
+        graph != self.graphs.newest && self.calls.count_of(graph) == 0
+    }
+
+    /// The older graphs that have no frames and no calls without a reply are done with.
+    ///
+    /// # Errors
+    /// As for `Hub::submit`.
+    pub(crate) fn disconnect_drained(&mut self, alloc: Global, on: &Planned) -> Result<(), Stop> {
+        let mut from = 0;
+        for _ in 0..self.graphs.live.len() {
+            let Some(graph) = self.graphs.first_from(from) else {
+                return Ok(());
+            };
+            if self.is_done(graph) {
+                self.disconnect(alloc, on, graph)?;
+            }
+            from = graph.saturating_add(1);
+        }
+        Ok(())
+    }
+}

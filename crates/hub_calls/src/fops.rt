@@ -1,0 +1,18 @@
+//! What the hub asks of a call's next fop beside the fop itself and its hold, which `call_fops` gives.
+
+use call_fops::Walk;
+use fop_types::Call;
+
+/// The number on the bricks of a session's descriptor.
+pub fn fd_number(session: u8, fd: u8) -> u32 {
+    256 * session as u32 + fd as u32 + 1
+}
+
+/// Whether the fop that a call sends next changes the bytes of its file.
+pub fn changes_bytes_next(call: &Call, walk: &Walk) -> bool {
+    match call {
+        Call::Write { .. } => true,
+        Call::Truncate { .. } => walk.component(call).is_none(),
+        _ => false,
+    }
+}

@@ -1,0 +1,319 @@
+//! Moves of a call that is under way: it is parked, asks for its next fop's hold, begins the fop, or has its hold extended
+//! or released.
+ghost use Rattle.std.specs.Prelude.{◌≡◌, ◌≤◌, Some};
+ghost use Rattle.inode_table.specs.Inodes.{inode_at};
+
+use crate::calls::Stage;
+use crate::fops::changes_bytes_next;
+use crate::parts::{Parts, Todo};
+use crate::planned::Planned;
+use call_fops::{Hold, next_fop, next_hold};
+use fop_types::{Gfid, Object};
+use graph_nodes::HoldAsk;
+use inode_table::{Inode, InodeTable};
+use mount_locks::Held;
+use std::alloc::{AllocError, Global};
+use xlator_law::Stop;
+
+// The gfids of a hold, each once.
+#[derive(Clone, Copy)]
+struct Gfids {
+    all: [Gfid; 2],
+    count: usize,
+}
+
+fn gfids_of(hold: Hold) -> Gfids
+    ensures { result.count ≤ 2 }
+{
+    let first = hold.first.gfid;
+    match hold.second {
+        None => Gfids {
+            all: [first, first],
+            count: 1,
+        },
+        Some(second) => Gfids {
+            all: [first, second.gfid],
+            count: if second.gfid == first { 1 } else { 2 },
+        },
+    }
+}
+
+// Whether an object has the kind that the inode table has for its gfid.
+fn agrees(inodes: &InodeTable, object: Object) -> bool {
+    match inodes.get(object.gfid) {
+        Some(inode) => inode.kind == object.kind,
+        None => true,
+    }
+}
+
+fn all_agree(inodes: &InodeTable, hold: Hold) -> bool {
+    match hold.second {
+        None => agrees(inodes, hold.first),
+        Some(second) => {
+            let apart = second.gfid != hold.first.gfid || second.kind == hold.first.kind;
+            apart && agrees(inodes, hold.first) && agrees(inodes, second)
+        }
+    }
+}
+
+impl Parts {
+    // Whether a call of a graph has to wait for the calls of an older graph with fewer sets. The sets of later graphs
+    // are no fewer, so the oldest one with calls decides.
+    fn must_wait(&self, graph: u32) -> bool {
+        match self.calls.oldest_graph() {
+            Some(oldest) => {
+                oldest < graph && self.graphs.sets_of(oldest) < self.graphs.sets_of(graph)
+            }
+            None => false,
+        }
+    }
+
+    /// A call begins its walk: it asks for its first hold, or is parked.
+    ///
+    /// # Errors
+    /// As for `Hub::submit`.
+    pub(crate) fn start(
+        &mut self,
+        alloc: Global,
+        on: &Planned,
+        call: u32,
+        graph: u32,
+    ) -> Result<(), Stop> {
+        if self.must_wait(graph) {
+            self.calls.set_stage(call, Stage::Parked);
+            self.calls.park(call)?;
+            return Ok(());
+        }
+        self.ask(alloc, on, call)
+    }
+
+    /// The parked calls that may go on now do, by rising number.
+    ///
+    /// # Errors
+    /// As for `Hub::submit`.
+    pub(crate) fn unpark(&mut self, alloc: Global, on: &Planned) -> Result<(), Stop> {
+        let mut from = 0;
+        for _ in 0..self.calls.parked_len() {
+            let Some(call) = self.calls.parked_from(from) else {
+                return Ok(());
+            };
+            from = call.saturating_add(1);
+            self.unpark_one(alloc, on, call)?;
+        }
+        Ok(())
+    }
+
+    fn unpark_one(&mut self, alloc: Global, on: &Planned, call: u32) -> Result<(), Stop> {
+        let Some(state) = self.calls.get(call) else {
+            return Ok(());
+        };
+        if state.stage != Stage::Parked || self.must_wait(state.graph) {
+            return Ok(());
+        }
+        self.calls.unpark(call);
+        self.ask(alloc, on, call)
+    }
+
+    /// A call, which has no hold and waits for none, asks for that of its next fop. The fop begins where it is granted.
+    ///
+    /// # Errors
+    /// As for `Hub::submit`.
+    pub(crate) fn ask(&mut self, alloc: Global, on: &Planned, call: u32) -> Result<(), Stop> {
+        let Some(hold) = self.hold_next(on, call) else {
+            return Ok(());
+        };
+        self.calls.set_stage(call, Stage::Asks);
+        self.ask_for(alloc, on, call, hold)
+    }
+
+    // The hold of the next fop of a call.
+    pub(crate) fn hold_next(&self, on: &Planned, call: u32) -> Option<Hold> {
+        let state = self.calls.get(call)?;
+        let line = on.line(state.at)?;
+        next_hold(&line.call, &state.walk, state.session, &self.fds)
+    }
+
+    fn ask_for(&mut self, alloc: Global, on: &Planned, call: u32, hold: Hold) -> Result<(), Stop> {
+        let gfids = gfids_of(hold);
+        match self
+            .holds
+            .ask(alloc, call, &gfids.all[..gfids.count], hold.shared)?
+        {
+            Held::Granted => self.begin(alloc, on, call),
+            Held::Waiting => Ok(()),
+        }
+    }
+
+    /// The hold of a call's next fop was granted: the fop begins.
+    ///
+    /// # Errors
+    /// As for `Hub::submit`.
+    pub(crate) fn begin(&mut self, alloc: Global, on: &Planned, call: u32) -> Result<(), Stop> {
+        let Some(hold) = self.hold_next(on, call) else {
+            return Ok(());
+        };
+        self.calls.set_stage(call, Stage::Runs);
+        self.run_fop(alloc, on, call, hold)
+    }
+
+    // The next fop of a call begins under its hold. Where an object has another kind than its inode, the fop is refused.
+    fn run_fop(&mut self, alloc: Global, on: &Planned, call: u32, hold: Hold) -> Result<(), Stop> {
+        if !all_agree(self.graphs.nodes.inodes(), hold) {
+            self.todo.push(Todo::Refuse(call))?;
+            return Ok(());
+        }
+        self.link_all(alloc, hold)?;
+        self.send_fop(alloc, on, call, hold.first.gfid)
+    }
+
+    // The next fop of a call enters its graph. Where it changes the bytes of its file, the pages of that go first.
+    fn send_fop(&mut self, alloc: Global, on: &Planned, call: u32, gfid: Gfid) -> Result<(), Stop> {
+        let Some(state) = self.calls.get(call) else {
+            return Ok(());
+        };
+        let Some(line) = on.line(state.at) else {
+            return Ok(());
+        };
+        let graph = state.graph;
+        if changes_bytes_next(&line.call, &state.walk) {
+            self.graphs.drop_pages(gfid);
+        }
+        let drawn = state.drawn;
+        match next_fop(
+            alloc,
+            &line.call,
+            &state.walk,
+            state.session,
+            drawn,
+            &self.fds,
+        )? {
+            Some(fop) => self.enter(alloc, graph, call, fop),
+            None => Ok(()),
+        }
+    }
+
+    // An inode is in use once more, where its entry, if it has one, is of this kind. So many references that their number
+    // has no next one would not fit into any memory.
+    pub(crate) fn link(&mut self, alloc: Global, object: Object) -> Result<(), AllocError> {
+        match self.graphs.nodes.inodes().get(object.gfid) {
+            Some(inode) => self.link_again(alloc, object, inode),
+            None => self
+                .graphs
+                .nodes
+                .link(alloc, object.gfid, object.kind, object.set),
+        }
+    }
+
+    fn link_again(&mut self, alloc: Global, object: Object, inode: Inode) -> Result<(), AllocError>
+        requires { inode_at self.old.graphs.nodes.inodes object.gfid ≡ Some inode }
+    {
+        if inode.kind != object.kind {
+            return Ok(());
+        }
+        if inode.held == u32::MAX {
+            return Err(AllocError);
+        }
+        self.graphs
+            .nodes
+            .link(alloc, object.gfid, object.kind, object.set)
+    }
+
+    // The inodes that a fop names, which are those of its hold, are in use.
+    fn link_all(&mut self, alloc: Global, hold: Hold) -> Result<(), AllocError> {
+        self.link(alloc, hold.first)?;
+        match hold.second {
+            Some(second) => self.link(alloc, second),
+            None => Ok(()),
+        }
+    }
+
+    /// The inodes that a fop named are not in use by it any more.
+    pub(crate) fn unlink_all(&mut self, hold: Hold) {
+        self.graphs.nodes.release(hold.first.gfid);
+        if let Some(second) = hold.second {
+            self.graphs.nodes.release(second.gfid);
+        }
+    }
+
+    // A call that has waited for a hold has it.
+    fn go_on(&mut self, alloc: Global, on: &Planned, call: u32) -> Result<(), Stop> {
+        let Some(state) = self.calls.get(call) else {
+            return Ok(());
+        };
+        let stage = state.stage;
+        let graph = state.graph;
+        match stage {
+            Stage::Asks => self.begin(alloc, on, call),
+            Stage::Extends => self.go_on_held(alloc, graph, call),
+            Stage::Parked => Ok(()),
+            Stage::Runs => Ok(()),
+            Stage::Extended => Ok(()),
+        }
+    }
+
+    fn go_on_held(&mut self, alloc: Global, graph: u32, call: u32) -> Result<(), Stop> {
+        self.calls.set_stage(call, Stage::Extended);
+        self.extended(alloc, graph, call)
+    }
+
+    /// Lets a call's holds go. The calls that are let in go on, in the order of the queue.
+    ///
+    /// # Errors
+    /// As for `Hub::submit`.
+    pub(crate) fn release(&mut self, alloc: Global, on: &Planned, call: u32) -> Result<(), Stop> {
+        if self.holds.release_done(call) {
+            return Ok(());
+        }
+        let granted = self.holds.release(alloc, call)?;
+        self.go_on_all(alloc, on, granted.as_slice())
+    }
+
+    // Calls that have waited for a hold have it.
+    fn go_on_all(&mut self, alloc: Global, on: &Planned, calls: &[u32]) -> Result<(), Stop> {
+        for call in calls {
+            self.go_on(alloc, on, *call)?;
+        }
+        Ok(())
+    }
+
+    /// A call's fop asks for a hold, or lets one go.
+    ///
+    /// # Errors
+    /// As for `Hub::submit`.
+    pub(crate) fn hold_asked(
+        &mut self,
+        alloc: Global,
+        on: &Planned,
+        graph: u32,
+        call: u32,
+        ask: HoldAsk,
+    ) -> Result<(), Stop> {
+        match ask {
+            HoldAsk::Extend(gfid) => self.extend(alloc, graph, call, gfid),
+            HoldAsk::Alone(_) => Ok(()),
+            HoldAsk::Release => self.release(alloc, on, call),
+        }
+    }
+
+    // Whether a call's fop runs and has not extended its hold. A fop extends it once.
+    fn may_extend(&self, call: u32) -> bool {
+        match self.calls.get(call) {
+            Some(state) => state.stage == Stage::Runs,
+            None => false,
+        }
+    }
+
+    // The hold of a call whose fop runs is extended. A fop that asks again is not heard.
+    fn extend(&mut self, alloc: Global, graph: u32, call: u32, gfid: Gfid) -> Result<(), Stop> {
+        if !self.may_extend(call) {
+            return Ok(());
+        }
+        match self.holds.extend(alloc, call, gfid)? {
+            Held::Granted => self.go_on_held(alloc, graph, call),
+            Held::Waiting => {
+                self.calls.set_stage(call, Stage::Extends);
+                Ok(())
+            }
+        }
+    }
+}

@@ -1,0 +1,361 @@
+ghost use Rattle.std.specs.Prelude.{◌≡◌, false, true, None, Some, OnOk, IfOk, IfErr};
+ghost use Rattle.hub_calls.specs.Arming.{is_armable};
+ghost use Rattle.hub_calls.specs.Plans.{IsScript};
+ghost use Rattle.script_lang.specs.Accepted.{IsAccepted};
+
+use crate::actions::{Due, Turned, may_be_armed};
+use crate::parts::Parts;
+use crate::planned::Planned;
+use crate::small_set::SmallSet;
+use bytes::Bytes;
+use fop_types::{Proc, Seq};
+use graph_build::Plan;
+use mount_log::{Log, ReplyLine};
+use script_lang::{Action, Script};
+use std::alloc::Global;
+use std::collections::VecDeque;
+use std::marker::Model;
+use std::mem;
+use xlator_law::Stop;
+
+/// The hub: it submits the calls of a script, sends their fops down the graphs, takes the outputs of the bricks, carries
+/// out the script's controls, and keeps the log.
+///
+/// A call that stops has spent the hub: it answers the same from then on, and its log ends with the last whole event.
+/// After `Winds` the log also has the winds of the event that was cut.
+#[derive(Drop)]
+pub struct Hub {
+    planned: Planned,
+    parts: Parts,
+    stop: Option<Stop>,
+}
+
+impl Model for Hub {
+    ghost use Rattle.hub_calls.specs.Hubs.{HubState};
+
+    ghost Value = { HubState };
+
+    ghost view = { λ h. record { script = h.planned.script; plans = h.planned.plans; log = h.parts.log; stop = h.stop } };
+}
+
+// The parts of a hub that has made its first graph.
+fn begun(alloc: Global, on: &Planned) -> Result<Parts, Stop>
+    requires { IsAccepted on.now.script }
+{
+    let mut parts = Parts::new(alloc, on)?;
+    parts.make_graph(alloc, on, on.script().start)?;
+    let mut lines = mem::replace(&mut parts.turn, Log::new(alloc));
+    parts.log.add(alloc, &mut lines)?;
+    parts.begin_phase(alloc, on)?;
+    parts.move_on(alloc, on)?;
+    Ok(parts)
+}
+
+impl Hub {
+    /// The hub at the start of a script, which is one that `script_lang::parse` gives, with the plan of each of its
+    /// volfiles in order. The first graph is made, and its bricks are sent a Connect, with event number 0. Leading phases
+    /// that are empty have ended.
+    ///
+    /// # Errors
+    /// Out of memory.
+    pub fn new(alloc: Global, script: Script, plans: Seq<Plan>) -> Result<Hub, Stop>
+        requires { IsScript script plans }
+        ensures { IfOk result (λ h. h ≡ record { script = script; plans = plans; log = h.log; stop = None }) }
+    {
+        let planned = Planned::new(script, plans);
+        let parts = begun(alloc, &planned)?;
+        Ok(Hub {
+            planned,
+            parts,
+            stop: None,
+        })
+    }
+
+    fn check(&self) -> Result<(), Stop>
+        ensures goes { OnOk result (self.now.stop ≡ None) }
+        ensures stops { IfErr result (λ s. self.now.stop ≡ Some s) }
+    {
+        match self.stop {
+            Some(stop) => Err(stop),
+            None => Ok(()),
+        }
+    }
+
+    /// Submits the next call of a session. It is false, with nothing changed, exactly where the session has a call
+    /// without a reply, or no line left in the current phase.
+    ///
+    /// # Errors
+    /// `Winds` where a further wind was needed and 4,294,967,295 were opened; else out of memory.
+    pub fn submit(&mut self, alloc: Global, session: u8) -> Result<bool, Stop>
+        ensures same { OnOk result ((self.new.script ≡ self.old.script) × (self.new.plans ≡ self.old.plans)) }
+        ensures unchanged { IfOk result (λ did. did ≡ false → self.new ≡ self.old) }
+        ensures goes { OnOk result (self.new.stop ≡ None) }
+        ensures stops { IfErr result (λ s. self.new.stop ≡ Some s) }
+    {
+        self.check()?;
+        if !self.parts.progress.ready().has(session) {
+            return Ok(false);
+        }
+        self.parts.open_event();
+        let done = self.parts.submitted(alloc, &self.planned, session);
+        match self.parts.close(alloc, &self.planned, done) {
+            Ok(()) => Ok(true),
+            Err(stop) => {
+                self.stop = Some(stop);
+                Err(stop)
+            }
+        }
+    }
+
+    /// Takes the bytes of an output of a brick, which the script has.
+    ///
+    /// # Errors
+    /// As for [`Hub::submit`].
+    pub fn arrive(&mut self, alloc: Global, brick: u8, output: Bytes) -> Result<(), Stop>
+        ensures same { OnOk result ((self.new.script ≡ self.old.script) × (self.new.plans ≡ self.old.plans)) }
+        ensures goes { OnOk result (self.new.stop ≡ None) }
+        ensures stops { IfErr result (λ s. self.new.stop ≡ Some s) }
+    {
+        self.check()?;
+        self.parts.open_event();
+        let done = self.parts.arrived(alloc, &self.planned, brick, output);
+        match self.parts.close(alloc, &self.planned, done) {
+            Ok(()) => Ok(()),
+            Err(stop) => {
+                self.stop = Some(stop);
+                Err(stop)
+            }
+        }
+    }
+
+    /// Runs a ready task of a graph: the frame of the io-threads node with this number whose turn it is goes on. It is
+    /// false, with nothing changed, exactly where no such task is ready.
+    ///
+    /// # Errors
+    /// As for [`Hub::submit`].
+    pub fn run(&mut self, alloc: Global, graph: u32, task: u32) -> Result<bool, Stop>
+        ensures same { OnOk result ((self.new.script ≡ self.old.script) × (self.new.plans ≡ self.old.plans)) }
+        ensures unchanged { IfOk result (λ did. did ≡ false → self.new ≡ self.old) }
+        ensures goes { OnOk result (self.new.stop ≡ None) }
+        ensures stops { IfErr result (λ s. self.new.stop ≡ Some s) }
+    {
+        self.check()?;
+        if !self.parts.graphs.is_ready(graph, task) {
+            return Ok(false);
+        }
+        self.parts.open_event();
+        let done = self.parts.run_task(alloc, graph, task);
+        match self.parts.close(alloc, &self.planned, done) {
+            Ok(()) => Ok(true),
+            Err(stop) => {
+                self.stop = Some(stop);
+                Err(stop)
+            }
+        }
+    }
+
+    /// Takes the first output that has arrived, else the first ready task. `Quiet` comes exactly where there is neither.
+    /// The script has each brick that is named.
+    ///
+    /// # Errors
+    /// As for [`Hub::submit`].
+    pub fn turn(
+        &mut self,
+        alloc: Global,
+        arrived: &mut VecDeque<(u8, Bytes)>,
+    ) -> Result<Turned, Stop>
+        ensures same { OnOk result ((self.new.script ≡ self.old.script) × (self.new.plans ≡ self.old.plans)) }
+        ensures goes { OnOk result (self.new.stop ≡ None) }
+        ensures stops { IfErr result (λ s. self.new.stop ≡ Some s) }
+    {
+        self.check()?;
+        if let Some((brick, output)) = arrived.pop_front() {
+            self.arrive(alloc, brick, output)?;
+            return Ok(Turned::Did);
+        }
+        match self.parts.graphs.ready_at(0) {
+            Some((graph, task)) => {
+                self.run(alloc, graph, task)?;
+                Ok(Turned::Did)
+            }
+            None => Ok(Turned::Quiet {
+                ready: 0,
+                arrived: 0,
+            }),
+        }
+    }
+
+    /// Carries an action out, and with it the control that [`Hub::first`], [`Hub::due`] or [`Hub::rest`] gives, where it
+    /// has the same action. It is false, with nothing changed, exactly where the action is not possible: its brick or
+    /// volfile is not in the script, a fault is one of unlock or has the number 0, or a heal or a switch finds an
+    /// internal call without an answer or a plan that does not follow.
+    ///
+    /// # Errors
+    /// As for [`Hub::submit`].
+    pub fn act(&mut self, alloc: Global, action: Action) -> Result<bool, Stop>
+        ensures same { OnOk result ((self.new.script ≡ self.old.script) × (self.new.plans ≡ self.old.plans)) }
+        ensures unchanged { IfOk result (λ did. did ≡ false → self.new ≡ self.old) }
+        ensures goes { OnOk result (self.new.stop ≡ None) }
+        ensures stops { IfErr result (λ s. self.new.stop ≡ Some s) }
+    {
+        self.check()?;
+        if !self.parts.may_act(&self.planned, action) {
+            return Ok(false);
+        }
+        self.parts.open_event();
+        let done = self.parts.acted(alloc, &self.planned, action);
+        match self.parts.close(alloc, &self.planned, done) {
+            Ok(()) => Ok(true),
+            Err(stop) => {
+                self.stop = Some(stop);
+                Err(stop)
+            }
+        }
+    }
+
+    /// Arms an action for a request that is sent to a brick in this phase: it is carried out directly before. It is
+    /// false, with nothing changed, exactly where the action is no Down and no fault of that brick.
+    ///
+    /// # Errors
+    /// As for [`Hub::submit`].
+    pub fn arm(
+        &mut self,
+        alloc: Global,
+        brick: u8,
+        before: Proc,
+        count: u32,
+        action: Action,
+    ) -> Result<bool, Stop>
+        ensures same { OnOk result ((self.new.script ≡ self.old.script) × (self.new.plans ≡ self.old.plans)) }
+        ensures unchanged { IfOk result (λ did. did ≡ false → self.new ≡ self.old) }
+        ensures armable { IfOk result (λ did. did ≡ true → is_armable brick action ≡ true) }
+        ensures goes { OnOk result (self.new.stop ≡ None) }
+        ensures stops { IfErr result (λ s. self.new.stop ≡ Some s) }
+    {
+        self.check()?;
+        if !may_be_armed(brick, action) || !self.parts.may_act(&self.planned, action) {
+            return Ok(false);
+        }
+        self.parts.open_event();
+        let done = self.parts.armed(brick, before, count, action);
+        match self.parts.close(alloc, &self.planned, done) {
+            Ok(()) => Ok(true),
+            Err(stop) => {
+                self.stop = Some(stop);
+                Err(stop)
+            }
+        }
+    }
+
+    /// The sessions that may submit a call.
+    pub fn submits(&self) -> SmallSet {
+        self.parts.progress.ready()
+    }
+
+    /// The next control without a condition, where the one before it is finished.
+    pub fn plain(&self) -> Option<Action> {
+        if self.parts.may_go_on() {
+            self.parts.controls.plain()
+        } else {
+            None
+        }
+    }
+
+    /// What goes before everything else: the first control of the phase that is to be armed, or else the first one whose
+    /// request was sent.
+    pub fn first(&self) -> Option<Due> {
+        self.parts.controls.first()
+    }
+
+    /// How many tasks are ready.
+    pub fn ready_len(&self) -> u32 {
+        self.parts.graphs.ready_len()
+    }
+
+    /// The ready task of this place, from 0, by graph and then by task.
+    pub fn ready_at(&self, at: u32) -> Option<(u32, u32)> {
+        self.parts.graphs.ready_at(at)
+    }
+
+    /// The item of this number, from 0, among the sessions that may submit, the ready tasks, and then the next control
+    /// without a condition.
+    pub fn due(&self, k: u32) -> Option<Due> {
+        let submits = self.submits();
+        match submits.nth(k) {
+            Some(session) => Some(Due::Submit(session)),
+            None => self.task_due(k.saturating_sub(submits.len())),
+        }
+    }
+
+    fn task_due(&self, k: u32) -> Option<Due> {
+        match self.ready_at(k) {
+            Some((graph, task)) => Some(Due::Run(graph, task)),
+            None => {
+                if k == self.ready_len() {
+                    self.plain_due()
+                } else {
+                    None
+                }
+            }
+        }
+    }
+
+    fn plain_due(&self) -> Option<Due> {
+        match self.plain() {
+            Some(action) => Some(Due::Act(action)),
+            None => None,
+        }
+    }
+
+    /// The first control that is left, where the phase has nothing else left.
+    pub fn rest(&self) -> Option<Due> {
+        if !self.parts.has_nothing_else() {
+            return None;
+        }
+        match self.parts.controls.rest() {
+            Some(action) => Some(Due::Act(action)),
+            None => None,
+        }
+    }
+
+    /// Whether each call has its reply, each control was carried out, and nothing else is left.
+    pub fn is_finished(&self) -> bool {
+        self.parts.is_through(&self.planned)
+    }
+
+    /// The reply of a call, by its number from 1.
+    pub fn reply_of(&self, call: u32) -> Option<&ReplyLine> {
+        let at = self.parts.calls.reply_at(call)?;
+        self.parts.log.replies.as_slice().get(at)
+    }
+
+    /// The log of the events so far.
+    pub fn log(&self) -> &Log
+        ensures { result.now ≡ self.now.log }
+    {
+        &self.parts.log
+    }
+
+    /// The script that the hub runs.
+    pub fn script(&self) -> &Script
+        ensures { result.now ≡ self.now.script }
+    {
+        self.planned.script()
+    }
+
+    /// The plans of the script's volfiles.
+    pub fn plans(&self) -> &[Plan]
+        ensures { result.now ≡ self.now.plans }
+    {
+        self.planned.plans()
+    }
+
+    /// The script, the plans and the log.
+    pub fn into_log(self) -> (Script, Seq<Plan>, Log)
+        ensures { result ≡ (self.script, self.plans, self.log) }
+    {
+        let Hub { planned, parts, .. } = self;
+        let (script, plans) = planned.into_parts();
+        (script, plans, parts.log)
+    }
+}

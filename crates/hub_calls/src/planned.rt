@@ -1,0 +1,103 @@
+//! The script that a hub runs, with the plans of its volfiles.
+ghost use Rattle.std.specs.Prelude.{◌≡◌, IfSome};
+ghost use Rattle.graph_nodes.specs.Plans.{IsPlan};
+ghost use Rattle.hub_calls.specs.Plans.{IsScript, PlannedScript};
+
+use crate::script_lines::creations;
+use fop_types::Seq;
+use graph_build::Plan;
+use mount_log::LineAt;
+use script_lang::{CallLine, Phase, Script};
+use std::marker::Model;
+
+/// A script with the plan of each of its volfiles, in order. Each plan is one that `graph_build::build` gives.
+#[derive(Drop)]
+pub struct Planned {
+    script: Script,
+    plans: Seq<Plan>,
+}
+
+impl Model for Planned {
+    ghost use Rattle.std.specs.List.{AllByRecursion};
+
+    ghost Value = { PlannedScript };
+
+    ghost view = { λ p. record { script = p.script; plans = p.plans } };
+
+    ghost invariant = { λ p. AllByRecursion IsPlan p.plans };
+}
+
+impl Planned {
+    #[tactic(auto, using(crate::proofs::Planning::are_plans))]
+    pub(crate) fn new(script: Script, plans: Seq<Plan>) -> Planned
+        requires { IsScript script plans }
+        ensures { result ≡ record { script = script; plans = plans } }
+    {
+        Planned { script, plans }
+    }
+
+    pub(crate) fn script(&self) -> &Script
+        ensures { result.now ≡ self.now.script }
+    {
+        &self.script
+    }
+
+    pub(crate) fn plans(&self) -> &[Plan]
+        ensures { result.now ≡ self.now.plans }
+    {
+        self.plans.as_slice()
+    }
+
+    pub(crate) fn into_parts(self) -> (Script, Seq<Plan>)
+        ensures { result ≡ (self.script, self.plans) }
+    {
+        let Planned { script, plans } = self;
+        (script, plans)
+    }
+
+    /// The plan of a volfile.
+    #[tactic(auto, using(crate::proofs::Planning::is_plan))]
+    pub(crate) fn plan(&self, volfile: u8) -> Option<&Plan>
+        ensures { IfSome result (λ plan. IsPlan plan.now) }
+    {
+        self.plans.as_slice().get(volfile as usize)
+    }
+
+    /// How many sets the first graph has.
+    pub(crate) fn root_sets(&self) -> u8 {
+        match self.plan(self.script.start) {
+            Some(plan) => plan.sets.len() as u8,
+            None => 0,
+        }
+    }
+
+    /// How many bricks there are, of which at most 255 can be named.
+    pub(crate) fn bricks(&self) -> u8 {
+        self.script.bricks.len() as u8
+    }
+
+    pub(crate) fn has_brick(&self, brick: u8) -> bool {
+        (brick as usize) < self.script.bricks.len()
+    }
+
+    pub(crate) fn has_phase(&self, phase: u32) -> bool {
+        (phase as usize) < self.script.phases.len()
+    }
+
+    pub(crate) fn phase(&self, phase: u32) -> Option<&Phase> {
+        self.script.phases.as_slice().get(phase as usize)
+    }
+
+    /// The line of a call.
+    pub(crate) fn line(&self, at: LineAt) -> Option<&CallLine> {
+        match self.phase(at.phase) {
+            Some(phase) => phase.calls.as_slice().get(at.index as usize),
+            None => None,
+        }
+    }
+
+    /// How many mkdir and create calls the script has.
+    pub(crate) fn creations(&self) -> u32 {
+        creations(&self.script)
+    }
+}

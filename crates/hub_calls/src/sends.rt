@@ -1,0 +1,139 @@
+//! Moves of sending: requests, each behind the actions that are armed for it, and controls.
+ghost use Rattle.wire_xdr.specs.WireText.{IsInput};
+
+use crate::actions::may_be_armed;
+use crate::parts::Parts;
+use crate::requests::proc_in;
+use bytes::Bytes;
+use fop_types::{Input, Proc, Seq};
+use mount_log::SentLine;
+use script_lang::Action;
+use std::alloc::{AllocError, Global};
+use wire_xdr::encode_req;
+
+impl Parts {
+    fn send(&mut self, brick: u8, bytes: Bytes) -> Result<(), AllocError> {
+        self.turn.sent.push(SentLine {
+            event: self.event,
+            brick,
+            bytes,
+        })?;
+        Ok(())
+    }
+
+    fn send_input(&mut self, alloc: Global, brick: u8, input: &Input) -> Result<(), AllocError>
+        requires { IsInput input.now }
+    {
+        let bytes = Bytes::from_vec(encode_req(alloc, input)?)?;
+        self.send(brick, bytes)
+    }
+
+    /// Sends a brick a Connect of a graph.
+    ///
+    /// # Errors
+    /// Out of memory.
+    pub(crate) fn send_connect(
+        &mut self,
+        alloc: Global,
+        brick: u8,
+        graph: u32,
+    ) -> Result<(), AllocError> {
+        self.send_input(alloc, brick, &Input::Connect { graph, version: 1 })
+    }
+
+    /// Sends a brick a Disconnect of a graph.
+    ///
+    /// # Errors
+    /// Out of memory.
+    pub(crate) fn send_disconnect(
+        &mut self,
+        alloc: Global,
+        brick: u8,
+        graph: u32,
+    ) -> Result<(), AllocError> {
+        self.send_input(alloc, brick, &Input::Disconnect { graph })
+    }
+
+    /// Sends a brick a Down.
+    ///
+    /// # Errors
+    /// Out of memory.
+    pub(crate) fn send_down(
+        &mut self,
+        alloc: Global,
+        brick: u8,
+        serve: u32,
+    ) -> Result<(), AllocError> {
+        self.bricks.owe()?;
+        self.send_input(alloc, brick, &Input::Down { serve })
+    }
+
+    /// Sends a brick an Up.
+    ///
+    /// # Errors
+    /// Out of memory.
+    pub(crate) fn send_up(&mut self, alloc: Global, brick: u8) -> Result<(), AllocError> {
+        self.bricks.owe()?;
+        self.send_input(alloc, brick, &Input::Up)
+    }
+
+    /// Sends a brick the request that it is to fail.
+    ///
+    /// # Errors
+    /// Out of memory.
+    pub(crate) fn send_fault(
+        &mut self,
+        alloc: Global,
+        brick: u8,
+        proc: Proc,
+        number: u32,
+    ) -> Result<(), AllocError> {
+        if !may_be_armed(brick, Action::Fault(brick, proc, number)) {
+            return Ok(());
+        }
+        self.send_input(alloc, brick, &Input::FaultAt { proc, number })
+    }
+
+    // An armed action is carried out: a Down or a fault.
+    fn carry_out_armed(&mut self, alloc: Global, action: Action) -> Result<(), AllocError> {
+        match action {
+            Action::Down(brick, serve) => self.send_down(alloc, brick, serve),
+            Action::Fault(brick, proc, number) => self.send_fault(alloc, brick, proc, number),
+            _ => Ok(()),
+        }
+    }
+
+    // A request goes out, behind what is armed for it; the controls that wait for it have come.
+    fn send_request(&mut self, alloc: Global, brick: u8, bytes: Bytes) -> Result<(), AllocError> {
+        let Some(proc) = proc_in(bytes.as_slice()) else {
+            return Ok(());
+        };
+        let request = self.controls.count(brick, proc)?;
+        for _ in 0..self.controls.armed_len() {
+            let Some(action) = self.controls.take_armed(request) else {
+                break;
+            };
+            self.carry_out_armed(alloc, action)?;
+        }
+        self.bricks.owe()?;
+        self.send(brick, bytes)?;
+        self.controls.sent(request)
+    }
+
+    /// Requests of a graph go out, in order.
+    ///
+    /// # Errors
+    /// Out of memory.
+    pub(crate) fn send_all(
+        &mut self,
+        alloc: Global,
+        sends: Seq<(u8, Seq<u8>)>,
+    ) -> Result<(), AllocError> {
+        for next in sends.into_vec() {
+            let (brick, message) = next;
+            let bytes = Bytes::from_vec(message.into_vec())?;
+            self.send_request(alloc, brick, bytes)?;
+        }
+        Ok(())
+    }
+}

@@ -1,0 +1,249 @@
+//! The turn of an event: what is to be done until nothing is left, and what closes it.
+
+use crate::calls::{CallState, Stage};
+use crate::controls::Controls;
+use crate::parts::{Given, Parts, Todo};
+use crate::planned::Planned;
+use crate::script_lines::makes;
+use call_fops::{Walk, at_once};
+use fop_types::{Call, FopAnswer, Gfid, Seq};
+use graph_nodes::HoldAsk;
+use mount_log::{HubEvent, LineAt};
+use script_lang::CallLine;
+use std::alloc::{AllocError, Global};
+use xlator_law::Stop;
+
+const NOTHING_DRAWN: Gfid = Gfid { hi: 0, lo: 0 };
+
+// The items of an event, at most.
+const ITEMS: u64 = 18446744073709551615;
+
+impl Parts {
+    /// Begins an event.
+    pub(crate) fn open_event(&mut self) {
+        self.event = (self.log.events.len() as u64).saturating_add(1);
+    }
+
+    /// The next call of a session is submitted.
+    ///
+    /// # Errors
+    /// As for `Hub::submit`.
+    pub(crate) fn submitted(
+        &mut self,
+        alloc: Global,
+        on: &Planned,
+        session: u8,
+    ) -> Result<(), Stop> {
+        let Some(at) = self.progress.submit(session) else {
+            return Ok(());
+        };
+        self.submit_line(alloc, on, session, at)
+    }
+
+    // The call of a line that was taken is submitted: it is answered at once, or begins its walk.
+    fn submit_line(
+        &mut self,
+        alloc: Global,
+        on: &Planned,
+        session: u8,
+        at: LineAt,
+    ) -> Result<(), Stop> {
+        let Some(line) = on.line(at) else {
+            return Ok(());
+        };
+        let once = at_once(&line.call, session, &self.fds);
+        let call = self.opened_call(alloc, line, session, at)?;
+        match once {
+            Some(reply) => self.reply(alloc, on, call, reply),
+            None => self.start(alloc, on, call, self.graphs.newest),
+        }
+    }
+
+    // Numbers a call, draws its gfid, and keeps it until its reply.
+    fn opened_call(
+        &mut self,
+        alloc: Global,
+        line: &CallLine,
+        session: u8,
+        at: LineAt,
+    ) -> Result<u32, AllocError> {
+        let event = HubEvent::Submit {
+            session,
+            line: line.line,
+        };
+        self.turn.add_event(event)?;
+        let call = self.calls.number()?;
+        let state = CallState {
+            session,
+            at,
+            line: line.line,
+            graph: self.graphs.newest,
+            drawn: self.gfid_for(&line.call),
+            places: Seq::new(alloc),
+            walk: Walk::begin(),
+            stage: Stage::Asks,
+        };
+        self.calls.open(call, state)?;
+        Ok(call)
+    }
+
+    // The gfid that a call draws, where it makes an object.
+    fn gfid_for(&mut self, call: &Call) -> Gfid {
+        if makes(call) {
+            return self.calls.draw();
+        }
+        NOTHING_DRAWN
+    }
+
+    // Does what is to be done, in order, until nothing is left. What an item leaves behind is taken after the others.
+    fn settle(&mut self, alloc: Global, on: &Planned) -> Result<(), Stop> {
+        for _ in 0..ITEMS {
+            let Some(item) = self.todo.pop() else {
+                return Ok(());
+            };
+            self.take_one(alloc, on, item)?;
+        }
+        Ok(())
+    }
+
+    fn take_one(&mut self, alloc: Global, on: &Planned, item: Todo) -> Result<(), Stop> {
+        match item {
+            Todo::Take(given) => self.take(alloc, on, given),
+            Todo::Answer(call, answer, place) => self.take_answer(alloc, on, call, answer, place),
+            Todo::Refuse(call) => self.refuse(alloc, on, call),
+        }
+    }
+
+    // Takes what a graph has given: what it sends, then the holds that it asks for.
+    fn take(&mut self, alloc: Global, on: &Planned, given: Given) -> Result<(), Stop> {
+        self.send_all(alloc, given.sends)?;
+        self.take_holds(alloc, on, given.graph, given.holds)
+    }
+
+    fn take_holds(
+        &mut self,
+        alloc: Global,
+        on: &Planned,
+        graph: u32,
+        holds: Seq<(u32, HoldAsk)>,
+    ) -> Result<(), Stop> {
+        for asked in holds.as_slice() {
+            let (call, ask) = *asked;
+            self.hold_asked(alloc, on, graph, call, ask)?;
+        }
+        Ok(())
+    }
+
+    fn take_answer(
+        &mut self,
+        alloc: Global,
+        on: &Planned,
+        call: u32,
+        answer: FopAnswer,
+        place: u32,
+    ) -> Result<(), Stop> {
+        if call == 0 {
+            self.internal_answered()?;
+            return Ok(());
+        }
+        self.fop_answered(alloc, on, call, answer, place)
+    }
+
+    // The entries that the ledger has made in this event.
+    fn note_entries(&mut self) -> Result<(), AllocError> {
+        let history = self.graphs.nodes.history();
+        for at in self.log.history.len()..history.len() {
+            self.turn.history.push(history[at])?;
+            self.turn.entered.push(self.event)?;
+        }
+        Ok(())
+    }
+
+    /// Closes an event: all that is left of it is done, the graphs that are done with are disconnected, its lines are
+    /// written, and the phase moves on.
+    ///
+    /// # Errors
+    /// As for `Hub::submit`.
+    pub(crate) fn close_event(&mut self, alloc: Global, on: &Planned) -> Result<(), Stop> {
+        self.settle(alloc, on)?;
+        self.disconnect_drained(alloc, on)?;
+        self.note_entries()?;
+        self.log.add(alloc, &mut self.turn)?;
+        self.move_on(alloc, on)?;
+        Ok(())
+    }
+
+    /// Ends an event: it is closed where it was done. After `Winds` the log also has the winds of the event that was cut.
+    ///
+    /// # Errors
+    /// As for `Hub::submit`.
+    pub(crate) fn close(
+        &mut self,
+        alloc: Global,
+        on: &Planned,
+        done: Result<(), Stop>,
+    ) -> Result<(), Stop> {
+        let closed = match done {
+            Ok(()) => self.close_event(alloc, on),
+            Err(stop) => Err(stop),
+        };
+        match closed {
+            Ok(()) => Ok(()),
+            Err(stop) => self.cut_event(alloc, stop),
+        }
+    }
+
+    fn cut_event(&mut self, alloc: Global, stop: Stop) -> Result<(), Stop> {
+        match stop {
+            Stop::Mem => Err(Stop::Mem),
+            Stop::Winds => match self.log.add_winds(alloc, &mut self.turn) {
+                Ok(()) => Err(Stop::Winds),
+                Err(_) => Err(Stop::Winds),
+            },
+        }
+    }
+
+    fn has_phase(&self, on: &Planned) -> bool {
+        on.has_phase(self.progress.phase())
+    }
+
+    /// Whether all phases have ended, and nothing else is left.
+    pub(crate) fn is_through(&self, on: &Planned) -> bool {
+        !self.has_phase(on) && self.has_nothing_else()
+    }
+
+    // Whether the current phase has nothing left.
+    fn has_ended(&self, on: &Planned) -> bool {
+        self.has_phase(on) && self.has_nothing_else() && self.controls.is_empty()
+    }
+
+    /// Begins the current phase.
+    ///
+    /// # Errors
+    /// Out of memory.
+    pub(crate) fn begin_phase(&mut self, alloc: Global, on: &Planned) -> Result<(), AllocError> {
+        match on.phase(self.progress.phase()) {
+            Some(phase) => {
+                self.progress.begin(phase);
+                self.controls = Controls::of(alloc, phase)?;
+            }
+            None => self.controls = Controls::new(alloc),
+        }
+        Ok(())
+    }
+
+    /// Ends the phases that have nothing left.
+    ///
+    /// # Errors
+    /// Out of memory.
+    pub(crate) fn move_on(&mut self, alloc: Global, on: &Planned) -> Result<(), AllocError> {
+        for _ in 0..on.script().phases.len() {
+            if !self.has_ended(on) {
+                return Ok(());
+            }
+            self.progress.leave();
+            self.begin_phase(alloc, on)?;
+        }
+        Ok(())
+    }
+}

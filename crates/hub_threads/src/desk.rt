@@ -1,0 +1,140 @@
+use brick_link::HubEnd;
+use bytes::Bytes;
+use hub_calls::{Due, Hub, Turned};
+use script_lang::Action;
+use std::alloc::{AllocError, Global};
+use std::collections::VecDeque;
+use xlator_law::Stop;
+
+/// What the workers share under a lock: the hub, its ends of the links, the outputs that were received and have not
+/// arrived, and how many of the sent inputs were queued in the ends.
+#[derive(Drop)]
+pub struct Desk {
+    hub: Hub,
+    ends: Vec<HubEnd>,
+    inbox: VecDeque<(u8, Bytes)>,
+    queued: usize,
+    stop: Option<Stop>,
+}
+
+// How many outputs of a brick one turn moves into the inbox, at most.
+const MOST_MOVED: u32 = 64;
+
+impl Desk {
+    /// A hub that has just been made, with the ends of its bricks' links.
+    ///
+    /// # Errors
+    /// Out of memory.
+    pub fn new(alloc: Global, hub: Hub, ends: Vec<HubEnd>) -> Result<Desk, AllocError> {
+        let mut desk = Desk {
+            hub,
+            ends,
+            inbox: VecDeque::new(alloc),
+            queued: 0,
+            stop: None,
+        };
+        desk.queue_sent(alloc)?;
+        desk.send();
+        Ok(desk)
+    }
+
+    // Puts what the hub has sent into the ends.
+    fn queue_sent(&mut self, alloc: Global) -> Result<(), AllocError> {
+        let sent = self.hub.log().sent.as_slice();
+        for at in self.queued..sent.len() {
+            let line = &sent[at];
+            let bytes = line.bytes.clone()?;
+            self.ends[line.brick as usize].queue(alloc, bytes)?;
+            self.queued = at + 1;
+        }
+        Ok(())
+    }
+
+    // Moves what the rings have room for.
+    fn send(&mut self) {
+        for end in self.ends.iter_mut() {
+            end.try_send();
+        }
+    }
+
+    // Moves outputs of a brick from its ring into the inbox.
+    fn receive_from(&mut self, brick: usize) -> Result<(), AllocError> {
+        for _ in 0..MOST_MOVED {
+            match self.ends[brick].try_recv() {
+                Some(output) => self.inbox.push_back((brick as u8, output))?,
+                None => return Ok(()),
+            }
+        }
+        Ok(())
+    }
+
+    fn receive(&mut self) -> Result<(), AllocError> {
+        for brick in 0..self.ends.len() {
+            self.receive_from(brick)?;
+        }
+        Ok(())
+    }
+
+    fn act(&mut self, alloc: Global, due: Due) -> Result<bool, Stop> {
+        match due {
+            Due::Submit(session) => self.hub.submit(alloc, session),
+            Due::Run(graph, task) => self.hub.run(alloc, graph, task),
+            Due::Act(action) => self.act_on(alloc, action),
+            Due::Arm(brick, proc, count, action) => self.hub.arm(alloc, brick, proc, count, action),
+        }
+    }
+
+    fn act_on(&mut self, alloc: Global, action: Action) -> Result<bool, Stop> {
+        self.hub.act(alloc, action)
+    }
+
+    // What goes before everything else, else the first output that has arrived or the first ready task, else what is due,
+    // else the first control that is left.
+    fn event(&mut self, alloc: Global) -> Result<bool, Stop> {
+        if let Some(due) = self.hub.first() {
+            return self.act(alloc, due);
+        }
+        if self.hub.turn(alloc, &mut self.inbox)? == Turned::Did {
+            return Ok(true);
+        }
+        if let Some(due) = self.hub.due(0) {
+            return self.act(alloc, due);
+        }
+        match self.hub.rest() {
+            Some(due) => self.act(alloc, due),
+            None => Ok(false),
+        }
+    }
+
+    fn go_on(&mut self, alloc: Global) -> Result<bool, Stop> {
+        self.receive()?;
+        let did = self.event(alloc)?;
+        self.queue_sent(alloc)?;
+        self.send();
+        Ok(did)
+    }
+
+    /// Takes one turn: an event, if one is enabled. It is false where none was.
+    pub fn turn(&mut self, alloc: Global) -> bool {
+        if self.has_ended() {
+            return false;
+        }
+        match self.go_on(alloc) {
+            Ok(did) => did,
+            Err(stop) => {
+                self.stop = Some(stop);
+                false
+            }
+        }
+    }
+
+    /// Whether no turn is to be taken any more: the log is finished, or the hub stopped.
+    pub fn has_ended(&self) -> bool {
+        self.stop.is_some() || self.hub.is_finished()
+    }
+
+    /// The hub, and why it stopped if it did.
+    pub fn into_hub(self) -> (Hub, Option<Stop>) {
+        (self.hub, self.stop)
+    }
+}

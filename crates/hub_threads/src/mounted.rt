@@ -1,0 +1,189 @@
+use crate::desk::Desk;
+use crate::gate::Gate;
+use crate::side::BrickSide;
+use brick_link::{HubEnd, pair};
+use brick_machine::Brick;
+use fop_types::Seq;
+use graph_build::Plan;
+use hub_calls::{Hub, Rack, named_brick};
+use script_lang::Script;
+use std::alloc::{AllocError, Global};
+use std::sync::atomic::{AtomicBool, Ordering};
+use std::sync::{Mutex, Wait};
+use std::thread;
+use std::thread::{Threads, yield_now};
+use xlator_law::Stop;
+
+// The messages for which a ring has room.
+const ROOM: usize = 64;
+
+// What a thread does: it takes the hub's turns, or it owns a brick.
+#[derive(Drop)]
+enum Post {
+    Worker,
+    Owner(BrickSide),
+}
+
+// The hub's ends of the links, and what the threads do.
+#[derive(Drop)]
+struct Places {
+    ends: Vec<HubEnd>,
+    posts: Vec<Post>,
+}
+
+// The places of a script's bricks and of so many workers.
+fn places(
+    alloc: Global,
+    script: &Script,
+    plans: &[Plan],
+    workers: u8,
+) -> Result<Places, AllocError> {
+    let mut posts = Vec::new(alloc);
+    let mut ends: Vec<HubEnd> = Vec::new(alloc);
+    for brick in 0..script.bricks.len() as u8 {
+        let made = named_brick(alloc, script, plans, brick)?;
+        let (hub_end, brick_end) = pair(alloc, ROOM)?;
+        ends.push(hub_end)?;
+        posts.push(Post::Owner(BrickSide::new(brick, made, brick_end)))?;
+    }
+    for _ in 0..workers {
+        posts.push(Post::Worker)?;
+    }
+    Ok(Places { ends, posts })
+}
+
+// Takes the hub's turns until the log is finished, or somebody stopped.
+fn work<R: Wait>(rt: &R, alloc: Global, desk: &Mutex<Desk>, ended: &AtomicBool) {
+    for _ in rt.forever() {
+        if ended.load(Ordering::SeqCst) {
+            return;
+        }
+        let (did, over) = take_turn(rt, alloc, desk);
+        if over {
+            ended.store(true, Ordering::SeqCst);
+            return;
+        }
+        if !did {
+            yield_now();
+        }
+    }
+}
+
+// One turn under the lock: whether something was done, and whether no turn is left.
+fn take_turn<R: Wait>(rt: &R, alloc: Global, desk: &Mutex<Desk>) -> (bool, bool) {
+    let mut desk = desk.lock(rt);
+    let did = desk.turn(alloc);
+    (did, desk.has_ended())
+}
+
+// Serves a brick until the log is finished, or somebody stopped.
+fn own<R: Wait, G: Gate>(
+    rt: &R,
+    alloc: Global,
+    side: &mut BrickSide,
+    gate: &G,
+    ended: &AtomicBool,
+) {
+    for _ in rt.forever() {
+        if ended.load(Ordering::SeqCst) {
+            return;
+        }
+        match side.turn(alloc, gate) {
+            Ok(true) => {}
+            Ok(false) => yield_now(),
+            Err(_) => {
+                ended.store(true, Ordering::SeqCst);
+                return;
+            }
+        }
+    }
+}
+
+// Goes on in one thread until the log is finished or somebody stops. It is false where a brick ran out of memory.
+fn go_on_alone<R: Wait, G: Gate>(
+    rt: &R,
+    alloc: Global,
+    desk: &mut Desk,
+    posts: &mut [Post],
+    gate: &G,
+) -> bool {
+    for _ in rt.forever() {
+        if desk.has_ended() {
+            return true;
+        }
+        desk.turn(alloc);
+        for post in posts.iter_mut() {
+            if let Post::Owner(side) = post {
+                if side.turn(alloc, gate).is_err() {
+                    return false;
+                }
+            }
+        }
+    }
+    true
+}
+
+/// The script that was run, with the plans of its volfiles.
+#[derive(Drop)]
+pub struct Ran {
+    pub script: Script,
+    pub plans: Seq<Plan>,
+}
+
+fn bricks_of(alloc: Global, posts: Vec<Post>) -> Result<Seq<Brick>, AllocError> {
+    let mut bricks = Vec::with_capacity(alloc, posts.len())?;
+    for post in posts {
+        if let Post::Owner(side) = post {
+            bricks.push(side.into_brick())?;
+        }
+    }
+    Ok(Seq::from_vec(bricks))
+}
+
+/// Runs a script, which is one that `script_lang::parse` gives, with the plans of its volfiles, by one thread for each
+/// brick and so many that take the hub's turns, at least one. The rack, which is empty, has the bricks and the log
+/// afterwards.
+///
+/// # Errors
+/// `Winds` where a further wind was needed and 4,294,967,295 were opened, and the rack is filled; else out of memory.
+pub fn mount<R: Threads + Wait + Sync, G: Gate + Sync>(
+    rt: &R,
+    alloc: Global,
+    script: Script,
+    plans: Seq<Plan>,
+    workers: u8,
+    gate: &G,
+    rack: &mut Rack,
+) -> Result<Ran, Stop> {
+    let Places { ends, posts } = places(alloc, &script, plans.as_slice(), workers)?;
+    let mut posts = posts;
+    let hub = Hub::new(alloc, script, plans)?;
+    let desk = Mutex::new(Desk::new(alloc, hub, ends)?);
+    let ended = AtomicBool::new(false);
+    let count = posts.len();
+    thread::for_each_mut(
+        rt,
+        posts.as_mut_slice(),
+        count,
+        &|_, post: &mut Post| match post {
+            Post::Worker => work(rt, alloc, &desk, &ended),
+            Post::Owner(side) => own(rt, alloc, side, gate, &ended),
+        },
+    );
+    let mut desk = desk.into_inner();
+    let whole = go_on_alone(rt, alloc, &mut desk, posts.as_mut_slice(), gate);
+    let (hub, stop) = desk.into_hub();
+    let (script, plans, log) = hub.into_log();
+    let bricks = bricks_of(alloc, posts)?;
+    *rack = Rack { bricks, log };
+    match stop {
+        Some(stop) => Err(stop),
+        None => {
+            if whole {
+                Ok(Ran { script, plans })
+            } else {
+                Err(Stop::Mem)
+            }
+        }
+    }
+}

@@ -1,0 +1,76 @@
+use crate::gate::Gate;
+use brick_link::BrickEnd;
+use brick_machine::Brick;
+use hub_calls::request_proc;
+use std::alloc::{AllocError, Global};
+
+/// A brick with its owner's end of the link. `queued` is how many of the brick's outputs were queued. A side that ran out
+/// of memory is spent: it answers the same again.
+#[derive(Drop)]
+pub struct BrickSide {
+    number: u8,
+    brick: Brick,
+    end: BrickEnd,
+    queued: usize,
+    spent: bool,
+}
+
+impl BrickSide {
+    /// A brick that has served nothing, and an end that has sent and received nothing.
+    pub fn new(number: u8, brick: Brick, end: BrickEnd) -> BrickSide {
+        BrickSide {
+            number,
+            brick,
+            end,
+            queued: 0,
+            spent: false,
+        }
+    }
+
+    // Receives an input, if there is one, and serves it.
+    fn serve_next<G: Gate>(&mut self, alloc: Global, gate: &G) -> Result<bool, AllocError> {
+        let Some(input) = self.end.try_recv() else {
+            return Ok(false);
+        };
+        if let Some(proc) = request_proc(input.as_slice()) {
+            gate.pass(self.number, proc);
+        }
+        self.brick.serve(alloc, input)?;
+        Ok(true)
+    }
+
+    // Queues the outputs that the brick has made.
+    fn queue_outputs(&mut self, alloc: Global) -> Result<(), AllocError> {
+        while let Some(output) = self.brick.outputs().get(self.queued) {
+            let bytes = output.clone()?;
+            self.end.queue(alloc, bytes)?;
+            self.queued += 1;
+        }
+        Ok(())
+    }
+
+    fn go_on<G: Gate>(&mut self, alloc: Global, gate: &G) -> Result<bool, AllocError> {
+        let served = self.serve_next(alloc, gate)?;
+        self.queue_outputs(alloc)?;
+        let sent = self.end.try_send();
+        Ok(served || sent > 0)
+    }
+
+    /// Receives at most one input, serves it, and sends the outputs. It is false exactly where there was no input and no
+    /// output entered the ring.
+    ///
+    /// # Errors
+    /// Out of memory.
+    pub fn turn<G: Gate>(&mut self, alloc: Global, gate: &G) -> Result<bool, AllocError> {
+        if self.spent {
+            return Err(AllocError);
+        }
+        let went = self.go_on(alloc, gate);
+        self.spent = went.is_err();
+        went
+    }
+
+    pub fn into_brick(self) -> Brick {
+        self.brick
+    }
+}

@@ -1,0 +1,80 @@
+-- Acknowledged changes are on the bricks: for each entry of a call that was answered well, a quorum of the bricks of one set
+-- has in its journals the store op of the entry and later its post, under one change number and of the call's graph, each
+-- answered Done.
+use Rattle.std.specs.Prelude.{◌≡◌, ℕ, ◌<◌, ◌≤◌, ◌==◌, true, List, Some, Contains, length, slice_get}
+use Rattle.std.specs.List.{AllByRecursion, IsDistinct}
+use Rattle.dht_fops.specs.Answers.{change_of}
+use Rattle.fop_types.specs.Replies.{is_ok}
+use Rattle.fop_types.specs.declared.cells.Cell.{Cell}
+use Rattle.fop_types.specs.declared.contents.Mask.{Mask}
+use Rattle.fop_types.specs.declared.flat.FlatOp.{FlatOp}
+use Rattle.fop_types.specs.declared.history.Entry.{Entry}
+use Rattle.fop_types.specs.declared.jobs.SetPlan.{SetPlan}
+use Rattle.fop_types.specs.declared.messages.BrickRep.TheVariants.{Done}
+use Rattle.fop_types.specs.declared.messages.BrickReq.{BrickReq}
+use Rattle.fop_types.specs.declared.messages.BrickReq.TheVariants.{Op, Post}
+use Rattle.fop_types.specs.declared.messages.DoneArm.TheVariants.{Nothing}
+use Rattle.fop_types.specs.declared.messages.Input.TheVariants.{Request}
+use Rattle.fop_types.specs.declared.messages.OutKind.TheVariants.{Reply}
+use Rattle.fop_types.specs.declared.messages.Output.{Output}
+use Rattle.fop_types.specs.declared.store_ops.StoreOp.{StoreOp}
+use Rattle.graph_build.specs.declared.plans.Plan.{Plan}
+use Rattle.script_lang.specs.declared.scripts.Script.{Script}
+use Rattle.wire_xdr.specs.WireText.{input_text}
+use Rattle.brick_machine.specs.Journal.{Journal}
+use Rattle.brick_machine.specs.Machine.{outputs_of}
+use Rattle.mount_log.specs.declared.logs.Log.{Log}
+use Rattle.mount_log.specs.declared.logs.ReplyLine.{ReplyLine}
+use Rattle.mount_log.specs.Causes.{set_of_call}
+use Rattle.mount_log.specs.Connections.{graph_of_call}
+
+-- a request of a graph is at this place in a journal, and the brick answered it Done
+pub record IsDoneRequest (journal : List (List ℕ)) (graph place : ℕ) (req : BrickReq) : Type 0 where
+  pub wind : ℕ
+  pub answer_at : ℕ
+  pub output : Output
+  pub there : slice_get journal place ≡ Some (input_text (Request wind graph req))
+  pub answered : slice_get (outputs_of journal) answer_at ≡ Some output
+  pub reply : output.kind ≡ Reply wind (Done Nothing)
+
+-- a brick has served the op and then its post
+pub record IsBorneBy (graph change : ℕ) (o : StoreOp) (b : Journal) : Type 0 where
+  pub op_at : ℕ
+  pub post_at : ℕ
+  pub fd : ℕ
+  pub cells : List Cell
+  pub mask : Mask
+  pub op_done : IsDoneRequest b.journal graph op_at (Op change fd o)
+  pub post_done : IsDoneRequest b.journal graph post_at (Post change cells mask)
+  pub later : op_at < post_at
+
+pub record IsBearer (bricks : List Journal) (plan : SetPlan) (graph change : ℕ) (o : StoreOp) (brick : ℕ) : Type 0 where
+  pub member : Contains plan.bricks brick
+  pub at : Journal
+  pub there : slice_get bricks brick ≡ Some at
+  pub borne : IsBorneBy graph change o at
+
+pub record IsBorne (script : Script) (plans : List Plan) (log : Log) (bricks : List Journal) (call : ℕ) (operation : FlatOp) : Type 0 where
+  pub set : ℕ
+  pub plan : SetPlan
+  pub plan_is : set_of_call script plans log call set ≡ Some plan
+  pub op : StoreOp
+  pub op_is : change_of op ≡ Some operation
+  pub change : ℕ
+  pub bearers : List ℕ
+  pub differ : IsDistinct ◌==◌ bearers
+  pub quorum : plan.q ≤ length bearers
+  pub each : AllByRecursion (IsBearer bricks plan (graph_of_call log call) change op) bearers
+
+-- the call of an entry was answered well
+pub record IsAcknowledged (log : Log) (call : ℕ) : Type 0 where
+  pub place : ℕ
+  pub reply : ReplyLine
+  pub there : slice_get log.replies place ≡ Some reply
+  pub call_is : reply.call ≡ call
+  pub well : is_ok reply.answer ≡ true
+
+abbrev pub AreBorne : Script → List Plan → Log → List Journal → List FlatOp → Type 0
+AreBorne script plans log bricks ops =
+    (k : ℕ) (entry : Entry) (operation : FlatOp) → slice_get log.history k ≡ Some entry → slice_get ops k ≡ Some operation
+    → IsAcknowledged log entry.call → IsBorne script plans log bricks entry.call operation

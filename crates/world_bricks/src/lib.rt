@@ -1,0 +1,22 @@
+//! The world of one thread: the hub with its bricks, event by event.
+//!
+//! ```text
+//!   hub ── sent ──► line of inputs ── Serve ──► brick ── outputs ──► Arrive ──► hub
+//! ```
+//!
+//! Each brick has one line of inputs and one of outputs, both first in, first out. [`World::pick`] chooses the next event
+//! by a value of the schedule that a seed gives, and [`World::run`] goes on until no event is left.
+//!
+//! The enabled events are kept as sets of sessions and bricks, so an event costs no walk over them.
+#![tactic(auto)]
+
+mod enabled;
+mod events;
+mod lines;
+mod schedule;
+mod world;
+
+pub use events::Event;
+pub use hub_calls::Rack;
+pub use schedule::Schedule;
+pub use world::World;

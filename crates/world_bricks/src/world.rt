@@ -1,0 +1,230 @@
+ghost use Rattle.std.specs.Prelude.{◌≡◌, None, Some, OnOk, IfOk, IfErr};
+ghost use Rattle.hub_calls.specs.Plans.{IsScript};
+
+use crate::enabled::{Choice, Enabled};
+use crate::events::{Event, due_event, event_of};
+use crate::lines::Lines;
+use crate::schedule::Schedule;
+use fop_types::{Proc, Seq};
+use graph_build::Plan;
+use hub_calls::{Hub, Log, Rack};
+use script_lang::{Action, Script};
+use std::alloc::Global;
+use std::marker::Model;
+use xlator_law::Stop;
+
+// The events of a run, at most.
+const EVENTS: u64 = 18446744073709551615;
+
+/// The hub with its bricks.
+///
+/// A call that stops has spent the world: it answers the same from then on, its log ends with the last whole event, and each
+/// brick's journal with the last input that it served.
+#[derive(Drop)]
+pub struct World {
+    hub: Hub,
+    lines: Lines,
+    stop: Option<Stop>,
+}
+
+impl Model for World {
+    ghost use Rattle.world_bricks.specs.Worlds.{WorldState};
+
+    ghost Value = { WorldState };
+
+    ghost view = { λ w. record { script = w.hub.script; plans = w.hub.plans; stop = w.stop } };
+}
+
+impl World {
+    /// The world at the start of a script with the plans of its volfiles, as for [`hub_calls::Hub::new`].
+    ///
+    /// # Errors
+    /// Out of memory.
+    pub fn new(alloc: Global, script: Script, plans: Seq<Plan>) -> Result<World, Stop>
+        requires { IsScript script plans }
+        ensures { IfOk result (λ w. w ≡ record { script = script; plans = plans; stop = None }) }
+    {
+        let mut lines = Lines::new(alloc, &script, plans.as_slice())?;
+        let hub = Hub::new(alloc, script, plans)?;
+        lines.deliver(hub.log().sent.as_slice())?;
+        Ok(World {
+            hub,
+            lines,
+            stop: None,
+        })
+    }
+
+    // Puts what the hub has sent into the bricks' lines.
+    fn deliver(&mut self) -> Result<(), Stop>
+        ensures { self.new ≡ self.old }
+    {
+        self.lines.deliver(self.hub.log().sent.as_slice())?;
+        Ok(())
+    }
+
+    fn submit(&mut self, alloc: Global, session: u8) -> Result<bool, Stop>
+        ensures { OnOk result ((self.new.script ≡ self.old.script) × (self.new.plans ≡ self.old.plans)) }
+    {
+        let did = self.hub.submit(alloc, session)?;
+        self.deliver()?;
+        Ok(did)
+    }
+
+    // The next output of a brick arrives.
+    fn arrive(&mut self, alloc: Global, brick: u8) -> Result<bool, Stop>
+        ensures { OnOk result ((self.new.script ≡ self.old.script) × (self.new.plans ≡ self.old.plans)) }
+    {
+        let Some(output) = self.lines.take_output(brick)? else {
+            return Ok(false);
+        };
+        self.hub.arrive(alloc, brick, output)?;
+        self.deliver()?;
+        Ok(true)
+    }
+
+    // A brick serves its next input.
+    fn serve(&mut self, alloc: Global, brick: u8) -> Result<bool, Stop>
+        ensures { self.new ≡ self.old }
+    {
+        let did = self.lines.serve(alloc, brick)?;
+        Ok(did)
+    }
+
+    fn run_task(&mut self, alloc: Global, graph: u32, task: u32) -> Result<bool, Stop>
+        ensures { OnOk result ((self.new.script ≡ self.old.script) × (self.new.plans ≡ self.old.plans)) }
+    {
+        let did = self.hub.run(alloc, graph, task)?;
+        self.deliver()?;
+        Ok(did)
+    }
+
+    fn act(&mut self, alloc: Global, action: Action) -> Result<bool, Stop>
+        ensures { OnOk result ((self.new.script ≡ self.old.script) × (self.new.plans ≡ self.old.plans)) }
+    {
+        let did = self.hub.act(alloc, action)?;
+        self.deliver()?;
+        Ok(did)
+    }
+
+    fn arm(
+        &mut self,
+        alloc: Global,
+        brick: u8,
+        proc: Proc,
+        count: u32,
+        action: Action,
+    ) -> Result<bool, Stop>
+        ensures { OnOk result ((self.new.script ≡ self.old.script) × (self.new.plans ≡ self.old.plans)) }
+    {
+        let did = self.hub.arm(alloc, brick, proc, count, action)?;
+        self.deliver()?;
+        Ok(did)
+    }
+
+    fn happen(&mut self, alloc: Global, happening: Event) -> Result<bool, Stop>
+        ensures { OnOk result ((self.new.script ≡ self.old.script) × (self.new.plans ≡ self.old.plans)) }
+    {
+        match happening {
+            Event::Submit(session) => self.submit(alloc, session),
+            Event::Arrive(brick) => self.arrive(alloc, brick),
+            Event::Serve(brick) => self.serve(alloc, brick),
+            Event::Run(graph, task) => self.run_task(alloc, graph, task),
+            Event::Act(action) => self.act(alloc, action),
+            Event::Arm(brick, proc, count, action) => self.arm(alloc, brick, proc, count, action),
+        }
+    }
+
+    /// Makes an event happen. It is false, with nothing changed, where the event is not enabled.
+    ///
+    /// # Errors
+    /// As for [`hub_calls::Hub::submit`].
+    pub fn apply(&mut self, alloc: Global, event: Event) -> Result<bool, Stop>
+        ensures same { OnOk result ((self.new.script ≡ self.old.script) × (self.new.plans ≡ self.old.plans)) }
+        ensures goes { OnOk result (self.new.stop ≡ None) }
+        ensures stops { IfErr result (λ s. self.new.stop ≡ Some s) }
+    {
+        if let Some(stop) = self.stop {
+            return Err(stop);
+        }
+        match self.happen(alloc, event) {
+            Ok(did) => {
+                self.stop = None;
+                Ok(did)
+            }
+            Err(stop) => {
+                self.stop = Some(stop);
+                Err(stop)
+            }
+        }
+    }
+
+    // One of the events that are enabled, by a value of the schedule.
+    fn choose(&self, value: u64) -> Option<Event> {
+        let enabled = Enabled {
+            submits: self.hub.submits(),
+            arriving: self.lines.arriving,
+            serving: self.lines.serving,
+            tasks: self.hub.ready_len(),
+            plain: self.hub.plain(),
+        };
+        match enabled.chosen(value)? {
+            Choice::Event(event) => Some(event),
+            Choice::Task(at) => match self.hub.ready_at(at) {
+                Some((graph, task)) => Some(Event::Run(graph, task)),
+                None => None,
+            },
+        }
+    }
+
+    /// The next event, by a value of the schedule: what goes before everything else; else one of the events that are
+    /// enabled; else the first control that is left.
+    pub fn pick(&self, value: u64) -> Option<Event> {
+        match self.hub.first() {
+            Some(due) => Some(event_of(due)),
+            None => match self.choose(value) {
+                Some(event) => Some(event),
+                None => due_event(self.hub.rest()),
+            },
+        }
+    }
+
+    /// Runs the events of a seed's schedule until none is left, or 18,446,744,073,709,551,615 have happened.
+    ///
+    /// # Errors
+    /// As for [`hub_calls::Hub::submit`].
+    pub fn run(&mut self, alloc: Global, seed: u64) -> Result<(), Stop>
+        ensures same { OnOk result ((self.new.script ≡ self.old.script) × (self.new.plans ≡ self.old.plans)) }
+        ensures stops { IfErr result (λ s. self.new.stop ≡ Some s) }
+    {
+        let mut schedule = Schedule::new(seed);
+        for _ in 0..EVENTS {
+            let Some(event) = self.pick(schedule.draw()) else {
+                return Ok(());
+            };
+            if !self.apply(alloc, event)? {
+                return Ok(());
+            }
+        }
+        Ok(())
+    }
+
+    /// Whether each call has its reply, each control was carried out, and nothing else is left.
+    pub fn is_finished(&self) -> bool {
+        self.hub.is_finished()
+    }
+
+    /// The log of the events so far.
+    pub fn log(&self) -> &Log {
+        self.hub.log()
+    }
+
+    /// What the run has left, with nothing copied: the script, the plans, and the bricks with the log.
+    pub fn into_parts(self) -> (Script, Seq<Plan>, Rack)
+        ensures { (result.0 ≡ self.script) × (result.1 ≡ self.plans) }
+    {
+        let World { hub, lines, .. } = self;
+        let bricks = lines.into_bricks();
+        let (script, plans, log) = hub.into_log();
+        (script, plans, Rack { bricks, log })
+    }
+}
