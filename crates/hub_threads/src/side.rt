@@ -41,11 +41,12 @@ impl BrickSide {
 
     // Queues the outputs that the brick has made.
     fn queue_outputs(&mut self, alloc: Global) -> Result<(), AllocError> {
-        while let Some(output) = self.brick.outputs().get(self.queued) {
-            let bytes = output.clone()?;
+        let outputs = self.brick.outputs();
+        for at in self.queued..outputs.len() {
+            let bytes = outputs[at].clone()?;
             self.end.queue(alloc, bytes)?;
-            self.queued += 1;
         }
+        self.queued = outputs.len();
         Ok(())
     }
 
