@@ -1,4 +1,1 @@
-pub mod Counted
 pub mod Limits
-pub mod Running
-pub mod Serving

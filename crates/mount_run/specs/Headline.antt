@@ -1,41 +1,65 @@
--- The headline: for every script, the replies written are those of one plain file system at the written
--- places of one written history that holds each acknowledged change once, and every wind is ended once.
-use Rattle.std.specs.Prelude.{◌≡◌, ℕ, List, [], ◌∷◌, Ok, length, take}
-use Rattle.root_calls.specs.History.{IsLegalHistory}
-use Rattle.root_calls.specs.declared.calls.RootLine.{RootLine}
-use Rattle.brick_node.specs.Machine.{outputs_of}
-use Rattle.hub_core.specs.Journal.{FollowsScript, IsFinished, HasHonestArrivals, WindsAreBalanced, AreLawful, IsBackedByBrick, calls_of, inputs_of}
-use Rattle.hub_core.specs.Ties.{IsTied}
-use Rattle.hub_core.specs.declared.racks.Rack.{Rack}
+-- The headline: for every script, the replies written are those of one plain file system at the written places of one
+-- written history that holds each acknowledged change once; an I/O error is written only with its cause; and every wind is
+-- ended once.
+use Rattle.std.specs.Prelude.{◌≡◌, ℕ, List, Ok, IfSome, length, slice_get, take}
+use Rattle.fop_types.specs.History.{IsLegalHistory}
+use Rattle.fop_types.specs.Replies.{AreLawfulReplies}
+use Rattle.fop_types.specs.declared.flat.FlatOp.{FlatOp}
+use Rattle.graph_build.specs.declared.plans.Plan.{Plan}
+use Rattle.script_lang.specs.declared.scripts.Script.{Script}
+use Rattle.brick_machine.specs.Journal.{Journal}
+use Rattle.mount_log.specs.declared.logs.Log.{Log}
+use Rattle.hub_calls.specs.declared.racks.Rack.{Rack}
 use Rattle.report_text.specs.ReportText.{report_text}
+use Rattle.log_audit.specs.Honest.{HasHonestArrivals}
+use Rattle.mount_log.specs.Arrivals.{inputs_to}
+use Rattle.mount_run.specs.Borne.{AreBorne}
+use Rattle.mount_log.specs.Causes.{AreCaused}
+use Rattle.mount_log.specs.Connections.{ConnectsAreCaused}
+use Rattle.mount_log.specs.Follows.{FollowsScript, IsFinished}
 use Rattle.mount_run.specs.Plans.{accepted}
-use Rattle.mount_run.specs.Served.{for_a_run, calls_to_run}
-use Rattle.mount_run.specs.Reports.{report_of, names_of}
+use Rattle.run_report.specs.Reports.{report_of}
+use Rattle.mount_log.specs.Submissions.{submissions_of, replies_of, length_since, length_until}
+use Rattle.mount_log.specs.Winds.{WindsAreBalanced}
 use Rattle.mount_run.specs.declared.plans.Accepted.{Accepted}
-use Rattle.mount_run.specs.declared.reports.Names.{Names}
 
--- a run of these calls: its log, its one brick and its report
-pub record IsLawfulRun (calls : List RootLine) (names : Names) (report : List ℕ) (rack : Rack) : Type 0 where
-  -- the log follows the script and is finished, and what arrived in it is what the brick made
-  pub follows : FollowsScript calls rack.log
-  pub finished : IsFinished calls rack.log
+-- there is a brick for each of the script's, whose journal is a prefix of what the log sent to it; its outputs are a function
+-- of the journal
+pub record AreBricksOf (script : Script) (log : Log) (bricks : List Journal) : Type 0 where
+  pub many : length bricks ≡ length script.bricks
+  pub journals : (brick : ℕ) → IfSome (slice_get bricks brick) (λ b. b.journal ≡ take (length b.journal) (inputs_to brick log.sent))
+
+-- One history with the operations of its entries, and with the places of each call's fops, also of those that have no reply:
+-- it is legal, and the replies are lawful. `answered` is how many fops of a call were answered by something else than an I/O
+-- error.
+pub record IsOneFileSystem (script : Script) (log : Log) (ops : List FlatOp) : Type 0 where
+  pub places : ℕ → List ℕ
+  pub answered : ℕ → ℕ
+  pub legal : IsLegalHistory (submissions_of script log) (replies_of log) (length_since log) places ops log.history
+  pub lawful : AreLawfulReplies (submissions_of script log) (replies_of log) ops log.history (length_since log) (length_until log) answered
+  pub entered : length log.entered ≡ length log.history
+
+-- a run of a script with the plans of its volfiles: its log, its bricks and its report
+pub record IsLawfulRun (script : Script) (plans : List Plan) (report : List ℕ) (rack : Rack) : Type 0 where
+  -- the log follows the script and is finished, what arrived in it is what the bricks made, and connections and controls are
+  -- those of its events
+  pub follows : FollowsScript script rack.log
+  pub finished : IsFinished script rack.log
   pub honest : HasHonestArrivals rack.log
-  -- there is one brick; its journal is a prefix of the bytes that the log sent to it
-  pub journal : List (List ℕ)
-  pub bricks : rack.bricks ≡ journal ∷ []
-  pub prefix : journal ≡ take (length journal) (inputs_of rack.log.sent)
+  pub connections : ConnectsAreCaused rack.log
+  pub bricks : AreBricksOf script rack.log rack.bricks
   -- the bytes are the report of the log
-  pub written : report ≡ report_text (report_of names rack.log)
-  -- one legal history, lawful replies, balanced winds, and each change on the brick
-  pub legal : IsLegalHistory (calls_of calls) rack.ops rack.log.history
-  pub lawful : AreLawful calls rack.ops rack.log
+  pub written : report ≡ report_text (report_of script plans rack.log)
+  -- one legal history, lawful replies, each I/O error with its cause, each acknowledged change on a quorum of bricks
+  pub ops : List FlatOp
+  pub files : IsOneFileSystem script rack.log ops
+  pub causes : AreCaused script plans rack.log
+  pub borne : AreBorne script plans rack.log rack.bricks ops
+  -- balanced winds
   pub winds : WindsAreBalanced rack.log.winds
-  pub backed : IsBackedByBrick rack.ops journal (outputs_of journal)
-  -- each line of the log is of the event that wrote it, and each request opened one wind
-  pub tied : IsTied calls rack.log
 
--- the text is accepted for a run, and the calls of its script were run lawfully
+-- the text is accepted, and its script was run lawfully
 pub record Headline (text report : List ℕ) (rack : Rack) : Type 0 where
   pub read : Accepted
-  pub accepted_as : for_a_run (accepted text) ≡ Ok read
-  pub run : IsLawfulRun (calls_to_run read.script) (names_of read.script) report rack
+  pub accepted_as : accepted text ≡ Ok read
+  pub run : IsLawfulRun read.script read.plans report rack

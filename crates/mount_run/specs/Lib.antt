@@ -1,10 +1,12 @@
-pub mod Checks
+-- In reading order: commands, limits, plans and refusals of a text; what `check` writes; changes on the bricks; the headline; the
+-- lines of judged runs; the statuses; the head of a stream.
 pub mod Commands
-pub mod Headline
-pub mod Heads
 pub mod Limits
-pub mod Outcomes
 pub mod Plans
 pub mod Refusals
-pub mod Reports
-pub mod Served
+pub mod Checks
+pub mod Borne
+pub mod Headline
+pub mod Replays
+pub mod Outcomes
+pub mod Heads

@@ -1,51 +1,81 @@
--- When each status of the top call comes, and what was written. Where the source and the sink show their
--- bytes, the text is what was read and the bytes written are named.
-use Rattle.std.specs.Prelude.{◌≡◌, ℕ, List, [], Option, Some, None, Ok, Err, IfSome, ◌⊎◌}
+-- When each status of the top calls comes, and what was written. Where the source and the sink show their bytes, the text is
+-- what was read and the bytes written are named.
+use Rattle.std.specs.Prelude.{◌≡◌, ◌≢◌, ◌⊎◌, ℕ, List, [], Option, Some, None, Ok, Err, IfSome}
 use Rattle.std.specs.Io.KnownBytes.{Appends}
 use Rattle.xl_base.specs.Writes.{WrotePrefix}
-use Rattle.hub_core.specs.declared.racks.Rack.{Rack}
-use Rattle.hub_core.specs.Turns.{empty_log}
-use Rattle.world_core.specs.Worlds.{world_start, HasRun, IsOutOfWinds}
+use Rattle.graph_build.specs.declared.plans.Plan.{Plan}
 use Rattle.script_lang.specs.declared.scripts.Script.{Script}
+use Rattle.mount_log.specs.Logs.{empty_log}
+use Rattle.hub_calls.specs.declared.racks.Rack.{Rack}
+use Rattle.history_replay.specs.declared.judging.Verdict.{Verdict}
 use Rattle.mount_run.specs.Checks.{check_text}
-use Rattle.mount_run.specs.Headline.{Headline, IsLawfulRun}
+use Rattle.mount_run.specs.Headline.{Headline, IsLawfulRun, AreBricksOf}
 use Rattle.mount_run.specs.Plans.{accepted}
-use Rattle.mount_run.specs.Refusals.{fault_text}
-use Rattle.mount_run.specs.Reports.{names_of}
-use Rattle.mount_run.specs.Served.{calls_to_run, for_a_run, verdict_of}
+use Rattle.mount_run.specs.Refusals.{fault_of, fault_text}
+use Rattle.mount_run.specs.Replays.{status_of, verdict_text}
+use Rattle.run_report.specs.Summaries.{summary_text}
+use Rattle.mount_log.specs.Winds.{WindsAreOnce, NoWindIsLeft}
 use Rattle.mount_run.specs.declared.commands.Command.{Command}
-use Rattle.mount_run.specs.declared.commands.Command.TheVariants.{Check, Run}
+use Rattle.mount_run.specs.declared.commands.Command.TheVariants.{Check, Run, Mount, Generate, Replay}
 use Rattle.mount_run.specs.declared.plans.Accepted.{Accepted}
+use Rattle.mount_run.specs.declared.readings.NotRead.{NotRead}
+use Rattle.mount_run.specs.declared.readings.NotRead.TheVariants as not_read
 use Rattle.mount_run.specs.declared.refusals.Refusal.{Refusal}
+use Rattle.mount_run.specs.declared.replaying.Replayed.{Replayed}
+use Rattle.mount_run.specs.declared.replaying.Replayed.TheVariants as replayed
 
 -- a rack before a run: no bricks, and an empty log
 abbrev pub empty_rack : Rack
-empty_rack = record { bricks = []; log = empty_log; ops = [] }
+empty_rack = record { bricks = []; log = empty_log }
+
+-- ---- what was read
 
 -- the text that was read, where the source shows its bytes
 abbrev pub IsRead : Option (List ℕ) → List ℕ → Type 0
 IsRead known text = IfSome known (λ bytes. text ≡ bytes)
 
--- a text was read that the command accepts as this
-pub record IsAccepted (command : Command) (known : Option (List ℕ)) (read : Accepted) : Type 0 where
+-- a text was read that is accepted as this
+pub record IsAccepted (known : Option (List ℕ)) (read : Accepted) : Type 0 where
   pub text : List ℕ
   pub is_text : IsRead known text
-  pub verdict : verdict_of command text ≡ Ok read
+  pub accepted_as : accepted text ≡ Ok read
 
--- the text that was read is refused by the command, for this as the first
-abbrev pub IsRefused : Command → Option (List ℕ) → Refusal → Type 0
-IsRefused command known refusal = IfSome known (λ text. verdict_of command text ≡ Err refusal)
+-- the text that was read is refused, for this as the first
+abbrev pub IsRefused : Option (List ℕ) → Refusal → Type 0
+IsRefused known refusal = IfSome known (λ text. accepted text ≡ Err refusal)
+
+-- ---- a run
 
 -- the script was run, and its report was written: the whole of it, or a prefix and not all
-pub record IsWritten (script : Script) (taken taken_after : Option (List ℕ)) (rack : Rack) : Type 0 where
+pub record IsWritten (script : Script) (plans : List Plan) (taken taken_after : Option (List ℕ)) (rack : Rack) : Type 0 where
   pub report : List ℕ
-  pub run : IsLawfulRun (calls_to_run script) (names_of script) report rack
+  pub run : IsLawfulRun script plans report rack
   pub wrote : Appends taken taken_after report
 
-pub record IsCutShort (script : Script) (taken taken_after : Option (List ℕ)) (rack : Rack) : Type 0 where
+pub record IsCutShort (script : Script) (plans : List Plan) (taken taken_after : Option (List ℕ)) (rack : Rack) : Type 0 where
   pub report : List ℕ
-  pub run : IsLawfulRun (calls_to_run script) (names_of script) report rack
+  pub run : IsLawfulRun script plans report rack
   pub wrote : WrotePrefix taken taken_after report
+
+-- a run that needed a further wind where none was left: the rack has its log and its bricks
+pub record IsStopped (script : Script) (rack : Rack) : Type 0 where
+  pub none_left : NoWindIsLeft rack.log.winds
+  pub once : WindsAreOnce rack.log.winds
+  pub bricks : AreBricksOf script rack.log rack.bricks
+
+-- a script was run, whatever was written
+pub record HasRun (script : Script) (plans : List Plan) (rack : Rack) : Type 0 where
+  pub report : List ℕ
+  pub run : IsLawfulRun script plans report rack
+
+-- and the line that sums the run up was written: the whole of it, or a prefix and not all
+pub record IsSummedUp (script : Script) (plans : List Plan) (number : ℕ) (taken taken_after : Option (List ℕ)) (rack : Rack) : Type 0 where
+  pub ran : HasRun script plans rack
+  pub wrote : Appends taken taken_after (summary_text number rack.log)
+
+pub record IsSummedUpShort (script : Script) (plans : List Plan) (number : ℕ) (taken taken_after : Option (List ℕ)) (rack : Rack) : Type 0 where
+  pub ran : HasRun script plans rack
+  pub wrote : WrotePrefix taken taken_after (summary_text number rack.log)
 
 -- a script was run, and its whole report was written
 pub record Ran (known taken taken_after : Option (List ℕ)) (rack : Rack) : Type 0 where
@@ -64,41 +94,104 @@ pub record Checked (known taken taken_after : Option (List ℕ)) (rack : Rack) :
   pub wrote : Appends taken taken_after (check_text read.script)
   pub empty : rack ≡ empty_rack
 
--- the text is accepted for a run, events lead from the start of its calls to a world without winds for a
--- further fop, and the rack is as before a run
-pub record WindsRanOut (known : Option (List ℕ)) (rack : Rack) : Type 0 where
+-- the script that a number generates was run, and the line that sums it up was written
+pub record Generated (number : ℕ) (taken taken_after : Option (List ℕ)) (rack : Rack) : Type 0 where
   pub text : List ℕ
-  pub read : Accepted
-  pub is_text : IsRead known text
-  pub accepted_as : for_a_run (accepted text) ≡ Ok read
-  pub run_out : HasRun (world_start (calls_to_run read.script)) IsOutOfWinds
-  pub empty : rack ≡ empty_rack
+  pub report : List ℕ
+  pub headline : Headline text report rack
+  pub wrote : Appends taken taken_after (summary_text number rack.log)
 
--- only a run needs winds
-abbrev pub RanOutOfWinds : Option Command → Option (List ℕ) → Rack → Type 0
-RanOutOfWinds None known rack = ⊥
-RanOutOfWinds (Some Check) known rack = ⊥
-RanOutOfWinds (Some (Run seed)) known rack = WindsRanOut known rack
+-- a report was judged, and the line that says so was written
+pub record Judged (status : ℕ) (taken taken_after : Option (List ℕ)) (rack : Rack) : Type 0 where
+  pub verdict : Verdict
+  pub status_is : status ≡ status_of verdict
+  pub wrote : Appends taken taken_after (verdict_text verdict)
+  pub empty : rack ≡ empty_rack
 
 -- what each command did, where it ended well
 abbrev pub Succeeded : Option Command → Option (List ℕ) → Option (List ℕ) → Option (List ℕ) → Rack → Type 0
 Succeeded None known taken taken_after rack = ⊥
 Succeeded (Some Check) known taken taken_after rack = Checked known taken taken_after rack
 Succeeded (Some (Run seed)) known taken taken_after rack = Ran known taken taken_after rack
+Succeeded (Some (Mount workers)) known taken taken_after rack = Ran known taken taken_after rack
+Succeeded (Some (Generate number)) known taken taken_after rack = Generated number taken taken_after rack
+Succeeded (Some Replay) known taken taken_after rack = Judged 0 taken taken_after rack
 
--- the text was refused, by the first refusal of the command, and its one line was written
-pub record Refused (command : Command) (known taken taken_after : Option (List ℕ)) (rack : Rack) : Type 0 where
+-- only a replay finds a report unlawful
+abbrev pub IsUnlawful : Option Command → Option (List ℕ) → Option (List ℕ) → Rack → Type 0
+IsUnlawful None taken taken_after rack = ⊥
+IsUnlawful (Some Check) taken taken_after rack = ⊥
+IsUnlawful (Some (Run seed)) taken taken_after rack = ⊥
+IsUnlawful (Some (Mount workers)) taken taken_after rack = ⊥
+IsUnlawful (Some (Generate number)) taken taken_after rack = ⊥
+IsUnlawful (Some Replay) taken taken_after rack = Judged 6 taken taken_after rack
+
+-- ---- refusals
+
+-- the line and the status of a verdict
+pub record IsVerdictLine (line : List ℕ) (status : ℕ) : Type 0 where
+  pub verdict : Verdict
+  pub line_is : line ≡ verdict_text verdict
+  pub status_is : status ≡ status_of verdict
+
+-- the text was refused, by its first refusal, and its one line was written
+pub record Refused (known taken taken_after : Option (List ℕ)) (rack : Rack) : Type 0 where
   pub refusal : Refusal
-  pub first : IsRefused command known refusal
+  pub first : IsRefused known refusal
   pub wrote : Appends taken taken_after (fault_text refusal)
   pub empty : rack ≡ empty_rack
 
+-- one line was written that names the line and why
+pub record RefusedLine (taken taken_after : Option (List ℕ)) (rack : Rack) : Type 0 where
+  pub line : ℕ
+  pub name : List ℕ
+  pub wrote : Appends taken taken_after (fault_of line name)
+  pub empty : rack ≡ empty_rack
+
+-- what was written of a text that is refused
+abbrev pub IsRefusal : NotRead → (List ℕ → Type 0) → Type 0
+IsRefusal (not_read.Refused refusal) Wrote = Wrote (fault_text refusal)
+IsRefusal not_read.Fault Wrote = ⊥
+IsRefusal not_read.Mem Wrote = ⊥
+
+-- what a replay says is a verdict with its status, or a line; a source that failed is none of it
+abbrev pub IsSaying : Replayed → Type 0
+IsSaying (replayed.Says line status) = IsVerdictLine line.items status
+IsSaying (replayed.NoReport line) = Unit {0}
+IsSaying (replayed.BadReport line) = Unit {0}
+IsSaying (replayed.NotRead why) = why ≢ not_read.Fault
+IsSaying replayed.Mem = Unit {0}
+
+-- no generated script is refused
 abbrev pub RefusedBy : Option Command → Option (List ℕ) → Option (List ℕ) → Option (List ℕ) → Rack → Type 0
 RefusedBy None known taken taken_after rack = ⊥
-RefusedBy (Some command) known taken taken_after rack = Refused command known taken taken_after rack
+RefusedBy (Some Check) known taken taken_after rack = Refused known taken taken_after rack
+RefusedBy (Some (Run seed)) known taken taken_after rack = Refused known taken taken_after rack
+RefusedBy (Some (Mount workers)) known taken taken_after rack = Refused known taken taken_after rack
+RefusedBy (Some (Generate number)) known taken taken_after rack = ⊥
+RefusedBy (Some Replay) known taken taken_after rack = RefusedLine taken taken_after rack
 
--- a prefix of what is to be written was, and not all of it: of a report, of the line of a check, or of the
--- line of a refusal
+-- ---- out of winds
+
+-- the text is accepted, and its run needed a wind too many
+pub record WindsRanOut (known : Option (List ℕ)) (rack : Rack) : Type 0 where
+  pub text : List ℕ
+  pub read : Accepted
+  pub is_text : IsRead known text
+  pub accepted_as : accepted text ≡ Ok read
+  pub stopped : IsStopped read.script rack
+
+-- only a run needs winds, and of a generated one the text is the program's own
+abbrev pub RanOutOfWinds : Option Command → Option (List ℕ) → Rack → Type 0
+RanOutOfWinds None known rack = ⊥
+RanOutOfWinds (Some Check) known rack = ⊥
+RanOutOfWinds (Some (Run seed)) known rack = WindsRanOut known rack
+RanOutOfWinds (Some (Mount workers)) known rack = WindsRanOut known rack
+RanOutOfWinds (Some (Generate number)) known rack = WindsRanOut None rack
+RanOutOfWinds (Some Replay) known rack = ⊥
+
+-- ---- a sink that failed: a prefix of what is to be written was, and not all of it
+
 pub record RanUnwritten (known taken taken_after : Option (List ℕ)) (rack : Rack) : Type 0 where
   pub text : List ℕ
   pub report : List ℕ
@@ -114,13 +207,27 @@ pub record CheckedUnwritten (known taken taken_after : Option (List ℕ)) (rack 
   pub wrote : WrotePrefix taken taken_after (check_text read.script)
   pub empty : rack ≡ empty_rack
 
-pub record RefusedUnwritten (command : Command) (known taken taken_after : Option (List ℕ)) (rack : Rack) : Type 0 where
+pub record GeneratedUnwritten (number : ℕ) (taken taken_after : Option (List ℕ)) (rack : Rack) : Type 0 where
+  pub text : List ℕ
+  pub report : List ℕ
+  pub headline : Headline text report rack
+  pub wrote : WrotePrefix taken taken_after (summary_text number rack.log)
+
+pub record JudgedUnwritten (taken taken_after : Option (List ℕ)) (rack : Rack) : Type 0 where
+  pub line : List ℕ
+  pub wrote : WrotePrefix taken taken_after line
+  pub empty : rack ≡ empty_rack
+
+pub record RefusedUnwritten (known taken taken_after : Option (List ℕ)) (rack : Rack) : Type 0 where
   pub refusal : Refusal
-  pub first : IsRefused command known refusal
+  pub first : IsRefused known refusal
   pub wrote : WrotePrefix taken taken_after (fault_text refusal)
   pub empty : rack ≡ empty_rack
 
 abbrev pub Unwritten : Option Command → Option (List ℕ) → Option (List ℕ) → Option (List ℕ) → Rack → Type 0
 Unwritten None known taken taken_after rack = ⊥
-Unwritten (Some Check) known taken taken_after rack = CheckedUnwritten known taken taken_after rack ⊎ RefusedUnwritten Check known taken taken_after rack
-Unwritten (Some (Run seed)) known taken taken_after rack = RanUnwritten known taken taken_after rack ⊎ RefusedUnwritten (Run seed) known taken taken_after rack
+Unwritten (Some Check) known taken taken_after rack = CheckedUnwritten known taken taken_after rack ⊎ RefusedUnwritten known taken taken_after rack
+Unwritten (Some (Run seed)) known taken taken_after rack = RanUnwritten known taken taken_after rack ⊎ RefusedUnwritten known taken taken_after rack
+Unwritten (Some (Mount workers)) known taken taken_after rack = RanUnwritten known taken taken_after rack ⊎ RefusedUnwritten known taken taken_after rack
+Unwritten (Some (Generate number)) known taken taken_after rack = GeneratedUnwritten number taken taken_after rack
+Unwritten (Some Replay) known taken taken_after rack = JudgedUnwritten taken taken_after rack

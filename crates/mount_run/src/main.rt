@@ -1,29 +1,29 @@
-//! The program: `vealepoch check` reads a script from standard input and plans its volfiles; `vealepoch run
-//! SEED` runs it over one brick in memory, and writes the report to standard output. The calls that are run
-//! are `mkdir` and `stat` of any path.
+//! The program: `vealepoch check` reads a script from standard input and plans its volfiles; `run SEED` runs it over bricks in
+//! memory in one thread, and writes the report to standard output; `mount WORKERS` does so by threads; `gen N` runs a script
+//! that it makes; `replay` judges a script with its report.
 //!
 //! ```text
-//! standard input ── read_script ── run_script ── report_of ── print ── standard output
-//!                       │    │          │
-//!              grammar, plans │      World: the hub and its brick, event by event
+//! standard input ── read_script ── World or threads ── is_lawful ── report_of ── print ── standard output
+//!                       │    │        hub and bricks,      │
+//!              grammar, plans │        event by event   audits of the log
 //!                          Refusal
 //! ```
 //!
-//! `top` is the whole of it over any source and sink, and its contract carries the headline. What is here
+//! `top` and `top_mount` are the whole of it over any source and sink, and their contracts carry the headline. What is here
 //! looks at the first word, and explains a status other than 0 on standard error.
 #![tactic(auto)]
 
+mod audits;
 mod checks;
 mod commands;
+mod generator;
 mod head_sinks;
 mod mains;
 mod meanings;
 mod plans;
 mod readings;
 mod refusals;
-mod reports;
-mod runs;
-mod served;
+mod replaying;
 mod tops;
 
 use std::process::ExitCode;

@@ -1,40 +1,50 @@
-ghost use Rattle.std.specs.Prelude.{◌≡◌, ◌≤◌, ◌↔◌, ◌⊎◌, None, map};
+ghost use Rattle.std.specs.Prelude.{◌≡◌, ◌≤◌, ◌↔◌, None, map};
 ghost use Rattle.std.specs.String.{string_bytes};
-ghost use Rattle.mount_run.specs.Commands.{command_of};
+ghost use Rattle.mount_run.specs.Commands.{command_of, mount_command, without_threads};
 
 use crate::head_sinks::HeadSink;
 use crate::meanings::{Meaning, meaning_of};
-use crate::tops::top;
-use hub_core::Rack;
+use crate::tops::{top, top_mount};
+use hub_calls::Rack;
 use std::rt::Env;
+use std::sync::Wait;
+use std::thread::Threads;
 use std::{env, io, str};
 use xl_base::{StdSink, StdSource};
 
-const USAGE: &str = "usage: vealepoch check < SCRIPT, or vealepoch run SEED < SCRIPT (see --help)";
+const USAGE: &str =
+    "usage: vealepoch check|replay < SCRIPT, run SEED|mount WORKERS < SCRIPT, or gen N (see --help)";
 
 const HELP: &str =
     "vealepoch reads a script that names bricks, volfiles and calls on a clustered volume
 whose bricks live in memory, and judges it or runs it.
 
-  vealepoch check      read a script from standard input and plan its volfiles, and
-                       write one line: ok bricks B volfiles V phases P calls C
-  vealepoch run SEED   run it in one thread, and write a report to standard output:
-                       each call's reply with its places in the history, the history
-                       of accepted changes, and the winds of each graph; SEED is a
-                       decimal number below 2^64, which no schedule depends on so far
-  vealepoch --help     this text
-  vealepoch --version  the version
-
-So far a run serves one brick and volfiles of one client, one session, and the calls
-mkdir and stat; it refuses the first statement that asks for more as Later.
+  vealepoch check          read a script from standard input and plan its volfiles, and
+                           write one line: ok bricks B volfiles V phases P calls C
+  vealepoch run SEED       run it in one thread, and write a report to standard output:
+                           each call's reply with its places in the history, the history
+                           of accepted changes, the healed copies and skips, and the winds
+                           of each graph; SEED is a decimal number below 2^64, by which
+                           the next event is chosen
+  vealepoch mount WORKERS  run it by a thread for each brick and 1 to 16 that take the
+                           hub's turns, and write the report
+  vealepoch gen N          run the script that a number below 2^32 generates, and write
+                           one line of what it did
+  vealepoch replay         read a script with its report behind it, and write whether the
+                           replies are those of one file system: lawful, or unlawful with
+                           the first entry or the least call that is not
+  vealepoch --help         this text
+  vealepoch --version      the version
 
 status 0  the script was read to its end and every line was answered, or accepted
-       1  the script is refused; one line `fault line L KIND` is written, and standard
+       1  the text is refused; one line `fault line L KIND` is written, and standard
           error has what the kind means
        2  the words are no command; nothing is read or written
        3  reading failed; nothing is written
        4  writing failed; a prefix of the text is written
        5  out of memory; nothing is written
+       6  replay judged the report unlawful, and says so in its line; or a run failed
+          an audit of its own log, and nothing is written
        7  a run needed more than 4294967295 winds; nothing is written
 
 example: vealepoch run 1 < examples/first.script
@@ -55,7 +65,7 @@ fn words<R: Env + AllocGlobal>(rt: &R) -> io::Result<Vec<String>> {
 }
 
 /// Carries out the command that the program's words name, and gives the status.
-pub fn start<R: Env + Input + Print + Eprint + AllocGlobal>(rt: &R) -> u8 {
+pub fn start<R: Env + Input + Print + Eprint + AllocGlobal + Threads + Wait + Sync>(rt: &R) -> u8 {
     match words(rt) {
         Ok(words) => choose(rt, words.as_slice()),
         Err(error) => {
@@ -70,7 +80,10 @@ pub fn start<R: Env + Input + Print + Eprint + AllocGlobal>(rt: &R) -> u8 {
 }
 
 // Looks at the first word only.
-fn choose<R: Input + Print + Eprint + AllocGlobal>(rt: &R, words: &[String]) -> u8 {
+fn choose<R: Input + Print + Eprint + AllocGlobal + Threads + Wait + Sync>(
+    rt: &R,
+    words: &[String],
+) -> u8 {
     match words.first() {
         None => explain(rt, 2, b""),
         Some(word) => {
@@ -79,10 +92,10 @@ fn choose<R: Input + Print + Eprint + AllocGlobal>(rt: &R, words: &[String]) -> 
                 print(rt, HELP)
             } else if word == b"--version".as_slice() {
                 print(rt, "vealepoch 0.1.0\n")
-            } else if word == b"check".as_slice() || word == b"run".as_slice() {
-                carry_out(rt, words)
+            } else if word == b"mount".as_slice() {
+                carry_out_mount(rt, words)
             } else {
-                explain(rt, 2, b"")
+                carry_out(rt, words)
             }
         }
     }
@@ -97,13 +110,28 @@ fn print<R: Print + Eprint>(rt: &R, text: &str) -> u8 {
 
 // Makes the top call over standard input and output, and explains its status.
 fn carry_out<R: Input + Print + Eprint + AllocGlobal>(rt: &R, words: &[String]) -> u8
-    ensures statuses { (result ≤ 5) ⊎ (result ≡ 7) }
-    ensures usage { (result ≡ 2) ↔ (command_of (map string_bytes words.now) ≡ None) }
+    ensures statuses { result ≤ 7 }
+    ensures usage { (result ≡ 2) ↔ ((without_threads (command_of (map string_bytes words.now))) ≡ None) }
 {
     let mut source = StdSource::new(rt.reader());
     let mut sink = HeadSink::new(StdSink::new(io::writer(rt)));
     let mut rack = Rack::new(rt.alloc());
     let status = top(rt.alloc(), words, &mut source, &mut sink, &mut rack);
+    explain(rt, status, sink.head())
+}
+
+// The same by threads.
+fn carry_out_mount<R: Input + Print + Eprint + AllocGlobal + Threads + Wait + Sync>(
+    rt: &R,
+    words: &[String],
+) -> u8
+    ensures statuses { result ≤ 7 }
+    ensures usage { (result ≡ 2) ↔ ((mount_command (command_of (map string_bytes words.now))) ≡ None) }
+{
+    let mut source = StdSource::new(rt.reader());
+    let mut sink = HeadSink::new(StdSink::new(io::writer(rt)));
+    let mut rack = Rack::new(rt.alloc());
+    let status = top_mount(rt, rt.alloc(), words, &mut source, &mut sink, &mut rack);
     explain(rt, status, sink.head())
 }
 
@@ -117,10 +145,21 @@ fn explain<R: Eprint>(rt: &R, status: u8, written: &[u8]) -> u8
         3 => rt.eprintln("vealepoch: reading standard input failed"),
         4 => rt.eprintln("vealepoch: writing standard output failed"),
         5 => rt.eprintln("vealepoch: out of memory"),
+        6 => explain_unlawful(rt, written),
         7 => rt.eprintln("vealepoch: the run needed more than 4294967295 winds"),
         _ => Ok(()),
     };
     status
+}
+
+// A replay has written its line; a run that failed an audit has written nothing.
+fn explain_unlawful<R: Eprint>(rt: &R, written: &[u8]) -> io::Result<()> {
+    if written.is_empty() {
+        return rt.eprintln(
+            "vealepoch: the log of the run failed an audit: please report the script",
+        );
+    }
+    Ok(())
 }
 
 // The last word of a fault line is the kind.

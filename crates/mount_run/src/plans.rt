@@ -1,6 +1,7 @@
 ghost use Rattle.std.specs.Prelude.{◌≡◌, ◌≤◌, [], Ok, Err, length, IfOk, IsErrOf};
 ghost use Rattle.std.specs.List.{All};
 ghost use Rattle.script_lang.specs.Accepted.{IsAccepted as KeepsLimits};
+ghost use Rattle.hub_calls.specs.Plans.{IsScript};
 ghost use Rattle.mount_run.specs.Limits.{IsSmall};
 ghost use Rattle.mount_run.specs.Plans.{after_action, after_controls, after_phases, switched, plans_of, volume_line as line_of_volume, with_plans, accepted};
 ghost use Rattle.mount_run.specs.declared.readings.NotRead.TheVariants as not_read;
@@ -9,7 +10,7 @@ ghost use Rattle.mount_run.specs.declared.refusals.Refusal.{Refusal};
 use crate::readings::NotRead;
 use crate::refusals::Refusal;
 use fop_types::Seq;
-use graph_build::{Plan, PlanError, build, follows};
+use graph_build::{Plan, PlanError, build, follows, plans_have_nodes, plans_have_sets};
 use script_lang::{
     Action, BrickLine, ControlLine, NamedVolfile, Phase, Script, ScriptError, ScriptKind, parse,
 };
@@ -130,9 +131,12 @@ fn plan(alloc: Global, script: Script) -> Result<Accepted, NotRead>
     requires { KeepsLimits script }
     ensures accepted { IfOk result (λ a. with_plans script (plans_of [] script.volfiles script.bricks) ≡ Ok a) }
     ensures same { IfOk result (λ a. a.script ≡ script) }
+    ensures script { IfOk result (λ a. IsScript a.script a.plans) }
     ensures refused { (refusal : Refusal) → IsErrOf result (not_read.Refused refusal) → with_plans script (plans_of [] script.volfiles script.bricks) ≡ Err refusal }
     ensures no_fault { IsErrOf result not_read.Fault → ⊥ }
 {
+    plans_have_sets();
+    plans_have_nodes();
     match plans(alloc, script.volfiles.as_slice(), script.bricks.as_slice()) {
         Ok(plans) => match follow_phases(plans.as_slice(), script.start, script.phases.as_slice()) {
             Ok(_) => Ok(Accepted { script, plans }),
@@ -152,7 +156,7 @@ fn plan(alloc: Global, script: Script) -> Result<Accepted, NotRead>
 /// then those of followings by line. `Mem` is out of memory.
 pub fn accept(alloc: Global, text: &[u8]) -> Result<Accepted, NotRead>
     requires { length text.now ≤ 2097152 }
-    ensures limits { IfOk result (λ a. KeepsLimits a.script) }
+    ensures script { IfOk result (λ a. IsScript a.script a.plans) }
     ensures accepted { IfOk result (λ a. accepted text.now ≡ Ok a) }
     ensures refused { (refusal : Refusal) → IsErrOf result (not_read.Refused refusal) → accepted text.now ≡ Err refusal }
     ensures no_fault { IsErrOf result not_read.Fault → ⊥ }

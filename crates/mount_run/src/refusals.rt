@@ -90,6 +90,16 @@ fn fault(alloc: Global, line: u32, name: &[u8]) -> Result<Vec<u8>, AllocError>
     Ok(text)
 }
 
+/// The line that is written where a text has no report, or a line that is in none.
+///
+/// # Errors
+/// Out of memory.
+pub fn report_fault(alloc: Global, line: u32, name: &[u8]) -> Result<Vec<u8>, AllocError>
+    ensures { IfOk result (λ text. text.items ≡ fault_of line name.now) }
+{
+    fault(alloc, line, name)
+}
+
 /// The line that is written for a refusal.
 ///
 /// # Errors

@@ -1,6 +1,6 @@
 //! The worked rows of the program as one table: words and a script, and the status and bytes that must come.
 use crate::tops::top;
-use hub_core::Rack;
+use hub_calls::Rack;
 use std::alloc::{AllocError, Global};
 use std::process::Abort;
 use std::test::Fail;

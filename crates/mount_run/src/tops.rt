@@ -1,36 +1,48 @@
-ghost use Rattle.std.specs.Prelude.{◌≡◌, ◌<◌, ◌≤◌, ◌-◌, ◌^◌, ◌↔◌, ◌⊎◌, Some, None, map};
+ghost use Rattle.std.specs.Prelude.{◌≡◌, ◌≢◌, ◌<◌, ◌≤◌, ◌-◌, ◌^◌, ◌↔◌, ◌⊎◌, Some, None, Err, map, IfOk, IsErrOf};
 ghost use Rattle.std.specs.String.{string_bytes};
 ghost use Rattle.std.specs.Io.KnownBytes.{Appends};
 ghost use Rattle.xl_base.specs.Writes.{WrotePrefix};
+ghost use Rattle.hub_calls.specs.Plans.{IsScript};
 ghost use Rattle.mount_run.specs.Checks.{calls_in, check_text};
-ghost use Rattle.script_lang.specs.Accepted.{IsAccepted as KeepsLimits};
-ghost use Rattle.mount_run.specs.Commands.{command_of};
-ghost use Rattle.mount_run.specs.Refusals.{fault_text};
-ghost use Rattle.mount_run.specs.Outcomes.{empty_rack, IsWritten, IsCutShort, Succeeded, RefusedBy, Unwritten, RanOutOfWinds};
-ghost use Rattle.mount_run.specs.Served.{calls_to_run};
-ghost use Rattle.world_core.specs.Worlds.{world_start, HasRun, IsOutOfWinds};
+ghost use Rattle.mount_run.specs.Commands.{command_of, command_for, without_threads, mount_command};
+ghost use Rattle.mount_run.specs.Headline.{IsLawfulRun};
+ghost use Rattle.mount_run.specs.Refusals.{fault_of, fault_text};
+ghost use Rattle.mount_run.specs.Outcomes.{empty_rack, IsWritten, IsCutShort, IsStopped, Succeeded, IsUnlawful, RefusedBy, RefusedLine, Unwritten, JudgedUnwritten, Judged, IsSaying, IsRefusal, IsSummedUp, IsSummedUpShort, HasRun, RanOutOfWinds, Generated, GeneratedUnwritten, WindsRanOut};
+ghost use Rattle.run_report.specs.Summaries.{summary_text};
+ghost use Rattle.mount_run.specs.declared.readings.NotRead.TheVariants as why;
+ghost use Rattle.mount_run.specs.declared.refusals.Refusal.{Refusal};
 
+use crate::audits::is_lawful;
 use crate::checks::check_line;
 use crate::commands::{Command, command_in};
-use crate::plans::Accepted;
+use crate::generator::generated;
+use crate::plans::{Accepted, accept};
 use crate::readings::{NotRead, read_script};
-use crate::refusals::{Refusal, fault_line};
-use crate::runs::run_script;
-use hub_core::Rack;
-use script_lang::Script;
+use crate::refusals::{Refusal, fault_line, report_fault};
+use crate::replaying::{Replayed, replay};
+use fop_types::Seq;
+use graph_build::Plan;
+use hub_calls::Rack;
+use hub_threads::{OpenGate, mount};
+use report_text::print;
+use run_report::{report_of, summary_line};
+use script_lang::{Script, ScriptKind};
 use std::alloc::Global;
-use xl_base::{Sink, Source, write_all};
+use std::sync::Wait;
+use std::thread::Threads;
+use world_bricks::World;
+use xl_base::{ReadError, Sink, Source, read_all, write_all};
 use xlator_law::Stop;
 
-/// Carries out a command on a script: `check` reads and plans it, and writes one line of what it has;
-/// `run SEED` runs it too, and writes its report.
+/// Carries out a command on a script: `check` reads and plans it, and writes one line of what it has; `run SEED` runs it
+/// too, and writes its report.
 ///
-/// The words are those after the program's name. The result is the status: 0 the command was carried out
-/// and its text was written; 1 the script is refused and its one fault line was written; 2 the words are
-/// no command, and nothing was read or written; 3 the source failed, and nothing was written; 4 the sink
-/// failed, and a prefix of the text was written; 5 out of memory, and nothing was written; 7 the run needed
-/// a further wind where 4,294,967,295 were opened, and nothing was written. The rack must be empty; after a
-/// run that came to its end it holds the brick and the log of the run, and else it is empty still.
+/// The words are those after the program's name. The result is the status: 0 the command was carried out and its text was
+/// written; 1 the script is refused and its one fault line was written; 2 the words are no command, and nothing was read or
+/// written; 3 the source failed, and nothing was written; 4 the sink failed, and a prefix of the text was written; 5 out of
+/// memory, and nothing was written; 6 the report is unlawful, and the line that says so was written; 7 the run needed a
+/// further wind where 4,294,967,295 were opened, and nothing was written. The rack must be empty; after a run, and where it
+/// needed a wind too many, it holds the bricks and the log of the run, and else it is empty still.
 pub fn top<S: Source, K: Sink>(
     alloc: Global,
     words: &[String],
@@ -42,28 +54,242 @@ pub fn top<S: Source, K: Sink>(
     requires sink { K.faults sink.old < 2 ^ 64 - 1 }
     requires rack { rack.old ≡ empty_rack }
 
-    ensures statuses { (result ≤ 5) ⊎ (result ≡ 7) }
-    ensures usage { (result ≡ 2) ↔ (command_of (map string_bytes words.now) ≡ None) }
+    ensures statuses { result ≤ 7 }
+    ensures usage { (result ≡ 2) ↔ ((without_threads (command_of (map string_bytes words.now))) ≡ None) }
     ensures untouched { result ≡ 2 → (source.new ≡ source.old) × (sink.new ≡ sink.old) × (rack.new ≡ rack.old) }
 
-    ensures succeeded { result ≡ 0 → Succeeded (command_of (map string_bytes words.now)) (S.left source.old) (K.taken sink.old) (K.taken sink.new) rack.new }
-    ensures refused { result ≡ 1 → RefusedBy (command_of (map string_bytes words.now)) (S.left source.old) (K.taken sink.old) (K.taken sink.new) rack.new }
+    ensures succeeded { result ≡ 0 → Succeeded (without_threads (command_of (map string_bytes words.now))) (S.left source.old) (K.taken sink.old) (K.taken sink.new) rack.new }
+    ensures refused { result ≡ 1 → RefusedBy (without_threads (command_of (map string_bytes words.now))) (S.left source.old) (K.taken sink.old) (K.taken sink.new) rack.new }
     ensures read_fault { result ≡ 3 → (S.faults source.old < S.faults source.new) × (sink.new ≡ sink.old) × (rack.new ≡ empty_rack) }
-    ensures write_fault { result ≡ 4 → (K.faults sink.old < K.faults sink.new) × Unwritten (command_of (map string_bytes words.now)) (S.left source.old) (K.taken sink.old) (K.taken sink.new) rack.new }
+    ensures write_fault { result ≡ 4 → (K.faults sink.old < K.faults sink.new) × Unwritten (without_threads (command_of (map string_bytes words.now))) (S.left source.old) (K.taken sink.old) (K.taken sink.new) rack.new }
     ensures memory { result ≡ 5 → (sink.new ≡ sink.old) × (rack.new ≡ empty_rack) }
-    ensures winds { result ≡ 7 → (sink.new ≡ sink.old) × RanOutOfWinds (command_of (map string_bytes words.now)) (S.left source.old) rack.new }
+    ensures unlawful { result ≡ 6 → IsUnlawful (without_threads (command_of (map string_bytes words.now))) (K.taken sink.old) (K.taken sink.new) rack.new }
+    ensures winds { result ≡ 7 → (sink.new ≡ sink.old) × RanOutOfWinds (without_threads (command_of (map string_bytes words.now))) (S.left source.old) rack.new }
 {
     match command_in(words) {
         None => 2,
-        Some(command) => carry_out(alloc, command, source, sink, rack),
+        Some(Command::Mount(_)) => 2,
+        Some(Command::Generate(number)) => generate(alloc, number, sink, rack),
+        Some(Command::Replay) => replay_read(alloc, source, sink),
+        Some(Command::Check) => carry_out(alloc, None, source, sink, rack),
+        Some(Command::Run(seed)) => carry_out(alloc, Some(seed), source, sink, rack),
     }
 }
 
-// Carries out a command.
-#[tactic(auto, using(crate::proofs::Limits::few_calls))]
+// The bytes of a text with its report, at most.
+const REPLAY_LIMIT: usize = 4294967295;
+
+// Reads a script with its report, and writes what comes of it.
+fn replay_read<S: Source, K: Sink>(alloc: Global, source: &mut S, sink: &mut K) -> u8
+    requires source { S.faults source.old < 2 ^ 64 - 1 }
+    requires sink { K.faults sink.old < 2 ^ 64 - 1 }
+    ensures statuses { (result ≡ 0) ⊎ ((result ≡ 1) ⊎ ((result ≡ 3) ⊎ ((result ≡ 4) ⊎ ((result ≡ 5) ⊎ (result ≡ 6))))) }
+    ensures judged { (result ≡ 0) ⊎ (result ≡ 6) → Judged result (K.taken sink.old) (K.taken sink.new) empty_rack }
+    ensures refused { result ≡ 1 → RefusedLine (K.taken sink.old) (K.taken sink.new) empty_rack }
+    ensures read_fault { result ≡ 3 → (S.faults source.old < S.faults source.new) × (sink.new ≡ sink.old) }
+    ensures write_fault { result ≡ 4 → (K.faults sink.old < K.faults sink.new) × JudgedUnwritten (K.taken sink.old) (K.taken sink.new) empty_rack }
+    ensures memory { result ≡ 5 → sink.new ≡ sink.old }
+{
+    match read_all(alloc, source, REPLAY_LIMIT) {
+        Ok(text) => write_replayed(alloc, replay(alloc, text.as_slice()), sink),
+        Err(ReadError::ReadFault) => 3,
+        Err(ReadError::TooLong) => refuse(
+            alloc,
+            Refusal::OfScript {
+                line: 0,
+                kind: ScriptKind::TooLong,
+            },
+            sink,
+        ),
+        Err(ReadError::Mem) => 5,
+    }
+}
+
+fn write_replayed<K: Sink>(alloc: Global, replayed: Replayed, sink: &mut K) -> u8
+    requires sink { K.faults sink.old < 2 ^ 64 - 1 }
+    requires said { IsSaying replayed }
+    ensures statuses { (result ≡ 0) ⊎ ((result ≡ 1) ⊎ ((result ≡ 3) ⊎ ((result ≡ 4) ⊎ ((result ≡ 5) ⊎ (result ≡ 6))))) }
+    ensures judged { (result ≡ 0) ⊎ (result ≡ 6) → Judged result (K.taken sink.old) (K.taken sink.new) empty_rack }
+    ensures refused { result ≡ 1 → RefusedLine (K.taken sink.old) (K.taken sink.new) empty_rack }
+    ensures no_fault { result ≡ 3 → ⊥ }
+    ensures write_fault { result ≡ 4 → (K.faults sink.old < K.faults sink.new) × JudgedUnwritten (K.taken sink.old) (K.taken sink.new) empty_rack }
+    ensures memory { result ≡ 5 → sink.new ≡ sink.old }
+{
+    match replayed {
+        Replayed::Says(line, status) => write(sink, line.as_slice(), status),
+        Replayed::NoReport(line) => write_fault(alloc, line, b"NoReport", sink),
+        Replayed::BadReport(line) => write_fault(alloc, line, b"BadReport", sink),
+        Replayed::NotRead(not_read) => refuse_all(alloc, not_read, sink),
+        Replayed::Mem => 5,
+    }
+}
+
+fn write_fault<K: Sink>(alloc: Global, line: u32, name: &[u8], sink: &mut K) -> u8
+    requires { K.faults sink.old < 2 ^ 64 - 1 }
+    ensures statuses { (result ≡ 1) ⊎ ((result ≡ 4) ⊎ (result ≡ 5)) }
+    ensures refused { result ≡ 1 → Appends (K.taken sink.old) (K.taken sink.new) (fault_of line name.now) }
+    ensures write_fault { result ≡ 4 → (K.faults sink.old < K.faults sink.new) × WrotePrefix (K.taken sink.old) (K.taken sink.new) (fault_of line name.now) }
+    ensures memory { result ≡ 5 → sink.new ≡ sink.old }
+{
+    match report_fault(alloc, line, name) {
+        Ok(text) => write(sink, text.as_slice(), 1),
+        Err(_) => 5,
+    }
+}
+
+/// Carries out `mount WORKERS` on a script: it is run by one thread for each brick and so many that take the hub's turns.
+/// The result is the status, as for [`top`].
+pub fn top_mount<R: Threads + Wait + Sync, S: Source, K: Sink>(
+    rt: &R,
+    alloc: Global,
+    words: &[String],
+    source: &mut S,
+    sink: &mut K,
+    rack: &mut Rack,
+) -> u8
+    requires source { S.faults source.old < 2 ^ 64 - 1 }
+    requires sink { K.faults sink.old < 2 ^ 64 - 1 }
+    requires rack { rack.old ≡ empty_rack }
+
+    ensures statuses { result ≤ 7 }
+    ensures usage { (result ≡ 2) ↔ ((mount_command (command_of (map string_bytes words.now))) ≡ None) }
+    ensures untouched { result ≡ 2 → (source.new ≡ source.old) × (sink.new ≡ sink.old) × (rack.new ≡ rack.old) }
+
+    ensures succeeded { result ≡ 0 → Succeeded (mount_command (command_of (map string_bytes words.now))) (S.left source.old) (K.taken sink.old) (K.taken sink.new) rack.new }
+    ensures refused { result ≡ 1 → RefusedBy (mount_command (command_of (map string_bytes words.now))) (S.left source.old) (K.taken sink.old) (K.taken sink.new) rack.new }
+    ensures read_fault { result ≡ 3 → (S.faults source.old < S.faults source.new) × (sink.new ≡ sink.old) × (rack.new ≡ empty_rack) }
+    ensures write_fault { result ≡ 4 → (K.faults sink.old < K.faults sink.new) × Unwritten (mount_command (command_of (map string_bytes words.now))) (S.left source.old) (K.taken sink.old) (K.taken sink.new) rack.new }
+    ensures memory { result ≡ 5 → (sink.new ≡ sink.old) × (rack.new ≡ empty_rack) }
+    ensures unlawful { result ≡ 6 → IsUnlawful (mount_command (command_of (map string_bytes words.now))) (K.taken sink.old) (K.taken sink.new) rack.new }
+    ensures winds { result ≡ 7 → (sink.new ≡ sink.old) × RanOutOfWinds (mount_command (command_of (map string_bytes words.now))) (S.left source.old) rack.new }
+{
+    let Some(Command::Mount(workers)) = command_in(words) else {
+        return 2;
+    };
+    match read_script(alloc, source) {
+        Ok(read) => mount_read(rt, alloc, read, workers, sink, rack),
+        Err(not_read) => refuse_all(alloc, not_read, sink),
+    }
+}
+
+fn mount_read<R: Threads + Wait + Sync, K: Sink>(
+    rt: &R,
+    alloc: Global,
+    read: Accepted,
+    workers: u8,
+    sink: &mut K,
+    rack: &mut Rack,
+) -> u8
+    requires sink { K.faults sink.old < 2 ^ 64 - 1 }
+    requires script { IsScript read.script read.plans }
+    ensures statuses { (result ≡ 0) ⊎ ((result ≡ 4) ⊎ ((result ≡ 5) ⊎ (result ≡ 7))) }
+    ensures ran { result ≡ 0 → IsWritten read.script read.plans (K.taken sink.old) (K.taken sink.new) rack.new }
+    ensures write_fault { result ≡ 4 → (K.faults sink.old < K.faults sink.new) × IsCutShort read.script read.plans (K.taken sink.old) (K.taken sink.new) rack.new }
+    ensures memory { result ≡ 5 → (sink.new ≡ sink.old) × (rack.new ≡ rack.old) }
+    ensures winds { result ≡ 7 → (sink.new ≡ sink.old) × IsStopped read.script rack.new }
+{
+    let Accepted { script, plans } = read;
+    match mount_script(rt, alloc, script, plans, workers, rack) {
+        Ok(report) => write(sink, report.as_slice(), 0),
+        Err(Stop::Mem) => 5,
+        Err(Stop::Winds) => 7,
+    }
+}
+
+// Runs a script by threads, leaves its bricks and its log in the rack, and gives the report's text.
+fn mount_script<R: Threads + Wait + Sync>(
+    rt: &R,
+    alloc: Global,
+    script: Script,
+    plans: Seq<Plan>,
+    workers: u8,
+    rack: &mut Rack,
+) -> Result<Vec<u8>, Stop>
+    requires { IsScript script plans }
+    ensures ran { IfOk result (λ report. IsLawfulRun script plans report.items rack.new) }
+    ensures winds { IsErrOf result Stop.Winds → IsStopped script rack.new }
+    ensures memory { IsErrOf result Stop.Mem → rack.new ≡ rack.old }
+{
+    let ran = mount(rt, alloc, script, plans, workers, &OpenGate, rack)?;
+    let report = report_of(alloc, &ran.script, ran.plans.as_slice(), &rack.log)?;
+    let text = print(alloc, &report)?;
+    Ok(text)
+}
+
+// Runs the script that a number generates, with the number as its seed.
+fn generate<K: Sink>(alloc: Global, number: u64, sink: &mut K, rack: &mut Rack) -> u8
+    requires sink { K.faults sink.old < 2 ^ 64 - 1 }
+    requires number { number < 4294967296 }
+    requires rack { rack.old ≡ empty_rack }
+    ensures statuses { (result ≡ 0) ⊎ ((result ≡ 4) ⊎ ((result ≡ 5) ⊎ (result ≡ 7))) }
+    ensures generated { result ≡ 0 → Generated number (K.taken sink.old) (K.taken sink.new) rack.new }
+    ensures write_fault { result ≡ 4 → (K.faults sink.old < K.faults sink.new) × GeneratedUnwritten number (K.taken sink.old) (K.taken sink.new) rack.new }
+    ensures memory { result ≡ 5 → (sink.new ≡ sink.old) × (rack.new ≡ empty_rack) }
+    ensures winds { result ≡ 7 → (sink.new ≡ sink.old) × WindsRanOut None rack.new }
+{
+    let Ok(text) = generated(alloc, number) else {
+        return 5;
+    };
+    match accept(alloc, text.as_slice()) {
+        Ok(read) => generate_read(alloc, read, number, sink, rack),
+        Err(not_read) => refuse_all(alloc, not_read, sink),
+    }
+}
+
+fn generate_read<K: Sink>(
+    alloc: Global,
+    read: Accepted,
+    number: u64,
+    sink: &mut K,
+    rack: &mut Rack,
+) -> u8
+    requires sink { K.faults sink.old < 2 ^ 64 - 1 }
+    requires script { IsScript read.script read.plans }
+    ensures statuses { (result ≡ 0) ⊎ ((result ≡ 4) ⊎ ((result ≡ 5) ⊎ (result ≡ 7))) }
+    ensures ran { result ≡ 0 → IsSummedUp read.script read.plans number (K.taken sink.old) (K.taken sink.new) rack.new }
+    ensures write_fault { result ≡ 4 → (K.faults sink.old < K.faults sink.new) × IsSummedUpShort read.script read.plans number (K.taken sink.old) (K.taken sink.new) rack.new }
+    ensures memory { result ≡ 5 → (sink.new ≡ sink.old) × (rack.new ≡ rack.old) }
+    ensures winds { result ≡ 7 → (sink.new ≡ sink.old) × IsStopped read.script rack.new }
+{
+    let Accepted { script, plans } = read;
+    match run_generated(alloc, script, plans, number, rack) {
+        Ok(Some(line)) => write(sink, line.as_slice(), 0),
+        Ok(None) => 6,
+        Err(Stop::Mem) => 5,
+        Err(Stop::Winds) => 7,
+    }
+}
+
+fn run_generated(
+    alloc: Global,
+    script: Script,
+    plans: Seq<Plan>,
+    number: u64,
+    rack: &mut Rack,
+) -> Result<Option<Vec<u8>>, Stop>
+    requires { IsScript script plans }
+    ensures ran { IfOk result (λ o. IfSome o (λ line. HasRun script plans rack.new)) }
+    ensures line { IfOk result (λ o. IfSome o (λ line. line.items ≡ summary_text number rack.new.log)) }
+    ensures winds { IsErrOf result Stop.Winds → IsStopped script rack.new }
+    ensures memory { IsErrOf result Stop.Mem → rack.new ≡ rack.old }
+{
+    let mut world = World::new(alloc, script, plans)?;
+    let ran = world.run(alloc, number);
+    let (script, _, left) = world.into_parts();
+    if let Err(stop) = ran {
+        return stopped(left, stop, rack);
+    }
+    if !is_lawful(alloc, &script, &left)? {
+        return Ok(None);
+    }
+    let line = summary_line(alloc, number, &left.log)?;
+    *rack = left;
+    Ok(Some(line))
+}
+
 fn carry_out<S: Source, K: Sink>(
     alloc: Global,
-    command: Command,
+    seed: Option<u64>,
     source: &mut S,
     sink: &mut K,
     rack: &mut Rack,
@@ -73,22 +299,49 @@ fn carry_out<S: Source, K: Sink>(
     requires rack { rack.old ≡ empty_rack }
 
     ensures statuses { (result ≤ 5) ⊎ (result ≡ 7) }
-    ensures command { result ≡ 2 → ⊥ }
-    ensures succeeded { result ≡ 0 → Succeeded (Some command) (S.left source.old) (K.taken sink.old) (K.taken sink.new) rack.new }
-    ensures refused { result ≡ 1 → RefusedBy (Some command) (S.left source.old) (K.taken sink.old) (K.taken sink.new) rack.new }
+    ensures no_usage { result ≡ 2 → ⊥ }
+    ensures succeeded { result ≡ 0 → Succeeded (Some (command_for seed)) (S.left source.old) (K.taken sink.old) (K.taken sink.new) rack.new }
+    ensures refused { result ≡ 1 → RefusedBy (Some (command_for seed)) (S.left source.old) (K.taken sink.old) (K.taken sink.new) rack.new }
     ensures read_fault { result ≡ 3 → (S.faults source.old < S.faults source.new) × (sink.new ≡ sink.old) × (rack.new ≡ empty_rack) }
-    ensures write_fault { result ≡ 4 → (K.faults sink.old < K.faults sink.new) × Unwritten (Some command) (S.left source.old) (K.taken sink.old) (K.taken sink.new) rack.new }
+    ensures write_fault { result ≡ 4 → (K.faults sink.old < K.faults sink.new) × Unwritten (Some (command_for seed)) (S.left source.old) (K.taken sink.old) (K.taken sink.new) rack.new }
     ensures memory { result ≡ 5 → (sink.new ≡ sink.old) × (rack.new ≡ empty_rack) }
-    ensures winds { result ≡ 7 → (sink.new ≡ sink.old) × RanOutOfWinds (Some command) (S.left source.old) rack.new }
+    ensures winds { result ≡ 7 → (sink.new ≡ sink.old) × RanOutOfWinds (Some (command_for seed)) (S.left source.old) rack.new }
 {
-    match read_script(alloc, command, source) {
-        Ok(read) => match command {
-            Command::Check => check_read(alloc, &read.script, sink),
-            Command::Run(_) => run_read(alloc, &read.script, sink, rack),
+    match read_script(alloc, source) {
+        Ok(read) => match seed {
+            None => check_read(alloc, &read.script, sink),
+            Some(seed) => run_read(alloc, read, seed, sink, rack),
         },
-        Err(NotRead::Refused(refusal)) => refuse(alloc, refusal, sink),
-        Err(NotRead::Fault) => 3,
-        Err(NotRead::Mem) => 5,
+        Err(not_read) => refuse_all(alloc, not_read, sink),
+    }
+}
+
+// Where no script was read: its refusal is written, or the status says why.
+fn refuse_all<K: Sink>(alloc: Global, not_read: NotRead, sink: &mut K) -> u8
+    requires { K.faults sink.old < 2 ^ 64 - 1 }
+    ensures statuses { (result ≡ 1) ⊎ ((result ≡ 3) ⊎ ((result ≡ 4) ⊎ (result ≡ 5))) }
+    ensures refused { result ≡ 1 → IsRefusal not_read (Appends (K.taken sink.old) (K.taken sink.new)) }
+    ensures read_fault { result ≡ 3 → (not_read ≡ why.Fault) × (sink.new ≡ sink.old) }
+    ensures write_fault { result ≡ 4 → (K.faults sink.old < K.faults sink.new) × IsRefusal not_read (WrotePrefix (K.taken sink.old) (K.taken sink.new)) }
+    ensures memory { result ≡ 5 → sink.new ≡ sink.old }
+{
+    match not_read {
+        NotRead::Refused(refusal) => refuse(alloc, refusal, sink),
+        NotRead::Fault => 3,
+        NotRead::Mem => 5,
+    }
+}
+
+fn write<K: Sink>(sink: &mut K, text: &[u8], status: u8) -> u8
+    requires sink { K.faults sink.old < 2 ^ 64 - 1 }
+    requires other { status ≢ 4 }
+    ensures statuses { (result ≡ status) ⊎ (result ≡ 4) }
+    ensures wrote { result ≡ status → Appends (K.taken sink.old) (K.taken sink.new) text.now }
+    ensures write_fault { result ≡ 4 → (K.faults sink.old < K.faults sink.new) × WrotePrefix (K.taken sink.old) (K.taken sink.new) text.now }
+{
+    match write_all(sink, text) {
+        Ok(()) => status,
+        Err(_) => 4,
     }
 }
 
@@ -101,10 +354,7 @@ fn refuse<K: Sink>(alloc: Global, refusal: Refusal, sink: &mut K) -> u8
     ensures memory { result ≡ 5 → sink.new ≡ sink.old }
 {
     match fault_line(alloc, refusal) {
-        Ok(text) => match write_all(sink, text.as_slice()) {
-            Ok(()) => 1,
-            Err(_) => 4,
-        },
+        Ok(text) => write(sink, text.as_slice(), 1),
         Err(_) => 5,
     }
 }
@@ -119,30 +369,67 @@ fn check_read<K: Sink>(alloc: Global, script: &Script, sink: &mut K) -> u8
     ensures memory { result ≡ 5 → sink.new ≡ sink.old }
 {
     match check_line(alloc, script) {
-        Ok(text) => match write_all(sink, text.as_slice()) {
-            Ok(()) => 0,
-            Err(_) => 4,
-        },
+        Ok(text) => write(sink, text.as_slice(), 0),
         Err(_) => 5,
     }
 }
 
 // Runs a script and writes its report.
-fn run_read<K: Sink>(alloc: Global, script: &Script, sink: &mut K, rack: &mut Rack) -> u8
+fn run_read<K: Sink>(alloc: Global, read: Accepted, seed: u64, sink: &mut K, rack: &mut Rack) -> u8
     requires sink { K.faults sink.old < 2 ^ 64 - 1 }
-    requires limits { KeepsLimits script.now }
+    requires script { IsScript read.script read.plans }
     ensures statuses { (result ≡ 0) ⊎ ((result ≡ 4) ⊎ ((result ≡ 5) ⊎ (result ≡ 7))) }
-    ensures ran { result ≡ 0 → IsWritten script.now (K.taken sink.old) (K.taken sink.new) rack.new }
-    ensures write_fault { result ≡ 4 → (K.faults sink.old < K.faults sink.new) × IsCutShort script.now (K.taken sink.old) (K.taken sink.new) rack.new }
+    ensures ran { result ≡ 0 → IsWritten read.script read.plans (K.taken sink.old) (K.taken sink.new) rack.new }
+    ensures write_fault { result ≡ 4 → (K.faults sink.old < K.faults sink.new) × IsCutShort read.script read.plans (K.taken sink.old) (K.taken sink.new) rack.new }
     ensures memory { result ≡ 5 → (sink.new ≡ sink.old) × (rack.new ≡ rack.old) }
-    ensures winds { result ≡ 7 → (sink.new ≡ sink.old) × (rack.new ≡ rack.old) × HasRun (world_start (calls_to_run script.now)) IsOutOfWinds }
+    ensures winds { result ≡ 7 → (sink.new ≡ sink.old) × IsStopped read.script rack.new }
 {
-    match run_script(alloc, script, rack) {
-        Ok(report) => match write_all(sink, report.as_slice()) {
-            Ok(()) => 0,
-            Err(_) => 4,
-        },
+    let Accepted { script, plans } = read;
+    match run_script(alloc, script, plans, seed, rack) {
+        Ok(Some(report)) => write(sink, report.as_slice(), 0),
+        Ok(None) => 6,
         Err(Stop::Mem) => 5,
         Err(Stop::Winds) => 7,
     }
+}
+
+// A run that stopped. Where it needed a wind too many, its bricks and its log are left in the rack.
+fn stopped(left: Rack, stop: Stop, rack: &mut Rack) -> Result<Option<Vec<u8>>, Stop>
+    ensures err { result ≡ Err stop }
+    ensures winds { stop ≡ Stop.Winds → rack.new ≡ left }
+    ensures memory { stop ≡ Stop.Mem → rack.new ≡ rack.old }
+{
+    if stop == Stop::Winds {
+        *rack = left;
+    }
+    Err(stop)
+}
+
+// Runs a script by a seed's schedule, leaves its bricks and its log in the rack, and gives the report's text; `None` where
+// the log is not as a run promises.
+fn run_script(
+    alloc: Global,
+    script: Script,
+    plans: Seq<Plan>,
+    seed: u64,
+    rack: &mut Rack,
+) -> Result<Option<Vec<u8>>, Stop>
+    requires { IsScript script plans }
+    ensures ran { IfOk result (λ o. IfSome o (λ report. IsLawfulRun script plans report.items rack.new)) }
+    ensures winds { IsErrOf result Stop.Winds → IsStopped script rack.new }
+    ensures memory { IsErrOf result Stop.Mem → rack.new ≡ rack.old }
+{
+    let mut world = World::new(alloc, script, plans)?;
+    let ran = world.run(alloc, seed);
+    let (script, plans, left) = world.into_parts();
+    if let Err(stop) = ran {
+        return stopped(left, stop, rack);
+    }
+    if !is_lawful(alloc, &script, &left)? {
+        return Ok(None);
+    }
+    let report = report_of(alloc, &script, plans.as_slice(), &left.log)?;
+    let text = print(alloc, &report)?;
+    *rack = left;
+    Ok(Some(text))
 }

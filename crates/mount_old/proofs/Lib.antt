@@ -1,0 +1,4 @@
+pub mod Counted
+pub mod Limits
+pub mod Running
+pub mod Serving

@@ -1,0 +1,10 @@
+pub mod Checks
+pub mod Commands
+pub mod Headline
+pub mod Heads
+pub mod Limits
+pub mod Outcomes
+pub mod Plans
+pub mod Refusals
+pub mod Reports
+pub mod Served
