@@ -1,4 +1,0 @@
-pub mod Names
-pub mod Pushes
-pub mod Stored
-pub mod Wrong

@@ -1,5 +1,0 @@
-use Rattle.brick_store.proofs.Copies.{ops_law}
-use Rattle.brick_store.proofs.laws.ops_change_copies.Goals as goal
-
-pub returns : goal.returns
-returns c = ops_law

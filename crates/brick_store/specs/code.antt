@@ -1,3 +1,0 @@
--- The functions of the code, one for one.
-pub mod Adding
-pub mod Steps

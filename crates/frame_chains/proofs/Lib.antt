@@ -1,4 +1,0 @@
-pub mod Touches
-pub mod Turns
-pub mod Moves
-pub mod Views

@@ -1,9 +1,0 @@
-pub mod Fops
-pub mod Serving
-pub mod Jobs
-pub mod Nodes
-pub mod Costs
-pub mod Steps
-pub mod Turns
-pub mod Stages
-pub mod Bounds

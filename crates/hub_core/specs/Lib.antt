@@ -1,9 +1,0 @@
-pub mod Bounds
-pub mod Follows
-pub mod Journal
-pub mod Kept
-pub mod Laws
-pub mod Steps
-pub mod Tasks
-pub mod Ties
-pub mod Turns

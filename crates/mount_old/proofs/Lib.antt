@@ -1,4 +1,0 @@
-pub mod Counted
-pub mod Limits
-pub mod Running
-pub mod Serving
