@@ -27,13 +27,15 @@ fn are_name_bytes(name: &[u8]) -> bool
 fn is_component(name: &[u8]) -> bool
     ensures { result ≡ is_component_word name.now }
 {
-    1 <= name.len() && are_name_bytes(name) && !(name == b"." || name == b"..")
+    1 <= name.len()
+        && are_name_bytes(name)
+        && !(name == b".".as_slice() || name == b"..".as_slice())
 }
 
 fn is_user_attr_name(name: &[u8]) -> bool
     ensures { result ≡ true → IsUserAttrName name.now }
 {
-    6 <= name.len() && name.len() <= 64 && &name[..5] == b"user."
+    6 <= name.len() && name.len() <= 64 && &name[..5] == b"user.".as_slice()
 }
 
 fn is_user_attr(attr: &Attr) -> bool
