@@ -8,7 +8,7 @@ use Rattle.graph_nodes.specs.Plans.{IsPlan}
 use Rattle.hub_calls.specs.Plans.{IsPlanOver, IsScript}
 
 each_plan : (bricks : ℕ) (plans : List Plan) → AllByRecursion (IsPlanOver bricks) plans → AllByRecursion IsPlan plans
-each_plan bricks [] all = unit
+each_plan bricks [] all = tt
 each_plan bricks (p ∷ ps) all = (record { bricks = bricks; nodes = all.0.nodes; sets = all.0.sets }, each_plan bricks ps all.1)
 
 pub are_plans : (script : Script) (plans : List Plan) → IsScript script plans → AllByRecursion IsPlan plans

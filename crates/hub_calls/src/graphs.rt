@@ -51,7 +51,7 @@ impl Graphs {
         let made = LiveGraph {
             volfile,
             bricks: bricks_of(plan),
-            sets: plan.sets.len() as u8,
+            sets: plan.sets.len().min(255) as u8,
         };
         self.put(number, made)?;
         self.newest = number;

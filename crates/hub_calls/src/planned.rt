@@ -1,7 +1,7 @@
 //! The script that a hub runs, with the plans of its volfiles.
 ghost use Rattle.std.specs.Prelude.{◌≡◌, IfSome};
 ghost use Rattle.graph_nodes.specs.Plans.{IsPlan};
-ghost use Rattle.hub_calls.specs.Plans.{IsScript, PlannedScript};
+ghost use Rattle.hub_calls.specs.Plans.{IsScript};
 
 use crate::script_lines::creations;
 use fop_types::Seq;
@@ -19,6 +19,8 @@ pub struct Planned {
 
 impl Model for Planned {
     ghost use Rattle.std.specs.List.{AllByRecursion};
+    ghost use Rattle.graph_nodes.specs.Plans.{IsPlan};
+    ghost use Rattle.hub_calls.specs.Plans.{PlannedScript};
 
     ghost Value = { PlannedScript };
 
@@ -66,14 +68,14 @@ impl Planned {
     /// How many sets the first graph has.
     pub(crate) fn root_sets(&self) -> u8 {
         match self.plan(self.script.start) {
-            Some(plan) => plan.sets.len() as u8,
+            Some(plan) => plan.sets.len().min(255) as u8,
             None => 0,
         }
     }
 
     /// How many bricks there are, of which at most 255 can be named.
     pub(crate) fn bricks(&self) -> u8 {
-        self.script.bricks.len() as u8
+        self.script.bricks.len().min(255) as u8
     }
 
     pub(crate) fn has_brick(&self, brick: u8) -> bool {

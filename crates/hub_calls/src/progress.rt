@@ -64,7 +64,7 @@ impl Progress {
     // The sessions whose next line is one of the current phase.
     fn with_line(&self) -> SmallSet {
         let mut sessions = SmallSet::new();
-        for session in 0..self.lines.len() as u8 {
+        for session in 0..self.lines.len().min(64) as u8 {
             if !self.has_line(session) {
                 continue;
             }
@@ -76,7 +76,7 @@ impl Progress {
     /// Begins the current phase, which has these calls. No call is unanswered.
     pub(crate) fn begin(&mut self, phase: &Phase) {
         let ready = self.with_line();
-        self.unanswered = phase.calls.len() as u32;
+        self.unanswered = phase.calls.len().min(4294967295) as u32;
         self.ready = ready;
     }
 
