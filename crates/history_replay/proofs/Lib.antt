@@ -5,6 +5,7 @@ pub mod Below
 pub mod Files
 pub mod Folded
 pub mod Indexing
+pub mod Lining
 pub mod Outcomes
 pub mod Parts
 pub mod Paths

@@ -1,5 +1,6 @@
 -- Steps that run one after another are borne out by their operations.
 use Rattle.std.proofs.Common.{◌≡◌, ◌≢◌, ◌∷◌, ◌++◌, refl, sym, ap, subst, ◌∙◌, ℕ, ◌+◌, ◌<◌, ◌≤◌, ◌==◌, suc, zero, ◌⊎◌, inl, inr, List, [], length, take, get_or, arith, take_at, take_all}
+use Rattle.std.proofs.lemmas.Option.{slice_get-get_or}
 use Rattle.std.specs.Prelude.{Option, Some, None, slice_get, slice_set}
 use Rattle.std.proofs.lemmas.Bool.{cases_eq}
 use Rattle.fop_types.specs.Files.{Files, first_files}
@@ -9,7 +10,7 @@ use Rattle.fop_types.specs.declared.answers.Answer.{Answer}
 use Rattle.fop_types.specs.declared.flat.FlatAnswer.TheVariants as flat_answers
 use Rattle.fop_types.specs.declared.flat.FlatOp.{FlatOp}
 use Rattle.history_replay.specs.code.Claims.{IsReplied, IsRepliedIf, IsHeld, AreHeld, IsEntered}
-use Rattle.history_replay.specs.code.Runs.{IsHeldOn, AreHeldOn, IsDone, Runs, RunsBy, ops_of, with_op, IsChangeHeld, IsStepHeld, AreBorne, PutsClaim, PutsChange, Puts, Bears}
+use Rattle.history_replay.specs.code.Runs.{IsHeldOn, AreHeldOn, IsDone, Runs, RunsBy, ops_of, with_op, IsChangeHeld, IsStepHeld, AreBorne, with_claim, with_change, PutsClaim, PutsChange, Puts, Bears}
 use Rattle.history_replay.specs.declared.claims.Claim.{Claim}
 use Rattle.history_replay.specs.declared.claims.Claim.TheVariants as claim
 use Rattle.history_replay.specs.declared.steps.Change.{Change}
@@ -37,14 +38,7 @@ pub held_last : (files : Files) (at : ℕ) (replies : List Reply) (xs : List Cla
 held_last files at replies [] y h = (tt, h.0)
 held_last files at replies (x ∷ xs) y h = let rest = held_last files at replies xs y h.1 in ((h.0, rest.0), rest.1)
 
--- the step with a claim more
-abbrev pub with_claim : Step → Claim → Step
-with_claim step c = record step { claims = step.claims ++ c ∷ [] }
-
-abbrev pub with_change : Step → Change → Step
-with_change step change = record step { change = Some change }
-
-pub puts_claim : (steps : List Step) (place : ℕ) (step : Step) (c : Claim) → slice_get steps place ≡ Some step → place < length steps
+puts_claim : (steps : List Step) (place : ℕ) (step : Step) (c : Claim) → slice_get steps place ≡ Some step → place < length steps
     → PutsClaim steps (slice_set steps place (with_claim step c)) place c
 puts_claim steps place step c there within ops replies borne = (old, (held_last (fs_after ops place) place replies step.claims c here.claims).1) where
   here : IsStepHeld ops replies place (with_claim step c)
@@ -62,7 +56,7 @@ puts_claim steps place step c there within ops replies borne = (old, (held_last 
     by_place (inl same) = subst (λ (n : ℕ). IsStepHeld ops replies n other) same (at_place other (ap (slice_get steps) same ∙ o))
     by_place (inr differs) = borne at other (get_set_other steps place at (with_claim step c) differs ∙ o)
 
-pub puts_change : (steps : List Step) (index : ℕ) (step : Step) (change : Change) → slice_get steps index ≡ Some step → index < length steps
+puts_change : (steps : List Step) (index : ℕ) (step : Step) (change : Change) → slice_get steps index ≡ Some step → index < length steps
     → step.change ≡ None → PutsChange steps (slice_set steps index (with_change step change)) index change
 puts_change steps index step change there within free ops replies borne = (old, here.change) where
   here : IsStepHeld ops replies index (with_change step change)
@@ -78,6 +72,21 @@ puts_change steps index step change there within free ops replies borne = (old, 
     by_index : (index ≡ at) ⊎ (index ≡ at → ⊥) → IsStepHeld ops replies at other
     by_index (inl same) = subst (λ (n : ℕ). IsStepHeld ops replies n other) same (at_index other (ap (slice_get steps) same ∙ o))
     by_index (inr differs) = borne at other (get_set_other steps index at (with_change step change) differs ∙ o)
+
+-- the element that is read by an index
+get_read : {X : Type 0} (xs : List X) (i : ℕ) (x : X) → i < length xs → x ≡ get_or xs i x → slice_get xs i ≡ Some x
+get_read xs i x within read = slice_get-get_or xs i x within ∙ ap Some (sym read)
+
+pub added_at : (steps : List Step) (place : ℕ) (before after : Step) (c : Claim) → place < length steps → before ≡ get_or steps place before
+    → after ≡ with_claim before c → PutsClaim steps (slice_set steps place after) place c
+added_at steps place before after c within read is =
+    subst (λ (s : Step). PutsClaim steps (slice_set steps place s) place c) (sym is) (puts_claim steps place before c (get_read steps place before within read) within)
+
+pub taken_at : (steps : List Step) (index : ℕ) (before after : Step) (change : Change) → index < length steps → before ≡ get_or steps index before
+    → (before.change ≡ None) × (after ≡ with_change before change) → PutsChange steps (slice_set steps index after) index change
+taken_at steps index before after change within read is =
+    subst (λ (s : Step). PutsChange steps (slice_set steps index s) index change) (sym is.1)
+    (puts_change steps index before change (get_read steps index before within read) within is.0)
 
 -- a claim that holds on the files at a place holds there
 pub held_there : (ops : List FlatOp) (replies : List Reply) (at : ℕ) (c : Claim) → IsHeldOn (fs_after ops at) at replies c → IsHeld ops replies c
@@ -232,16 +241,25 @@ steps_assoc : (xs : List Step) (y : Step) (zs : List Step) → (xs ++ y ∷ []) 
 steps_assoc [] y zs = refl
 steps_assoc (x ∷ xs) y zs = ap (λ (l : List Step). x ∷ l) (steps_assoc xs y zs)
 
-pub run_next : (files : Files) (at : ℕ) (replies : List Reply) (passed : List Step) (step : Step) (change : Change) → step.change ≡ Some change
-    → AreHeldOn files at replies step.claims → IsDone files replies change
-    → ((rest : List Step) → Runs files at replies rest → Runs first_files 0 replies (passed ++ rest))
-    → (rest : List Step) → Runs (flat_after files change.op) (at + 1) replies rest → Runs first_files 0 replies ((passed ++ step ∷ []) ++ rest)
-run_next files at replies passed step change is held done so_far rest runs =
-    subst (Runs first_files 0 replies) (sym (steps_assoc passed step rest))
-    (so_far (step ∷ rest) (held, subst (λ (o : Option Change). RunsBy o files replies rest (λ after. Runs after (at + 1) replies rest)) (sym is) (done, runs)))
+pub passes_last : (files : Files) (at : ℕ) (replies : List Reply) (step : Step) → AreHeldOn files at replies step.claims → step.change ≡ None
+    → Runs files at replies (step ∷ [])
+passes_last files at replies step held is =
+    (held, subst (λ (o : Option Change). RunsBy o files replies [] (λ after. Runs after (at + 1) replies [])) (sym is) refl)
 
-pub run_ends : (files : Files) (at : ℕ) (replies : List Reply) (passed : List Step) (step : Step) → step.change ≡ None
-    → AreHeldOn files at replies step.claims → ((rest : List Step) → Runs files at replies rest → Runs first_files 0 replies (passed ++ rest))
-    → Runs first_files 0 replies (passed ++ step ∷ [])
-run_ends files at replies passed step is held so_far =
-    so_far (step ∷ []) (held, subst (λ (o : Option Change). RunsBy o files replies [] (λ after. Runs after (at + 1) replies [])) (sym is) refl)
+pub passes_on : (before mid after : Files) (at : ℕ) (replies : List Reply) (step : Step) (change : Change) → AreHeldOn before at replies step.claims
+    → step.change ≡ Some change → mid ≡ before → IsDone mid replies change → after ≡ flat_after mid change.op
+    → (rest : List Step) → Runs after (at + 1) replies rest → Runs before at replies (step ∷ rest)
+passes_on before mid after at replies step change held is same done made rest runs =
+    let done_here : IsDone before replies change = subst (λ (f : Files). IsDone f replies change) same done in
+    let after_is : after ≡ flat_after before change.op = made ∙ ap (λ (f : Files). flat_after f change.op) same in
+    let on : Runs (flat_after before change.op) (at + 1) replies rest = subst (λ (f : Files). Runs f (at + 1) replies rest) after_is runs in
+    (held, subst (λ (o : Option Change). RunsBy o before replies rest (λ next. Runs next (at + 1) replies rest)) (sym is) (done_here, on))
+
+-- steps that lead to others
+abbrev pub LeadsOn : Files → ℕ → List Reply → List Step → Type 0
+LeadsOn files at replies passed = (rest : List Step) → Runs files at replies rest → Runs first_files 0 replies (passed ++ rest)
+
+pub leads_on : (files after : Files) (at : ℕ) (replies : List Reply) (passed : List Step) (step : Step) → LeadsOn files at replies passed
+    → ((rest : List Step) → Runs after (at + 1) replies rest → Runs files at replies (step ∷ rest)) → LeadsOn after (at + 1) replies (passed ++ step ∷ [])
+leads_on files after at replies passed step so_far on rest runs =
+    subst (Runs first_files 0 replies) (sym (steps_assoc passed step rest)) (so_far (step ∷ rest) (on rest runs))

@@ -113,6 +113,11 @@ AreAnswersShown [] (a ∷ answers) = ⊥
 AreAnswersShown (c ∷ calls) [] = ⊥
 AreAnswersShown (c ∷ calls) (a ∷ answers) = IsAnswerShown c a × AreAnswersShown calls answers
 
+-- the reply that a call shows, but of those that say nothing
+abbrev pub IsReplyShown : ReportCall → Option Reply → Type 0
+IsReplyShown c None = is_silent c ≡ true
+IsReplyShown c (Some r) = (is_silent c ≡ false) × ShowsReply c r
+
 abbrev pub AreShown : List ReportCall → List Reply → Type 0
 AreShown [] [] = Unit {0}
 AreShown [] (r ∷ replies) = ⊥
@@ -138,18 +143,18 @@ since_from reached (session ∷ sessions) (ps ∷ places) =
 abbrev pub entry_shown : ℕ × ℕ → Entry
 entry_shown pair = record { call = pair.0; part = pair.1 }
 
--- the trace that a report shows, its calls being those of these lines
-pub record IsTraceOf (lines : List CallLine) (report : Report) (t : Trace) : Type 0 where
-  pub calls : t.calls ≡ map submission_of lines
-  pub replies : AreShown (with_answers report.calls) t.replies
-  pub history : t.history ≡ map entry_shown report.history
-  pub since : t.since ≡ since_from (replicate 256 0) (map (λ l. l.session) lines) (map (λ c. c.places) report.calls)
-  pub until : t.until ≡ replicate (length lines) (length report.history)
+-- the trace that the calls and the history of a report show, the calls being those of these lines
+pub record IsTraceOf (lines : List CallLine) (calls : List ReportCall) (history : List (ℕ × ℕ)) (t : Trace) : Type 0 where
+  pub calls_are : t.calls ≡ map submission_of lines
+  pub replies : AreShown (with_answers calls) t.replies
+  pub history_is : t.history ≡ map entry_shown history
+  pub since : t.since ≡ since_from (replicate 256 0) (map (λ l. l.session) lines) (map (λ c. c.places) calls)
+  pub until : t.until ≡ replicate (length lines) (length history)
 
 -- one legal history, and lawful replies
-pub record IsLawfulFor (lines : List CallLine) (report : Report) : Type 0 where
+pub record IsLawfulFor (lines : List CallLine) (calls : List ReportCall) (history : List (ℕ × ℕ)) : Type 0 where
   pub trace : Trace
-  pub shows : IsTraceOf lines report trace
+  pub shows : IsTraceOf lines calls history trace
   pub lawful : IsLawfulTrace trace
 
 pub record IsLawfulReport (script : Script) (report : Report) : Type 0 where
@@ -157,4 +162,4 @@ pub record IsLawfulReport (script : Script) (report : Report) : Type 0 where
   pub lines : List CallLine
   pub each : AreCallsOf script 1 lines report.calls
   pub in_phases : AreInPhases lines script.phases
-  pub answers : IsLawfulFor lines report
+  pub answers : IsLawfulFor lines report.calls report.history

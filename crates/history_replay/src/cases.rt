@@ -473,7 +473,7 @@ fn claim_sent(
     ensures { IfOk result (λ did. Adds did claims.old claims.new (once_by None case.now fds.now)) }
 {
     let ends = claim_walk(alloc, case.call, case.places, case.found, claims)?;
-    claim_found(alloc, case, ends, fds, claims)
+    Ok(claim_found(alloc, case, ends, fds, claims)?)
 }
 
 /// Makes the claims of a call by which its entries are legal and its reply is lawful. It is false where they are not,
@@ -491,7 +491,7 @@ pub(crate) fn claim_case(
     ensures { IfOk result (λ did. Adds did claims.old claims.new (case_claims case.now fds.now)) }
 {
     match at_once(fds, case.call) {
-        Some(answer) => claim_once(case, answer, claims),
-        None => claim_sent(alloc, case, fds, claims),
+        Some(answer) => Ok(claim_once(case, answer, claims)?),
+        None => Ok(claim_sent(alloc, case, fds, claims)?),
     }
 }

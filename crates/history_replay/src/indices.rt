@@ -5,7 +5,7 @@ ghost use Rattle.history_replay.specs.code.Runs.{index_by, IsReplyFound, IsEntry
 
 use crate::findings::Findings;
 use crate::progress::{index_at, reply_index};
-use crate::trace::{Submitted, Trace};
+use crate::trace::{Replied, Submitted, Trace};
 use fop_types::{Call, Entry, Seq};
 use std::alloc::{AllocError, Global};
 
@@ -49,10 +49,10 @@ fn is_entry_found(trace: &Trace, f: &Findings, index: usize, entry: Entry) -> bo
 }
 
 // Whether the reply of an index is found by its call.
-fn is_reply_found(trace: &Trace, f: &Findings, index: usize, call: u32) -> bool
-    ensures { result ≡ true → IsReplyFound trace.now f.now index call }
+fn is_reply_found(trace: &Trace, f: &Findings, index: usize, reply: &Replied) -> bool
+    ensures { result ≡ true → IsReplyFound trace.now f.now index reply.now.call }
 {
-    let Some(at) = call.checked_sub(1) else {
+    let Some(at) = reply.call.checked_sub(1) else {
         return false;
     };
     let at = at as usize;
@@ -100,8 +100,7 @@ fn are_replies(trace: &Trace, f: &Findings) -> bool
     ensures { result ≡ true → AreRepliesFound trace.now f.now }
 {
     for index in 0..trace.replies.len() {
-        let reply = &trace.replies[index];
-        if !is_reply_found(trace, f, index, reply.call) {
+        if !is_reply_found(trace, f, index, &trace.replies[index]) {
             return false;
         }
     }

@@ -1,6 +1,6 @@
 //! The verdict on a report.
-ghost use Rattle.std.specs.Prelude.{◌≡◌, true, None, length, map, replicate, IfOk, IfSome};
-ghost use Rattle.history_replay.specs.Reports.{AreShown, with_answers, last_or as last_or_of, since_from, entry_shown, AreAnswersShown, IsLawfulFor, IsLawfulReport};
+ghost use Rattle.std.specs.Prelude.{◌≡◌, true, None, length, map, replicate, get_or, slice_set, IfOk, IfSome};
+ghost use Rattle.history_replay.specs.Reports.{AreShown, with_answers, last_or as last_or_of, since_from, entry_shown, IsAnswerShown, AreAnswersShown, IsReplyShown, IsLawfulFor, IsLawfulReport};
 ghost use Rattle.history_replay.specs.Traces.{IsLawfulTrace};
 ghost use Rattle.history_replay.specs.declared.judging.Verdict.TheVariants as verdict;
 
@@ -11,7 +11,7 @@ use crate::lines::{Named, are_the_lines, assign, submissions};
 use crate::shown::{answer_shown, is_silent, shows_list};
 use crate::trace::{Replied, Submitted, Trace};
 use fop_types::{Answer, Call, Entry, Path, Seq};
-use report_text::Report;
+use report_text::{Report, ReportCall};
 use script_lang::{CallLine, Script};
 use std::alloc::{AllocError, Global};
 
@@ -24,77 +24,106 @@ pub enum Verdict {
     Call(u32),
 }
 
-// The answers that a report shows, `None` of a call that says nothing of the file system.
+// The answer that a call shows, `None` where it says nothing of the file system.
+fn answer_of(alloc: Global, call: &ReportCall) -> Result<Option<Answer>, AllocError>
+    ensures { IfOk result (λ a. IsAnswerShown call.now a) }
+{
+    if is_silent(call) {
+        return Ok(None);
+    }
+    Ok(Some(answer_shown(alloc, &call.answer)?))
+}
+
 #[tactic(auto, using(crate::proofs::Showing::answers_next))]
-fn answers_shown(alloc: Global, report: &Report) -> Result<Vec<Option<Answer>>, AllocError>
-    ensures { IfOk result (λ v. AreAnswersShown report.now.calls v.items) }
+fn answers_shown(alloc: Global, calls: &[ReportCall]) -> Result<Vec<Option<Answer>>, AllocError>
+    ensures { IfOk result (λ v. AreAnswersShown calls.now v.items) }
 {
     let mut answers = Vec::new(alloc);
-    for call in report.calls.as_slice() {
-        if is_silent(call) {
-            answers.push(None)?;
-        } else {
-            answers.push(Some(answer_shown(alloc, &call.answer)?))?;
-        }
+    for call in calls {
+        answers.push(answer_of(alloc, call)?)?;
     }
     Ok(answers)
 }
 
+// The reply with an answer.
+fn reply_of<'a>(call: &'a ReportCall, answer: &'a Option<Answer>) -> Option<Replied<'a>>
+    requires { IsAnswerShown call.now answer.now }
+    ensures { IsReplyShown call.now result }
+{
+    match answer {
+        None => None,
+        Some(answer) => Some(Replied {
+            call: call.call,
+            places: call.places.as_slice(),
+            answer,
+        }),
+    }
+}
+
 // The replies with these answers.
+#[tactic(auto, using(crate::proofs::Showing::shown_at, crate::proofs::Showing::replies_next, crate::proofs::Showing::replies_same))]
 fn replies_shown<'a>(
     alloc: Global,
-    report: &'a Report,
-    answers: &'a [Option<Answer>],
+    calls: &'a [ReportCall],
+    answers: &'a Vec<Option<Answer>>,
 ) -> Result<Vec<Replied<'a>>, AllocError>
-    requires { AreAnswersShown report.now.calls answers.now }
-    ensures { IfOk result (λ v. AreShown (with_answers report.now.calls) v.items) }
+    requires { AreAnswersShown calls.now answers.now.items }
+    ensures { IfOk result (λ v. AreShown (with_answers calls.now) v.items) }
 {
     let mut replies = Vec::new(alloc);
-    let calls = report.calls.as_slice();
     for at in 0..calls.len() {
-        let call = &calls[at];
-        if let Some(Some(answer)) = answers.get(at) {
-            replies.push(Replied {
-                call: call.call,
-                places: call.places.as_slice(),
-                answer,
-            })?;
+        match reply_of(&calls[at], &answers[at]) {
+            None => {}
+            Some(reply) => replies.push(reply)?,
         }
     }
     Ok(replies)
 }
 
 // Puts a list that was found in the place of the answer of a call that shows it.
-fn fill(report: &Report, answers: &mut Vec<Option<Answer>>, at: usize, list: Answer)
-    requires { AreAnswersShown report.now.calls answers.old.items }
-    ensures { AreAnswersShown report.now.calls answers.new.items }
+fn put_list(call: &ReportCall, answer: &mut Option<Answer>, list: Option<Answer>)
+    requires { IsAnswerShown call.now answer.old }
+    ensures { IsAnswerShown call.now answer.new }
 {
-    let calls = report.calls.as_slice();
-    if at < calls.len() && at < answers.len() {
-        if answers[at].is_some() && shows_list(&calls[at].answer, &list) {
-            answers[at] = Some(list);
+    let Some(list) = list else {
+        return;
+    };
+    match &*answer {
+        None => {}
+        Some(_) => {
+            if shows_list(&call.answer, &list) {
+                *answer = Some(list);
+            }
         }
     }
 }
 
-fn fill_lists(report: &Report, answers: &mut Vec<Option<Answer>>, lists: Vec<Option<Answer>>)
-    requires { AreAnswersShown report.now.calls answers.old.items }
-    ensures { AreAnswersShown report.now.calls answers.new.items }
+#[tactic(auto, using(crate::proofs::Showing::shown_at, crate::proofs::Showing::shown_set))]
+fn fill(calls: &[ReportCall], answers: &mut Vec<Option<Answer>>, at: usize, list: Option<Answer>)
+    requires { AreAnswersShown calls.now answers.old.items }
+    ensures { AreAnswersShown calls.now answers.new.items }
+{
+    if at < calls.len() && at < answers.len() {
+        put_list(&calls[at], &mut answers[at], list);
+    }
+}
+
+fn fill_lists(calls: &[ReportCall], answers: &mut Vec<Option<Answer>>, lists: Vec<Option<Answer>>)
+    requires { AreAnswersShown calls.now answers.old.items }
+    ensures { AreAnswersShown calls.now answers.new.items }
 {
     let mut at: usize = 0;
     for list in lists {
-        if let Some(list) = list {
-            fill(report, answers, at, list);
-        }
+        fill(calls, answers, at, list);
         at = at.saturating_add(1);
     }
 }
 
-fn history_of(alloc: Global, report: &Report) -> Result<Vec<Entry>, AllocError>
-    ensures { IfOk result (λ v. v.items ≡ map entry_shown report.now.history) }
+fn history_of(alloc: Global, entries: &[(u32, u8)]) -> Result<Vec<Entry>, AllocError>
+    ensures { IfOk result (λ v. v.items ≡ map entry_shown entries.now) }
 {
     let mut history = Vec::new(alloc);
-    for entry in report.history.as_slice() {
+    for entry in entries {
         history.push(Entry {
             call: entry.0,
             part: entry.1,
@@ -113,23 +142,40 @@ fn last_or(before: u32, places: &[u32]) -> u32
     last
 }
 
-// The last place of each session so far, before each call.
-fn since_of(alloc: Global, lines: &[Named], report: &Report) -> Result<Vec<u32>, AllocError>
-    requires { length lines.now ≡ length report.now.calls }
-    ensures { IfOk result (λ v. v.items ≡ since_from (replicate 256 0) (map (λ l. l.session) lines.now) (map (λ c. c.places) report.now.calls)) }
+fn no_places(alloc: Global) -> Result<Vec<u32>, AllocError>
+    ensures { IfOk result (λ v. v.items ≡ replicate 256 0) }
 {
-    let mut reached = Vec::new(alloc);
+    let mut reached = Vec::with_capacity(alloc, 256)?;
     for _ in 0..256usize {
         reached.push(0)?;
     }
+    Ok(reached)
+}
+
+// The last place that a session has reached, before its call with these places.
+fn reach(reached: &mut Vec<u32>, session: u8, places: &[u32]) -> u32
+    requires { length reached.old.items ≡ 256 }
+    ensures before { result ≡ get_or reached.old.items session 0 }
+    ensures after { reached.new.items ≡ slice_set reached.old.items session (last_or_of (get_or reached.old.items session 0) places.now) }
+{
+    let session = session as usize;
+    let before = reached[session];
+    reached[session] = last_or(before, places);
+    before
+}
+
+// The last place of each session so far, before each call.
+#[tactic(auto, using(crate::proofs::Showing::since_next, crate::proofs::Showing::since_all))]
+fn since_of(alloc: Global, lines: &[Named], calls: &[ReportCall]) -> Result<Vec<u32>, AllocError>
+    requires { length lines.now ≡ length calls.now }
+    ensures { IfOk result (λ v. v.items ≡ since_from (replicate 256 0) (map (λ l. l.session) lines.now) (map (λ c. c.places) calls.now)) }
+{
+    let mut reached = no_places(alloc)?;
     let mut since = Vec::new(alloc);
-    let calls = report.calls.as_slice();
     for at in 0..lines.len() {
         let named = &lines[at];
-        let session = named.line.session as usize;
-        let before = reached[session];
-        since.push(before)?;
-        reached[session] = last_or(before, calls[at].places.as_slice());
+        let session = named.line.session;
+        since.push(reach(&mut reached, session, calls[at].places.as_slice()))?;
     }
     Ok(since)
 }
@@ -154,21 +200,22 @@ fn first_unlawful(
     trace: &Trace,
     f: &Findings,
     count: usize,
-) -> Result<usize, AllocError> {
+) -> Result<u32, AllocError> {
     let mut low = 0;
     let mut high = count;
     for _ in 0..64 {
-        if high - low <= 1 {
-            return Ok(high);
+        let between = high.saturating_sub(low);
+        if between <= 1 {
+            return Ok(number(high));
         }
-        let middle = low + (high - low) / 2;
+        let middle = low.saturating_add(between / 2);
         if is_borne(alloc, trace, f, middle)? {
             low = middle;
         } else {
             high = middle;
         }
     }
-    Ok(high)
+    Ok(number(high))
 }
 
 fn number(at: usize) -> u32 {
@@ -176,6 +223,20 @@ fn number(at: usize) -> u32 {
         Ok(number) => number,
         Err(_) => u32::MAX,
     }
+}
+
+// The first call that is not answered lawfully, at most the one of this number, which is not.
+fn first_before(
+    alloc: Global,
+    trace: &Trace,
+    f: &Findings,
+    fails: usize,
+) -> Result<u32, AllocError> {
+    let count = fails.saturating_sub(1);
+    if is_borne(alloc, trace, f, count)? {
+        return Ok(number(fails));
+    }
+    Ok(first_unlawful(alloc, trace, f, count)?)
 }
 
 fn verdict_of(
@@ -186,41 +247,41 @@ fn verdict_of(
 ) -> Result<Verdict, AllocError>
     ensures { IfOk result (λ v. v ≡ verdict.Lawful → (fails ≡ None) × IsLawfulTrace trace.now) }
 {
-    let count = match fails {
-        Some(number) => number.saturating_sub(1),
-        None => trace.calls.len(),
-    };
-    if !is_borne(alloc, trace, f, count)? {
-        let first = first_unlawful(alloc, trace, f, count)?;
-        return Ok(Verdict::Call(number(first)));
-    }
     match fails {
-        Some(at) => Ok(Verdict::Call(number(at))),
-        None => Ok(Verdict::Lawful),
+        Some(number) => Ok(Verdict::Call(first_before(alloc, trace, f, number)?)),
+        None => {
+            let count = trace.calls.len();
+            if !is_borne(alloc, trace, f, count)? {
+                return Ok(Verdict::Call(first_unlawful(alloc, trace, f, count)?));
+            }
+            Ok(Verdict::Lawful)
+        }
     }
 }
 
-// The trace that a report shows, with what is found in it.
+// The verdict on the trace that calls and entries show, with what is found in it.
+#[tactic(auto, using(crate::proofs::Showing::lawful_for))]
 fn judge_lines(
     alloc: Global,
-    report: &Report,
+    shown: &[ReportCall],
+    entries: &[(u32, u8)],
     lines: &[Named],
     fails: Option<usize>,
 ) -> Result<Verdict, AllocError>
-    requires { length lines.now ≡ length report.now.calls }
-    ensures { IfOk result (λ v. v ≡ verdict.Lawful → (fails ≡ None) × IsLawfulFor lines.now report.now) }
+    requires { length lines.now ≡ length shown.now }
+    ensures { IfOk result (λ v. v ≡ verdict.Lawful → (fails ≡ None) × IsLawfulFor lines.now shown.now entries.now) }
 {
     let calls = submissions(alloc, lines)?;
-    let history = history_of(alloc, report)?;
-    let since = since_of(alloc, lines, report)?;
-    let Some(until) = until_of(alloc, lines.len(), history.len())? else {
+    let history = history_of(alloc, entries)?;
+    let since = since_of(alloc, lines, shown)?;
+    let Some(until) = until_of(alloc, lines.len(), entries.len())? else {
         return Ok(Verdict::Entry(u32::MAX));
     };
-    let mut answers = answers_shown(alloc, report)?;
+    let mut answers = answers_shown(alloc, shown)?;
     let walked = match walk(
         alloc,
-        report,
-        answers.as_slice(),
+        shown,
+        &answers,
         calls.as_slice(),
         history.as_slice(),
         since.as_slice(),
@@ -228,8 +289,8 @@ fn judge_lines(
         Ok(walked) => walked,
         Err(entry) => return Ok(Verdict::Entry(entry)),
     };
-    fill_lists(report, &mut answers, walked.lists);
-    let replies = replies_shown(alloc, report, answers.as_slice())?;
+    fill_lists(shown, &mut answers, walked.lists);
+    let replies = replies_shown(alloc, shown, &answers)?;
     let trace = Trace {
         calls: calls.as_slice(),
         replies: replies.as_slice(),
@@ -237,20 +298,20 @@ fn judge_lines(
         since: since.as_slice(),
         until: until.as_slice(),
     };
-    verdict_of(alloc, &trace, &walked.findings, fails)
+    Ok(verdict_of(alloc, &trace, &walked.findings, fails)?)
 }
 
 fn walk(
     alloc: Global,
-    report: &Report,
-    answers: &[Option<Answer>],
+    shown: &[ReportCall],
+    answers: &Vec<Option<Answer>>,
     calls: &[Submitted],
     history: &[Entry],
     since: &[u32],
 ) -> Result<Result<Walked, u32>, AllocError>
-    requires { AreAnswersShown report.now.calls answers.now }
+    requires { AreAnswersShown shown.now answers.now.items }
 {
-    let replies = replies_shown(alloc, report, answers)?;
+    let replies = replies_shown(alloc, shown, answers)?;
     let trace = Trace {
         calls,
         replies: replies.as_slice(),
@@ -281,6 +342,7 @@ fn first_failing(fails: Option<usize>, are_lines: bool, count: usize) -> Option<
 ///
 /// # Errors
 /// Out of memory.
+#[tactic(auto, using(crate::proofs::Showing::lawful_report))]
 pub fn judge(alloc: Global, script: &Script, report: &Report) -> Result<Verdict, AllocError>
     ensures lawful { IfOk result (λ v. v ≡ verdict.Lawful → IsLawfulReport script.now report.now) }
 {
@@ -293,12 +355,13 @@ pub fn judge(alloc: Global, script: &Script, report: &Report) -> Result<Verdict,
             },
         },
     };
-    let assigned = assign(alloc, script, report, &idle)?;
+    let calls = report.calls.as_slice();
+    let assigned = assign(alloc, script, calls, &idle)?;
     let lines = assigned.lines.as_slice();
-    if lines.len() != report.calls.len() {
+    if lines.len() != calls.len() {
         return Ok(Verdict::Call(0));
     }
-    let are_lines = are_the_lines(alloc, script, report, lines)?;
+    let are_lines = are_the_lines(alloc, script, calls, lines)?;
     let fails = first_failing(assigned.fails, are_lines, lines.len());
-    judge_lines(alloc, report, lines, fails)
+    Ok(judge_lines(alloc, calls, report.history.as_slice(), lines, fails)?)
 }

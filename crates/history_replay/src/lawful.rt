@@ -25,7 +25,7 @@ pub(crate) fn is_borne(
     }
     match claims_of(alloc, trace, f, count)? {
         None => Ok(false),
-        Some(claims) => hold(alloc, trace.replies, trace.history.len(), claims),
+        Some(claims) => Ok(hold(alloc, trace.replies, trace.history.len(), claims)?),
     }
 }
 

@@ -1,10 +1,11 @@
 //! The lines of the script that a report's calls are.
-ghost use Rattle.std.specs.Prelude.{◌≡◌, true, map, IfOk};
+ghost use Rattle.std.specs.Prelude.{◌≡◌, true, length, take, drop, map, IfOk};
 ghost use Rattle.history_replay.specs.Reports.{IsCallOf, AreCallsOf, AreInPhases, AreTheseLines, line_numbers, submission_of};
 
+use crate::lookups::behind;
 use crate::same::same_bytes;
 use crate::trace::Submitted;
-use report_text::{Report, ReportCall};
+use report_text::ReportCall;
 use script_lang::{CallLine, Phase, Script};
 use std::alloc::{AllocError, Global};
 use std::collections::BTreeMap;
@@ -119,7 +120,7 @@ pub(crate) struct Assigned<'a> {
 pub(crate) fn assign<'a>(
     alloc: Global,
     script: &'a Script,
-    report: &Report,
+    calls: &[ReportCall],
     idle: &'a CallLine,
 ) -> Result<Assigned<'a>, AllocError> {
     let lines = Lines::new(alloc, script)?;
@@ -128,7 +129,6 @@ pub(crate) fn assign<'a>(
         lines: Vec::new(alloc),
         fails: None,
     };
-    let calls = report.calls.as_slice();
     for at in 0..calls.len() {
         let place = lines.place(calls[at].line);
         let line = match place {
@@ -170,6 +170,7 @@ fn is_call_of(script: &Script, number: usize, line: &CallLine, call: &ReportCall
     }
 }
 
+#[tactic(auto, using(crate::proofs::Lining::calls_next, crate::proofs::Lining::calls_all))]
 fn are_calls_of(script: &Script, lines: &[Named], calls: &[ReportCall]) -> bool
     ensures { result ≡ true → AreCallsOf script.now 1 lines.now calls.now }
 {
@@ -185,6 +186,7 @@ fn are_calls_of(script: &Script, lines: &[Named], calls: &[ReportCall]) -> bool
     true
 }
 
+#[tactic(auto, using(crate::proofs::Lining::numbers_kept, crate::proofs::Lining::numbers_skipped))]
 fn numbers_named(alloc: Global, lines: &[Named], session: u8) -> Result<Vec<u32>, AllocError>
     ensures { IfOk result (λ v. v.items ≡ line_numbers session lines.now) }
 {
@@ -197,6 +199,7 @@ fn numbers_named(alloc: Global, lines: &[Named], session: u8) -> Result<Vec<u32>
     Ok(numbers)
 }
 
+#[tactic(auto, using(crate::proofs::Lining::numbers_kept, crate::proofs::Lining::numbers_skipped))]
 fn numbers_of(alloc: Global, lines: &[CallLine], session: u8) -> Result<Vec<u32>, AllocError>
     ensures { IfOk result (λ v. v.items ≡ line_numbers session lines.now) }
 {
@@ -229,41 +232,65 @@ fn are_lines(alloc: Global, lines: &[Named], phase: &[CallLine]) -> Result<bool,
     Ok(true)
 }
 
+// The first lines, so many of them.
+fn first_lines<'b, 'a>(lines: &'b [Named<'a>], count: usize) -> &'b [Named<'a>]
+    ensures { result.now ≡ take count lines.now }
+{
+    if count <= lines.len() {
+        &lines[..count]
+    } else {
+        lines
+    }
+}
+
+// The lines behind those of a phase.
+fn behind_phase<'b, 'a>(lines: &'b [Named<'a>], phase: &Phase) -> &'b [Named<'a>]
+    ensures { result.now ≡ drop (length phase.now.calls) lines.now }
+{
+    behind(lines, phase.calls.len())
+}
+
+// Whether the first lines are those of a phase.
+#[tactic(auto, using(crate::proofs::Lining::begins))]
+fn begin_with(alloc: Global, lines: &[Named], phase: &Phase) -> Result<bool, AllocError>
+    ensures { IfOk result (λ same. same ≡ true → AreTheseLines (take (length phase.now.calls) lines.now) phase.now.calls) }
+{
+    let first = first_lines(lines, phase.calls.len());
+    Ok(are_lines(alloc, first, phase.calls.as_slice())?)
+}
+
 // Whether lines are those of the phases, one phase after another.
+#[tactic(auto, using(crate::proofs::Lining::phases_next, crate::proofs::Lining::phases_all))]
 fn are_in_phases(alloc: Global, lines: &[Named], phases: &[Phase]) -> Result<bool, AllocError>
     ensures { IfOk result (λ same. same ≡ true → AreInPhases lines.now phases.now) }
 {
-    let mut from = 0;
+    let mut rest = lines;
     for phase in phases {
-        let count = phase.calls.len();
-        if lines.len() - from < count {
+        if !begin_with(alloc, rest, phase)? {
             return Ok(false);
         }
-        if !are_lines(alloc, &lines[from..from + count], phase.calls.as_slice())? {
-            return Ok(false);
-        }
-        from += count;
+        rest = behind_phase(rest, phase);
     }
-    Ok(from == lines.len())
+    Ok(rest.is_empty())
 }
 
-/// Whether these are the lines of a report's calls.
+/// Whether these are the lines of calls.
 ///
 /// # Errors
 /// Out of memory.
 pub(crate) fn are_the_lines(
     alloc: Global,
     script: &Script,
-    report: &Report,
+    calls: &[ReportCall],
     lines: &[Named],
 ) -> Result<bool, AllocError>
-    ensures calls { IfOk result (λ same. same ≡ true → AreCallsOf script.now 1 lines.now report.now.calls) }
+    ensures calls { IfOk result (λ same. same ≡ true → AreCallsOf script.now 1 lines.now calls.now) }
     ensures phases { IfOk result (λ same. same ≡ true → AreInPhases lines.now script.now.phases) }
 {
-    if !are_calls_of(script, lines, report.calls.as_slice()) {
+    if !are_calls_of(script, lines, calls) {
         return Ok(false);
     }
-    are_in_phases(alloc, lines, script.phases.as_slice())
+    Ok(are_in_phases(alloc, lines, script.phases.as_slice())?)
 }
 
 /// The calls of lines.

@@ -1,9 +1,9 @@
 //! The run of the flat file system that bears claims out.
-ghost use Rattle.std.specs.Prelude.{◌≡◌, ◌+◌, true, length, IfOk, OnOk};
+ghost use Rattle.std.specs.Prelude.{◌≡◌, ◌+◌, true, None, length, IfOk, OnOk};
 ghost use Rattle.fop_types.specs.Files.{first_files};
 ghost use Rattle.fop_types.specs.Flat.{flat, flat_answer, flat_after, IsChange};
 ghost use Rattle.history_replay.specs.code.Claims.{is_granted as is_granted_of, IsFound, IsReplied};
-ghost use Rattle.history_replay.specs.code.Runs.{IsHeldOn, AreHeldOn, IsDone, Runs, PutsClaim, PutsChange, Puts, Bears};
+ghost use Rattle.history_replay.specs.code.Runs.{IsHeldOn, AreHeldOn, IsDone, Runs, Passes, with_claim, with_change, PutsClaim, PutsChange, Puts, Bears};
 
 use crate::claims::Claim;
 use crate::places::{is_change, is_ok};
@@ -25,6 +25,37 @@ pub(crate) struct Change {
 pub(crate) struct Step {
     pub claims: Seq<Claim>,
     pub change: Option<Change>,
+}
+
+/// How a step passes: a claim does not hold, or its change is none; it has no change, and no step may follow; or its change is
+/// made.
+#[derive(Drop)]
+pub(crate) enum Pass {
+    Fails,
+    Ends,
+    GoesOn,
+}
+
+impl Step {
+    fn add(&mut self, claim: Claim) -> Result<(), AllocError>
+        ensures { OnOk result (self.new ≡ with_claim self.old claim) }
+    {
+        self.claims.push(claim)?;
+        Ok(())
+    }
+
+    // Takes a change, if it has none yet.
+    fn take(&mut self, change: Change) -> bool
+        ensures { result ≡ true → (self.old.change ≡ None) × (self.new ≡ with_change self.old change) }
+    {
+        match &self.change {
+            Some(_) => false,
+            None => {
+                self.change = Some(change);
+                true
+            }
+        }
+    }
 }
 
 // So many places without claims, and one more.
@@ -75,7 +106,7 @@ fn is_found(answer: &FlatAnswer, found: Gfid) -> bool
 
 // ---- putting claims at their places
 
-#[tactic(auto, using(crate::proofs::Running::puts_claim))]
+#[tactic(auto, using(crate::proofs::Running::added_at))]
 fn put_claim(steps: &mut Vec<Step>, place: u32, claim: Claim) -> Result<bool, AllocError>
     ensures puts { IfOk result (λ did. did ≡ true → PutsClaim steps.old.items steps.new.items place claim) }
     ensures count { IfOk result (λ did. length steps.new.items ≡ length steps.old.items) }
@@ -84,51 +115,54 @@ fn put_claim(steps: &mut Vec<Step>, place: u32, claim: Claim) -> Result<bool, Al
     if index >= steps.len() {
         return Ok(false);
     }
-    steps[index].claims.push(claim)?;
+    steps[index].add(claim)?;
     Ok(true)
 }
 
-#[tactic(auto, using(crate::proofs::Running::puts_change))]
+#[tactic(auto, using(crate::proofs::Running::taken_at))]
 fn put_change(steps: &mut Vec<Step>, index: u32, change: Change) -> bool
     ensures puts { result ≡ true → PutsChange steps.old.items steps.new.items index change }
     ensures count { length steps.new.items ≡ length steps.old.items }
 {
     let index = index as usize;
-    if index >= steps.len() || steps[index].change.is_some() {
+    if index >= steps.len() {
         return false;
     }
-    steps[index].change = Some(change);
-    true
+    steps[index].take(change)
+}
+
+// The place of a claim about the files at a place.
+fn place_of(claim: &Claim) -> Option<u32> {
+    match claim {
+        Claim::Finds { place, .. } => Some(*place),
+        Claim::Answers { place, .. } => Some(*place),
+        Claim::Accepts { place, .. } => Some(*place),
+        _ => None,
+    }
+}
+
+// Puts a claim of a reply or of an entry.
+#[tactic(auto, using(crate::proofs::Running::puts_entry, crate::proofs::Running::puts_said))]
+fn put_other(replies: &[Replied], steps: &mut Vec<Step>, claim: Claim) -> bool
+    ensures puts { result ≡ true → Puts replies.now steps.old.items steps.new.items claim }
+    ensures count { length steps.new.items ≡ length steps.old.items }
+{
+    match claim {
+        Claim::Says { reply, answer } => is_answer(replies, reply, &answer),
+        Claim::Enters { index, op, reply } => put_change(steps, index, Change { op, reply }),
+        _ => false,
+    }
 }
 
 // Puts a claim at its place.
-#[tactic(auto, using(crate::proofs::Running::puts_there, crate::proofs::Running::puts_entry, crate::proofs::Running::puts_said))]
+#[tactic(auto, using(crate::proofs::Running::puts_there))]
 fn put(replies: &[Replied], steps: &mut Vec<Step>, claim: Claim) -> Result<bool, AllocError>
     ensures puts { IfOk result (λ did. did ≡ true → Puts replies.now steps.old.items steps.new.items claim) }
     ensures count { IfOk result (λ did. length steps.new.items ≡ length steps.old.items) }
 {
-    match claim {
-        Claim::Finds {
-            place,
-            parent,
-            name,
-            found,
-        } => put_claim(
-            steps,
-            place,
-            Claim::Finds {
-                place,
-                parent,
-                name,
-                found,
-            },
-        ),
-        Claim::Answers { place, op, reply } => {
-            put_claim(steps, place, Claim::Answers { place, op, reply })
-        }
-        Claim::Accepts { place, op } => put_claim(steps, place, Claim::Accepts { place, op }),
-        Claim::Says { reply, answer } => Ok(is_answer(replies, reply, &answer)),
-        Claim::Enters { index, op, reply } => Ok(put_change(steps, index, Change { op, reply })),
+    match place_of(&claim) {
+        Some(place) => Ok(put_claim(steps, place, claim)?),
+        None => Ok(put_other(replies, steps, claim)),
     }
 }
 
@@ -275,30 +309,52 @@ fn make(
     }
 }
 
+// Whether a step holds at its place, and its change is made.
+#[tactic(auto, using(crate::proofs::Running::passes_last, crate::proofs::Running::passes_on))]
+fn take_step(
+    alloc: Global,
+    files: &mut FlatFs,
+    at: usize,
+    replies: &[Replied],
+    step: Step,
+) -> Result<Pass, AllocError>
+    ensures { IfOk result (λ pass. Passes pass files.old files.new at replies.now step) }
+{
+    if !all_hold(alloc, files, at, replies, step.claims)? {
+        return Ok(Pass::Fails);
+    }
+    match step.change {
+        None => Ok(Pass::Ends),
+        Some(change) => {
+            if !make(alloc, files, replies, change)? {
+                return Ok(Pass::Fails);
+            }
+            Ok(Pass::GoesOn)
+        }
+    }
+}
+
 // Whether the steps hold one after another, from the first files on.
-#[tactic(auto, using(crate::proofs::Running::run_next, crate::proofs::Running::run_ends))]
 fn run(alloc: Global, replies: &[Replied], steps: Vec<Step>) -> Result<bool, AllocError>
     ensures { IfOk result (λ did. did ≡ true → Runs first_files 0 replies.now steps.items) }
 {
     let mut files = FlatFs::new(alloc)?;
-    let mut at = 0;
+    let mut at: usize = 0;
     let mut ended = false;
     for step in steps {
-        if ended || !all_hold(alloc, &mut files, at, replies, step.claims)? {
+        if ended {
             return Ok(false);
         }
-        match step.change {
-            None => ended = true,
-            Some(change) => {
-                if !make(alloc, &mut files, replies, change)? {
-                    return Ok(false);
-                }
+        match take_step(alloc, &mut files, at, replies, step)? {
+            Pass::Fails => return Ok(false),
+            Pass::Ends => ended = true,
+            Pass::GoesOn => {
+                let Some(next) = at.checked_add(1) else {
+                    return Err(AllocError);
+                };
+                at = next;
             }
         }
-        let Some(next) = at.checked_add(1) else {
-            return Err(AllocError);
-        };
-        at = next;
     }
     Ok(ended)
 }
@@ -322,5 +378,5 @@ pub(crate) fn hold(
             return Ok(false);
         }
     }
-    run(alloc, replies, steps)
+    Ok(run(alloc, replies, steps)?)
 }

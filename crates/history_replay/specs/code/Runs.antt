@@ -18,6 +18,8 @@ use Rattle.history_replay.specs.declared.claims.Claim.TheVariants as claim
 use Rattle.history_replay.specs.declared.findings.Findings.{Findings}
 use Rattle.history_replay.specs.declared.progress.Progress.{Progress as Kept}
 use Rattle.history_replay.specs.declared.steps.Change.{Change}
+use Rattle.history_replay.specs.declared.steps.Pass.{Pass}
+use Rattle.history_replay.specs.declared.steps.Pass.TheVariants as passed
 use Rattle.history_replay.specs.declared.steps.Step.{Step}
 
 -- ---- the case of a call
@@ -209,6 +211,12 @@ Runs files at replies [] = ⊥
 Runs files at replies (step ∷ steps) =
     AreHeldOn files at replies step.claims × RunsBy step.change files replies steps (λ after. Runs after (at + 1) replies steps)
 
+-- how a step passes: without a change it is the last one; with one the others follow on the files after it
+abbrev pub Passes : Pass → Files → Files → ℕ → List Reply → Step → Type 0
+Passes passed.Fails before after at replies step = Unit {0}
+Passes passed.Ends before after at replies step = Runs before at replies (step ∷ [])
+Passes passed.GoesOn before after at replies step = (rest : List Step) → Runs after (at + 1) replies rest → Runs before at replies (step ∷ rest)
+
 -- the operations of the steps' entries
 abbrev pub with_op : Option Change → List FlatOp → List FlatOp
 with_op None ops = ops
@@ -230,6 +238,12 @@ pub record IsStepHeld (ops : List FlatOp) (replies : List Reply) (at : ℕ) (ste
 
 abbrev pub AreBorne : List FlatOp → List Reply → List Step → Type 0
 AreBorne ops replies steps = (at : ℕ) (step : Step) → slice_get steps at ≡ Some step → IsStepHeld ops replies at step
+
+abbrev pub with_claim : Step → Claim → Step
+with_claim step c = record step { claims = step.claims ++ c ∷ [] }
+
+abbrev pub with_change : Step → Change → Step
+with_change step change = record step { change = Some change }
 
 -- a claim was put to the others
 abbrev pub PutsClaim : List Step → List Step → ℕ → Claim → Type 0

@@ -1,0 +1,19 @@
+-- That the replies of a log are those of one plain file system.
+use Rattle.std.specs.Prelude.{◌≡◌, ℕ, List, length}
+use Rattle.fop_types.specs.History.{IsLegalHistory}
+use Rattle.fop_types.specs.Replies.{AreLawfulReplies}
+use Rattle.fop_types.specs.declared.flat.FlatOp.{FlatOp}
+use Rattle.script_lang.specs.declared.scripts.Script.{Script}
+use Rattle.mount_log.specs.Submissions.{submissions_of, replies_of, length_since, length_until}
+use Rattle.mount_log.specs.declared.logs.Log.{Log}
+
+-- One history with the operations of its entries, and with the places of each call's fops, also of those that have no reply:
+-- it is legal, and the replies are lawful. `answered` is how many fops of a call were answered by something else than an I/O
+-- error.
+pub record HasOneFileSystem (script : Script) (log : Log) : Type 0 where
+  pub ops : List FlatOp
+  pub places : ℕ → List ℕ
+  pub answered : ℕ → ℕ
+  pub legal : IsLegalHistory (submissions_of script log) (replies_of log) (length_since log) places ops log.history
+  pub lawful : AreLawfulReplies (submissions_of script log) (replies_of log) ops log.history (length_since log) (length_until log) answered
+  pub entered : length log.entered ≡ length log.history
