@@ -12,7 +12,7 @@ use Rattle.wire_messages.specs.Messages.{output_in}
 use Rattle.wire_messages.specs.declared.messages.Message.{Message}
 use Rattle.wire_messages.specs.declared.messages.Message.TheVariants.{Whole, Wrong}
 use Rattle.mount_log.specs.Connections.{IsConnected, AtSwitch, AtOpened, IsForDown, ByArmed}
-use Rattle.mount_log.specs.Follows.{IsEvent}
+use Rattle.mount_log.specs.Follows.{IsEvent, IsArmedLine}
 use Rattle.mount_log.specs.Graphs.{switches_in, switched_by}
 use Rattle.mount_log.specs.Procedures.{proc_in}
 use Rattle.mount_log.specs.declared.logs.HubEvent.{HubEvent}
@@ -20,7 +20,9 @@ use Rattle.mount_log.specs.declared.logs.HubEvent.TheVariants as logged
 use Rattle.mount_log.specs.declared.logs.Log.{Log}
 use Rattle.mount_log.specs.declared.logs.SentLine.{SentLine}
 use Rattle.log_audit.specs.Caused.{event_of, IsOpening, IsConnecting, IsCounted, IsBeforeRequest}
+use Rattle.log_audit.specs.Runs.{IsRun}
 use Rattle.log_audit.specs.declared.causes.Switched.{Switched}
+use Rattle.log_audit.specs.declared.runs.Run.{Run}
 
 -- a true answer means more
 pub ok_gives : {E A B : Type 0} → (r : Result Bool E) → IfOk r (λ yes. yes ≡ true → A) → (A → B) → IfOk r (λ yes. yes ≡ true → B)
@@ -84,20 +86,28 @@ module _ (log : Log) (line : SentLine) (graph : ℕ) (passed : Switched) (made :
 
 -- ---- downs
 
+-- two lines of a run are of the same event and brick
+alike : {event brick : ℕ} {a b : SentLine} → IsArmedLine event brick a → IsArmedLine event brick b → IsArmedLine a.event a.brick b
+alike x y = record { armable = y.armable; same_brick = y.same_brick ∙ sym x.same_brick; same_event = y.same_event ∙ sym x.same_event }
+
 abbrev with_bytes : SentLine → List ℕ → SentLine
 with_bytes line bytes = record { event = line.event; brick = line.brick; bytes = bytes }
 
-pub armed : (log : Log) (k : ℕ) (line : SentLine) (serve : ℕ) → slice_get log.sent k ≡ Some line → line.bytes ≡ input_text (input.Down serve) → IsBeforeRequest log.sent (k + 1) line → IsForDown log line serve
-armed log k line serve there bytes before = by (proc_in before.request.bytes) refl before.is_request where
+pub armed : (log : Log) (k : ℕ) (line : SentLine) (serve : ℕ) (run : Run) → slice_get log.sent k ≡ Some line → line.bytes ≡ input_text (input.Down serve) → IsRun log.sent k run
+    → IsBeforeRequest log.sent k run.stop line → IsForDown log line serve
+armed log k line serve run there bytes is_run before = by (proc_in before.request.bytes) refl before.is_request where
   by : (o : Option Proc) → proc_in before.request.bytes ≡ o → is_some o ≡ true → IsForDown log line serve
   by None is none = absurd cc
   by (Some p) is some = ByArmed p (record {
     place = k;
+    request_at = run.stop;
     sent = input.Down serve;
     request = before.request;
     is_input = refl;
-    first = there ∙ ap (λ (b : List ℕ). Some (with_bytes line b)) bytes;
-    next = before.there;
+    there = there ∙ ap (λ (b : List ℕ). Some (with_bytes line b)) bytes;
+    later = before.later;
+    between = λ j other behind below is_there. alike (is_run.each k line (omega arith) before.later there) (is_run.each j other (omega (arith, behind)) below is_there);
+    request_there = before.there;
     same_brick = before.same_brick;
     same_event = before.same_event;
     is_request = is;

@@ -123,7 +123,10 @@ module _ (stay : OutputsStay) (log : Log) (bricks : List Journal) (from : AllByR
   }
 
   pub journals : HasJournals log bricks
-  journals = record { journals = λ brick b there. (each brick b (slice_get_within bricks brick b there) there).journal }
+  journals = record {
+    arrived = λ brick b there. (each brick b (slice_get_within bricks brick b there) there).arrivals;
+    journals = λ brick b there. (each brick b (slice_get_within bricks brick b there) there).journal;
+  }
 
 -- one brick more
 pub one_more : (log : Log) (bricks : List Journal) (n : ℕ) (j : Journal) → slice_get bricks n ≡ Some j → IsHonestAt log n j

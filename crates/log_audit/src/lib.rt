@@ -10,6 +10,7 @@ mod ended;
 mod finished;
 mod honest;
 mod requests;
+mod runs;
 mod slots;
 mod submits;
 mod timely;
