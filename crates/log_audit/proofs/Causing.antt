@@ -20,9 +20,9 @@ use Rattle.mount_log.specs.declared.logs.HubEvent.TheVariants as logged
 use Rattle.mount_log.specs.declared.logs.Log.{Log}
 use Rattle.mount_log.specs.declared.logs.SentLine.{SentLine}
 use Rattle.log_audit.specs.Caused.{event_of, IsOpening, IsConnecting, IsCounted, IsBeforeRequest}
-use Rattle.log_audit.specs.Runs.{IsRun}
+use Rattle.log_audit.specs.Armed.{AreArmedFrom}
 use Rattle.log_audit.specs.declared.causes.Switched.{Switched}
-use Rattle.log_audit.specs.declared.runs.Run.{Run}
+use Rattle.log_audit.specs.declared.armed_lines.ArmedLines.{ArmedLines}
 
 -- a true answer means more
 pub ok_gives : {E A B : Type 0} → (r : Result Bool E) → IfOk r (λ yes. yes ≡ true → A) → (A → B) → IfOk r (λ yes. yes ≡ true → B)
@@ -86,21 +86,21 @@ module _ (log : Log) (line : SentLine) (graph : ℕ) (passed : Switched) (made :
 
 -- ---- downs
 
--- two lines of a run are of the same event and brick
+-- two armed lines of one stretch are of the same event and brick
 alike : {event brick : ℕ} {a b : SentLine} → IsArmedLine event brick a → IsArmedLine event brick b → IsArmedLine a.event a.brick b
 alike x y = record { armable = y.armable; same_brick = y.same_brick ∙ sym x.same_brick; same_event = y.same_event ∙ sym x.same_event }
 
 abbrev with_bytes : SentLine → List ℕ → SentLine
 with_bytes line bytes = record { event = line.event; brick = line.brick; bytes = bytes }
 
-pub armed : (log : Log) (k : ℕ) (line : SentLine) (serve : ℕ) (run : Run) → slice_get log.sent k ≡ Some line → line.bytes ≡ input_text (input.Down serve) → IsRun log.sent k run
-    → IsBeforeRequest log.sent k run.stop line → IsForDown log line serve
-armed log k line serve run there bytes is_run before = by (proc_in before.request.bytes) refl before.is_request where
+pub down_armed : (log : Log) (k : ℕ) (line : SentLine) (serve : ℕ) (armed : ArmedLines) → slice_get log.sent k ≡ Some line → line.bytes ≡ input_text (input.Down serve) → AreArmedFrom log.sent k armed
+    → IsBeforeRequest log.sent k armed.stop line → IsForDown log line serve
+down_armed log k line serve armed there bytes is_run before = by (proc_in before.request.bytes) refl before.is_request where
   by : (o : Option Proc) → proc_in before.request.bytes ≡ o → is_some o ≡ true → IsForDown log line serve
   by None is none = absurd cc
   by (Some p) is some = ByArmed p (record {
     place = k;
-    request_at = run.stop;
+    request_at = armed.stop;
     sent = input.Down serve;
     request = before.request;
     is_input = refl;

@@ -8,5 +8,5 @@ pub mod Submitting
 pub mod Seen
 pub mod Endings
 pub mod Causing
-pub mod Runs
+pub mod Arming
 pub mod Carrying

@@ -10,11 +10,11 @@ ghost use Rattle.fop_types.specs.declared.messages.Input.TheVariants as input;
 ghost use Rattle.fop_types.specs.declared.messages.OutKind.TheVariants.{Opened};
 ghost use Rattle.wire_xdr.specs.WireText.{input_text};
 ghost use Rattle.wire_messages.specs.Messages.{input_in, output_in};
-ghost use Rattle.log_audit.specs.Runs.{IsRun};
+ghost use Rattle.log_audit.specs.Armed.{AreArmedFrom};
 ghost use Rattle.log_audit.specs.Caused.{event_of, IsSwitch, IsOpening, IsConnecting, IsCounted, IsBeforeRequest, IsInputCaused, IsCaused, AreCaused};
 
+use crate::armed_lines::{ArmedLines, armed_at, none_armed};
 use crate::requests::is_request;
-use crate::runs::{Run, no_run, run_at};
 use fop_types::{Input, OutKind};
 use mount_log::{HubEvent, Log, SentLine};
 use script_lang::Action;
@@ -252,17 +252,17 @@ fn is_before_request(log: &Log, k: usize, next: usize, line: &SentLine) -> bool
     }
 }
 
-// The run that the line is in is given.
-fn is_down_caused(log: &Log, k: usize, line: &SentLine, serve: u32, run: Run) -> bool
+// The armed lines that it is among are given.
+fn is_down_caused(log: &Log, k: usize, line: &SentLine, serve: u32, armed: ArmedLines) -> bool
     requires there { slice_get log.now.sent k ≡ Some line.now }
     requires bytes { line.now.bytes ≡ input_text (input.Down serve) }
-    requires run { IsRun log.now.sent k run }
+    requires armed { AreArmedFrom log.now.sent k armed }
     ensures { result ≡ true → IsForDown log.now line.now serve }
 {
     if is_act_of_down(log, line, serve) {
         return true;
     }
-    is_before_request(log, k, run.stop, line)
+    is_before_request(log, k, armed.stop, line)
 }
 
 // ---- all
@@ -274,18 +274,18 @@ fn is_input_caused(
     line: &SentLine,
     input: &Input,
     passed: Switched,
-    run: Run,
+    armed: ArmedLines,
 ) -> Result<bool, AllocError>
     requires there { slice_get log.now.sent k ≡ Some line.now }
     requires bytes { line.now.bytes ≡ input_text input.now }
     requires counted { IsCounted log.now.events passed }
-    requires run { IsRun log.now.sent k run }
+    requires armed { AreArmedFrom log.now.sent k armed }
     ensures { IfOk result (λ yes. yes ≡ true → IsInputCaused log.now line.now input.now) }
 {
     match input {
         Input::Up => Ok(is_up_caused(log, line)),
         Input::Connect { graph, .. } => is_connect_caused(alloc, log, line, *graph, passed),
-        Input::Down { serve } => Ok(is_down_caused(log, k, line, *serve, run)),
+        Input::Down { serve } => Ok(is_down_caused(log, k, line, *serve, armed)),
         _ => Ok(true),
     }
 }
@@ -296,15 +296,15 @@ fn is_caused(
     k: usize,
     line: &SentLine,
     passed: Switched,
-    run: Run,
+    armed: ArmedLines,
 ) -> Result<bool, AllocError>
     requires there { slice_get log.now.sent k ≡ Some line.now }
     requires counted { IsCounted log.now.events passed }
-    requires run { IsRun log.now.sent k run }
+    requires armed { AreArmedFrom log.now.sent k armed }
     ensures { IfOk result (λ yes. yes ≡ true → IsCaused log.now line.now (input_in line.now.bytes)) }
 {
     match input_of(alloc, line.bytes.as_slice())? {
-        Message::Whole(input) => is_input_caused(alloc, log, k, line, &input, passed, run),
+        Message::Whole(input) => is_input_caused(alloc, log, k, line, &input, passed, armed),
         Message::Wrong { place: _ } => Ok(true),
     }
 }
@@ -317,14 +317,14 @@ pub fn lines_are_caused(alloc: Global, log: &Log) -> Result<bool, AllocError>
     ensures { IfOk result (λ yes. yes ≡ true → AreCaused log.now) }
 {
     let mut passed = Switched { next: 0, count: 0 };
-    let mut run = no_run();
+    let mut armed = none_armed();
     for k in 0..log.sent.len() {
         let Some(line) = line_at(log, k) else {
             return Ok(false);
         };
         passed = passed_to(log, line.event, passed);
-        run = run_at(alloc, log.sent.as_slice(), k, run)?;
-        if !is_caused(alloc, log, k, line, passed, run)? {
+        armed = armed_at(alloc, log.sent.as_slice(), k, armed)?;
+        if !is_caused(alloc, log, k, line, passed, armed)? {
             return Ok(false);
         }
     }

@@ -2,6 +2,7 @@
 //! fixed number of times, knows nothing of how the log came about, and is true only where its definition holds of the log.
 #![tactic(auto)]
 
+mod armed_lines;
 mod bricks;
 mod causes;
 mod connects;
@@ -10,7 +11,6 @@ mod ended;
 mod finished;
 mod honest;
 mod requests;
-mod runs;
 mod slots;
 mod submits;
 mod timely;

@@ -5,12 +5,12 @@ use Rattle.wire_messages.specs.declared.messages.Message.{Message}
 use Rattle.wire_messages.specs.declared.messages.Message.TheVariants.{Whole, Wrong}
 use Rattle.mount_log.specs.Follows.{CanBeArmed, IsArmedLine}
 use Rattle.mount_log.specs.declared.logs.SentLine.{SentLine}
-use Rattle.log_audit.specs.declared.runs.Run.{Run}
+use Rattle.log_audit.specs.declared.armed_lines.ArmedLines.{ArmedLines}
 
 abbrev pub IsArmable : Message Input → Type 0
 IsArmable (Whole x) = CanBeArmed x
 IsArmable (Wrong place) = ⊥
 
--- each line from this place up to the run's stop sends the run's brick, in the run's event, an input that can be armed
-pub record IsRun (sent : List SentLine) (from : ℕ) (run : Run) : Type 0 where
-  pub each : (k : ℕ) (line : SentLine) → from ≤ k → k < run.stop → slice_get sent k ≡ Some line → IsArmedLine run.event run.brick line
+-- each line from this place up to the stop sends this brick, in this event, an input that can be armed
+pub record AreArmedFrom (sent : List SentLine) (from : ℕ) (armed : ArmedLines) : Type 0 where
+  pub each : (k : ℕ) (line : SentLine) → from ≤ k → k < armed.stop → slice_get sent k ≡ Some line → IsArmedLine armed.event armed.brick line

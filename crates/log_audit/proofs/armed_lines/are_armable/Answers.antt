@@ -1,5 +1,5 @@
-use Rattle.log_audit.proofs.Runs.{armable}
-use Rattle.log_audit.proofs.runs.are_armable.Goals as goal
+use Rattle.log_audit.proofs.Arming.{armable}
+use Rattle.log_audit.proofs.armed_lines.are_armable.Goals as goal
 
 pub returns : goal.returns
 returns c = λ yes. armable c.args.bytes.now _ c.in_ok-message.ensures.said (c.says_armable-yes.ensures yes)

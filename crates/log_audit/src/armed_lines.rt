@@ -1,8 +1,8 @@
-//! Runs of lines that can be armed: one that stops at a request was armed for it.
+//! Lines that can be armed, one behind the other: where they stop at a request, they were armed for it.
 ghost use Rattle.std.specs.Prelude.{◌≡◌, ℕ, List, true, IfOk};
 ghost use Rattle.mount_log.specs.declared.logs.SentLine.{SentLine as Line};
 ghost use Rattle.mount_log.specs.Follows.{AreArmable, CanBeArmed, IsArmedLine};
-ghost use Rattle.log_audit.specs.Runs.{IsArmable, IsRun};
+ghost use Rattle.log_audit.specs.Armed.{IsArmable, AreArmedFrom};
 
 use crate::requests::is_request;
 use fop_types::Input;
@@ -10,19 +10,19 @@ use mount_log::SentLine;
 use std::alloc::{AllocError, Global};
 use wire_messages::{Message, input_of};
 
-/// The place at which a run stops, with the event and the brick of its lines.
+/// The place at which lines that can be armed stop, with the event and the brick of them all.
 #[derive(Clone, Copy)]
-pub struct Run {
+pub struct ArmedLines {
     pub stop: usize,
     pub event: u64,
     pub brick: u8,
 }
 
-/// The run of no line.
-pub fn no_run() -> Run
-    ensures { (sent : List Line) (from : ℕ) → IsRun sent from result }
+/// No lines.
+pub fn none_armed() -> ArmedLines
+    ensures { (sent : List Line) (from : ℕ) → AreArmedFrom sent from result }
 {
-    Run {
+    ArmedLines {
         stop: 0,
         event: 0,
         brick: 0,
@@ -60,8 +60,8 @@ fn are_armable(alloc: Global, bytes: &[u8]) -> Result<bool, AllocError>
     Ok(yes)
 }
 
-// Whether a line is one of a run.
-fn is_of_run(alloc: Global, line: &SentLine, event: u64, brick: u8) -> Result<bool, AllocError>
+// Whether a line can be armed, and is of this event and brick.
+fn is_armed_line(alloc: Global, line: &SentLine, event: u64, brick: u8) -> Result<bool, AllocError>
     ensures { IfOk result (λ yes. yes ≡ true → IsArmedLine event brick line.now) }
 {
     if line.event != event || line.brick != brick {
@@ -71,40 +71,45 @@ fn is_of_run(alloc: Global, line: &SentLine, event: u64, brick: u8) -> Result<bo
     Ok(yes)
 }
 
-// The run of an event and a brick that begins at a place, without a line where none is there.
-fn run_of(
+// The armed lines of an event and a brick that begin at a place, none where that line is no such one.
+fn armed_from(
     alloc: Global,
     sent: &[SentLine],
     from: usize,
     event: u64,
     brick: u8,
-) -> Result<Run, AllocError>
-    ensures { IfOk result (λ run. IsRun sent.now from run) }
+) -> Result<ArmedLines, AllocError>
+    ensures { IfOk result (λ armed. AreArmedFrom sent.now from armed) }
 {
     let mut stop = from;
     while stop < sent.len() {
         let line = &sent[stop];
-        if !is_of_run(alloc, line, event, brick)? {
+        if !is_armed_line(alloc, line, event, brick)? {
             break;
         }
         stop += 1;
     }
-    Ok(Run { stop, event, brick })
+    Ok(ArmedLines { stop, event, brick })
 }
 
-/// The run that a line is in: the one before, where it goes so far, or the one that begins at the line.
+/// The armed lines that the line at a place is among: those before, where they go so far, or those that begin at the line.
 ///
 /// # Errors
 /// Out of memory.
-pub fn run_at(alloc: Global, sent: &[SentLine], at: usize, before: Run) -> Result<Run, AllocError>
-    requires { IsRun sent.now at before }
-    ensures { IfOk result (λ run. IsRun sent.now at run) }
+pub fn armed_at(
+    alloc: Global,
+    sent: &[SentLine],
+    at: usize,
+    before: ArmedLines,
+) -> Result<ArmedLines, AllocError>
+    requires { AreArmedFrom sent.now at before }
+    ensures { IfOk result (λ armed. AreArmedFrom sent.now at armed) }
 {
     if at < before.stop {
         return Ok(before);
     }
     match sent.get(at) {
-        Some(line) => run_of(alloc, sent, at, line.event, line.brick),
+        Some(line) => armed_from(alloc, sent, at, line.event, line.brick),
         None => Ok(before),
     }
 }

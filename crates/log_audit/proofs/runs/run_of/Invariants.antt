@@ -1,9 +1,0 @@
-use Rattle.std.proofs.Common.{◌-◌, length}
-use Rattle.log_audit.specs.Runs.{IsRun}
-use Rattle.log_audit.proofs.runs.run_of.Given as goal
-
-abbrev pub invariant-loop-stop : goal.invariant-loop-stop
-invariant-loop-stop l = IsRun l.sent l.from (record { stop = l.stop; event = l.event; brick = l.brick })
-
-abbrev pub decreases-loop-stop : goal.decreases-loop-stop
-decreases-loop-stop l = length l.sent - l.stop
