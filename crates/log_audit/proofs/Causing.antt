@@ -11,6 +11,7 @@ use Rattle.wire_xdr.specs.WireText.{input_text}
 use Rattle.wire_messages.specs.Messages.{output_in}
 use Rattle.wire_messages.specs.declared.messages.Message.{Message}
 use Rattle.wire_messages.specs.declared.messages.Message.TheVariants.{Whole, Wrong}
+use Rattle.mount_log.proofs.Items.{some_is}
 use Rattle.mount_log.specs.Connections.{IsConnected, AtSwitch, AtOpened, IsForDown, ByArmed}
 use Rattle.mount_log.specs.Follows.{IsEvent, IsArmedLine}
 use Rattle.mount_log.specs.Graphs.{switches_in, switched_by}
@@ -119,12 +120,9 @@ down_armed log k line serve armed there bytes is_run before = by (proc_in before
 pub each_next : {X : Type 0} → (P : ℕ → X → Type 0) (xs : List X) (n : ℕ) (x : X) → slice_get xs n ≡ Some x → P n x → ((k : ℕ) (y : X) → k < n → slice_get xs k ≡ Some y → P k y)
     → (k : ℕ) (y : X) → k < n + 1 → slice_get xs k ≡ Some y → P k y
 each_next {X = X} P xs n x there own before k y lt is = by (nat_lt k n) refl where
-  some : (a b : X) → Some a ≡ Some b → a ≡ b
-  some a b e = cc
-
   by : (t : Bool) → nat_lt k n ≡ t → P k y
   by true e = before k y (ltb-true k n e) is
   by false e =
       let le = ltb-false k n e in let same : n ≡ k = omega (arith, lt, le) in
-      let x_is : x ≡ y = some x y (sym there ∙ ap (slice_get xs) same ∙ is) in
+      let x_is : x ≡ y = some_is x y (sym there ∙ ap (slice_get xs) same ∙ is) in
       subst (λ (z : X). P k z) x_is (subst (λ (m : ℕ). P m x) same own)

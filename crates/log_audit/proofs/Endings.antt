@@ -51,4 +51,4 @@ module _ (script : Script) (log : Log) (order : AreInOrder script log) where
       omega (arith, ih, o)
 
   pub finished : submits_in log.events ≡ length (calls_of script.phases) → HaveOne (length (calls_of script.phases)) log.replies → IsFinished script log
-  finished all one = record { submitted = many [] log.events refl ∙ all; replied = one.each }
+  finished all one = record { submitted = many [] log.events refl ∙ all; replied = one.each; no_other = one.many }

@@ -33,7 +33,8 @@ fn count_calls(phases: &[Phase]) -> usize
     count
 }
 
-/// Whether each call of the script was submitted and has one reply, where sessions submit their lines in order.
+/// Whether each call of the script was submitted and has one reply, and nothing else has one, where sessions submit their
+/// lines in order (`submits_are_in_order`).
 ///
 /// # Errors
 /// Out of memory.

@@ -107,9 +107,16 @@ pub record IsFault (log : Log) (plan : SetPlan) (call until : ℕ) (faults lost 
   pub each_lost : AllByRecursion (IsLost log plan call until) lost
   pub enough : AreEnough plan (map brick_of faults ++ map brick_of lost)
 
--- the rows that bricks showed; that no brick is sound by them is a clause of its own, over the rows of one lock phase
+abbrev pub shower_of : SplitRow → ℕ
+shower_of row = row.brick
+
+-- the rows that the bricks of a quorum showed; that they are of one lock phase, and no brick is sound by them, is not said here
 pub record IsSplit (log : Log) (plan : SetPlan) (call until : ℕ) (rows : List SplitRow) : Type 0 where
   pub each : AllByRecursion (IsShown log plan call until) rows
+  pub bricks : List ℕ
+  pub differ : IsDistinct ◌==◌ bricks
+  pub enough : plan.q ≤ length bricks
+  pub have_rows : AllByRecursion (Contains (map shower_of rows)) bricks
 
 -- ---- an I/O error has its cause
 

@@ -149,7 +149,9 @@ abbrev pub replies_to : ℕ → List ReplyLine → ℕ
 replies_to number [] = 0
 replies_to number (reply ∷ replies) = (if reply.call == number then 1 else 0) + replies_to number replies
 
--- every call was submitted and has one reply; that every control was carried out is in the plan of the run
+-- every call was submitted and has one reply, and nothing else has; that every control was carried out is in the plan of the
+-- run
 pub record IsFinished (script : Script) (log : Log) : Type 0 where
   pub submitted : length (submissions_of script log) ≡ length (calls_of script.phases)
   pub replied : (number : ℕ) → 1 ≤ number → number ≤ length (calls_of script.phases) → replies_to number log.replies ≡ 1
+  pub no_other : length log.replies ≡ length (calls_of script.phases)
