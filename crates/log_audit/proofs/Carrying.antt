@@ -28,8 +28,9 @@ lists_same xs ys e = subst (λ (zs : List ℕ). pointwise ◌==◌ xs zs ≡ tru
 pub sent_at : (log : Log) (k number brick serve : ℕ) (line : SentLine) → slice_get log.sent k ≡ Some line → IsDownSent number brick serve line → was_sent log number brick (input.Down serve) ≡ true
 sent_at log k number brick serve line there down =
     list_any_at (is_sent_in number brick (input.Down serve)) log.sent k line (slice_get_within log.sent k line there)
-    (ap (is_sent_in number brick (input.Down serve)) (get_or_from_slice_get log.sent k line line there)
-    ∙ both_true (eq-eqb line.event number down.event) (both_true (eq-eqb line.brick brick down.brick_is) (lists_same line.bytes (input_text (input.Down serve)) down.bytes)))
+    (subst (λ (l : SentLine). is_sent_in number brick (input.Down serve) l ≡ true) (sym (get_or_from_slice_get log.sent k line line there)) here) where
+      here : is_sent_in number brick (input.Down serve) line ≡ true
+      here = both_true (eq-eqb line.event number down.event) (both_true (eq-eqb line.brick brick down.brick_is) (lists_same line.bytes (input_text (input.Down serve)) down.bytes))
 
 -- the bytes of an input are read as it
 module _ (back : MessagesReadBack) (log : Log) (caused : AreCaused log) (carried : AreCarried log) where

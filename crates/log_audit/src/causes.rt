@@ -252,6 +252,19 @@ fn is_before_request(log: &Log, k: usize, next: usize, line: &SentLine) -> bool
     }
 }
 
+// The armed lines that the line at a place is among, behind those that the line before was.
+fn armed_by(
+    alloc: Global,
+    log: &Log,
+    at: usize,
+    before: ArmedLines,
+) -> Result<ArmedLines, AllocError>
+    requires { AreArmedFrom log.now.sent at before }
+    ensures { IfOk result (λ armed. AreArmedFrom log.now.sent at armed) }
+{
+    armed_at(alloc, log.sent.as_slice(), at, before)
+}
+
 // The armed lines that it is among are given.
 fn is_down_caused(log: &Log, k: usize, line: &SentLine, serve: u32, armed: ArmedLines) -> bool
     requires there { slice_get log.now.sent k ≡ Some line.now }
@@ -323,7 +336,7 @@ pub fn lines_are_caused(alloc: Global, log: &Log) -> Result<bool, AllocError>
             return Ok(false);
         };
         passed = passed_to(log, line.event, passed);
-        armed = armed_at(alloc, log.sent.as_slice(), k, armed)?;
+        armed = armed_by(alloc, log, k, armed)?;
         if !is_caused(alloc, log, k, line, passed, armed)? {
             return Ok(false);
         }
