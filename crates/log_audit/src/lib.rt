@@ -1,7 +1,20 @@
-//! Audits of a log: whether what a run has written down is as the promises of a run say. Each audit goes through the log a
-//! fixed number of times, knows nothing of how the log came about, and is true only where its definition holds of the log.
+//! Audits of a log: whether what a run has written down is as the promises of a run say.
+//!
+//! ```text
+//!   winds_are_balanced     the winds              each was opened once and ended once
+//!   submits_are_in_order   the events, a script   each session submits its lines in order
+//!   is_finished            the replies, a script  each call has one reply
+//!   connects_are_caused    what was sent          connections, Downs and Ups have their causes
+//!   arrivals_are_honest    what was sent and      what arrived is what the bricks make of what was sent
+//!                          arrived, the bricks
+//! ```
+//!
+//! Each audit goes through the log a fixed number of times, `arrivals_are_honest` once more for each brick. It knows nothing
+//! of how the log came about. True says that its definition holds of the log; false alone says nothing: an audit may ask for
+//! more than its definition, where every log of a run has it. A program calls them before it writes a report.
 #![tactic(auto)]
 
+mod armed_lines;
 mod bricks;
 mod causes;
 mod connects;

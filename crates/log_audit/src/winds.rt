@@ -1,3 +1,4 @@
+//! Whether the winds of a log are balanced.
 ghost use Rattle.std.specs.Prelude.{◌≡◌, true, IfOk};
 ghost use Rattle.mount_log.specs.Winds.{WindsAreBalanced};
 
