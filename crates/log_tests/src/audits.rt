@@ -1,0 +1,44 @@
+//! The audits of a log, each by its letter.
+ghost use Rattle.script_lang.specs.Accepted.{IsAccepted};
+
+use brick_machine::Brick;
+use log_audit::{
+    arrivals_are_honest, connects_are_caused, is_finished, submits_are_in_order, winds_are_balanced,
+};
+use mount_log::Log;
+use script_lang::Script;
+use std::alloc::{AllocError, Global};
+
+/// The letters of the audits that answer false: `w` of the winds, `a` of the arrivals, `s` of the submissions, `c` of the
+/// connects, and `f` of what is finished.
+pub(crate) fn refusals(
+    alloc: Global,
+    script: &Script,
+    log: &Log,
+    bricks: &[Brick],
+) -> Result<Vec<u8>, AllocError>
+    requires { IsAccepted script.now }
+{
+    let mut letters = Vec::new(alloc);
+    note(
+        &mut letters,
+        winds_are_balanced(alloc, log.winds.as_slice())?,
+        b'w',
+    )?;
+    note(&mut letters, arrivals_are_honest(alloc, log, bricks)?, b'a')?;
+    note(
+        &mut letters,
+        submits_are_in_order(alloc, script, log)?,
+        b's',
+    )?;
+    note(&mut letters, connects_are_caused(alloc, log)?, b'c')?;
+    note(&mut letters, is_finished(alloc, script, log)?, b'f')?;
+    Ok(letters)
+}
+
+fn note(letters: &mut Vec<u8>, holds: bool, letter: u8) -> Result<(), AllocError> {
+    if !holds {
+        letters.push(letter)?;
+    }
+    Ok(())
+}

@@ -1,0 +1,139 @@
+//! An honest log, and what is wrong with it after one edit.
+ghost use Rattle.script_lang.specs.Accepted.{IsAccepted};
+
+use crate::audits::refusals;
+use crate::logs::{Edit, Of, Rows, made};
+use brick_machine::Brick;
+use mount_log::Log;
+use script_lang::{Script, parse};
+use std::alloc::{AllocError, Global};
+use std::test::Fail;
+
+// Calls on lines 9, 10 and 11: two of session s, then one of session t.
+const SCRIPT: &[u8] =
+    b"brick b0 h0 /b0\nvolfile g\nvolume c0\ntype protocol/client\nend-volume\nend-volfile\nstart g\nphase\ndo s mkdir /a 755\ndo s stat /a\ndo t stat /\n";
+
+// Graph 1 is connected from the start, and the index of the first call is answered. The brick goes down and comes up, and
+// is connected again; a switch makes graph 2; and the brick goes down before the index of the second call.
+const HONEST: Rows = Rows {
+    events: &[
+        &[0, 0, 9],
+        &[1, 0, 0, 1, 3, 1, 1],
+        &[1, 0, 0, 2, 0, 0, 0, 0, 3, 2, 0, 0, 0, 1, 1, 0, 0, 0, 1, 2],
+        &[2, 0, 0],
+        &[3, 0],
+        &[1, 0, 0, 3, 1],
+        &[1, 0, 0, 4, 2],
+        &[4, 0],
+        &[5, 0, 1],
+        &[0, 0, 10],
+        &[0, 1, 11],
+        &[1, 0, 0, 5, 3, 1, 1],
+    ],
+    sent: &[
+        &[0, 0, 3, 1, 1],
+        &[1, 0, 0, 0, 0, 1, 10],
+        &[4, 0, 1, 0],
+        &[5, 0, 2],
+        &[7, 0, 3, 1, 1],
+        &[8, 0, 3, 2, 1],
+        &[10, 0, 1, 0],
+        &[10, 0, 0, 1, 0, 2, 10],
+    ],
+    replies: &[&[3, 1], &[12, 3], &[12, 2]],
+    winds: &[
+        &[1, 1, 0, 0, 1],
+        &[1, 1, 0, 0, 0],
+        &[2, 2, 0, 1, 1],
+        &[2, 3, 1, 0, 1],
+        &[2, 2, 0, 1, 0],
+        &[2, 3, 1, 0, 0],
+    ],
+    served: &[&[3, 1, 1], &[0, 0, 0, 1, 10], &[1, 0], &[2], &[3, 1, 1]],
+};
+
+const NOTHING: usize = 99;
+
+// An edit, and the letters of the audits that then answer false.
+const CASES: [(Of, usize, &[u32], &[u8]); 27] = [
+    (Of::Winds, NOTHING, &[], b""),
+    // A wind that does not end, one that ends in another graph or for another call, ends twice, or comes again.
+    (Of::Winds, 5, &[], b"w"),
+    (Of::Winds, 1, &[2, 1, 0, 0, 0], b"w"),
+    (Of::Winds, 1, &[1, 2, 0, 0, 0], b"w"),
+    (Of::Winds, 5, &[2, 2, 0, 1, 0], b"w"),
+    (Of::Winds, 0, &[], b"w"),
+    (Of::Winds, 2, &[2, 2, 0, 0, 1], b"w"),
+    // An arrival that the brick did not put out, one of no brick, and one before its input.
+    (Of::Events, 1, &[1, 0, 0, 1, 3, 2, 1], b"a"),
+    (Of::Events, 11, &[1, 1, 0, 5, 3, 1, 1], b"a"),
+    (Of::Events, 11, &[1, 0, 0, 5, 3, 2, 1], b"a"),
+    (Of::Sent, 1, &[3, 0, 0, 0, 0, 1, 10], b"a"),
+    // Inputs that were served and not sent.
+    (Of::Served, 4, &[3, 2, 1], b"a"),
+    (Of::Sent, 1, &[1, 0, 0, 0, 0, 1, 11], b"a"),
+    // A line before its time, one that is none, and a session that is none.
+    (Of::Events, 0, &[0, 0, 10], b"s"),
+    (Of::Events, 9, &[0, 0, 11], b"s"),
+    (Of::Events, 10, &[0, 2, 11], b"s"),
+    // A call that is not submitted, one without a reply, one with two, and a reply to none.
+    (Of::Events, 10, &[5, 0, 1], b"f"),
+    (Of::Replies, 1, &[], b"f"),
+    (Of::Replies, 1, &[12, 1], b"f"),
+    (Of::Replies, 2, &[12, 4], b"f"),
+    (Of::Replies, 2, &[12, 0], b"f"),
+    // A Connect for nothing, of a graph that the switch does not make, and without an Opened.
+    (Of::Sent, 5, &[9, 0, 3, 2, 1], b"c"),
+    (Of::Sent, 5, &[8, 0, 3, 1, 1], b"c"),
+    (Of::Sent, 4, &[6, 0, 3, 1, 1], b"c"),
+    // A Down before no request, an Up for nothing, and a Down that its action does not send.
+    (Of::Sent, 7, &[], b"c"),
+    (Of::Sent, 5, &[8, 0, 2], b"c"),
+    (Of::Events, 8, &[2, 0, 0], b"c"),
+];
+
+fn is_as_wanted(
+    alloc: Global,
+    script: &Script,
+    edit: Edit,
+    wanted: &[u8],
+) -> Result<bool, AllocError>
+    requires { IsAccepted script.now }
+{
+    let mut log = Log::new(alloc);
+    let mut brick = Brick::new(alloc)?;
+    made(alloc, &mut log, &mut brick, &HONEST, edit)?;
+    let mut bricks = Vec::new(alloc);
+    bricks.push(brick)?;
+    let found = refusals(alloc, script, &log, bricks.as_slice())?;
+    Ok(found.as_slice() == wanted)
+}
+
+// The number of the first case, from 1, of which the audits answer otherwise; 0 where there is none.
+fn first_wrong(alloc: Global, script: &Script) -> Result<usize, AllocError>
+    requires { IsAccepted script.now }
+{
+    let mut number = 0usize;
+    for (of, at, row, wanted) in &CASES {
+        number = number.saturating_add(1);
+        let edit = Edit {
+            of: *of,
+            at: *at,
+            row: *row,
+        };
+        if !is_as_wanted(alloc, script, edit, wanted)? {
+            return Ok(number);
+        }
+    }
+    Ok(0)
+}
+
+#[test]
+fn audits_see_one_wrong_line(rt: HostRuntime) -> Result<(), Fail> {
+    let alloc = rt.alloc();
+    match parse(alloc, SCRIPT) {
+        Ok(script) => assert_eq!(rt; first_wrong(alloc, &script)?, 0),
+        Err(_) => assert!(rt; false),
+    }
+    Ok(())
+}

@@ -1,0 +1,12 @@
+//! Tests of `log_audit`: one honest log, for which each audit answers true, and the same log with one line of it wrong, for
+//! which the audits answer false that the line concerns.
+//!
+//! Logs are tables of rows, and messages are written in their units of four bytes.
+#![tactic(auto)]
+
+#[cfg(test)]
+mod audits;
+#[cfg(test)]
+mod cases;
+#[cfg(test)]
+mod logs;
