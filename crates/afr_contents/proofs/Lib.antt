@@ -1,0 +1,9 @@
+pub mod Staying
+pub mod Spread
+pub mod Lists
+pub mod Ops
+pub mod Contents
+pub mod Settled
+pub mod Good
+pub mod AsBorn
+pub mod OpsGood

@@ -1,0 +1,100 @@
+-- An op that finds settled copies of the cells that it needs makes good copies.
+use Rattle.std.proofs.Common.{◌≡◌, ◌∙◌, ℕ, Bool, true, false, refl, sym, ap, subst, Option, Some, None, ◌⊎◌, inl, inr}
+use Rattle.std.specs.Prelude.{List, [], ◌∷◌, is_some, if◌then◌else◌}
+use Rattle.fop_types.specs.StoreOps.{Contents, needs, births, fits, born_on, content_after}
+use Rattle.fop_types.specs.declared.cells.Cell.{Cell}
+use Rattle.fop_types.specs.declared.contents.Content.{Content}
+use Rattle.fop_types.specs.declared.store_ops.StoreOp.{StoreOp}
+use Rattle.afr_machine.specs.Replicas.{Size}
+use Rattle.afr_machine.specs.Touching.{has_cell}
+use Rattle.afr_machine.specs.Copies.{Copy, Store, content_of, contents_of, changes_after, copy_with, op_of}
+use Rattle.afr_machine.specs.Requests.{Sender, Ask, Input}
+use Rattle.afr_machine.specs.Requests.Ask.{Op}
+use Rattle.afr_machine.specs.Bricks.{stored_by}
+use Rattle.afr_machine.specs.Changes.{is_unsettled}
+use Rattle.afr_machine.specs.States.{State}
+use Rattle.afr_machine.specs.Steps.{IsReached}
+use Rattle.afr_laws.specs.Senders.{EachInput}
+use Rattle.afr_laws.specs.Copies.{IsOpOf, Carries}
+use Rattle.afr_laws.specs.OneBirth.{AreBorn, BearsAsBorn}
+use Rattle.afr_laws.proofs.Bools.{apart_bools, is_or_not}
+use Rattle.afr_laws.proofs.Births.Steps.{every_cell_is_born_once}
+use Rattle.afr_laws.proofs.Copies.Contents.{content_stays}
+use Rattle.afr_laws.proofs.Copies.Steps.{copies_are_of_changes}
+use Rattle.afr_laws.proofs.OwnChanges.Steps.{changes_are_own}
+use Rattle.afr_contents.specs.Adopted.{adopted_on, first_of, settled}
+use Rattle.afr_contents.specs.Good.{IsAhead, IsGood, IsGoodAt, IsSettledCopy, IsNextOp, OpsKeepGood}
+use Rattle.afr_contents.specs.Good.IsGood.{Absent, Settled, Ahead}
+use Rattle.afr_contents.proofs.Ops.{fits_same, content_same, left_alone, born_settled, unborn}
+use Rattle.afr_contents.proofs.Good.{some_of}
+use Rattle.afr_contents.proofs.AsBorn.{adopted_as_born}
+
+module _ (size : Size) (m : State) (r : IsReached size m) (i u : ℕ) (op : StoreOp) (n : IsNextOp m i u op) where
+  store : Store
+  store = (m.bricks i).store
+
+  of_change : IsOpOf m.changes u op
+  of_change = (subst (EachInput (λ by ask. Carries m.changes ask)) n.front ((copies_are_of_changes size m r).bricks i).line).0
+
+  born_as : AreBorn m.born (births op)
+  born_as = (subst (EachInput (λ by ask. BearsAsBorn m.born ask)) n.front ((every_cell_is_born_once size m r).one.bricks i).line).0
+
+  agrees : (d : Cell) → has_cell (needs op) d ≡ true → contents_of (m.bricks i).store d ≡ settled m d
+  agrees d has = let f = n.finds d has in ap content_of f.is ∙ sym f.content
+
+  module _ (cell : Cell) where
+    -- a cell that it needs
+    module _ (has : has_cell (needs op) cell ≡ true) where
+      op_is : op ≡ (m.changes u).op
+      op_is = by_case of_change where
+        by_case : IsOpOf m.changes u op → op ≡ (m.changes u).op
+        by_case (inl birth) = apart_bools has (ap (λ cs. has_cell cs cell) birth.1)
+        by_case (inr sent) = sent.1
+
+      touches : has_cell (m.changes u).cells cell ≡ true
+      touches = ap (λ cs. has_cell cs cell) ((changes_are_own size m r).fit.needs_are u ∙ ap needs (sym op_is)) ∙ has
+
+      some_content : is_some (content_after (contents_of (m.bricks i).store) op cell) ≡ true
+      some_content = content_stays (contents_of (m.bricks i).store) op cell (ap (λ c. is_some (content_of c)) (n.finds cell has).is)
+
+      altered : fits (contents_of (m.bricks i).store) op ≡ true → IsGood m cell (copy_with (changes_after true u ((m.bricks i).store cell).copy) (content_after (contents_of (m.bricks i).store) op cell))
+      altered fit = some_of (content_after (contents_of (m.bricks i).store) op cell) some_content (λ content is.
+          let f = n.finds cell has in
+          Ahead (record { changes = u ∷ f.held.changes; content = content }) u
+          (ap (λ c. copy_with (changes_after true u c) (content_after (contents_of (m.bricks i).store) op cell)) f.is ∙ ap (copy_with (u ∷ f.held.changes)) is)
+          (record {
+            unsettled = n.unsettled cell has;
+            touches = touches;
+            fits = ap (fits (settled m)) (sym op_is) ∙ sym (fits_same (contents_of (m.bricks i).store) (settled m) op agrees) ∙ fit;
+            changes = ap (λ l. u ∷ l) f.changes;
+            content = ap (λ o. content_after (settled m) o cell) (sym op_is) ∙ sym (content_same (contents_of (m.bricks i).store) (settled m) op agrees cell (agrees cell has)) ∙ is;
+          }))
+
+    -- one that it does not need
+    kept : (copy : Option Copy) (content : Option Content) → content ≡ born_on cell (content_of copy) (births op) → IsGood m cell copy → IsGood m cell (copy_with (changes_after false u copy) content)
+    kept (Some held) content is good = subst (λ x. IsGood m cell (copy_with held.changes x)) (sym (is ∙ unborn cell (births op) held.content)) good
+    kept None None is good = good
+    kept None (Some content) is (Absent e empty) = Settled (record { changes = []; content = content }) refl (sym empty) (by_case (m.adopted cell) refl) where
+      born : m.born cell ≡ Some content
+      born = sym (born_settled m.born cell (births op) None born_as) ∙ ap (λ x. first_of x (m.born cell)) (sym is)
+
+      by_case : (x : Option Content) → m.adopted cell ≡ x → first_of (m.adopted cell) (m.born cell) ≡ Some content
+      by_case None x_is = ap (λ x. first_of x (m.born cell)) x_is ∙ born
+      by_case (Some there) x_is = ap (λ x. first_of x (m.born cell)) x_is ∙ sym (adopted_as_born size m r cell there empty x_is) ∙ born
+    kept None (Some content) is (Settled held e changes there) = absurd (let no : None ≡ Some held = e in cc)
+    kept None (Some content) is (Ahead held v e a) = absurd (let no : None ≡ Some held = e in cc)
+
+    served : IsGoodAt m i cell → (b : Bool) → fits (contents_of (m.bricks i).store) op ≡ b → IsGood m cell (if b then op_of (contents_of (m.bricks i).store) u op cell ((m.bricks i).store cell) else (m.bricks i).store cell).copy
+    served good false fit = good
+    served good true fit = by_cell (is_or_not (has_cell (needs op) cell)) where
+      by_cell : (has_cell (needs op) cell ≡ true) ⊎ (has_cell (needs op) cell ≡ false) → IsGood m cell (op_of (contents_of (m.bricks i).store) u op cell ((m.bricks i).store cell)).copy
+      by_cell (inl has) = subst (λ b. IsGood m cell (copy_with (changes_after b u ((m.bricks i).store cell).copy) (content_after (contents_of (m.bricks i).store) op cell))) (sym has) (altered has fit)
+      by_cell (inr other) =
+          subst (λ b. IsGood m cell (copy_with (changes_after b u ((m.bricks i).store cell).copy) (content_after (contents_of (m.bricks i).store) op cell))) (sym other)
+          (kept ((m.bricks i).store cell).copy (content_after (contents_of (m.bricks i).store) op cell) (left_alone (contents_of (m.bricks i).store) op cell other) good)
+
+    pub op_good : IsGoodAt m i cell → IsGood m cell (stored_by (Op u op) (m.bricks i).store cell).copy
+    op_good good = served good (fits (contents_of (m.bricks i).store) op) refl
+
+pub ops_keep_good : OpsKeepGood
+ops_keep_good size m r i u op n cell good = op_good size m r i u op n cell good

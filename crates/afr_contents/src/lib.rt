@@ -1,0 +1,8 @@
+//! What copies hold.
+#![tactic(auto)]
+
+mod copies;
+mod decisions;
+
+pub use copies::{every_adopted_is_as_born, ops_keep_good, steps_keep_good};
+pub use decisions::{accusations_stay, every_decision_is_spread};
