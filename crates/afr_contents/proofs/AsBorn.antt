@@ -44,10 +44,10 @@ module _ (size : Size) (m : State) (r : IsReached size m) (step : Step) (allowed
     by_case (ContentsMove.Same a b) = old (sym (ap (λ (f : Contents). f cell) a) ∙ is)
     by_case (ContentsMove.Unsettles op first a b) = old (sym (ap (λ (f : Contents). f cell) a) ∙ is)
     by_case (ContentsMove.Bears op first a b) =
-        born (births op) (subst (λ f. AreBorn f (births op)) (sym b) (births_born m.born op first)) (m.adopted cell) refl
+        born (births op) (subst (λ (f : Contents). AreBorn f (births op)) (sym b) (births_born m.born op first)) (m.adopted cell) refl
         (sym (after_births_on (births op) m.adopted cell) ∙ sym (ap (λ (f : Contents). f cell) a) ∙ is)
     by_case (ContentsMove.Adopts t step_is may unsettled adopts a b) =
-        born (births op) (subst (λ f. AreBorn f (births op)) (sym b) ((every_cell_is_born_once size m r).one.changes may.change (sent_is (m.changes may.change).verdict unsettled))) (m.adopted cell) refl
+        born (births op) (subst (λ (f : Contents). AreBorn f (births op)) (sym b) ((every_cell_is_born_once size m r).one.changes may.change (sent_is (m.changes may.change).verdict unsettled))) (m.adopted cell) refl
         (sym (contents_on m.adopted op cell ∙ left_alone m.adopted op cell outside) ∙ sym (ap (λ (f : Contents). f cell) a) ∙ is)
       where
         op : StoreOp

@@ -1,22 +1,33 @@
 -- A good copy stays good, but for a decision that leaves it out.
 use Rattle.std.proofs.Common.{◌≡◌, ◌∙◌, ℕ, ◌+◌, ◌≤◌, ◌<◌, Bool, true, false, refl, sym, ap, subst, ◌⊎◌, inl, inr, arith, Option, Some, None}
-use Rattle.std.specs.Prelude.{List, [], ◌∷◌, ◌≢◌, ◌&&◌, ◌||◌, ◌==◌, is_some}
+use Rattle.std.specs.Prelude.{List, [], ◌∷◌, ◌≢◌, ◌++◌, ◌&&◌, ◌||◌, ◌==◌, not, is_some, if◌then◌else◌}
 use Rattle.std.proofs.lemmas.Bool.{eq-eqb}
 use Rattle.fop_types.specs.StoreOps.{Contents, needs, births, fits, content_after, contents_after}
 use Rattle.fop_types.specs.declared.cells.Cell.{Cell}
 use Rattle.fop_types.specs.declared.contents.Content.{Content}
 use Rattle.fop_types.specs.declared.store_ops.StoreOp.{StoreOp}
-use Rattle.afr_machine.specs.Replicas.{Size, count}
-use Rattle.afr_machine.specs.Touching.{has_cell, share}
-use Rattle.afr_machine.specs.Copies.{Copy, changes_of, has_change}
+use Rattle.afr_machine.specs.Replicas.{Size, Replicas, count}
+use Rattle.afr_machine.specs.Touching.{is_cell, has_cell}
+use Rattle.afr_machine.specs.Copies.{Copy, Kept, Store, changes_of, has_change, on_cells, mark_of, post_of, settle_of, clear_of}
+use Rattle.afr_machine.specs.Requests.{Sender, Ask, Input}
+use Rattle.afr_machine.specs.Requests.Ask.{Mark, Op, Post, Replace, Clear, Settle}
+use Rattle.afr_machine.specs.Requests.Input.{Asked}
+use Rattle.afr_machine.specs.Bricks.{Brick, stored_by}
 use Rattle.afr_machine.specs.Changes.{Change, Verdict, is_unsettled, is_adopted_on}
 use Rattle.afr_machine.specs.States.{State}
-use Rattle.afr_machine.specs.Steps.{Step, Allowed, MayDecide, after, IsReached}
+use Rattle.afr_machine.specs.Sending.{asks_of, inputs_of, sender_of}
+use Rattle.afr_machine.specs.Steps.{Step, Allowed, MayDecide, after, IsReached, decided_by, decided, deciding}
+use Rattle.afr_machine.specs.Moves.{BrickMove, IsTaken}
+use Rattle.afr_machine.specs.Moves.BrickMove.{Stays, Takes, Hands, Serves, Refuses, GivesUp, Steers}
+use Rattle.afr_machine.proofs.Tables.{at_each}
+use Rattle.afr_machine.proofs.BrickMoves.{bricks_move}
 use Rattle.afr_laws.specs.Numbers.{applied}
-use Rattle.afr_laws.proofs.Bools.{apart_bools, is_or_not, either_way}
+use Rattle.afr_laws.proofs.Bools.{apart_bools, is_or_not, both_left, both_right, not_true}
 use Rattle.afr_laws.proofs.Counts.{count_within}
 use Rattle.afr_laws.proofs.Copies.Asks.{share_at}
 use Rattle.afr_laws.proofs.Copies.Contents.{needed_present}
+use Rattle.afr_laws.proofs.Copies.Served.{served_store, steered_store}
+use Rattle.afr_laws.proofs.Sharing.{cells_are}
 use Rattle.afr_laws.proofs.Drawn.{changes_are_drawn}
 use Rattle.afr_laws.proofs.OwnChanges.Steps.{changes_are_own}
 use Rattle.afr_soundness.proofs.ChangeMoves.{ChangeMove, change_moves}
@@ -24,22 +35,22 @@ use Rattle.afr_soundness.proofs.Unsettled.{one_unsettled}
 use Rattle.afr_contents.specs.Staying.{IsAccused, SendsPardon, accusers_staying}
 use Rattle.afr_contents.specs.Spread.{HasAsDecided, IsAccusedOnEach}
 use Rattle.afr_contents.specs.Adopted.{adopted_on, first_of, settled, ChangesOfAdopted}
-use Rattle.afr_contents.specs.Good.{IsAhead, IsGood, IsGoodOrAccused, LeavesCopy, StepsKeepGood}
+use Rattle.afr_contents.specs.Good.{IsAhead, IsGood, IsGoodAt, IsGoodOrAccused, CopiesGoodOrAccused, IsNextOp, FrontIsRight, IsAccusedElsewhere, PardonsAreRight, StepsKeepGood}
 use Rattle.afr_contents.specs.Good.IsGood.{Absent, Settled, Ahead}
 use Rattle.afr_contents.proofs.Staying.{accusations_stay}
 use Rattle.afr_contents.proofs.Spread.{decisions_spread}
 use Rattle.afr_contents.proofs.Lists.{below_adopted}
-use Rattle.afr_contents.proofs.Ops.{fits_same, content_same, contents_on}
+use Rattle.afr_contents.proofs.Ops.{some_of, first_is, fits_same, content_same, contents_on}
+use Rattle.afr_contents.proofs.OpsGood.{op_leaves, op_makes}
 use Rattle.afr_contents.proofs.Settled.{Deciding, Adopting, decides_that, decides_alike, on_stays, on_adds, adopted_now, settled_stays, unsettled_not_on}
 
--- a content that is there
-pub some_of : (x : Option Content) → is_some x ≡ true → {P : Type 0} → ((content : Content) → x ≡ Some content → P) → P
-some_of (Some content) h f = f content refl
-some_of None h f = absurd (let e : false ≡ true = h in cc)
+abbrev is_clear : Step → Bool
+is_clear (Step.Asks t k first (Clear cells who)) = true
+is_clear other = false
 
-pub first_is : (x y : Option Content) → is_some x ≡ true → first_of x y ≡ x
-first_is (Some content) y h = refl
-first_is None y h = absurd (let e : false ≡ true = h in cc)
+abbrev is_decision : Step → Bool
+is_decision (Step.Decides t) = true
+is_decision other = false
 
 module _ (size : Size) (m : State) (r : IsReached size m) (step : Step) (allowed : Allowed size m step) where
   abbrev new : State
@@ -89,7 +100,7 @@ module _ (size : Size) (m : State) (r : IsReached size m) (step : Step) (allowed
 
       -- no other change is decided on its cells
       agrees : (d : Cell) → has_cell (needs (m.changes u).op) d ≡ true → settled new d ≡ settled m d
-      agrees d has = some_of (settled m d) (needed_present (settled m) (m.changes u).op d a.fits has) (λ content is. settled_stays size m r step allowed d content apart is ∙ sym is) where
+      agrees d has = some_of (settled m d) (needed_present (settled m) (m.changes u).op d a.fitting has) (λ content is. settled_stays size m r step allowed d content apart is ∙ sym is) where
         touched : has_cell (m.changes u).cells d ≡ true
         touched = ap (λ cs. has_cell cs d) (needed u) ∙ has
 
@@ -103,7 +114,7 @@ module _ (size : Size) (m : State) (r : IsReached size m) (step : Step) (allowed
       ahead_stays = record {
         unsettled = goes.still;
         touches = ap (λ cs. has_cell cs cell) goes.cells ∙ a.touches;
-        fits = ap (fits (settled new)) goes.op ∙ fits_same (settled new) (settled m) (m.changes u).op agrees ∙ a.fits;
+        fitting = ap (fits (settled new)) goes.op ∙ fits_same (settled new) (settled m) (m.changes u).op agrees ∙ a.fitting;
         changes = a.changes ∙ ap (λ l. u ∷ l) (sym list_stays);
         content = ap (λ o. content_after (settled new) o cell) goes.op ∙ content_same (settled new) (settled m) (m.changes u).op agrees cell cell_agrees ∙ a.content;
       }
@@ -178,38 +189,141 @@ module _ (size : Size) (m : State) (r : IsReached size m) (step : Step) (allowed
     by_case (inl unsettled) (inl there) = Decides h.change (record { deciding = record { txn = t; step_is = is; may = h; at = refl; unsettled = unsettled }; touches = there })
     by_case (inr not_so) there = Leaves (λ u d. apart_bools (sym (ap (λ n. is_unsettled (m.changes n).verdict) (only u d)) ∙ d.deciding.unsettled) not_so)
     by_case unsettled (inr other) = Leaves (λ u d. apart_bools (sym (ap (λ n. has_cell (m.changes n).cells cell) (only u d)) ∙ d.touches) other)
-  is_deciding cell other is h = Leaves (λ u d. absurd (let e : other ≡ Step.Decides d.deciding.txn = sym is ∙ d.deciding.step_is in cc))
+  is_deciding cell other is h = Leaves (λ u d. absurd (let e : false ≡ true = ap is_decision (sym is ∙ d.deciding.step_is) in cc))
 
-  -- ---- replicas
+  -- ---- a decision leaves bricks as they are
 
-  module _ (adopted : ChangesOfAdopted m) (i : ℕ) (cell : Cell) (low : i < size.replicas) (leaves : LeavesCopy size m step i cell) where
-    accused_stays : IsAccused size m cell i → IsAccused size new cell i
-    accused_stays (inl itself) = inl (accusations_stay size m step allowed i i cell itself (leaves.unsent i))
-    accused_stays (inr many) =
-        let more = count_within size.replicas (accusers_staying m cell i) (accusers_staying (after size m step) cell i) (λ k few accuses. accusations_stay size m step allowed k i cell accuses (leaves.unsent k)) in
+  decided_bricks : (o : Option (ℕ × Bool)) → (decided m o).bricks ≡ m.bricks
+  decided_bricks None = refl
+  decided_bricks (Some o) = by_case o.1 (is_unsettled (m.changes o.0).verdict) where
+    by_case : (a b : Bool) → (deciding m o.0 a b).bricks ≡ m.bricks
+    by_case a false = refl
+    by_case true true = refl
+    by_case false true = refl
+
+  module _ (adopted : ChangesOfAdopted m) (i : ℕ) (cell : Cell) (low : i < size.replicas) where
+    accused_stays : ((k : ℕ) → SendsPardon step k cell i → ⊥) → IsAccused size m cell i → IsAccused size new cell i
+    accused_stays unsent (inl itself) = inl (accusations_stay size m step allowed i i cell itself (unsent i))
+    accused_stays unsent (inr many) =
+        let more = count_within size.replicas (accusers_staying m cell i) (accusers_staying (after size m step) cell i) (λ k few accuses. accusations_stay size m step allowed k i cell accuses (unsent k)) in
         inr (omega (arith, more, many))
 
-    copy_now : IsGood new cell ((m.bricks i).store cell).copy → IsGoodOrAccused size new i cell
-    copy_now good = inl (subst (IsGood (after size m step) cell) (sym leaves.copy) good)
+    pub decided_keeps : (u : ℕ) → DecidesOn cell u → IsGoodOrAccused size m i cell → IsGoodOrAccused size new i cell
+    decided_keeps u d = from_good where
+      unsent : (k : ℕ) → SendsPardon step k cell i → ⊥
+      unsent k s = absurd (let e : true ≡ false = ap is_decision (sym d.deciding.step_is ∙ s.is) in cc)
 
-    decided : (u : ℕ) (d : DecidesOn cell u) → IsGood m cell ((m.bricks i).store cell).copy → IsGoodOrAccused size new i cell
-    decided u d good = by_case (decisions_spread size m r d.deciding.txn d.deciding.may (ap (λ n. is_unsettled (m.changes n).verdict) (sym d.deciding.at) ∙ d.deciding.unsettled) i low) where
-      at : (m.changes d.deciding.may.change).cells ≡ (m.changes u).cells
-      at = ap (λ n. (m.changes n).cells) (sym d.deciding.at)
+      same : (new.bricks i).store cell ≡ (m.bricks i).store cell
+      same = ap (λ st. ((after size m st).bricks i).store cell) d.deciding.step_is ∙ ap (λ (f : ℕ → Brick). (f i).store cell) (decided_bricks (decided_by (m.txns d.deciding.txn).stage))
 
       there : has_cell (m.changes d.deciding.may.change).cells cell ≡ true
-      there = ap (λ cs. has_cell cs cell) at ∙ d.touches
+      there = ap (λ n. has_cell (m.changes n).cells cell) (sym d.deciding.at) ∙ d.touches
 
-      by_case : HasAsDecided m d.deciding.may.change d.deciding.may.adopts i ⊎ IsAccusedOnEach size m d.deciding.may.change i → IsGoodOrAccused size new i cell
-      by_case (inl has) = copy_now (good_decided adopted cell u d ((m.bricks i).store cell).copy (ap (has_change (applied m i cell)) d.deciding.at ∙ has cell there) good)
-      by_case (inr accused) = inr (accused_stays (inr (accused cell there)))
+      unsettled : is_unsettled (m.changes d.deciding.may.change).verdict ≡ true
+      unsettled = ap (λ n. is_unsettled (m.changes n).verdict) (sym d.deciding.at) ∙ d.deciding.unsettled
 
-    pub keeps : IsGoodOrAccused size m i cell → IsGoodOrAccused size new i cell
-    keeps (inr accused) = inr (accused_stays accused)
-    keeps (inl good) = by_case (is_deciding cell step refl allowed) where
+      spread : IsGoodAt m i cell → HasAsDecided m d.deciding.may.change d.deciding.may.adopts i ⊎ IsAccusedOnEach size m d.deciding.may.change i → IsGoodOrAccused size new i cell
+      spread good (inl has) = inl (subst (λ (k : Kept). IsGood (after size m step) cell k.copy) (sym same) (good_decided adopted cell u d ((m.bricks i).store cell).copy (ap (has_change (applied m i cell)) d.deciding.at ∙ has cell there) good))
+      spread good (inr accused) = inr (accused_stays unsent (inr (accused cell there)))
+
+      from_good : IsGoodOrAccused size m i cell → IsGoodOrAccused size new i cell
+      from_good (inl good) = spread good (decisions_spread size m r d.deciding.txn d.deciding.may unsettled i low)
+      from_good (inr accused) = inr (accused_stays unsent accused)
+
+    -- ---- any other step
+
+    abbrev Next : Brick → Type 0
+    Next b = IsGood m cell (b.store cell).copy ⊎ IsAccused size m cell i
+
+    module _ (right : FrontIsRight size m i) (good : IsGoodAt m i cell) where
+      on_same : (cells : List Cell) (f : Kept → Kept) → ((kept : Kept) → (f kept).copy ≡ kept.copy) → IsGood m cell (on_cells cells f (m.bricks i).store cell).copy
+      on_same cells f keeps = by_case (has_cell cells cell) where
+        by_case : (b : Bool) → IsGood m cell (if b then f ((m.bricks i).store cell) else (m.bricks i).store cell).copy
+        by_case true = subst (IsGood m cell) (sym (keeps ((m.bricks i).store cell))) good
+        by_case false = good
+
+      stored : (by : Sender) (ask : Ask) (rest : List Input) → (m.bricks i).line ≡ Asked by ask ∷ rest → IsGood m cell (stored_by ask (m.bricks i).store cell).copy ⊎ IsAccused size m cell i
+      stored by (Mark u cells) rest front = inl (on_same cells mark_of (λ kept. refl))
+      stored by (Op u op) rest front = by_cell (is_or_not (has_cell (needs op) cell)) (right.applies by u op rest front) where
+        by_cell : (has_cell (needs op) cell ≡ true) ⊎ (has_cell (needs op) cell ≡ false) → IsNextOp m i u op ⊎ ((c : Cell) → has_cell (needs op) c ≡ true → IsAccused size m c i) → IsGood m cell (stored_by (Op u op) (m.bricks i).store cell).copy ⊎ IsAccused size m cell i
+        by_cell (inl has) (inl next) = inl (op_makes size m r i u op by rest front cell next has good)
+        by_cell (inl has) (inr accused) = inr (accused cell has)
+        by_cell (inr other) next = inl (op_leaves size m r i u op by rest front cell other good)
+      stored by (Post u cells accused) rest front = inl (on_same cells (post_of accused) (λ kept. refl))
+      stored by (Replace at found) rest front = by_case (is_cell cell at) refl (right.replaces by at found rest front) where
+        by_case : (b : Bool) → is_cell cell at ≡ b → IsGood m at (Some found.copy) ⊎ IsAccused size m at i → IsGood m cell (if b then record ((m.bricks i).store cell) { copy = Some found.copy; last = found.last } else (m.bricks i).store cell).copy ⊎ IsAccused size m cell i
+        by_case true is (inl carried) = inl (subst (λ c. IsGood m c (Some found.copy)) (sym (cells_are cell at is)) carried)
+        by_case true is (inr accused) = inr (subst (λ c. IsAccused size m c i) (sym (cells_are cell at is)) accused)
+        by_case false is carried = inl good
+      stored by (Clear cells who) rest front = inl (on_same cells (clear_of who) (λ kept. refl))
+      stored by (Settle u cells accused) rest front = inl (on_same cells (settle_of accused) (λ kept. refl))
+      stored by other rest front = inl good
+
+      by_move : BrickMove (IsTaken m step i) (m.bricks i) (new.bricks i) → Next (new.bricks i)
+      by_move (Serves by ask rest front would is) = subst Next (sym is) (subst (λ (st : Store). IsGood m cell (st cell).copy ⊎ IsAccused size m cell i) (sym (served_store (m.bricks i).power by ask (record (m.bricks i) { line = rest }))) (stored by ask rest front))
+      by_move (Stays is) = subst Next (sym is) (inl good)
+      by_move (Takes inputs its is) = subst Next (sym is) (inl good)
+      by_move (Hands first rest front is) = subst Next (sym is) (inl good)
+      by_move (Refuses by ask answer rest front may_be refusal is) = subst Next (sym is) (inl good)
+      by_move (GivesUp by ask rest front would is) = subst Next (sym is) (inl good)
+      by_move (Steers control rest front is) = subst Next (sym is) (inl (subst (λ (st : Store). IsGood m cell (st cell).copy) (sym (steered_store control (record (m.bricks i) { line = rest }))) good))
+
+    -- ---- whether it sends a clear that names the replica
+
+    data IsPardoning : Type 0 where
+      Pardons : (k : ℕ) → SendsPardon step k cell i → ((j : ℕ) → SendsPardon step j cell i → j ≡ k) → (new.bricks i).store ≡ (m.bricks i).store → IsPardoning
+      Spares : ((k : ℕ) → SendsPardon step k cell i → ⊥) → IsPardoning
+
+    same_asks : (t s k j : ℕ) (f g : Bool) (a b : Ask) → Step.Asks t k f a ≡ Step.Asks s j g b → (k ≡ j) × (a ≡ b)
+    same_asks t s k j f g a b e = (cc, cc)
+
+    same_clears : (cells others : List Cell) (who whom : Replicas) → Clear cells who ≡ Clear others whom → (cells ≡ others) × (who ≡ whom)
+    same_clears cells others who whom e = (cc, cc)
+
+    is_pardoning : (st : Step) → step ≡ st → IsPardoning
+    is_pardoning (Step.Asks t k first (Clear cells who)) is = by_case (is_or_not (has_cell cells cell)) (is_or_not (who i)) where
+      only : (j : ℕ) (s : SendsPardon step j cell i) → (k ≡ j) × (Clear cells who ≡ Clear s.cells s.who)
+      only j s = same_asks t s.txn k j first s.first (Clear cells who) (Clear s.cells s.who) (sym is ∙ s.is)
+
+      store_same : (new.bricks i).store ≡ (m.bricks i).store
+      store_same = ap (λ st. ((after size m st).bricks i).store) is ∙ at_each (λ j (b : Brick). b.store ≡ (m.bricks j).store) m.bricks k (record (m.bricks k) { line = (m.bricks k).line ++ inputs_of (sender_of m t k) (asks_of first (Clear cells who)) }) refl i refl
+
+      by_case : (has_cell cells cell ≡ true) ⊎ (has_cell cells cell ≡ false) → (who i ≡ true) ⊎ (who i ≡ false) → IsPardoning
+      by_case (inl there) (inl named) = Pardons k (record { txn = t; first = first; cells = cells; who = who; is = is; covers = there; names = named }) (λ j s. sym (only j s).0) store_same
+      by_case (inr other) named = Spares (λ j s. apart_bools (ap (λ cs. has_cell cs cell) (same_clears cells s.cells who s.who (only j s).1).0 ∙ s.covers) other)
+      by_case there (inr spared) = Spares (λ j s. apart_bools (ap (λ (f : Replicas). f i) (same_clears cells s.cells who s.who (only j s).1).1 ∙ s.names) spared)
+    is_pardoning other is = Spares (λ k s. absurd (let e : false ≡ true = ap is_clear (sym is ∙ s.is) in cc))
+
+    module _ (none : (u : ℕ) → DecidesOn cell u → ⊥) where
+      good_now : IsGood m cell ((new.bricks i).store cell).copy → IsGoodOrAccused size new i cell
+      good_now h = inl (good_stays cell none ((new.bricks i).store cell).copy h)
+
+      pardoned : PardonsAreRight size m step → IsAccused size m cell i → IsPardoning → IsGoodOrAccused size new i cell
+      pardoned right accused (Spares unsent) = inr (accused_stays unsent accused)
+      pardoned right accused (Pardons k sent only same) = elsewhere (right k i cell low sent) where
+        elsewhere : IsGoodAt m i cell ⊎ IsAccusedElsewhere size m cell i k → IsGoodOrAccused size new i cell
+        elsewhere (inl good) = good_now (subst (λ (st : Store). IsGood m cell (st cell).copy) (sym same) good)
+        elsewhere (inr (inl itself)) = inr (inl (accusations_stay size m step allowed i i cell itself.1 (λ s. itself.0 (only i s))))
+        elsewhere (inr (inr many)) =
+            let more = count_within size.replicas (λ j. not (j == k) && accusers_staying m cell i j) (accusers_staying (after size m step) cell i)
+                (λ j few h. accusations_stay size m step allowed j i cell (both_right (not (j == k)) (accusers_staying m cell i j) h) (λ s. apart_bools (eq-eqb j k (only j s)) (not_true (j == k) (both_left (not (j == k)) (accusers_staying m cell i j) h)))) in
+            inr (inr (omega (arith, more, many)))
+
+      pub other_keeps : FrontIsRight size m i → PardonsAreRight size m step → IsGoodOrAccused size m i cell → IsGoodOrAccused size new i cell
+      other_keeps front right h = by_case h where
+        next : Next (new.bricks i) → IsGoodOrAccused size new i cell
+        next (inl good) = good_now good
+        next (inr accused) = pardoned right accused (is_pardoning step refl)
+
+        by_case : IsGoodOrAccused size m i cell → IsGoodOrAccused size new i cell
+        by_case (inl good) = next (by_move front good (bricks_move size m step allowed i))
+        by_case (inr accused) = pardoned right accused (is_pardoning step refl)
+
+    pub keeps : FrontIsRight size m i → PardonsAreRight size m step → IsGoodOrAccused size m i cell → IsGoodOrAccused size new i cell
+    keeps front right h = by_case (is_deciding cell step refl allowed) where
       by_case : IsDeciding cell → IsGoodOrAccused size new i cell
-      by_case (Decides u d) = decided u d good
-      by_case (Leaves none) = copy_now (good_stays cell none ((m.bricks i).store cell).copy good)
+      by_case (Decides u d) = decided_keeps u d h
+      by_case (Leaves none) = other_keeps none front right h
 
 pub steps_keep_good : StepsKeepGood
-steps_keep_good size m step r allowed adopted i cell low leaves h = keeps size m r step allowed adopted i cell low leaves h
+steps_keep_good size m step r allowed adopted fronts right h = λ i cell low. keeps size m r step allowed adopted i cell low (fronts i) right (h i cell low)

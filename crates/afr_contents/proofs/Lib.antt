@@ -4,6 +4,7 @@ pub mod Lists
 pub mod Ops
 pub mod Contents
 pub mod Settled
-pub mod Good
 pub mod AsBorn
 pub mod OpsGood
+pub mod Good
+pub mod Found

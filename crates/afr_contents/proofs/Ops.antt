@@ -1,5 +1,5 @@
 -- What an op makes of a cell depends on the cells that it needs alone; and it leaves all others but for births.
-use Rattle.std.proofs.Common.{◌≡◌, ◌∙◌, Bool, true, false, refl, sym, ap, subst, ◌⊎◌, inl, inr, Option, Some, None}
+use Rattle.std.proofs.Common.{◌≡◌, ◌∙◌, ℕ, Bool, true, false, refl, sym, ap, subst, ◌⊎◌, inl, inr, Option, Some, None}
 use Rattle.std.specs.Prelude.{List, [], ◌∷◌, ◌&&◌, ◌||◌, not, is_none, is_some, if◌then◌else◌}
 use Rattle.std.specs.Ordering.{is_eq, match_ordering}
 use Rattle.std.specs.declared.cmp.Ordering.{Ordering}
@@ -25,6 +25,15 @@ use Rattle.afr_contents.specs.Adopted.{first_of}
 
 is_itself : (cell : Cell) → is_cell cell cell ≡ true
 is_itself cell = ap is_eq (tied_itself cell_cmp_total cell)
+
+-- a content that is there
+pub some_of : {P : Type 0} → (x : Option Content) → is_some x ≡ true → ((content : Content) → x ≡ Some content → P) → P
+some_of (Some content) h f = f content refl
+some_of None h f = absurd (let e : false ≡ true = h in cc)
+
+pub first_is : (x y : Option Content) → is_some x ≡ true → first_of x y ≡ x
+first_is (Some content) y h = refl
+first_is None y h = absurd (let e : false ≡ true = h in cc)
 
 -- ---- the cells of an op
 
@@ -54,7 +63,7 @@ module _ (a b : Contents) (op : StoreOp) (same : (cell : Cell) → has_cell (nee
       ap (λ x. if holds c.aspect x then are_present a cs else false) (h c (first_has c cs))
       ∙ ap (λ x. if holds c.aspect (b c) then x else false) (present_same cs (λ cell has. h cell (or_last (is_cell cell c) (has_cell cs cell) has)))
 
-item_same : (a b : Contents) (parent : Gfid) (name : List _) → a (names_cell parent) ≡ b (names_cell parent) → item_in a parent name ≡ item_in b parent name
+item_same : (a b : Contents) (parent : Gfid) (name : List ℕ) → a (names_cell parent) ≡ b (names_cell parent) → item_in a parent name ≡ item_in b parent name
 item_same a b parent name h = ap (λ x. item_named (items_of x) name) h
 
 edits_same : (a b : Contents) (op : StoreOp) → ((cell : Cell) → has_cell (needs op) cell ≡ true → a cell ≡ b cell) → edits a op ≡ edits b op
@@ -122,10 +131,10 @@ edits_are_of a (MakeCopy gfid span) = tt
 
 edits_leave : (cells : List Cell) (cell : Cell) → has_cell cells cell ≡ false → (es : List (Cell × Edit)) (content : Option Content) → AreOf cells es → edited_on cell content es ≡ content
 edits_leave cells cell none [] content of = refl
-edits_leave cells cell none (e ∷ es) content of = by_case (is_cell cell e.0) refl where
-  by_case : (b : Bool) → is_cell cell e.0 ≡ b → edited_on cell (if b then edited_if_present e.1 content else content) es ≡ content
-  by_case true is = apart_bools of.0 (subst (λ c. has_cell cells c ≡ false) (cells_are cell e.0 is) none)
-  by_case false is = edits_leave cells cell none es content of.1
+edits_leave cells cell none (e ∷ es) content of = by_case (edits_leave cells cell none es content of.1) (is_cell cell e.0) refl where
+  by_case : edited_on cell content es ≡ content → (b : Bool) → is_cell cell e.0 ≡ b → edited_on cell (if b then edited_if_present e.1 content else content) es ≡ content
+  by_case rest true is = apart_bools of.0 (subst (λ c. has_cell cells c ≡ false) (cells_are cell e.0 is) none)
+  by_case rest false is = rest
 
 pub left_alone : (a : Contents) (op : StoreOp) (cell : Cell) → has_cell (needs op) cell ≡ false → content_after a op cell ≡ born_on cell (a cell) (births op)
 left_alone a op cell none = ap (λ x. born_on cell x (births op)) (edits_leave (needs op) cell none (edits a op) (a cell) (edits_are_of a op))
@@ -134,18 +143,19 @@ left_alone a op cell none = ap (λ x. born_on cell x (births op)) (edits_leave (
 
 pub unborn : (cell : Cell) (bs : List (Cell × Content)) (content : Content) → born_on cell (Some content) bs ≡ Some content
 unborn cell [] content = refl
-unborn cell (b ∷ bs) content = by_case (is_cell cell b.0) where
-  by_case : (c : Bool) → born_on cell (if c then born_if_absent b.1 (Some content) else Some content) bs ≡ Some content
-  by_case true = unborn cell bs content
-  by_case false = unborn cell bs content
+unborn cell (b ∷ bs) content = by_case (unborn cell bs content) (is_cell cell b.0) where
+  by_case : born_on cell (Some content) bs ≡ Some content → (c : Bool) → born_on cell (if c then born_if_absent b.1 (Some content) else Some content) bs ≡ Some content
+  by_case rest true = rest
+  by_case rest false = rest
+
+from_none : (born : Contents) (cell : Cell) (bs : List (Cell × Content)) → AreBorn born bs → first_of (born_on cell None bs) (born cell) ≡ born cell
+from_none born cell [] h = refl
+from_none born cell (b ∷ bs) h = by_case (from_none born cell bs h.1) (is_cell cell b.0) refl where
+  by_case : first_of (born_on cell None bs) (born cell) ≡ born cell → (c : Bool) → is_cell cell b.0 ≡ c → first_of (born_on cell (if c then Some b.1 else None) bs) (born cell) ≡ born cell
+  by_case rest true is = ap (λ x. first_of x (born cell)) (unborn cell bs b.1) ∙ sym (ap born (cells_are cell b.0 is) ∙ h.0)
+  by_case rest false is = rest
 
 -- births that are as the cells were born leave what is adopted or born
 pub born_settled : (born : Contents) (cell : Cell) (bs : List (Cell × Content)) (content : Option Content) → AreBorn born bs → first_of (born_on cell content bs) (born cell) ≡ first_of content (born cell)
 born_settled born cell bs (Some content) h = ap (λ x. first_of x (born cell)) (unborn cell bs content)
-born_settled born cell bs None h = from_none bs h where
-  from_none : (bs : List (Cell × Content)) → AreBorn born bs → first_of (born_on cell None bs) (born cell) ≡ born cell
-  from_none [] h = refl
-  from_none (b ∷ bs) h = by_case (is_cell cell b.0) refl where
-    by_case : (c : Bool) → is_cell cell b.0 ≡ c → first_of (born_on cell (if c then Some b.1 else None) bs) (born cell) ≡ born cell
-    by_case true is = ap (λ x. first_of x (born cell)) (unborn cell bs b.1) ∙ sym (ap born (cells_are cell b.0 is) ∙ h.0)
-    by_case false is = from_none bs h.1
+born_settled born cell bs None h = from_none born cell bs h

@@ -10,6 +10,7 @@ use Rattle.afr_machine.specs.Touching.{has_cell}
 use Rattle.afr_machine.specs.Copies.{Copy, Store, content_of, contents_of, changes_after, copy_with, op_of}
 use Rattle.afr_machine.specs.Requests.{Sender, Ask, Input}
 use Rattle.afr_machine.specs.Requests.Ask.{Op}
+use Rattle.afr_machine.specs.Requests.Input.{Asked}
 use Rattle.afr_machine.specs.Bricks.{stored_by}
 use Rattle.afr_machine.specs.Changes.{is_unsettled}
 use Rattle.afr_machine.specs.States.{State}
@@ -23,54 +24,23 @@ use Rattle.afr_laws.proofs.Copies.Contents.{content_stays}
 use Rattle.afr_laws.proofs.Copies.Steps.{copies_are_of_changes}
 use Rattle.afr_laws.proofs.OwnChanges.Steps.{changes_are_own}
 use Rattle.afr_contents.specs.Adopted.{adopted_on, first_of, settled}
-use Rattle.afr_contents.specs.Good.{IsAhead, IsGood, IsGoodAt, IsSettledCopy, IsNextOp, OpsKeepGood}
+use Rattle.afr_contents.specs.Good.{IsAhead, IsGood, IsGoodAt, IsSettledCopy, IsNextOp}
 use Rattle.afr_contents.specs.Good.IsGood.{Absent, Settled, Ahead}
-use Rattle.afr_contents.proofs.Ops.{fits_same, content_same, left_alone, born_settled, unborn}
-use Rattle.afr_contents.proofs.Good.{some_of}
+use Rattle.afr_contents.proofs.Ops.{some_of, fits_same, content_same, left_alone, born_settled, unborn}
 use Rattle.afr_contents.proofs.AsBorn.{adopted_as_born}
 
-module _ (size : Size) (m : State) (r : IsReached size m) (i u : ℕ) (op : StoreOp) (n : IsNextOp m i u op) where
-  store : Store
-  store = (m.bricks i).store
-
+module _ (size : Size) (m : State) (r : IsReached size m) (i u : ℕ) (op : StoreOp) (by : Sender) (rest : List Input) (front : (m.bricks i).line ≡ Asked by (Op u op) ∷ rest) where
   of_change : IsOpOf m.changes u op
-  of_change = (subst (EachInput (λ by ask. Carries m.changes ask)) n.front ((copies_are_of_changes size m r).bricks i).line).0
+  of_change = (subst (EachInput (λ by ask. Carries m.changes ask)) front ((copies_are_of_changes size m r).bricks i).line).0
 
   born_as : AreBorn m.born (births op)
-  born_as = (subst (EachInput (λ by ask. BearsAsBorn m.born ask)) n.front ((every_cell_is_born_once size m r).one.bricks i).line).0
-
-  agrees : (d : Cell) → has_cell (needs op) d ≡ true → contents_of (m.bricks i).store d ≡ settled m d
-  agrees d has = let f = n.finds d has in ap content_of f.is ∙ sym f.content
+  born_as = (subst (EachInput (λ by ask. BearsAsBorn m.born ask)) front ((every_cell_is_born_once size m r).one.bricks i).line).0
 
   module _ (cell : Cell) where
-    -- a cell that it needs
-    module _ (has : has_cell (needs op) cell ≡ true) where
-      op_is : op ≡ (m.changes u).op
-      op_is = by_case of_change where
-        by_case : IsOpOf m.changes u op → op ≡ (m.changes u).op
-        by_case (inl birth) = apart_bools has (ap (λ cs. has_cell cs cell) birth.1)
-        by_case (inr sent) = sent.1
+    abbrev Served : Bool → Type 0
+    Served altered = IsGood m cell (copy_with (changes_after altered u ((m.bricks i).store cell).copy) (content_after (contents_of (m.bricks i).store) op cell))
 
-      touches : has_cell (m.changes u).cells cell ≡ true
-      touches = ap (λ cs. has_cell cs cell) ((changes_are_own size m r).fit.needs_are u ∙ ap needs (sym op_is)) ∙ has
-
-      some_content : is_some (content_after (contents_of (m.bricks i).store) op cell) ≡ true
-      some_content = content_stays (contents_of (m.bricks i).store) op cell (ap (λ c. is_some (content_of c)) (n.finds cell has).is)
-
-      altered : fits (contents_of (m.bricks i).store) op ≡ true → IsGood m cell (copy_with (changes_after true u ((m.bricks i).store cell).copy) (content_after (contents_of (m.bricks i).store) op cell))
-      altered fit = some_of (content_after (contents_of (m.bricks i).store) op cell) some_content (λ content is.
-          let f = n.finds cell has in
-          Ahead (record { changes = u ∷ f.held.changes; content = content }) u
-          (ap (λ c. copy_with (changes_after true u c) (content_after (contents_of (m.bricks i).store) op cell)) f.is ∙ ap (copy_with (u ∷ f.held.changes)) is)
-          (record {
-            unsettled = n.unsettled cell has;
-            touches = touches;
-            fits = ap (fits (settled m)) (sym op_is) ∙ sym (fits_same (contents_of (m.bricks i).store) (settled m) op agrees) ∙ fit;
-            changes = ap (λ l. u ∷ l) f.changes;
-            content = ap (λ o. content_after (settled m) o cell) (sym op_is) ∙ sym (content_same (contents_of (m.bricks i).store) (settled m) op agrees cell (agrees cell has)) ∙ is;
-          }))
-
-    -- one that it does not need
+    -- a cell that it does not need
     kept : (copy : Option Copy) (content : Option Content) → content ≡ born_on cell (content_of copy) (births op) → IsGood m cell copy → IsGood m cell (copy_with (changes_after false u copy) content)
     kept (Some held) content is good = subst (λ x. IsGood m cell (copy_with held.changes x)) (sym (is ∙ unborn cell (births op) held.content)) good
     kept None None is good = good
@@ -84,17 +54,51 @@ module _ (size : Size) (m : State) (r : IsReached size m) (i u : ℕ) (op : Stor
     kept None (Some content) is (Settled held e changes there) = absurd (let no : None ≡ Some held = e in cc)
     kept None (Some content) is (Ahead held v e a) = absurd (let no : None ≡ Some held = e in cc)
 
-    served : IsGoodAt m i cell → (b : Bool) → fits (contents_of (m.bricks i).store) op ≡ b → IsGood m cell (if b then op_of (contents_of (m.bricks i).store) u op cell ((m.bricks i).store cell) else (m.bricks i).store cell).copy
-    served good false fit = good
-    served good true fit = by_cell (is_or_not (has_cell (needs op) cell)) where
-      by_cell : (has_cell (needs op) cell ≡ true) ⊎ (has_cell (needs op) cell ≡ false) → IsGood m cell (op_of (contents_of (m.bricks i).store) u op cell ((m.bricks i).store cell)).copy
-      by_cell (inl has) = subst (λ b. IsGood m cell (copy_with (changes_after b u ((m.bricks i).store cell).copy) (content_after (contents_of (m.bricks i).store) op cell))) (sym has) (altered has fit)
-      by_cell (inr other) =
-          subst (λ b. IsGood m cell (copy_with (changes_after b u ((m.bricks i).store cell).copy) (content_after (contents_of (m.bricks i).store) op cell))) (sym other)
-          (kept ((m.bricks i).store cell).copy (content_after (contents_of (m.bricks i).store) op cell) (left_alone (contents_of (m.bricks i).store) op cell other) good)
+    -- one that it needs, where it finds settled copies
+    module _ (n : IsNextOp m i u op) (has : has_cell (needs op) cell ≡ true) where
+      agrees : (d : Cell) → has_cell (needs op) d ≡ true → contents_of (m.bricks i).store d ≡ settled m d
+      agrees d there = ap content_of (n.finds d there).is ∙ sym (n.finds d there).content
 
-    pub op_good : IsGoodAt m i cell → IsGood m cell (stored_by (Op u op) (m.bricks i).store cell).copy
-    op_good good = served good (fits (contents_of (m.bricks i).store) op) refl
+      op_is : op ≡ (m.changes u).op
+      op_is = by_case of_change where
+        by_case : IsOpOf m.changes u op → op ≡ (m.changes u).op
+        by_case (inl birth) = apart_bools has (ap (λ cs. has_cell cs cell) birth.1)
+        by_case (inr sent) = sent.1
 
-pub ops_keep_good : OpsKeepGood
-ops_keep_good size m r i u op n cell good = op_good size m r i u op n cell good
+      touched : has_cell (m.changes u).cells cell ≡ true
+      touched = ap (λ cs. has_cell cs cell) ((changes_are_own size m r).fit.needs_are u ∙ ap needs (sym op_is)) ∙ has
+
+      some_content : is_some (content_after (contents_of (m.bricks i).store) op cell) ≡ true
+      some_content = content_stays (contents_of (m.bricks i).store) op cell (ap (λ c. is_some (content_of c)) (n.finds cell has).is)
+
+      altered : fits (contents_of (m.bricks i).store) op ≡ true → Served true
+      altered fit = some_of (content_after (contents_of (m.bricks i).store) op cell) some_content ahead where
+        f : IsSettledCopy m cell ((m.bricks i).store cell).copy
+        f = n.finds cell has
+
+        ahead : (content : Content) → content_after (contents_of (m.bricks i).store) op cell ≡ Some content → Served true
+        ahead content is =
+            Ahead (record { changes = u ∷ f.held.changes; content = content }) u
+            (ap (λ c. copy_with (changes_after true u c) (content_after (contents_of (m.bricks i).store) op cell)) f.is ∙ ap (copy_with (u ∷ f.held.changes)) is)
+            (record {
+              unsettled = n.unsettled cell has;
+              touches = touched;
+              fitting = ap (fits (settled m)) (sym op_is) ∙ sym (fits_same (contents_of (m.bricks i).store) (settled m) op agrees) ∙ fit;
+              changes = ap (λ l. u ∷ l) f.changes;
+              content = ap (λ o. content_after (settled m) o cell) (sym op_is) ∙ sym (content_same (contents_of (m.bricks i).store) (settled m) op agrees cell (agrees cell has)) ∙ is;
+            })
+
+    abbrev After : Bool → Type 0
+    After b = IsGood m cell (if b then op_of (contents_of (m.bricks i).store) u op cell ((m.bricks i).store cell) else (m.bricks i).store cell).copy
+
+    pub op_leaves : has_cell (needs op) cell ≡ false → IsGoodAt m i cell → IsGood m cell (stored_by (Op u op) (m.bricks i).store cell).copy
+    op_leaves other good = by_fit (fits (contents_of (m.bricks i).store) op) where
+      by_fit : (b : Bool) → After b
+      by_fit false = good
+      by_fit true = subst Served (sym other) (kept ((m.bricks i).store cell).copy (content_after (contents_of (m.bricks i).store) op cell) (left_alone (contents_of (m.bricks i).store) op cell other) good)
+
+    pub op_makes : IsNextOp m i u op → has_cell (needs op) cell ≡ true → IsGoodAt m i cell → IsGood m cell (stored_by (Op u op) (m.bricks i).store cell).copy
+    op_makes n has good = by_fit (fits (contents_of (m.bricks i).store) op) refl where
+      by_fit : (b : Bool) → fits (contents_of (m.bricks i).store) op ≡ b → After b
+      by_fit false fit = good
+      by_fit true fit = subst Served (sym has) (altered n has fit)

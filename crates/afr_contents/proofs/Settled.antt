@@ -178,10 +178,10 @@ module _ (size : Size) (m : State) (r : IsReached size m) (step : Step) (allowed
     by_case (ContentsMove.Unsettles op first a b) = ap (λ (f : Contents). first_of (f cell) (new.born cell)) a ∙ kept
     by_case (ContentsMove.Bears op first a b) =
         ap (λ (f : Contents). first_of (f cell) (new.born cell)) a ∙ ap (λ x. first_of x (new.born cell)) (after_births_on (births op) m.adopted cell)
-        ∙ born_settled new.born cell (births op) (m.adopted cell) (subst (λ f. AreBorn f (births op)) (sym b) (births_born m.born op first)) ∙ kept
+        ∙ born_settled new.born cell (births op) (m.adopted cell) (subst (λ (f : Contents). AreBorn f (births op)) (sym b) (births_born m.born op first)) ∙ kept
     by_case (ContentsMove.Adopts t step_is may unsettled adopts a b) =
         ap (λ (f : Contents). first_of (f cell) (new.born cell)) a ∙ ap (λ x. first_of x (new.born cell)) (contents_on m.adopted op cell ∙ left_alone m.adopted op cell outside)
-        ∙ born_settled new.born cell (births op) (m.adopted cell) (subst (λ f. AreBorn f (births op)) (sym b) ((every_cell_is_born_once size m r).one.changes may.change (sent_is (m.changes may.change).verdict unsettled))) ∙ kept
+        ∙ born_settled new.born cell (births op) (m.adopted cell) (subst (λ (f : Contents). AreBorn f (births op)) (sym b) ((every_cell_is_born_once size m r).one.changes may.change (sent_is (m.changes may.change).verdict unsettled))) ∙ kept
       where
         op : StoreOp
         op = (m.changes may.change).op

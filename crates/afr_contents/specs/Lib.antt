@@ -4,3 +4,4 @@ pub mod Staying
 pub mod Spread
 pub mod Adopted
 pub mod Good
+pub mod Found

@@ -1,5 +1,6 @@
 ghost use Rattle.afr_contents.specs.Adopted.{EveryAdoptedIsAsBorn};
-ghost use Rattle.afr_contents.specs.Good.{OpsKeepGood, StepsKeepGood};
+ghost use Rattle.afr_contents.specs.Good.{StepsKeepGood};
+ghost use Rattle.afr_contents.specs.Found.{FreeIsGood, GoodIsSettled};
 
 /// The law of births that are adopted, of every state that allowed steps lead to: a cell without adopted changes has the
 /// content that it was born with, once its birth is adopted.
@@ -7,12 +8,24 @@ pub fn every_adopted_is_as_born()
     ensures { EveryAdoptedIsAsBorn }
 {}
 
-/// The law of good copies.
+/// The law of good copies. From a state in which each replica's copy of each cell is good, or the replica is accused by
+/// itself or by a quorum which go on accusing it, each step leads to one in which this holds. It is open yet that its four
+/// premises hold of every state: each unsettled change is of cells whose birth is adopted; a replacement at the front of a
+/// line carries a good copy, or its brick is accused; an op there finds settled copies of the cells that it needs, or its
+/// brick is accused on them; whom a clear names that is sent is good, or accused without the brick to which it is sent.
 pub fn steps_keep_good()
     ensures { StepsKeepGood }
 {}
 
-/// The law of ops over good copies.
-pub fn ops_keep_good()
-    ensures { OpsKeepGood }
+/// The law of free replicas: where each replica's copy of a cell is good or the replica accused, whoever has a copy, does not
+/// accuse itself and is accused by fewer than a quorum is good.
+pub fn free_is_good()
+    ensures { FreeIsGood }
+{}
+
+/// The law of what is read, of every state that allowed steps lead to. While a read runs and its settling has ended, and so
+/// before the mark of a change, a good copy of one of its cells has exactly the cell's adopted changes and the content that
+/// is adopted.
+pub fn good_is_settled()
+    ensures { GoodIsSettled }
 {}
