@@ -8,3 +8,4 @@ pub mod AsBorn
 pub mod OpsGood
 pub mod Good
 pub mod Found
+pub mod Present

@@ -5,3 +5,4 @@ pub mod Spread
 pub mod Adopted
 pub mod Good
 pub mod Found
+pub mod Present

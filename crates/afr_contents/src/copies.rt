@@ -1,6 +1,7 @@
 ghost use Rattle.afr_contents.specs.Adopted.{EveryAdoptedIsAsBorn};
 ghost use Rattle.afr_contents.specs.Good.{StepsKeepGood};
 ghost use Rattle.afr_contents.specs.Found.{FreeIsGood, GoodIsSettled};
+ghost use Rattle.afr_contents.specs.Present.{EveryChangeIsPresent};
 
 /// The law of births that are adopted, of every state that allowed steps lead to: a cell without adopted changes has the
 /// content that it was born with, once its birth is adopted.
@@ -28,4 +29,10 @@ pub fn free_is_good()
 /// is adopted.
 pub fn good_is_settled()
     ensures { GoodIsSettled }
+{}
+
+/// The law of copies that are there, of every state that allowed steps lead to. A replica whose copy a lock phase saw has one
+/// from then on; so a quorum has a copy of each cell of a change, from the change's mark on.
+pub fn every_change_is_present()
+    ensures { EveryChangeIsPresent }
 {}
