@@ -56,7 +56,7 @@ module _ (size : Size) (m : State) (r : IsReached size m) (step : Step) (allowed
         outside : has_cell (needs (m.changes may.change).op) cell ≡ false
         outside = ap (λ cs. has_cell cs cell) (sym ((changes_are_own size m r).fit.needs_are may.change)) ∙ by_cell (is_or_not (has_cell (m.changes may.change).cells cell)) where
           by_cell : (has_cell (m.changes may.change).cells cell ≡ true) ⊎ (has_cell (m.changes may.change).cells cell ≡ false) → has_cell (m.changes may.change).cells cell ≡ false
-          by_cell (inl there) = absurd (none may.change (record { deciding = record { txn = t; step_is = step_is; may = may; at = refl; unsettled = unsettled }; adopts = adopts; touches = there }))
+          by_cell (inl there) = absurd (none may.change (record { decision = record { txn = t; step_is = step_is; may = may; at = refl; unsettled = unsettled }; adopts = adopts; touches = there }))
           by_cell (inr other) = other
 
     pub as_born_after : new.born cell ≡ Some content

@@ -58,11 +58,11 @@ module _ (size : Size) (m : State) (r : IsReached size m) (step : Step) (allowed
 
   -- the step decides an unsettled change that touches the cell
   pub record DecidesOn (cell : Cell) (u : ℕ) : Type 0 where
-    pub deciding : Deciding size m r step allowed u
+    pub decision : Deciding size m r step allowed u
     pub touches : has_cell (m.changes u).cells cell ≡ true
 
   decides_adopting : (cell : Cell) (u : ℕ) → Adopting size m r step allowed cell u → DecidesOn cell u
-  decides_adopting cell u a = record { deciding = a.deciding; touches = a.touches }
+  decides_adopting cell u a = record { decision = a.decision; touches = a.touches }
 
   record Unsettled (u : ℕ) : Type 0 where
     still : is_unsettled (new.changes u).verdict ≡ true
@@ -96,7 +96,7 @@ module _ (size : Size) (m : State) (r : IsReached size m) (step : Step) (allowed
 
     module _ (u : ℕ) (held : Copy) (a : IsAhead m cell u held) where
       goes : Unsettled u
-      goes = unsettled_goes u a.unsettled (λ d. none u (record { deciding = d; touches = a.touches }))
+      goes = unsettled_goes u a.unsettled (λ d. none u (record { decision = d; touches = a.touches }))
 
       -- no other change is decided on its cells
       agrees : (d : Cell) → has_cell (needs (m.changes u).op) d ≡ true → settled new d ≡ settled m d
@@ -105,7 +105,7 @@ module _ (size : Size) (m : State) (r : IsReached size m) (step : Step) (allowed
         touched = ap (λ cs. has_cell cs d) (needed u) ∙ has
 
         apart : (v : ℕ) → Adopting size m r step allowed d v → ⊥
-        apart v b = none u (record { deciding = subst (Deciding size m r step allowed) (one_on d v u b.deciding.unsettled a.unsettled b.touches touched) b.deciding; touches = a.touches })
+        apart v b = none u (record { decision = subst (Deciding size m r step allowed) (one_on d v u b.decision.unsettled a.unsettled b.touches touched) b.decision; touches = a.touches })
 
       cell_agrees : settled new cell ≡ settled m cell
       cell_agrees = agrees cell (sym (ap (λ cs. has_cell cs cell) (needed u)) ∙ a.touches)
@@ -128,18 +128,18 @@ module _ (size : Size) (m : State) (r : IsReached size m) (step : Step) (allowed
 
   module _ (adopted : ChangesOfAdopted m) (cell : Cell) (u : ℕ) (d : DecidesOn cell u) where
     not_on : has_change (adopted_on m cell) u ≡ true → ⊥
-    not_on h = apart_bools (below_adopted cell m.changes m.drawn u h) (unsettled_not_on (m.changes u) cell d.deciding.unsettled)
+    not_on h = apart_bools (below_adopted cell m.changes m.drawn u h) (unsettled_not_on (m.changes u) cell d.decision.unsettled)
 
     same : (v : ℕ) (held : Copy) → IsAhead m cell v held → v ≡ u
-    same v held a = one_on cell v u a.unsettled d.deciding.unsettled a.touches d.touches
+    same v held a = one_on cell v u a.unsettled d.decision.unsettled a.touches d.touches
 
     -- that adopts it
-    module _ (adopts : d.deciding.may.adopts ≡ true) where
+    module _ (adopts : d.decision.may.adopts ≡ true) where
       now : Adopting size m r step allowed cell u
-      now = record { deciding = d.deciding; adopts = adopts; touches = d.touches }
+      now = record { decision = d.decision; adopts = adopts; touches = d.touches }
 
       agree : (c : Cell) → has_cell (needs (m.changes u).op) c ≡ true → m.adopted c ≡ settled m c
-      agree c has = sym (first_is (m.adopted c) (m.born c) (adopted u c d.deciding.unsettled (ap (λ cs. has_cell cs c) (needed u) ∙ has)))
+      agree c has = sym (first_is (m.adopted c) (m.born c) (adopted u c d.decision.unsettled (ap (λ cs. has_cell cs c) (needed u) ∙ has)))
 
       content_now : (held : Copy) → content_after (settled m) (m.changes u).op cell ≡ Some held.content → settled new cell ≡ Some held.content
       content_now held is =
@@ -154,11 +154,11 @@ module _ (size : Size) (m : State) (r : IsReached size m) (step : Step) (allowed
           (content_now held (sym (ap (λ n. content_after (settled m) (m.changes n).op cell) (same v held a)) ∙ a.content))
 
     -- that drops it
-    module _ (drops : d.deciding.may.adopts ≡ false) where
+    module _ (drops : d.decision.may.adopts ≡ false) where
       none_adopted : (c : Cell) (v : ℕ) → Adopting size m r step allowed c v → ⊥
       none_adopted c v a = apart_bools (adopts_too) drops where
-        adopts_too : d.deciding.may.adopts ≡ true
-        adopts_too = decides_alike size m r step allowed v u a.deciding d.deciding a.adopts
+        adopts_too : d.decision.may.adopts ≡ true
+        adopts_too = decides_alike size m r step allowed v u a.decision d.decision a.adopts
 
       good_dropped : (copy : Option Copy) → has_change (changes_of copy) u ≡ false → IsGood m cell copy → IsGood new cell copy
       good_dropped copy has (Absent e empty) = Absent e (on_stays size m r step allowed cell (none_adopted cell) ∙ empty)
@@ -168,9 +168,9 @@ module _ (size : Size) (m : State) (r : IsReached size m) (step : Step) (allowed
         first_number : (u : ℕ) (us : List ℕ) → has_change (u ∷ us) u ≡ true
         first_number u us = ap (λ b. b || has_change us u) (eq-eqb u u refl)
 
-    pub good_decided : (copy : Option Copy) → has_change (changes_of copy) u ≡ d.deciding.may.adopts → IsGood m cell copy → IsGood new cell copy
-    good_decided copy has good = by_case (is_or_not d.deciding.may.adopts) where
-      by_case : (d.deciding.may.adopts ≡ true) ⊎ (d.deciding.may.adopts ≡ false) → IsGood new cell copy
+    pub good_decided : (copy : Option Copy) → has_change (changes_of copy) u ≡ d.decision.may.adopts → IsGood m cell copy → IsGood new cell copy
+    good_decided copy has good = by_case (is_or_not d.decision.may.adopts) where
+      by_case : (d.decision.may.adopts ≡ true) ⊎ (d.decision.may.adopts ≡ false) → IsGood new cell copy
       by_case (inl yes) = good_adopted yes copy (has ∙ yes) good
       by_case (inr no) = good_dropped no copy (has ∙ no) good
 
@@ -183,13 +183,13 @@ module _ (size : Size) (m : State) (r : IsReached size m) (step : Step) (allowed
   is_deciding : (cell : Cell) (st : Step) → step ≡ st → Allowed size m st → IsDeciding cell
   is_deciding cell (Step.Decides t) is h = by_case (is_or_not (is_unsettled (m.changes h.change).verdict)) (is_or_not (has_cell (m.changes h.change).cells cell)) where
     only : (u : ℕ) → DecidesOn cell u → u ≡ h.change
-    only u d = decides_that size m r step allowed u d.deciding t h is
+    only u d = decides_that size m r step allowed u d.decision t h is
 
     by_case : (is_unsettled (m.changes h.change).verdict ≡ true) ⊎ (is_unsettled (m.changes h.change).verdict ≡ false) → (has_cell (m.changes h.change).cells cell ≡ true) ⊎ (has_cell (m.changes h.change).cells cell ≡ false) → IsDeciding cell
-    by_case (inl unsettled) (inl there) = Decides h.change (record { deciding = record { txn = t; step_is = is; may = h; at = refl; unsettled = unsettled }; touches = there })
-    by_case (inr not_so) there = Leaves (λ u d. apart_bools (sym (ap (λ n. is_unsettled (m.changes n).verdict) (only u d)) ∙ d.deciding.unsettled) not_so)
+    by_case (inl unsettled) (inl there) = Decides h.change (record { decision = record { txn = t; step_is = is; may = h; at = refl; unsettled = unsettled }; touches = there })
+    by_case (inr not_so) there = Leaves (λ u d. apart_bools (sym (ap (λ n. is_unsettled (m.changes n).verdict) (only u d)) ∙ d.decision.unsettled) not_so)
     by_case unsettled (inr other) = Leaves (λ u d. apart_bools (sym (ap (λ n. has_cell (m.changes n).cells cell) (only u d)) ∙ d.touches) other)
-  is_deciding cell other is h = Leaves (λ u d. absurd (let e : false ≡ true = ap is_decision (sym is ∙ d.deciding.step_is) in cc))
+  is_deciding cell other is h = Leaves (λ u d. absurd (let e : false ≡ true = ap is_decision (sym is ∙ d.decision.step_is) in cc))
 
   -- ---- a decision leaves bricks as they are
 
@@ -211,23 +211,23 @@ module _ (size : Size) (m : State) (r : IsReached size m) (step : Step) (allowed
     pub decided_keeps : (u : ℕ) → DecidesOn cell u → IsGoodOrAccused size m i cell → IsGoodOrAccused size new i cell
     decided_keeps u d = from_good where
       unsent : (k : ℕ) → SendsPardon step k cell i → ⊥
-      unsent k s = absurd (let e : true ≡ false = ap is_decision (sym d.deciding.step_is ∙ s.is) in cc)
+      unsent k s = absurd (let e : true ≡ false = ap is_decision (sym d.decision.step_is ∙ s.is) in cc)
 
       same : (new.bricks i).store cell ≡ (m.bricks i).store cell
-      same = ap (λ st. ((after size m st).bricks i).store cell) d.deciding.step_is ∙ ap (λ (f : ℕ → Brick). (f i).store cell) (decided_bricks (decided_by (m.txns d.deciding.txn).stage))
+      same = ap (λ st. ((after size m st).bricks i).store cell) d.decision.step_is ∙ ap (λ (f : ℕ → Brick). (f i).store cell) (decided_bricks (decided_by (m.txns d.decision.txn).stage))
 
-      there : has_cell (m.changes d.deciding.may.change).cells cell ≡ true
-      there = ap (λ n. has_cell (m.changes n).cells cell) (sym d.deciding.at) ∙ d.touches
+      there : has_cell (m.changes d.decision.may.change).cells cell ≡ true
+      there = ap (λ n. has_cell (m.changes n).cells cell) (sym d.decision.at) ∙ d.touches
 
-      unsettled : is_unsettled (m.changes d.deciding.may.change).verdict ≡ true
-      unsettled = ap (λ n. is_unsettled (m.changes n).verdict) (sym d.deciding.at) ∙ d.deciding.unsettled
+      unsettled : is_unsettled (m.changes d.decision.may.change).verdict ≡ true
+      unsettled = ap (λ n. is_unsettled (m.changes n).verdict) (sym d.decision.at) ∙ d.decision.unsettled
 
-      spread : IsGoodAt m i cell → HasAsDecided m d.deciding.may.change d.deciding.may.adopts i ⊎ IsAccusedOnEach size m d.deciding.may.change i → IsGoodOrAccused size new i cell
-      spread good (inl has) = inl (subst (λ (k : Kept). IsGood (after size m step) cell k.copy) (sym same) (good_decided adopted cell u d ((m.bricks i).store cell).copy (ap (has_change (applied m i cell)) d.deciding.at ∙ has cell there) good))
+      spread : IsGoodAt m i cell → HasAsDecided m d.decision.may.change d.decision.may.adopts i ⊎ IsAccusedOnEach size m d.decision.may.change i → IsGoodOrAccused size new i cell
+      spread good (inl has) = inl (subst (λ (k : Kept). IsGood (after size m step) cell k.copy) (sym same) (good_decided adopted cell u d ((m.bricks i).store cell).copy (ap (has_change (applied m i cell)) d.decision.at ∙ has cell there) good))
       spread good (inr accused) = inr (accused_stays unsent (inr (accused cell there)))
 
       from_good : IsGoodOrAccused size m i cell → IsGoodOrAccused size new i cell
-      from_good (inl good) = spread good (decisions_spread size m r d.deciding.txn d.deciding.may unsettled i low)
+      from_good (inl good) = spread good (decisions_spread size m r d.decision.txn d.decision.may unsettled i low)
       from_good (inr accused) = inr (accused_stays unsent accused)
 
     -- ---- any other step

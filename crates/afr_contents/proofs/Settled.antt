@@ -84,8 +84,8 @@ module _ (size : Size) (m : State) (r : IsReached size m) (step : Step) (allowed
 
   -- a change of the cell that is adopted now
   pub record Adopting (cell : Cell) (u : ℕ) : Type 0 where
-    pub deciding : Deciding u
-    pub adopts : deciding.may.adopts ≡ true
+    pub decision : Deciding u
+    pub adopts : decision.may.adopts ≡ true
     pub touches : has_cell (m.changes u).cells cell ≡ true
 
   undrawn_not : (c : Change) (cell : Cell) → c.verdict ≡ Verdict.Undrawn → is_adopted_on c cell ≡ false
@@ -105,7 +105,7 @@ module _ (size : Size) (m : State) (r : IsReached size m) (step : Step) (allowed
       then_is b c e f = ap (λ (x : Change). is_adopted_on x cell) is ∙ ap (λ b. is_adopted (verdict_of b) && has_cell (m.changes u).cells cell) e ∙ ap (λ c. is_adopted (verdict_of b) && c) f
 
       by_verdict : (h.adopts ≡ true) ⊎ (h.adopts ≡ false) → (has_cell (m.changes u).cells cell ≡ true) ⊎ (has_cell (m.changes u).cells cell ≡ false) → (is_adopted_on (new.changes u) cell ≡ is_adopted_on (m.changes u) cell) ⊎ Adopting cell u
-      by_verdict (inl yes) (inl there) = inr (record { deciding = record { txn = t; step_is = step_is; may = h; at = at; unsettled = unsettled }; adopts = yes; touches = there })
+      by_verdict (inl yes) (inl there) = inr (record { decision = record { txn = t; step_is = step_is; may = h; at = at; unsettled = unsettled }; adopts = yes; touches = there })
       by_verdict (inl yes) (inr other) = inl (then_is true false yes other ∙ sym (unsettled_not_on (m.changes u) cell unsettled))
       by_verdict (inr no) (inl there) = inl (then_is false true no there ∙ sym (unsettled_not_on (m.changes u) cell unsettled))
       by_verdict (inr no) (inr other) = inl (then_is false false no other ∙ sym (unsettled_not_on (m.changes u) cell unsettled))
@@ -113,16 +113,16 @@ module _ (size : Size) (m : State) (r : IsReached size m) (step : Step) (allowed
   -- what the decision makes of the change, and of what is adopted
   pub adopted_now : (cell : Cell) (u : ℕ) → Adopting cell u → (new.changes u ≡ record (m.changes u) { verdict = Verdict.Adopted }) × (new.adopted ≡ contents_after m.adopted (m.changes u).op)
   adopted_now cell u a = (
-    ap (λ (x : State). x.changes u) is ∙ ap (with_at m.changes v (record (m.changes v) { verdict = Verdict.Adopted })) a.deciding.at ∙ at_same m.changes v (record (m.changes v) { verdict = Verdict.Adopted }) ∙ ap (λ n. record (m.changes n) { verdict = Verdict.Adopted }) (sym a.deciding.at),
-    ap (λ (x : State). x.adopted) is ∙ ap (λ n. contents_after m.adopted (m.changes n).op) (sym a.deciding.at),
+    ap (λ (x : State). x.changes u) is ∙ ap (with_at m.changes v (record (m.changes v) { verdict = Verdict.Adopted })) a.decision.at ∙ at_same m.changes v (record (m.changes v) { verdict = Verdict.Adopted }) ∙ ap (λ n. record (m.changes n) { verdict = Verdict.Adopted }) (sym a.decision.at),
+    ap (λ (x : State). x.adopted) is ∙ ap (λ n. contents_after m.adopted (m.changes n).op) (sym a.decision.at),
   ) where
     v : ℕ
-    v = a.deciding.may.change
+    v = a.decision.may.change
 
     is : new ≡ deciding m v true true
     is =
-        ap (after size m) a.deciding.step_is ∙ ap (decided m) a.deciding.may.decision ∙ ap (λ b. deciding m v b (is_unsettled (m.changes v).verdict)) a.adopts
-        ∙ ap (deciding m v true) (ap (λ n. is_unsettled (m.changes n).verdict) (sym a.deciding.at) ∙ a.deciding.unsettled)
+        ap (after size m) a.decision.step_is ∙ ap (decided m) a.decision.may.decision ∙ ap (λ b. deciding m v b (is_unsettled (m.changes v).verdict)) a.adopts
+        ∙ ap (deciding m v true) (ap (λ n. is_unsettled (m.changes n).verdict) (sym a.decision.at) ∙ a.decision.unsettled)
 
   -- ---- the list
 
@@ -130,7 +130,7 @@ module _ (size : Size) (m : State) (r : IsReached size m) (step : Step) (allowed
   fresh_beyond cell u more = by_case (on_or_adopts cell u) where
     by_case : (is_adopted_on (new.changes u) cell ≡ is_adopted_on (m.changes u) cell) ⊎ Adopting cell u → is_adopted_on (new.changes u) cell ≡ false
     by_case (inl same) = same ∙ undrawn_not (m.changes u) cell ((changes_are_drawn size m r).beyond u more)
-    by_case (inr a) = absurd (let low = is_drawn size m r u a.deciding.unsettled in omega (arith, low, more))
+    by_case (inr a) = absurd (let low = is_drawn size m r u a.decision.unsettled in omega (arith, low, more))
 
   up_to_drawn : (cell : Cell) → adopted_on new cell ≡ adopted_below new.changes m.drawn cell
   up_to_drawn cell = below_more cell new.changes m.drawn new.drawn (drawn_goes size m step allowed) (fresh_beyond cell)
@@ -142,12 +142,12 @@ module _ (size : Size) (m : State) (r : IsReached size m) (step : Step) (allowed
     by_case u (inr a) = absurd (none u a)
 
   pub on_adds : (cell : Cell) (u : ℕ) → Adopting cell u → adopted_on new cell ≡ u ∷ adopted_on m cell
-  on_adds cell u a = up_to_drawn cell ∙ below_adds cell m.changes new.changes u m.drawn one (is_drawn size m r u a.deciding.unsettled) now then_not others less where
+  on_adds cell u a = up_to_drawn cell ∙ below_adds cell m.changes new.changes u m.drawn one (is_drawn size m r u a.decision.unsettled) now then_not others less where
     one : 1 ≤ u
     one = is_some_change size m r u (cell ∷ []) (share_at (m.changes u).cells (cell ∷ []) cell a.touches (first_has cell []))
 
     then_not : is_adopted_on (m.changes u) cell ≡ false
-    then_not = unsettled_not_on (m.changes u) cell a.deciding.unsettled
+    then_not = unsettled_not_on (m.changes u) cell a.decision.unsettled
 
     now : is_adopted_on (new.changes u) cell ≡ true
     now = ap (λ (x : Change). is_adopted_on x cell) (adopted_now cell u a).0 ∙ a.touches
@@ -156,10 +156,10 @@ module _ (size : Size) (m : State) (r : IsReached size m) (step : Step) (allowed
     others v ne = by_case (on_or_adopts cell v) where
       by_case : (is_adopted_on (new.changes v) cell ≡ is_adopted_on (m.changes v) cell) ⊎ Adopting cell v → is_adopted_on (new.changes v) cell ≡ is_adopted_on (m.changes v) cell
       by_case (inl same) = same
-      by_case (inr b) = absurd (ne (decides_one v u b.deciding a.deciding))
+      by_case (inr b) = absurd (ne (decides_one v u b.decision a.decision))
 
     less : (v : ℕ) → is_adopted_on (m.changes v) cell ≡ true → v ≤ u
-    less v h = (numbers_rise size m r).unsettled u v a.deciding.unsettled (was_adopted (m.changes v).verdict (both_left (is_adopted (m.changes v).verdict) (has_cell (m.changes v).cells cell) h))
+    less v h = (numbers_rise size m r).unsettled u v a.decision.unsettled (was_adopted (m.changes v).verdict (both_left (is_adopted (m.changes v).verdict) (has_cell (m.changes v).cells cell) h))
         (share_at (m.changes v).cells (m.changes u).cells cell (both_right (is_adopted (m.changes v).verdict) (has_cell (m.changes v).cells cell) h) a.touches)
 
   -- ---- what is settled
@@ -189,5 +189,5 @@ module _ (size : Size) (m : State) (r : IsReached size m) (step : Step) (allowed
         outside : has_cell (needs (m.changes may.change).op) cell ≡ false
         outside = ap (λ cs. has_cell cs cell) (sym ((changes_are_own size m r).fit.needs_are may.change)) ∙ by_cell (is_or_not (has_cell (m.changes may.change).cells cell)) where
           by_cell : (has_cell (m.changes may.change).cells cell ≡ true) ⊎ (has_cell (m.changes may.change).cells cell ≡ false) → has_cell (m.changes may.change).cells cell ≡ false
-          by_cell (inl there) = absurd (none may.change (record { deciding = record { txn = t; step_is = step_is; may = may; at = refl; unsettled = unsettled }; adopts = adopts; touches = there }))
+          by_cell (inl there) = absurd (none may.change (record { decision = record { txn = t; step_is = step_is; may = may; at = refl; unsettled = unsettled }; adopts = adopts; touches = there }))
           by_cell (inr other) = other

@@ -1,31 +1,54 @@
--- What is found at good replicas: whoever is free is good where each replica is good or accused, and while a read runs a good
--- copy of its cells is settled. Ours.
-use Rattle.std.specs.Prelude.{◌≡◌, ◌<◌, ℕ, true, false, Option, Some}
+-- What is found at good replicas: whoever is free is good where each replica is good or accused; so a read, and a change before it
+-- becomes unsettled, finds exactly the adopted changes, and a copy what is good. Ours.
+use Rattle.std.specs.Prelude.{◌≡◌, ◌<◌, ◌≤◌, ℕ, true, false, Option, Some}
 use Rattle.fop_types.specs.declared.cells.Cell.{Cell}
-use Rattle.afr_machine.specs.Replicas.{Size}
+use Rattle.afr_machine.specs.Replicas.{Size, IsSize}
 use Rattle.afr_machine.specs.Touching.{has_cell}
-use Rattle.afr_machine.specs.Copies.{Copy}
-use Rattle.afr_machine.specs.Transactions.{cells_of_job, settles_first, is_over}
-use Rattle.afr_machine.specs.States.{State}
+use Rattle.afr_machine.specs.Copies.{Copy, Fetched}
+use Rattle.afr_machine.specs.Phases.{IsReadyIn}
+use Rattle.afr_machine.specs.Transactions.{CopyRun, cells_of_job, settles_first, is_over}
+use Rattle.afr_machine.specs.Transactions.Work.{Own}
+use Rattle.afr_machine.specs.Transactions.Stage.{Copying}
+use Rattle.afr_machine.specs.States.{State, phase_of}
 use Rattle.afr_machine.specs.Steps.{IsReached}
+use Rattle.afr_laws.specs.OwnChanges.{was_unsettled}
+use Rattle.afr_laws.specs.Seen.{IsSuperseded}
 use Rattle.afr_soundness.specs.Clears.{IsFree}
-use Rattle.afr_contents.specs.Good.{IsGood, IsGoodAt, IsGoodOrAccused, IsSettledCopy}
-
--- each replica's copy of the cell is good, or the replica is accused
-abbrev pub CopyGoodOrAccused : Size → State → Cell → Type 0
-CopyGoodOrAccused size m cell = (i : ℕ) → i < size.replicas → IsGoodOrAccused size m i cell
+use Rattle.afr_soundness.specs.Copied.{Uses, IsFetched}
+use Rattle.afr_soundness.specs.Later.{is_before}
+use Rattle.afr_contents.specs.Good.{IsGood, IsGoodAt, CopiesGoodOrAccused, IsSettledCopy}
 
 abbrev pub FreeIsGood : Type 0
-FreeIsGood = (size : Size) (m : State) (cell : Cell) → CopyGoodOrAccused size m cell → (i : ℕ) → i < size.replicas → IsFree size m cell i → IsGoodAt m i cell
+FreeIsGood = (size : Size) (m : State) → CopiesGoodOrAccused size m → (i : ℕ) (cell : Cell) → i < size.replicas → IsFree size m cell i → IsGoodAt m i cell
 
--- a read, or a change before its mark, whose settling has ended, and one of its cells
+-- ---- reads, and changes before they become unsettled
+
+-- a read or change whose settling has ended, and one of its cells
 pub record IsSettledFor (m : State) (t : ℕ) (cell : Cell) : Type 0 where
   pub first : settles_first (m.txns t).job ≡ true
   pub settled : (m.txns t).settled ≡ true
   pub running : is_over (m.txns t).stage ≡ false
-  pub unmarked : (m.txns t).own ≡ 0
+  pub unmade : 1 ≤ (m.txns t).own → was_unsettled (m.changes (m.txns t).own).verdict ≡ false
   pub covers : has_cell (cells_of_job (m.txns t).job) cell ≡ true
 
 -- such a transaction finds exactly the adopted changes in each good copy, and their content
 abbrev pub GoodIsSettled : Type 0
 GoodIsSettled = (size : Size) (m : State) → IsReached size m → (t : ℕ) (cell : Cell) → IsSettledFor m t cell → (held : Copy) → IsGood m cell (Some held) → IsSettledCopy m cell (Some held)
+
+-- so behind its own lock phase it finds them in each replica that was sound in it, or received a copy
+abbrev pub ReadyHaveAdopted : Type 0
+ReadyHaveAdopted =
+    (size : Size) (m : State) → IsSize size → IsReached size m → CopiesGoodOrAccused size m → (t k : ℕ) (cell : Cell) → k < size.replicas → IsSettledFor m t cell →
+    is_before (m.txns t).stage ≡ true → (m.txns t).work ≡ Own → IsReadyIn size (phase_of m t) cell k → IsSettledCopy m cell ((m.bricks k).store cell).copy
+
+-- ---- copies
+
+-- while no later lock phase over the cell wrote, each source of a copy is good, and what was fetched from one that is in use
+pub record CopiesAreGood (size : Size) (m : State) (t : ℕ) (run : CopyRun) (cell : Cell) : Type 0 where
+  pub sources : (i : ℕ) → run.sources i ≡ true → IsGoodAt m i cell
+  pub fetched : (found : Fetched) (f : IsFetched m t run cell found) → Uses m t f.source → IsGood m cell (Some found.copy)
+
+abbrev pub SourcesAreGood : Type 0
+SourcesAreGood =
+    (size : Size) (m : State) → IsSize size → IsReached size m → CopiesGoodOrAccused size m → (t : ℕ) (run : CopyRun) (cell : Cell) → (m.txns t).stage ≡ Copying run → has_cell run.cells cell ≡ true →
+    (IsSuperseded m.phases m.ended (m.txns t).phase cell → ⊥) → CopiesAreGood size m t run cell

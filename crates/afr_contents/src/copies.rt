@@ -1,6 +1,6 @@
 ghost use Rattle.afr_contents.specs.Adopted.{EveryAdoptedIsAsBorn};
 ghost use Rattle.afr_contents.specs.Good.{StepsKeepGood};
-ghost use Rattle.afr_contents.specs.Found.{FreeIsGood, GoodIsSettled};
+ghost use Rattle.afr_contents.specs.Found.{FreeIsGood, GoodIsSettled, ReadyHaveAdopted, SourcesAreGood};
 ghost use Rattle.afr_contents.specs.Present.{EveryChangeIsPresent};
 
 /// The law of births that are adopted, of every state that allowed steps lead to: a cell without adopted changes has the
@@ -24,11 +24,25 @@ pub fn free_is_good()
     ensures { FreeIsGood }
 {}
 
-/// The law of what is read, of every state that allowed steps lead to. While a read runs and its settling has ended, and so
-/// before the mark of a change, a good copy of one of its cells has exactly the cell's adopted changes and the content that
-/// is adopted.
+/// The law of what is settled, of every state that allowed steps lead to. While a read runs and its settling has ended, and
+/// while a change does so that has not become unsettled, a good copy of one of its cells has exactly the cell's adopted
+/// changes and the content that is adopted.
 pub fn good_is_settled()
     ensures { GoodIsSettled }
+{}
+
+/// The law of what is read, of every state that allowed steps lead to in which each replica's copy of each cell is good or the
+/// replica accused, for one, three and five replicas; that this is each of them is open yet. Behind its own lock phase, and
+/// before its change becomes unsettled, a read or change finds in each replica that was sound on a cell in that lock phase, or
+/// received a copy, exactly the cell's adopted changes and the content that is adopted, also where its grant has ended.
+pub fn ready_have_adopted()
+    ensures { ReadyHaveAdopted }
+{}
+
+/// The law of sources, of the same states. While no later lock phase over a cell wrote, each source of a copy under way is
+/// good on the cell, and so is what was fetched from one that the transaction uses still.
+pub fn sources_are_good()
+    ensures { SourcesAreGood }
 {}
 
 /// The law of copies that are there, of every state that allowed steps lead to. A replica whose copy a lock phase saw has one
