@@ -9,3 +9,4 @@ pub mod OpsGood
 pub mod Good
 pub mod Found
 pub mod Present
+pub mod Split

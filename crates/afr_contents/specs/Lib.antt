@@ -6,3 +6,4 @@ pub mod Adopted
 pub mod Good
 pub mod Found
 pub mod Present
+pub mod Split

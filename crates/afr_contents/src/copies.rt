@@ -2,6 +2,7 @@ ghost use Rattle.afr_contents.specs.Adopted.{EveryAdoptedIsAsBorn};
 ghost use Rattle.afr_contents.specs.Good.{StepsKeepGood};
 ghost use Rattle.afr_contents.specs.Found.{FreeIsGood, GoodIsSettled, ReadyHaveAdopted, SourcesAreGood};
 ghost use Rattle.afr_contents.specs.Present.{EveryChangeIsPresent};
+ghost use Rattle.afr_contents.specs.Split.{SeenAllHasSound};
 
 /// The law of births that are adopted, of every state that allowed steps lead to: a cell without adopted changes has the
 /// content that it was born with, once its birth is adopted.
@@ -49,4 +50,12 @@ pub fn sources_are_good()
 /// from then on; so a quorum has a copy of each cell of a change, from the change's mark on.
 pub fn every_change_is_present()
     ensures { EveryChangeIsPresent }
+{}
+
+/// The law of cells that are not split, of every state that allowed steps lead to, for one, three and five replicas. A lock
+/// phase that reached every replica finds a sound one on each of its cells of which some replica has a copy, before it or a
+/// later one over the cell writes, where its rows show each copy that is there. That they do, as no cell is born while its
+/// locks are held, is open yet.
+pub fn seen_all_has_sound()
+    ensures { SeenAllHasSound }
 {}
