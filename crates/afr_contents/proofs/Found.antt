@@ -1,11 +1,11 @@
 -- Whoever is free is good; so what a read finds, and a change before it becomes unsettled, is settled, and what is copied is good.
 use Rattle.std.proofs.Common.{◌≡◌, ◌∙◌, ℕ, zero, suc, ◌≤◌, ◌<◌, Bool, true, false, refl, sym, ap, subst, ◌⊎◌, inl, inr, arith, Option, Some, None}
-use Rattle.std.specs.Prelude.{List, [], ◌∷◌, ◌&&◌, ◌≢◌, not, nat_lt, is_some}
-use Rattle.std.proofs.lemmas.Bool.{cases_eq}
+use Rattle.std.specs.Prelude.{List, [], ◌∷◌, ◌&&◌, ◌||◌, ◌≢◌, not, nat_lt, is_some}
+use Rattle.std.proofs.lemmas.Bool.{cases_eq, eq-eqb}
 use Rattle.fop_types.specs.declared.cells.Cell.{Cell}
 use Rattle.afr_machine.specs.Replicas.{Size, IsSize, Replicas, outside, count}
 use Rattle.afr_machine.specs.Touching.{has_cell, share}
-use Rattle.afr_machine.specs.Copies.{Copy, Fetched, fetched_of}
+use Rattle.afr_machine.specs.Copies.{Copy, Fetched, fetched_of, changes_of, has_change}
 use Rattle.afr_machine.specs.Phases.{Phase, Deciding, IsSoundIn, IsReadyIn}
 use Rattle.afr_machine.specs.Phases.Deciding.{NoChange, ByPosts, BySettles}
 use Rattle.afr_machine.specs.Transactions.{CopyRun, Stage, Work, cells_of_job}
@@ -30,15 +30,17 @@ use Rattle.afr_soundness.specs.Copied.{Uses, IsFetched}
 use Rattle.afr_soundness.specs.Deciding.{AccusesNobody, AccusesOutside, IsAccusedBy, IsDecidedIn, IsCopiedFrom, DecidesIn, KnowsDeciding}
 use Rattle.afr_soundness.specs.Later.{IsQuietFor, is_before}
 use Rattle.afr_soundness.specs.Runs.{IsSourceOf}
+use Rattle.afr_soundness.proofs.CopyApart.Static.{marked_in}
 use Rattle.afr_soundness.proofs.Deciding.Whose.{decides_exactly}
 use Rattle.afr_soundness.proofs.Free.{last_spares, ready_is_free}
 use Rattle.afr_soundness.proofs.Later.Steps.{later_are_quiet}
 use Rattle.afr_soundness.proofs.Runs.{runs_are_known}
-use Rattle.afr_soundness.proofs.Unsettled.{is_some_change, no_other_unsettled}
+use Rattle.afr_soundness.proofs.Unsettled.{is_some_change, one_unsettled, no_other_unsettled}
 use Rattle.afr_contents.specs.Staying.{pardons_coming, accusers_staying, IsAccused}
+use Rattle.afr_contents.specs.Adopted.{adopted_on}
 use Rattle.afr_contents.specs.Good.{IsAhead, IsGood, IsGoodAt, IsGoodOrAccused, CopiesGoodOrAccused, IsSettledCopy}
 use Rattle.afr_contents.specs.Good.IsGood.{Absent, Settled, Ahead}
-use Rattle.afr_contents.specs.Found.{FreeIsGood, IsSettledFor, GoodIsSettled, ReadyHaveAdopted, CopiesAreGood, SourcesAreGood}
+use Rattle.afr_contents.specs.Found.{FreeIsGood, IsSettledFor, GoodIsSettled, ReadyHaveAdopted, IsApplying, AppliersHaveAdopted, CopiesAreGood, SourcesAreGood}
 use Rattle.afr_contents.proofs.Ops.{first_has}
 
 -- who goes on accusing accuses
@@ -212,6 +214,41 @@ module _ (size : Size) (m : State) (is : IsSize size) (r : IsReached size m) (go
       sources = source_good;
       fetched = λ found f uses. subst (IsGood m cell) (copy_of ((m.bricks f.source).store cell).copy ((m.bricks f.source).store cell).last found (f.stands uses)) (source_good f.source f.is_source);
     }
+
+-- ---- who applies a change
+
+module _ (size : Size) (m : State) (is : IsSize size) (r : IsReached size m) (good : CopiesGoodOrAccused size m) (t u k : ℕ) (cell : Cell) (a : IsApplying size m t u k cell) where
+  applying_behind : is_behind (m.txns t).stage ≡ true
+  applying_behind = ap is_behind a.stage
+
+  phase_one : 1 ≤ (m.txns t).phase
+  phase_one = ((decides_exactly size m r).transactions t).one applying_behind
+
+  phase_low : (m.txns t).phase ≤ m.ended
+  phase_low = (phases_are_known size m r t).low
+
+  marks_it : (phase_of m t).decides ≡ ByPosts u
+  marks_it = (subst (λ s. DecidesIn size m.changes (m.txns t).work s (phase_of m t)) a.stage ((decides_exactly size m r).transactions t).decides).0
+
+  phase_covers : has_cell (phase_of m t).cells cell ≡ true
+  phase_covers = ap (λ cs. has_cell cs cell) (marked_in size m r (m.txns t).phase u phase_one phase_low marks_it).cells ∙ a.touches
+
+  free : IsFree size m cell k
+  free = ready_is_free size m is r (m.txns t).phase cell phase_one phase_low phase_covers k a.ready a.spared
+
+  without : (copy : Option Copy) → is_some copy ≡ true → has_change (changes_of copy) u ≡ false → IsGood m cell copy → IsSettledCopy m cell copy
+  without copy there none (Absent e empty) = absurd (let no : false ≡ true = sym (ap is_some e) ∙ there in cc)
+  without copy there none (Settled held e changes content) = record { held = held; is = e; changes = changes; content = content }
+  without copy there none (Ahead held v e h) =
+      apart_bools (ap (λ c. has_change (changes_of c) u) e ∙ ap (λ l. has_change l u) (h.changes ∙ ap (λ n. n ∷ adopted_on m cell) same) ∙ ap (λ b. b || has_change (adopted_on m cell) u) (eq-eqb u u refl)) none where
+    same : v ≡ u
+    same = one_unsettled size m r v u h.unsettled a.unsettled (share_at (m.changes v).cells (m.changes u).cells cell h.touches a.touches)
+
+  pub appliers_have : IsSettledCopy m cell ((m.bricks k).store cell).copy
+  appliers_have = without ((m.bricks k).store cell).copy free.present a.unapplied (free_is_good size m good k cell a.replica free)
+
+pub appliers_have_adopted : AppliersHaveAdopted
+appliers_have_adopted size m is r good t u k cell a = appliers_have size m is r good t u k cell a
 
 pub ready_have_adopted : ReadyHaveAdopted
 ready_have_adopted size m is r good t k cell few s before work ready = ready_has size m is r good t k cell few s before work ready

@@ -4,15 +4,18 @@ use Rattle.std.specs.Prelude.{◌≡◌, ◌<◌, ◌≤◌, ℕ, true, false, O
 use Rattle.fop_types.specs.declared.cells.Cell.{Cell}
 use Rattle.afr_machine.specs.Replicas.{Size, IsSize}
 use Rattle.afr_machine.specs.Touching.{has_cell}
-use Rattle.afr_machine.specs.Copies.{Copy, Fetched}
+use Rattle.afr_machine.specs.Copies.{Copy, Fetched, has_change}
+use Rattle.afr_machine.specs.Changes.{is_unsettled}
 use Rattle.afr_machine.specs.Phases.{IsReadyIn}
 use Rattle.afr_machine.specs.Transactions.{CopyRun, cells_of_job, settles_first, is_over}
 use Rattle.afr_machine.specs.Transactions.Work.{Own}
-use Rattle.afr_machine.specs.Transactions.Stage.{Copying}
+use Rattle.afr_machine.specs.Transactions.Stage.{Applying, Copying}
 use Rattle.afr_machine.specs.States.{State, phase_of}
 use Rattle.afr_machine.specs.Steps.{IsReached}
 use Rattle.afr_laws.specs.OwnChanges.{was_unsettled}
+use Rattle.afr_laws.specs.Numbers.{applied}
 use Rattle.afr_laws.specs.Seen.{IsSuperseded}
+use Rattle.afr_laws.specs.Sound.{IsSpared}
 use Rattle.afr_soundness.specs.Clears.{IsFree}
 use Rattle.afr_soundness.specs.Copied.{Uses, IsFetched}
 use Rattle.afr_soundness.specs.Later.{is_before}
@@ -40,6 +43,20 @@ abbrev pub ReadyHaveAdopted : Type 0
 ReadyHaveAdopted =
     (size : Size) (m : State) → IsSize size → IsReached size m → CopiesGoodOrAccused size m → (t k : ℕ) (cell : Cell) → k < size.replicas → IsSettledFor m t cell →
     is_before (m.txns t).stage ≡ true → (m.txns t).work ≡ Own → IsReadyIn size (phase_of m t) cell k → IsSettledCopy m cell ((m.bricks k).store cell).copy
+
+-- and a change that is unsettled finds them in each of these that is spared, and where it is not applied yet
+pub record IsApplying (size : Size) (m : State) (t u k : ℕ) (cell : Cell) : Type 0 where
+  pub replica : k < size.replicas
+  pub stage : (m.txns t).stage ≡ Applying u
+  pub unsettled : is_unsettled (m.changes u).verdict ≡ true
+  pub touches : has_cell (m.changes u).cells cell ≡ true
+  pub ready : IsReadyIn size (phase_of m t) cell k
+  pub spared : IsSpared m (m.txns t).phase cell k
+  pub unapplied : has_change (applied m k cell) u ≡ false
+
+abbrev pub AppliersHaveAdopted : Type 0
+AppliersHaveAdopted =
+    (size : Size) (m : State) → IsSize size → IsReached size m → CopiesGoodOrAccused size m → (t u k : ℕ) (cell : Cell) → IsApplying size m t u k cell → IsSettledCopy m cell ((m.bricks k).store cell).copy
 
 -- ---- copies
 

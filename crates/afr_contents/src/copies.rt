@@ -1,6 +1,6 @@
 ghost use Rattle.afr_contents.specs.Adopted.{EveryAdoptedIsAsBorn};
 ghost use Rattle.afr_contents.specs.Good.{StepsKeepGood};
-ghost use Rattle.afr_contents.specs.Found.{FreeIsGood, GoodIsSettled, ReadyHaveAdopted, SourcesAreGood};
+ghost use Rattle.afr_contents.specs.Found.{FreeIsGood, GoodIsSettled, ReadyHaveAdopted, AppliersHaveAdopted, SourcesAreGood};
 ghost use Rattle.afr_contents.specs.Present.{EveryChangeIsPresent};
 ghost use Rattle.afr_contents.specs.Split.{SeenAllHasSound};
 
@@ -38,6 +38,12 @@ pub fn good_is_settled()
 /// received a copy, exactly the cell's adopted changes and the content that is adopted, also where its grant has ended.
 pub fn ready_have_adopted()
     ensures { ReadyHaveAdopted }
+{}
+
+/// The law of ops, of the same states. While an unsettled change is applied, a replica that is ready for it in its lock phase, is
+/// spared from then on, and has not applied it, has exactly the cell's adopted changes and the content that is adopted.
+pub fn appliers_have_adopted()
+    ensures { AppliersHaveAdopted }
 {}
 
 /// The law of sources, of the same states. While no later lock phase over a cell wrote, each source of a copy under way is
