@@ -1,5 +1,5 @@
 -- A cell without adopted changes has the content that it was born with, over every list of steps.
-use Rattle.std.proofs.Common.{◌≡◌, ◌∙◌, ℕ, Bool, true, false, refl, sym, ap, subst, Option, Some, None, ◌⊎◌, inl, inr}
+use Rattle.std.proofs.Common.{◌≡◌, ◌∙◌, ℕ, true, false, refl, sym, ap, subst, Option, Some, None, ◌⊎◌, inl, inr}
 use Rattle.std.specs.Prelude.{List, [], ◌∷◌}
 use Rattle.fop_types.specs.StoreOps.{Contents, needs, births, born_on}
 use Rattle.fop_types.specs.declared.cells.Cell.{Cell}
@@ -7,7 +7,7 @@ use Rattle.fop_types.specs.declared.contents.Content.{Content}
 use Rattle.fop_types.specs.declared.store_ops.StoreOp.{StoreOp}
 use Rattle.afr_machine.specs.Replicas.{Size}
 use Rattle.afr_machine.specs.Touching.{has_cell}
-use Rattle.afr_machine.specs.States.{State, start}
+use Rattle.afr_machine.specs.States.{State}
 use Rattle.afr_machine.specs.Steps.{Step, Allowed, after, IsReached}
 use Rattle.afr_laws.specs.OneBirth.{AreBorn}
 use Rattle.afr_laws.proofs.Bools.{is_or_not}

@@ -1,5 +1,5 @@
 -- What a step makes of what is adopted, and of what cells were born with.
-use Rattle.std.proofs.Common.{◌≡◌, ◌∙◌, ℕ, Bool, true, false, refl, sym, ap, subst, Option, Some, None}
+use Rattle.std.proofs.Common.{◌≡◌, ◌∙◌, ℕ, Bool, true, false, refl, sym, ap, subst}
 use Rattle.std.specs.Prelude.{List, [], ◌∷◌, if◌then◌else◌}
 use Rattle.fop_types.specs.StoreOps.{births, after_births, contents_after}
 use Rattle.fop_types.specs.declared.jobs.Job.{Job}

@@ -1,12 +1,12 @@
 -- Whoever is free is good; so what a read finds, and a change before it becomes unsettled, is settled, and what is copied is good.
-use Rattle.std.proofs.Common.{◌≡◌, ◌∙◌, ℕ, zero, suc, ◌≤◌, ◌<◌, Bool, true, false, refl, sym, ap, subst, ◌⊎◌, inl, inr, arith, Option, Some, None}
-use Rattle.std.specs.Prelude.{List, [], ◌∷◌, ◌&&◌, ◌||◌, ◌≢◌, not, nat_lt, is_some}
+use Rattle.std.proofs.Common.{◌≡◌, ◌∙◌, ℕ, ◌≤◌, ◌<◌, Bool, true, false, refl, sym, ap, subst, ◌⊎◌, inl, inr, arith, Option, Some, None}
+use Rattle.std.specs.Prelude.{[], ◌∷◌, ◌&&◌, ◌||◌, ◌≢◌, not, nat_lt, is_some}
 use Rattle.std.proofs.lemmas.Bool.{cases_eq, eq-eqb}
 use Rattle.fop_types.specs.declared.cells.Cell.{Cell}
-use Rattle.afr_machine.specs.Replicas.{Size, IsSize, Replicas, outside, count}
+use Rattle.afr_machine.specs.Replicas.{Size, IsSize, Replicas, outside}
 use Rattle.afr_machine.specs.Touching.{has_cell, share}
 use Rattle.afr_machine.specs.Copies.{Copy, Fetched, fetched_of, changes_of, has_change}
-use Rattle.afr_machine.specs.Phases.{Phase, Deciding, IsSoundIn, IsReadyIn}
+use Rattle.afr_machine.specs.Phases.{Deciding, IsSoundIn, IsReadyIn}
 use Rattle.afr_machine.specs.Phases.Deciding.{NoChange, ByPosts, BySettles}
 use Rattle.afr_machine.specs.Transactions.{CopyRun, Stage, Work, cells_of_job}
 use Rattle.afr_machine.specs.Transactions.Work.{Own, Settles}
@@ -26,8 +26,7 @@ use Rattle.afr_laws.proofs.Copies.Asks.{sent_is, share_at}
 use Rattle.afr_laws.proofs.Fresh.Known.{phases_are_known}
 use Rattle.afr_laws.proofs.OwnChanges.Steps.{changes_are_own}
 use Rattle.afr_soundness.specs.Clears.{IsFree}
-use Rattle.afr_soundness.specs.Copied.{Uses, IsFetched}
-use Rattle.afr_soundness.specs.Deciding.{AccusesNobody, AccusesOutside, IsAccusedBy, IsDecidedIn, IsCopiedFrom, DecidesIn, KnowsDeciding}
+use Rattle.afr_soundness.specs.Deciding.{IsAccusedBy, IsDecidedIn, IsCopiedFrom, DecidesIn}
 use Rattle.afr_soundness.specs.Later.{IsQuietFor, is_before}
 use Rattle.afr_soundness.specs.Runs.{IsSourceOf}
 use Rattle.afr_soundness.proofs.CopyApart.Static.{marked_in}
@@ -38,7 +37,7 @@ use Rattle.afr_soundness.proofs.Runs.{runs_are_known}
 use Rattle.afr_soundness.proofs.Unsettled.{is_some_change, one_unsettled, no_other_unsettled}
 use Rattle.afr_contents.specs.Staying.{pardons_coming, accusers_staying, IsAccused}
 use Rattle.afr_contents.specs.Adopted.{adopted_on}
-use Rattle.afr_contents.specs.Good.{IsAhead, IsGood, IsGoodAt, IsGoodOrAccused, CopiesGoodOrAccused, IsSettledCopy}
+use Rattle.afr_contents.specs.Good.{IsGood, IsGoodAt, IsGoodOrAccused, CopiesGoodOrAccused, IsSettledCopy}
 use Rattle.afr_contents.specs.Good.IsGood.{Absent, Settled, Ahead}
 use Rattle.afr_contents.specs.Found.{FreeIsGood, IsSettledFor, GoodIsSettled, ReadyHaveAdopted, IsApplying, AppliersHaveAdopted, CopiesAreGood, SourcesAreGood}
 use Rattle.afr_contents.proofs.Ops.{first_has}

@@ -1,22 +1,21 @@
 -- A good copy stays good, but for a decision that leaves it out.
-use Rattle.std.proofs.Common.{◌≡◌, ◌∙◌, ℕ, ◌+◌, ◌≤◌, ◌<◌, Bool, true, false, refl, sym, ap, subst, ◌⊎◌, inl, inr, arith, Option, Some, None}
-use Rattle.std.specs.Prelude.{List, [], ◌∷◌, ◌≢◌, ◌++◌, ◌&&◌, ◌||◌, ◌==◌, not, is_some, if◌then◌else◌}
+use Rattle.std.proofs.Common.{◌≡◌, ◌∙◌, ℕ, ◌+◌, ◌<◌, Bool, true, false, refl, sym, ap, subst, ◌⊎◌, inl, inr, arith, Option, Some, None}
+use Rattle.std.specs.Prelude.{List, ◌∷◌, ◌++◌, ◌&&◌, ◌||◌, ◌==◌, not, if◌then◌else◌}
 use Rattle.std.proofs.lemmas.Bool.{eq-eqb}
-use Rattle.fop_types.specs.StoreOps.{Contents, needs, births, fits, content_after, contents_after}
+use Rattle.fop_types.specs.StoreOps.{Contents, needs, fits, content_after}
 use Rattle.fop_types.specs.declared.cells.Cell.{Cell}
 use Rattle.fop_types.specs.declared.contents.Content.{Content}
-use Rattle.fop_types.specs.declared.store_ops.StoreOp.{StoreOp}
-use Rattle.afr_machine.specs.Replicas.{Size, Replicas, count}
+use Rattle.afr_machine.specs.Replicas.{Size, Replicas}
 use Rattle.afr_machine.specs.Touching.{is_cell, has_cell}
 use Rattle.afr_machine.specs.Copies.{Copy, Kept, Store, changes_of, has_change, on_cells, mark_of, post_of, settle_of, clear_of}
 use Rattle.afr_machine.specs.Requests.{Sender, Ask, Input}
 use Rattle.afr_machine.specs.Requests.Ask.{Mark, Op, Post, Replace, Clear, Settle}
 use Rattle.afr_machine.specs.Requests.Input.{Asked}
 use Rattle.afr_machine.specs.Bricks.{Brick, stored_by}
-use Rattle.afr_machine.specs.Changes.{Change, Verdict, is_unsettled, is_adopted_on}
+use Rattle.afr_machine.specs.Changes.{Change, is_unsettled}
 use Rattle.afr_machine.specs.States.{State}
 use Rattle.afr_machine.specs.Sending.{asks_of, inputs_of, sender_of}
-use Rattle.afr_machine.specs.Steps.{Step, Allowed, MayDecide, after, IsReached, decided_by, decided, deciding}
+use Rattle.afr_machine.specs.Steps.{Step, Allowed, after, IsReached, decided_by, decided, deciding}
 use Rattle.afr_machine.specs.Moves.{BrickMove, IsTaken}
 use Rattle.afr_machine.specs.Moves.BrickMove.{Stays, Takes, Hands, Serves, Refuses, GivesUp, Steers}
 use Rattle.afr_machine.proofs.Tables.{at_each}
@@ -35,7 +34,7 @@ use Rattle.afr_soundness.proofs.Unsettled.{one_unsettled}
 use Rattle.afr_contents.specs.Staying.{IsAccused, SendsPardon, accusers_staying}
 use Rattle.afr_contents.specs.Spread.{HasAsDecided, IsAccusedOnEach}
 use Rattle.afr_contents.specs.Adopted.{adopted_on, first_of, settled, ChangesOfAdopted}
-use Rattle.afr_contents.specs.Good.{IsAhead, IsGood, IsGoodAt, IsGoodOrAccused, CopiesGoodOrAccused, IsNextOp, FrontIsRight, IsAccusedElsewhere, PardonsAreRight, StepsKeepGood}
+use Rattle.afr_contents.specs.Good.{IsAhead, IsGood, IsGoodAt, IsGoodOrAccused, IsNextOp, FrontIsRight, IsAccusedElsewhere, PardonsAreRight, StepsKeepGood}
 use Rattle.afr_contents.specs.Good.IsGood.{Absent, Settled, Ahead}
 use Rattle.afr_contents.proofs.Staying.{accusations_stay}
 use Rattle.afr_contents.proofs.Spread.{decisions_spread}

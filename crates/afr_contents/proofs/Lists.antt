@@ -1,11 +1,11 @@
 -- The list of adopted changes: it stays while none of them changes, and one that is adopted now comes first.
-use Rattle.std.proofs.Common.{◌≡◌, ◌∙◌, ℕ, zero, suc, ◌+◌, ◌≤◌, ◌<◌, Bool, true, false, refl, sym, ap, subst, ◌⊎◌, inl, inr, arith}
-use Rattle.std.specs.Prelude.{List, [], ◌∷◌, ◌≢◌, ◌||◌, ◌&&◌, ◌==◌, if◌then◌else◌}
-use Rattle.std.proofs.lemmas.Bool.{cases_lt, cases_eq, eqb-true}
+use Rattle.std.proofs.Common.{◌≡◌, ◌∙◌, ℕ, zero, suc, ◌≤◌, ◌<◌, Bool, true, false, refl, sym, ap, subst, ◌⊎◌, inl, inr, arith}
+use Rattle.std.specs.Prelude.{◌∷◌, ◌≢◌, ◌==◌, if◌then◌else◌}
+use Rattle.std.proofs.lemmas.Bool.{cases_lt, eqb-true}
 use Rattle.fop_types.specs.declared.cells.Cell.{Cell}
 use Rattle.afr_machine.specs.Copies.{has_change}
 use Rattle.afr_machine.specs.Changes.{Change, is_adopted_on}
-use Rattle.afr_laws.proofs.Bools.{apart_bools, is_or_not, either_way}
+use Rattle.afr_laws.proofs.Bools.{is_or_not, either_way}
 use Rattle.afr_contents.specs.Adopted.{adopted_below}
 
 module _ (cell : Cell) where

@@ -1,5 +1,5 @@
 -- What an op makes of a cell depends on the cells that it needs alone; and it leaves all others but for births.
-use Rattle.std.proofs.Common.{◌≡◌, ◌∙◌, ℕ, Bool, true, false, refl, sym, ap, subst, ◌⊎◌, inl, inr, Option, Some, None}
+use Rattle.std.proofs.Common.{◌≡◌, ◌∙◌, ℕ, Bool, true, false, refl, sym, ap, subst, Option, Some, None}
 use Rattle.std.specs.Prelude.{List, [], ◌∷◌, ◌&&◌, ◌||◌, not, is_none, is_some, if◌then◌else◌}
 use Rattle.std.specs.Ordering.{is_eq, match_ordering}
 use Rattle.std.specs.declared.cmp.Ordering.{Ordering}
@@ -7,10 +7,10 @@ use Rattle.std.specs.declared.cmp.Ordering.TheVariants.{Less, Equal, Greater}
 use Rattle.std.proofs.lemmas.Cmp.{tied_itself}
 use Rattle.fop_types.proofs.MapLemmas.{gfid_exact, cell_cmp_total}
 use Rattle.fop_types.specs.Cells.{data_cell, meta_cell, names_cell}
-use Rattle.fop_types.specs.Names.{has_real_name, attr_named, item_named, renamed, is_same_name}
-use Rattle.fop_types.specs.Orders.{gfid_cmp, cell_cmp}
+use Rattle.fop_types.specs.Names.{has_real_name, attr_named, item_named, is_same_name}
+use Rattle.fop_types.specs.Orders.{gfid_cmp}
 use Rattle.fop_types.specs.StoreOps.{Contents, Edit, needs, births, both_names, edits, moved_in, item_in, items_of, attrs_of, is_removed, is_taken, is_that_directory, is_directory_item, is_unfit, holds, are_present, fits, with_content, edited_if_present, after_edits, born_if_absent, after_births, contents_after, edited_on, born_on, content_after}
-use Rattle.fop_types.specs.StoreOps.Edit.{PutBytes, Resize, PutMode, PutAttr, DropAttr, PutItem, DropItem, MarkRemoved}
+use Rattle.fop_types.specs.StoreOps.Edit.{DropItem}
 use Rattle.fop_types.specs.declared.cells.Cell.{Cell}
 use Rattle.fop_types.specs.declared.cells.Gfid.{Gfid}
 use Rattle.fop_types.specs.declared.contents.Content.{Content}
@@ -19,7 +19,7 @@ use Rattle.fop_types.specs.declared.store_ops.StoreOp.{StoreOp}
 use Rattle.fop_types.specs.declared.store_ops.StoreOp.TheVariants.{Write, Truncate, SetMode, SetAttr, DelAttr, AddName, DropName, DropDir, Move, MakeCopy}
 use Rattle.afr_machine.specs.Touching.{is_cell, has_cell}
 use Rattle.afr_laws.specs.OneBirth.{AreBorn}
-use Rattle.afr_laws.proofs.Bools.{apart_bools, is_or_not, or_left, or_last, or_right}
+use Rattle.afr_laws.proofs.Bools.{apart_bools, or_left, or_last}
 use Rattle.afr_laws.proofs.Sharing.{cells_are}
 use Rattle.afr_contents.specs.Adopted.{first_of}
 

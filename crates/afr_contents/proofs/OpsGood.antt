@@ -1,30 +1,29 @@
 -- An op that finds settled copies of the cells that it needs makes good copies.
-use Rattle.std.proofs.Common.{◌≡◌, ◌∙◌, ℕ, Bool, true, false, refl, sym, ap, subst, Option, Some, None, ◌⊎◌, inl, inr}
+use Rattle.std.proofs.Common.{◌≡◌, ◌∙◌, ℕ, Bool, true, false, refl, sym, ap, subst, Option, Some, None, inl, inr}
 use Rattle.std.specs.Prelude.{List, [], ◌∷◌, is_some, if◌then◌else◌}
-use Rattle.fop_types.specs.StoreOps.{Contents, needs, births, fits, born_on, content_after}
+use Rattle.fop_types.specs.StoreOps.{needs, births, fits, born_on, content_after}
 use Rattle.fop_types.specs.declared.cells.Cell.{Cell}
 use Rattle.fop_types.specs.declared.contents.Content.{Content}
 use Rattle.fop_types.specs.declared.store_ops.StoreOp.{StoreOp}
 use Rattle.afr_machine.specs.Replicas.{Size}
 use Rattle.afr_machine.specs.Touching.{has_cell}
-use Rattle.afr_machine.specs.Copies.{Copy, Store, content_of, contents_of, changes_after, copy_with, op_of}
-use Rattle.afr_machine.specs.Requests.{Sender, Ask, Input}
+use Rattle.afr_machine.specs.Copies.{Copy, content_of, contents_of, changes_after, copy_with, op_of}
+use Rattle.afr_machine.specs.Requests.{Sender, Input}
 use Rattle.afr_machine.specs.Requests.Ask.{Op}
 use Rattle.afr_machine.specs.Requests.Input.{Asked}
 use Rattle.afr_machine.specs.Bricks.{stored_by}
-use Rattle.afr_machine.specs.Changes.{is_unsettled}
 use Rattle.afr_machine.specs.States.{State}
 use Rattle.afr_machine.specs.Steps.{IsReached}
 use Rattle.afr_laws.specs.Senders.{EachInput}
 use Rattle.afr_laws.specs.Copies.{IsOpOf, Carries}
 use Rattle.afr_laws.specs.OneBirth.{AreBorn, BearsAsBorn}
-use Rattle.afr_laws.proofs.Bools.{apart_bools, is_or_not}
+use Rattle.afr_laws.proofs.Bools.{apart_bools}
 use Rattle.afr_laws.proofs.Births.Steps.{every_cell_is_born_once}
 use Rattle.afr_laws.proofs.Copies.Contents.{content_stays}
 use Rattle.afr_laws.proofs.Copies.Steps.{copies_are_of_changes}
 use Rattle.afr_laws.proofs.OwnChanges.Steps.{changes_are_own}
-use Rattle.afr_contents.specs.Adopted.{adopted_on, first_of, settled}
-use Rattle.afr_contents.specs.Good.{IsAhead, IsGood, IsGoodAt, IsSettledCopy, IsNextOp}
+use Rattle.afr_contents.specs.Adopted.{first_of, settled}
+use Rattle.afr_contents.specs.Good.{IsGood, IsGoodAt, IsSettledCopy, IsNextOp}
 use Rattle.afr_contents.specs.Good.IsGood.{Absent, Settled, Ahead}
 use Rattle.afr_contents.proofs.Ops.{some_of, fits_same, content_same, left_alone, born_settled, unborn}
 use Rattle.afr_contents.proofs.AsBorn.{adopted_as_born}

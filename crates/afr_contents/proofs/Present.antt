@@ -1,23 +1,21 @@
 -- What a lock phase saw stays, and each cell of a change has a copy at a quorum, over every list of steps.
-use Rattle.std.proofs.Common.{◌≡◌, ◌∙◌, ℕ, ◌+◌, ◌≤◌, ◌<◌, Bool, true, false, refl, sym, ap, subst, ◌⊎◌, inl, inr, arith, Option, Some, None}
-use Rattle.std.specs.Prelude.{◌≢◌, ◌&&◌, not, is_some}
+use Rattle.std.proofs.Common.{◌≡◌, ◌∙◌, ℕ, ◌≤◌, true, false, refl, sym, ap, subst, inl, inr, arith}
 use Rattle.fop_types.specs.declared.cells.Cell.{Cell}
 use Rattle.fop_types.specs.declared.contents.Row.{Row}
 use Rattle.afr_machine.specs.Replicas.{Size, Replicas, count}
 use Rattle.afr_machine.specs.Touching.{has_cell}
 use Rattle.afr_machine.specs.Changes.{Change, Verdict, is_unsettled}
-use Rattle.afr_machine.specs.Phases.{Phase, IsSoundIn, IsCopiedIn, IsReadyIn}
-use Rattle.afr_machine.specs.Transactions.{Grant, Stage, cells_of_job}
+use Rattle.afr_machine.specs.Phases.{Phase, IsReadyIn}
+use Rattle.afr_machine.specs.Transactions.{Stage, cells_of_job}
 use Rattle.afr_machine.specs.States.{State, phase_of}
 use Rattle.afr_machine.specs.Births.{cells_of_work}
-use Rattle.afr_machine.specs.Turns.{Turn, IsCopied, MayReach, MayMarkNow, members, cells_locked, rows_granted, phase_reached}
+use Rattle.afr_machine.specs.Turns.{IsCopied, MayReach, MayMarkNow, members, cells_locked, rows_granted}
 use Rattle.afr_machine.specs.Steps.{Step, Allowed, after, IsReached}
 use Rattle.afr_machine.specs.Moves.{IsTaken}
 use Rattle.afr_machine.proofs.BrickMoves.{bricks_move}
 use Rattle.afr_laws.specs.Grants.{is_unlocking}
 use Rattle.afr_laws.specs.Fresh.{is_behind, AsksFor}
 use Rattle.afr_laws.specs.Standing.{is_gathering}
-use Rattle.afr_laws.proofs.Bools.{both_left}
 use Rattle.afr_laws.proofs.Counts.{count_within}
 use Rattle.afr_laws.proofs.Fresh.Known.{phases_are_known}
 use Rattle.afr_laws.proofs.Fresh.Phased.{PhasesGo}

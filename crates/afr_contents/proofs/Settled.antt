@@ -1,22 +1,20 @@
 -- Which changes of a cell are adopted after a step, and what is settled there.
-use Rattle.std.proofs.Common.{◌≡◌, ◌∙◌, ℕ, ◌+◌, ◌≤◌, ◌<◌, Bool, true, false, refl, sym, ap, subst, ◌⊎◌, inl, inr, arith, Option, Some, None}
-use Rattle.std.specs.Prelude.{List, [], ◌∷◌, ◌≢◌, ◌&&◌, is_some}
-use Rattle.fop_types.specs.StoreOps.{Contents, needs, births, fits, born_on, content_after, contents_after, after_births}
+use Rattle.std.proofs.Common.{◌≡◌, ◌∙◌, ℕ, ◌≤◌, ◌<◌, Bool, true, false, refl, sym, ap, subst, ◌⊎◌, inl, inr, arith, Option, Some, None}
+use Rattle.std.specs.Prelude.{[], ◌∷◌, ◌≢◌, ◌&&◌}
+use Rattle.fop_types.specs.StoreOps.{Contents, needs, births, contents_after}
 use Rattle.fop_types.specs.declared.cells.Cell.{Cell}
 use Rattle.fop_types.specs.declared.contents.Content.{Content}
 use Rattle.fop_types.specs.declared.store_ops.StoreOp.{StoreOp}
 use Rattle.afr_machine.specs.Replicas.{Size, with_at}
-use Rattle.afr_machine.specs.Touching.{has_cell, share}
-use Rattle.afr_machine.specs.Copies.{Copy, changes_of, has_change}
+use Rattle.afr_machine.specs.Touching.{has_cell}
 use Rattle.afr_machine.specs.Changes.{Change, Verdict, is_unsettled, is_adopted, is_adopted_on, verdict_of}
 use Rattle.afr_machine.specs.States.{State}
-use Rattle.afr_machine.specs.Births.{AreAsFirst}
 use Rattle.afr_machine.specs.Steps.{Step, Allowed, MayDecide, after, IsReached, decided_by, decided, deciding}
 use Rattle.afr_machine.proofs.Tables.{at_same}
 use Rattle.afr_laws.specs.OwnChanges.{was_unsettled}
 use Rattle.afr_laws.specs.OneBirth.{AreBorn}
-use Rattle.afr_laws.proofs.Bools.{apart_bools, is_or_not, both_left, both_right}
-use Rattle.afr_laws.proofs.Births.Born.{births_stay, births_born}
+use Rattle.afr_laws.proofs.Bools.{is_or_not, both_left, both_right}
+use Rattle.afr_laws.proofs.Births.Born.{births_born}
 use Rattle.afr_laws.proofs.Births.Steps.{every_cell_is_born_once}
 use Rattle.afr_laws.proofs.Copies.Asks.{sent_is, share_at}
 use Rattle.afr_laws.proofs.Drawn.{changes_are_drawn}

@@ -1,6 +1,6 @@
 -- A lock phase that reached every replica finds a sound one.
-use Rattle.std.proofs.Common.{◌≡◌, ◌∙◌, ℕ, zero, suc, ◌+◌, ◌-◌, ◌≤◌, ◌<◌, Bool, true, false, refl, sym, ap, subst, arith, Some}
-use Rattle.std.specs.Prelude.{List, [], ◌∷◌, ◌&&◌, ◌||◌, ◌==◌, not, slice_index}
+use Rattle.std.proofs.Common.{◌≡◌, ◌∙◌, ℕ, zero, suc, ◌+◌, ◌-◌, ◌≤◌, ◌<◌, true, false, sym, ap, arith, Some}
+use Rattle.std.specs.Prelude.{List, [], ◌∷◌, ◌==◌, not, slice_index}
 use Rattle.fop_types.specs.declared.cells.Cell.{Cell}
 use Rattle.fop_types.specs.declared.contents.Row.{Row}
 use Rattle.afr_changelog.specs.Soundness.{accuses}
@@ -12,12 +12,11 @@ use Rattle.afr_machine.specs.Steps.{IsReached}
 use Rattle.afr_laws.specs.Rows.{accuses_at, accusing_in, IsSoundByCount}
 use Rattle.afr_laws.specs.Seen.{SeenStands}
 use Rattle.afr_laws.specs.Sound.{comes, accusers_coming}
-use Rattle.afr_laws.proofs.Bools.{both_left, both_right, neither_left, or_left}
+use Rattle.afr_laws.proofs.Bools.{both_right, neither_left, or_left}
 use Rattle.afr_laws.proofs.Accusers.{rows_show_accusers}
 use Rattle.afr_laws.proofs.Counts.{count_within}
 use Rattle.afr_laws.proofs.Seen.Steps.{keeps_seen}
 use Rattle.afr_laws.proofs.Sound.{soundness_is_counted}
-use Rattle.afr_soundness.specs.Replaced.{HasCopy}
 use Rattle.afr_soundness.specs.Guarded.{OneIsFreeOn}
 use Rattle.afr_soundness.proofs.Guarded.{leaves_one_free}
 use Rattle.afr_contents.specs.Split.{SawAll, SeenAllHasSound}

@@ -1,11 +1,10 @@
 -- At the moment of a decision each replica has the change as decided, or a quorum accuses it and goes on doing so.
-use Rattle.std.proofs.Common.{◌≡◌, ◌∙◌, ℕ, ◌<◌, ◌≤◌, Bool, true, false, refl, sym, ap, subst, ◌⊎◌, inl, inr, arith, Option, Some, None}
-use Rattle.std.specs.Prelude.{List, [], ◌∷◌, ◌&&◌, ◌||◌, not, nat_lt}
+use Rattle.std.proofs.Common.{◌≡◌, ◌∙◌, ℕ, ◌<◌, ◌≤◌, Bool, true, false, refl, ap, subst, ◌⊎◌, inl, inr, arith, Option, Some, None}
+use Rattle.std.specs.Prelude.{List, [], ◌∷◌, ◌&&◌, not, nat_lt}
 use Rattle.std.proofs.lemmas.Bool.{lt-ltb}
 use Rattle.fop_types.specs.declared.cells.Cell.{Cell}
 use Rattle.afr_machine.specs.Replicas.{Size, Replicas, outside, count}
 use Rattle.afr_machine.specs.Touching.{has_cell}
-use Rattle.afr_machine.specs.Copies.{has_change}
 use Rattle.afr_machine.specs.Requests.{Sender, Ask, Input}
 use Rattle.afr_machine.specs.Requests.Ask.{Clear}
 use Rattle.afr_machine.specs.Requests.Input.{Asked, Steered}
@@ -14,10 +13,9 @@ use Rattle.afr_machine.specs.Transactions.{Stage}
 use Rattle.afr_machine.specs.Transactions.Work.{Settles}
 use Rattle.afr_machine.specs.Transactions.Stage.{Posting, Settling}
 use Rattle.afr_machine.specs.States.{State, phase_of}
-use Rattle.afr_machine.specs.Steps.{MayDecide, IsReached, decided_by}
+use Rattle.afr_machine.specs.Steps.{IsReached, decided_by}
 use Rattle.afr_laws.specs.Senders.{EachInput}
 use Rattle.afr_laws.specs.Rows.{accuses_at, pardons}
-use Rattle.afr_laws.specs.Numbers.{applied}
 use Rattle.afr_laws.specs.Fresh.{is_behind, IsWorkOf}
 use Rattle.afr_laws.proofs.Bools.{apart_bools, is_or_not, both, neither, not_false}
 use Rattle.afr_laws.proofs.Counts.{count_within}
@@ -30,8 +28,8 @@ use Rattle.afr_soundness.proofs.Applied.{applied_holds}
 use Rattle.afr_soundness.proofs.Agreeing.{keeps_agreeing}
 use Rattle.afr_soundness.proofs.Posted.{post_done_accuses}
 use Rattle.afr_soundness.proofs.SettleDone.{settle_done_accuses}
-use Rattle.afr_contents.specs.Staying.{pardons_coming, accusers_staying, IsAccusedByMany}
-use Rattle.afr_contents.specs.Spread.{HasAsDecided, IsAccusedOnEach, DecisionsSpread, EveryDecisionIsSpread}
+use Rattle.afr_contents.specs.Staying.{pardons_coming, accusers_staying}
+use Rattle.afr_contents.specs.Spread.{HasAsDecided, IsAccusedOnEach, EveryDecisionIsSpread}
 
 -- a line whose clears are all of other cells
 pub none_coming : (P : Sender → Ask → Type 0) (cell : Cell) (i : ℕ) → ((by : Sender) (ask : Ask) → P by ask → pardons ask cell i ≡ false) → (line : List Input) → EachInput P line → pardons_coming line cell i ≡ false

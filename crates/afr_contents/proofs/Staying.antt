@@ -1,5 +1,5 @@
 -- Who accuses a replica goes on doing so until a clear is sent that names it.
-use Rattle.std.proofs.Common.{◌≡◌, ◌∙◌, ℕ, Bool, true, false, refl, sym, ap, subst, ◌⊎◌, inl, inr}
+use Rattle.std.proofs.Common.{◌≡◌, ◌∙◌, ℕ, Bool, true, false, refl, sym, ap, ◌⊎◌, inl, inr}
 use Rattle.std.specs.Prelude.{List, [], ◌∷◌, ◌++◌, ◌&&◌, ◌||◌, not}
 use Rattle.fop_types.specs.declared.cells.Cell.{Cell}
 use Rattle.afr_machine.specs.Replicas.{Size}
@@ -16,7 +16,7 @@ use Rattle.afr_machine.specs.Moves.{BrickMove, IsTaken}
 use Rattle.afr_machine.specs.Moves.BrickMove.{Stays, Takes, Hands, Serves, Refuses, GivesUp, Steers}
 use Rattle.afr_machine.proofs.BrickMoves.{bricks_move}
 use Rattle.afr_laws.specs.Rows.{accuses_at, adds, pardons}
-use Rattle.afr_laws.proofs.Bools.{apart_bools, is_or_not, both, both_left, both_right, neither, neither_left, neither_right, not_true, not_false, or_last, or_right}
+use Rattle.afr_laws.proofs.Bools.{is_or_not, both, both_left, both_right, neither, neither_left, neither_right, not_true, not_false, or_last, or_right}
 use Rattle.afr_laws.proofs.Accusers.{accusers_follow}
 use Rattle.afr_laws.proofs.Connecting.{served_line, steered_line}
 use Rattle.afr_laws.proofs.Copies.Served.{served_store, steered_store}

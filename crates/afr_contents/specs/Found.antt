@@ -1,6 +1,6 @@
 -- What is found at good replicas: whoever is free is good where each replica is good or accused; so a read, and a change before it
 -- becomes unsettled, finds exactly the adopted changes, and a copy what is good. Ours.
-use Rattle.std.specs.Prelude.{◌≡◌, ◌<◌, ◌≤◌, ℕ, true, false, Option, Some}
+use Rattle.std.specs.Prelude.{◌≡◌, ◌<◌, ◌≤◌, ℕ, true, false, Some}
 use Rattle.fop_types.specs.declared.cells.Cell.{Cell}
 use Rattle.afr_machine.specs.Replicas.{Size, IsSize}
 use Rattle.afr_machine.specs.Touching.{has_cell}

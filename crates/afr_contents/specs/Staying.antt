@@ -3,7 +3,7 @@ use Rattle.std.specs.Prelude.{◌≡◌, ◌≤◌, ◌⊎◌, ◌||◌, ◌&&�
 use Rattle.fop_types.specs.declared.cells.Cell.{Cell}
 use Rattle.afr_machine.specs.Replicas.{Replicas, Size, count}
 use Rattle.afr_machine.specs.Touching.{has_cell}
-use Rattle.afr_machine.specs.Requests.{Ask, Input}
+use Rattle.afr_machine.specs.Requests.{Input}
 use Rattle.afr_machine.specs.Requests.Ask.{Clear}
 use Rattle.afr_machine.specs.Requests.Input.{Asked, Steered}
 use Rattle.afr_machine.specs.Bricks.{Brick}
