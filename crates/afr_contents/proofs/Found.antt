@@ -240,8 +240,8 @@ module _ (size : Size) (m : State) (is : IsSize size) (r : IsReached size m) (go
   without copy there none (Settled held e changes content) = record { held = held; is = e; changes = changes; content = content }
   without copy there none (Ahead held v e h) =
       apart_bools (ap (λ c. has_change (changes_of c) u) e ∙ ap (λ l. has_change l u) (h.changes ∙ ap (λ n. n ∷ adopted_on m cell) same) ∙ ap (λ b. b || has_change (adopted_on m cell) u) (eq-eqb u u refl)) none where
-    same : v ≡ u
-    same = one_unsettled size m r v u h.unsettled a.unsettled (share_at (m.changes v).cells (m.changes u).cells cell h.touches a.touches)
+        same : v ≡ u
+        same = one_unsettled size m r v u h.unsettled a.unsettled (share_at (m.changes v).cells (m.changes u).cells cell h.touches a.touches)
 
   pub appliers_have : IsSettledCopy m cell ((m.bricks k).store cell).copy
   appliers_have = without ((m.bricks k).store cell).copy free.present a.unapplied (free_is_good size m good k cell a.replica free)

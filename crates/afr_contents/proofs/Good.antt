@@ -1,5 +1,5 @@
 -- A good copy stays good, but for a decision that leaves it out.
-use Rattle.std.proofs.Common.{◌≡◌, ◌∙◌, ℕ, ◌+◌, ◌<◌, Bool, true, false, refl, sym, ap, subst, ◌⊎◌, inl, inr, arith, Option, Some, None}
+use Rattle.std.proofs.Common.{◌≡◌, ◌∙◌, ℕ, ◌<◌, Bool, true, false, refl, sym, ap, subst, ◌⊎◌, inl, inr, arith, Option, Some, None}
 use Rattle.std.specs.Prelude.{List, ◌∷◌, ◌++◌, ◌&&◌, ◌||◌, ◌==◌, not, if◌then◌else◌}
 use Rattle.std.proofs.lemmas.Bool.{eq-eqb}
 use Rattle.fop_types.specs.StoreOps.{Contents, needs, fits, content_after}
@@ -164,14 +164,14 @@ module _ (size : Size) (m : State) (r : IsReached size m) (step : Step) (allowed
       good_dropped copy has (Settled held e changes content) = Settled held e (changes ∙ sym (on_stays size m r step allowed cell (none_adopted cell))) (settled_stays size m r step allowed cell held.content (none_adopted cell) content)
       good_dropped copy has (Ahead held v e a) =
           apart_bools (ap (λ c. has_change (changes_of c) u) e ∙ ap (λ l. has_change l u) (a.changes ∙ ap (λ n. n ∷ adopted_on m cell) (same v held a)) ∙ first_number u (adopted_on m cell)) has where
-        first_number : (u : ℕ) (us : List ℕ) → has_change (u ∷ us) u ≡ true
-        first_number u us = ap (λ b. b || has_change us u) (eq-eqb u u refl)
+            first_number : (u : ℕ) (us : List ℕ) → has_change (u ∷ us) u ≡ true
+            first_number u us = ap (λ b. b || has_change us u) (eq-eqb u u refl)
 
     pub good_decided : (copy : Option Copy) → has_change (changes_of copy) u ≡ d.decision.may.adopts → IsGood m cell copy → IsGood new cell copy
     good_decided copy has good = by_case (is_or_not d.decision.may.adopts) where
       by_case : (d.decision.may.adopts ≡ true) ⊎ (d.decision.may.adopts ≡ false) → IsGood new cell copy
-      by_case (inl yes) = good_adopted yes copy (has ∙ yes) good
-      by_case (inr no) = good_dropped no copy (has ∙ no) good
+      by_case (inl does) = good_adopted does copy (has ∙ does) good
+      by_case (inr drops) = good_dropped drops copy (has ∙ drops) good
 
   -- ---- whether it decides one
 
@@ -305,7 +305,7 @@ module _ (size : Size) (m : State) (r : IsReached size m) (step : Step) (allowed
         elsewhere (inr (inl itself)) = inr (inl (accusations_stay size m step allowed i i cell itself.1 (λ s. itself.0 (only i s))))
         elsewhere (inr (inr many)) =
             let more = count_within size.replicas (λ j. not (j == k) && accusers_staying m cell i j) (accusers_staying (after size m step) cell i)
-                (λ j few h. accusations_stay size m step allowed j i cell (both_right (not (j == k)) (accusers_staying m cell i j) h) (λ s. apart_bools (eq-eqb j k (only j s)) (not_true (j == k) (both_left (not (j == k)) (accusers_staying m cell i j) h)))) in
+            (λ j few h. accusations_stay size m step allowed j i cell (both_right (not (j == k)) (accusers_staying m cell i j) h) (λ s. apart_bools (eq-eqb j k (only j s)) (not_true (j == k) (both_left (not (j == k)) (accusers_staying m cell i j) h)))) in
             inr (inr (omega (arith, more, many)))
 
       pub other_keeps : FrontIsRight size m i → PardonsAreRight size m step → IsGoodOrAccused size m i cell → IsGoodOrAccused size new i cell

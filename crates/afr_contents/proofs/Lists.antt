@@ -25,14 +25,14 @@ module _ (cell : Cell) where
 
   pub below_adds : (old new : ℕ → Change) (u n : ℕ) → 1 ≤ u → u ≤ n → is_adopted_on (new u) cell ≡ true → is_adopted_on (old u) cell ≡ false →
       ((v : ℕ) → v ≢ u → is_adopted_on (new v) cell ≡ is_adopted_on (old v) cell) → ((v : ℕ) → is_adopted_on (old v) cell ≡ true → v ≤ u) → adopted_below new n cell ≡ u ∷ adopted_below old n cell
-  below_adds old new u zero one low now then same less = absurd (omega (arith, one, low))
-  below_adds old new u (suc n) one low now then same less = by_case (λ few. below_adds old new u n one few now then same less) (cases_lt n u) where
+  below_adds old new u zero one low now before same less = absurd (omega (arith, one, low))
+  below_adds old new u (suc n) one low now before same less = by_case (λ few. below_adds old new u n one few now before same less) (cases_lt n u) where
     -- the last of the numbers
     last_one : u ≡ suc n → n < u → adopted_below new (suc n) cell ≡ u ∷ adopted_below old (suc n) cell
     last_one at last = subst (λ x. adopted_below new (suc n) cell ≡ x ∷ adopted_below old (suc n) cell) (sym at)
         (ap (λ b. if b then suc n ∷ adopted_below new n cell else adopted_below new n cell) (subst (λ x. is_adopted_on (new x) cell ≡ true) at now)
         ∙ ap (λ l. suc n ∷ l) (below_same old new n (λ v few. same v (λ e. absurd (omega (arith, few, last, e)))))
-        ∙ ap (λ b. suc n ∷ (if b then suc n ∷ adopted_below old n cell else adopted_below old n cell)) (sym (subst (λ x. is_adopted_on (old x) cell ≡ false) at then)))
+        ∙ ap (λ b. suc n ∷ (if b then suc n ∷ adopted_below old n cell else adopted_below old n cell)) (sym (subst (λ x. is_adopted_on (old x) cell ≡ false) at before)))
 
     earlier : u ≤ n → adopted_below new n cell ≡ u ∷ adopted_below old n cell → (is_adopted_on (old (suc n)) cell ≡ true) ⊎ (is_adopted_on (old (suc n)) cell ≡ false) → adopted_below new (suc n) cell ≡ u ∷ adopted_below old (suc n) cell
     earlier more rest (inl there) = absurd (let l = less (suc n) there in omega (arith, l, more))

@@ -103,10 +103,10 @@ module _ (size : Size) (m : State) (r : IsReached size m) (step : Step) (allowed
       then_is b c e f = ap (λ (x : Change). is_adopted_on x cell) is ∙ ap (λ b. is_adopted (verdict_of b) && has_cell (m.changes u).cells cell) e ∙ ap (λ c. is_adopted (verdict_of b) && c) f
 
       by_verdict : (h.adopts ≡ true) ⊎ (h.adopts ≡ false) → (has_cell (m.changes u).cells cell ≡ true) ⊎ (has_cell (m.changes u).cells cell ≡ false) → (is_adopted_on (new.changes u) cell ≡ is_adopted_on (m.changes u) cell) ⊎ Adopting cell u
-      by_verdict (inl yes) (inl there) = inr (record { decision = record { txn = t; step_is = step_is; may = h; at = at; unsettled = unsettled }; adopts = yes; touches = there })
-      by_verdict (inl yes) (inr other) = inl (then_is true false yes other ∙ sym (unsettled_not_on (m.changes u) cell unsettled))
-      by_verdict (inr no) (inl there) = inl (then_is false true no there ∙ sym (unsettled_not_on (m.changes u) cell unsettled))
-      by_verdict (inr no) (inr other) = inl (then_is false false no other ∙ sym (unsettled_not_on (m.changes u) cell unsettled))
+      by_verdict (inl does) (inl there) = inr (record { decision = record { txn = t; step_is = step_is; may = h; at = at; unsettled = unsettled }; adopts = does; touches = there })
+      by_verdict (inl does) (inr other) = inl (then_is true false does other ∙ sym (unsettled_not_on (m.changes u) cell unsettled))
+      by_verdict (inr drops) (inl there) = inl (then_is false true drops there ∙ sym (unsettled_not_on (m.changes u) cell unsettled))
+      by_verdict (inr drops) (inr other) = inl (then_is false false drops other ∙ sym (unsettled_not_on (m.changes u) cell unsettled))
 
   -- what the decision makes of the change, and of what is adopted
   pub adopted_now : (cell : Cell) (u : ℕ) → Adopting cell u → (new.changes u ≡ record (m.changes u) { verdict = Verdict.Adopted }) × (new.adopted ≡ contents_after m.adopted (m.changes u).op)

@@ -50,8 +50,8 @@ module _ (size : Size) (m : State) (is : IsSize size) (r : IsReached size m) (p 
     few_count : count size.replicas (accusing_in (m.phases p) cell f.replica) + (size.replicas - size.quorum) < count size.replicas (m.phases p).reached
     few_count =
         let less = count_within size.replicas (accusing_in (m.phases p) cell f.replica) (accusers_coming m cell f.replica)
-            (λ k low h. or_left (accuses_at (m.bricks k).store cell f.replica) (comes (m.bricks k).line cell f.replica)
-                (sym (accuses_same k f.replica low f.low) ∙ both_right ((m.phases p).reached k) (accuses f.replica (Some ((m.phases p).rows k cell))) h)) in
+        (λ k low h. or_left (accuses_at (m.bricks k).store cell f.replica) (comes (m.bricks k).line cell f.replica)
+        (sym (accuses_same k f.replica low f.low) ∙ both_right ((m.phases p).reached k) (accuses f.replica (Some ((m.phases p).rows k cell))) h)) in
         let every = count_all size.replicas (m.phases p).reached s.all in
         let few = (f.free cell (first_has cell [])).few in
         let odd = is.odd in
