@@ -1,0 +1,2 @@
+//! The files of all sets.
+#![tactic(auto)]
