@@ -1,3 +1,6 @@
+pub mod Accepting
+pub mod Cells
 pub mod Families
+pub mod Local
 pub mod Merges
 pub mod Rises
