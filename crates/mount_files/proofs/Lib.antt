@@ -2,5 +2,9 @@ pub mod Accepting
 pub mod Cells
 pub mod Families
 pub mod Local
+pub mod Making
 pub mod Merges
+pub mod Naming
+pub mod Objects
+pub mod Ops
 pub mod Rises
