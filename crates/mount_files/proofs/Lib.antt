@@ -1,6 +1,8 @@
 pub mod Accepting
 pub mod Cells
 pub mod Families
+pub mod Keeping
+pub mod Later
 pub mod Local
 pub mod Making
 pub mod Merges

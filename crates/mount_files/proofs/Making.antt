@@ -65,7 +65,7 @@ born_of_others kind.Link g mode span cell d = tt
 kind_here : (kinds : Gfid → Option Kind) (g : Gfid) (k : Kind) → with_kind kinds g k g ≡ Some k
 kind_here kinds g k = ap (λ (b : Bool). if b then Some k else kinds g) (ap is_eq (tied_itself gfid_cmp_total g))
 
-kind_off : (kinds : Gfid → Option Kind) (g q : Gfid) (k : Kind) → q ≢ g → with_kind kinds g k q ≡ kinds q
+pub kind_off : (kinds : Gfid → Option Kind) (g q : Gfid) (k : Kind) → q ≢ g → with_kind kinds g k q ≡ kinds q
 kind_off kinds g q k d = ap (λ (b : Bool). if b then Some k else kinds q) (apart gfid_cmp gfid_exact q g d)
 
 home_here : (homes : Homes) (g : Gfid) (set : ℕ) → with_home homes g set g ≡ set

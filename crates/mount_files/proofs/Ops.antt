@@ -51,7 +51,7 @@ use Rattle.mount_files.specs.Showing.{files_with, after_op, IsOn, IsNew, IsThere
 
 -- ---- what fits
 
-fit_parts : (contents : Contents) (o : StoreOp) → fits contents o ≡ true → (are_present contents (needs o) ≡ true) × (is_unfit contents o ≡ false)
+pub fit_parts : (contents : Contents) (o : StoreOp) → fits contents o ≡ true → (are_present contents (needs o) ≡ true) × (is_unfit contents o ≡ false)
 fit_parts contents o e =
     let p = and_parts (are_present contents (needs o)) (not (is_unfit contents o)) e in
     (p.0, unfit_by (is_unfit contents o) p.1)
@@ -60,7 +60,7 @@ fit_parts contents o e =
     unfit_by true f = absurd cc
     unfit_by false f = refl
 
-first_present : (contents : Contents) (cell : Cell) (cells : List Cell) → are_present contents (cell ∷ cells) ≡ true → (holds cell.aspect (contents cell) ≡ true) × (are_present contents cells ≡ true)
+pub first_present : (contents : Contents) (cell : Cell) (cells : List Cell) → are_present contents (cell ∷ cells) ≡ true → (holds cell.aspect (contents cell) ≡ true) × (are_present contents cells ≡ true)
 first_present contents cell cells e = by_case (holds cell.aspect (contents cell)) refl e
   where
     by_case : (b : Bool) → holds cell.aspect (contents cell) ≡ b → (if b then are_present contents cells else false) ≡ true → (holds cell.aspect (contents cell) ≡ true) × (are_present contents cells ≡ true)
@@ -78,7 +78,7 @@ both_present contents a b e = by_order (gfid_cmp a b) refl e
         (p.0, subst (λ (x : Gfid). holds_names (contents (names_cell x)) ≡ true) (gfid_exact a b f) p.0)
     by_order Greater f g = let p = first_present contents (names_cell b) (names_cell a ∷ []) g in ((first_present contents (names_cell a) [] p.1).0, p.0)
 
-applied_is : (contents : Contents) (o : StoreOp) → fits contents o ≡ true → applied contents o ≡ contents_after contents o
+pub applied_is : (contents : Contents) (o : StoreOp) → fits contents o ≡ true → applied contents o ≡ contents_after contents o
 applied_is contents o e = ap (λ (b : Bool). if b then contents_after contents o else contents) e
 
 -- ---- the state that an op leads to
@@ -106,7 +106,7 @@ equal_is Less e = absurd cc
 equal_is Equal e = refl
 equal_is Greater e = absurd cc
 
-cell_is : (a b : Cell) → is_eq (cell_cmp a b) ≡ true → a ≡ b
+pub cell_is : (a b : Cell) → is_eq (cell_cmp a b) ≡ true → a ≡ b
 cell_is a b e = cell_exact a b (equal_is (cell_cmp a b) e)
 
 -- ---- contents after two edits
@@ -303,13 +303,17 @@ module _ (s : Volumes) (count set : ℕ) (parent : Gfid) (item : Item) (mode : �
 
 -- ---- a directory that is removed
 
-record IsThat (x : Option Item) (g : Gfid) : Type 0 where
-  item : Item
-  item_is : x ≡ Some item
-  is_dir : item.kind ≡ kind.Dir
-  gfid_is : item.gfid ≡ g
+pub record IsThat (x : Option Item) (g : Gfid) : Type 0 where
+  pub item : Item
+  pub item_is : x ≡ Some item
+  pub is_dir : item.kind ≡ kind.Dir
+  pub gfid_is : item.gfid ≡ g
 
-that_directory : (x : Option Item) (g : Gfid) → is_that_directory x g ≡ true → IsThat x g
+pub not_not : (b : Bool) → not b ≡ false → b ≡ true
+not_not true f = refl
+not_not false f = absurd cc
+
+pub that_directory : (x : Option Item) (g : Gfid) → is_that_directory x g ≡ true → IsThat x g
 that_directory None g e = absurd cc
 that_directory (Some item) g e =
     let p = and_parts (is_directory item.kind) (is_eq (gfid_cmp item.gfid g)) e in
@@ -324,7 +328,7 @@ some_is : (a b : Item) (x : Option Item) → x ≡ Some a → x ≡ Some b → a
 some_is a b x e f = let g : ◌≡◌ {A = Option Item} (Some a) (Some b) = sym e ∙ f in cc
 
 -- the item of a name on a set is the one that is shown
-shown_item : (s : Volumes) (count set : ℕ) (d : Gfid) (name : List ℕ) (a b : Item) → AllShown s count → IsDirectory s count d → item_in (s.contents set) d name ≡ Some a → is_link a.kind ≡ false → item_named (names_at s.files d) name ≡ Some b → a ≡ b
+pub shown_item : (s : Volumes) (count set : ℕ) (d : Gfid) (name : List ℕ) (a b : Item) → AllShown s count → IsDirectory s count d → item_in (s.contents set) d name ≡ Some a → is_link a.kind ≡ false → item_named (names_at s.files d) name ≡ Some b → a ≡ b
 shown_item s count set d name a b all dir e l f =
     some_is a b (item_named (names_at s.files d) name)
     (ap (λ (names : List Item). item_named names name) (directory_named s count d dir) ∙ over_here s.kinds s.homes count (is_removed (s.contents 0 (names_cell d))) (items_in (column s.contents (names_cell d))) name set a (all d).names e l) f
@@ -458,7 +462,7 @@ module _ (s : Volumes) (count set : ℕ) (parent : Gfid) (name : List ℕ) (targ
 
 -- ---- every op
 
-after_shown : (s : Volumes) (count set : ℕ) (o : StoreOp) (effect : Option Entry) → AllShown s count → FitsNow s count set o effect → AllShown (after_op s set o effect) count
+pub after_shown : (s : Volumes) (count set : ℕ) (o : StoreOp) (effect : Option Entry) → AllShown s count → FitsNow s count set o effect → AllShown (after_op s set o effect) count
 after_shown s count set (op.Write g offset bytes) None all now = absurd now.stands
 after_shown s count set (op.Write g offset bytes) (Some entry) all now =
     let a = now.stands.0 in
@@ -520,10 +524,6 @@ after_shown s count set (op.DropDir parent name g) (Some entry) all now =
     let w = removed_is s.files parent name a.answer a.after a.accepted in
     arrives s count set (op.DropDir parent name g) (Some entry) _ a.after now.fits_set
     (remove_step s count set parent name g a.after all p.0 that w) (remove_contents s count set parent name g a.after all p.0 that w) (accepted_files s.files (flat_op.Rmdir parent name) a.answer a.after a.accepted)
-  where
-    not_not : (b : Bool) → not b ≡ false → b ≡ true
-    not_not true f = refl
-    not_not false f = absurd cc
 after_shown s count set (op.Move parent name target new_name) None all now = absurd now.stands
 after_shown s count set (op.Move parent name target new_name) (Some entry) all now =
     let a = now.stands.0 in

@@ -1,2 +1,3 @@
 pub mod Draft
+pub mod Pairs
 pub mod Showing

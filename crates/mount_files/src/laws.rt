@@ -1,3 +1,4 @@
+ghost use Rattle.mount_files.specs.Pairs.{TwoOps, AllOps};
 ghost use Rattle.mount_files.specs.Showing.{OneOp};
 
 /// Where the contents of all sets show the flat file system, and an op fits its set, with an effect that the flat file system
@@ -5,4 +6,13 @@ ghost use Rattle.mount_files.specs.Showing.{OneOp};
 /// contract exports this.
 pub fn op_is_shown()
     ensures { OneOp }
+{}
+
+/// Of two ops that fit and are apart, each fits after the other: apart are ops that touch no common name, and no name in a
+/// directory that the other removes, that give birth to no common object, and need no common cell of a set. So the ops of a
+/// list, apart one by one, all fit in its order, and the sets show the flat file system after each. The call does nothing: its
+/// contract exports this.
+pub fn ops_stay_possible()
+    ensures two { TwoOps }
+    ensures all { AllOps }
 {}
