@@ -154,7 +154,6 @@ remove_again files parent name item o named dir none =
 move_again : (files : Files) (parent : Gfid) (name : List ℕ) (target : Gfid) (new_name : List ℕ) (item : Item) → IsOpen (object_at files parent) name → item_named (names_at files parent) name ≡ Some item → is_directory item.kind ≡ false
     → IsOpen (object_at files target) new_name → is_directory_item (item_named (names_at files target) new_name) ≡ false → is_same_name parent name target new_name ≡ false → IsAccepted files (flat_op.Rename parent name target new_name)
 move_again files parent name target new_name item o named file to free other =
-    let new : Files = with_name (without_name files parent name) target (renamed item new_name) in
     changes_to files (flat_op.Rename parent name target new_name) (flat_answer.Call answer.Done) (with_name (without_name files parent name) target (renamed item new_name))
     (ap (λ (e : Option AppError). checked e (rename_outcome files parent name target new_name (item_named (names_at files parent) name))) (entry_free (object_at files parent) name o)
     ∙ ap (λ (i : Option Item). rename_outcome files parent name target new_name i) named
@@ -211,11 +210,11 @@ on_again s s2 set g k grow h on = record {
 }
 
 -- an object that is shown is a file or a directory
-object_kind : (count : ℕ) (k : Option Kind) (data meta first : Option Content) (entry : Column) (o : FlatObject) → shown_as count k data meta first entry ≡ Some o → (k ≡ Some kind.File) ⊎ (k ≡ Some kind.Dir)
-object_kind count None data meta first entry o e = absurd cc
-object_kind count (Some kind.File) data meta first entry o e = inl refl
-object_kind count (Some kind.Dir) data meta first entry o e = inr refl
-object_kind count (Some kind.Link) data meta first entry o e = absurd cc
+object_kind : (count : ℕ) (k : Option Kind) (body meta first : Option Content) (entry : Column) (o : FlatObject) → shown_as count k body meta first entry ≡ Some o → (k ≡ Some kind.File) ⊎ (k ≡ Some kind.Dir)
+object_kind count None body meta first entry o e = absurd cc
+object_kind count (Some kind.File) body meta first entry o e = inl refl
+object_kind count (Some kind.Dir) body meta first entry o e = inr refl
+object_kind count (Some kind.Link) body meta first entry o e = absurd cc
 
 -- an object that was shown on its set, shown again there
 record IsAgain (s s2 : Volumes) (set : ℕ) (g : Gfid) : Type 0 where
@@ -233,7 +232,7 @@ object_again s s2 count set g o all all2 grow on e =
         let on2 = on_again s s2 set g kind.File grow k on in
         let k2 = grow.kind g kind.File k in
         let f = file_made s2 count set g (all2 g) k2 (on2.file k2) in
-        record { object = File f.data.bytes f.meta.mode f.meta.attrs; object_is = f.object_is; attrs_are = sym (ap attrs_of f.meta.content_is); on = on2 }
+        record { object = File f.body.bytes f.meta.mode f.meta.attrs; object_is = f.object_is; attrs_are = sym (ap attrs_of f.meta.content_is); on = on2 }
     by_kind (inr k) =
         let on2 = on_again s s2 set g kind.Dir grow k on in
         let k2 = grow.kind g kind.Dir k in
@@ -301,7 +300,6 @@ add_stands : (s s2 : Volumes) (count set : ℕ) (parent : Gfid) (item : Item) (m
 add_stands s s2 count set parent item mode span entry kind.File e l a =
     let w = added_is s.files parent item.name (with_new s.files parent (item_of item.name item.gfid kind.File) (new_file mode)) a.answer a.after a.accepted in
     let d = dir_again s s2 count set (op.AddName parent item mode span) (Some entry) parent item.name l (refl, refl) w.open_at in
-    let new : Files = with_new s2.files parent (item_of item.name item.gfid kind.File) (new_file mode) in
     changes_to s2.files (flat_op.Create parent item.name mode item.gfid) (flat_answer.Call answer.Done) (with_new s2.files parent (item_of item.name item.gfid kind.File) (new_file mode))
     (add_again s2.files parent item.name (with_new s2.files parent (item_of item.name item.gfid kind.File) (new_file mode)) d.open_now
     (free_again s2 count parent item.name l.all2 d.now (λ x. l.untaken x parent item.name (refl, refl) (unlisted s count parent item.name x l.all d.before w.free))))
@@ -339,7 +337,7 @@ remove_stands s s2 count set parent name g entry l fit a =
 
 -- a name on the set is no directory's, or on none
 replace_again : (s s2 : Volumes) (count set : ℕ) (d : Gfid) (name : List ℕ) → AllShown s2 count → IsDirectory s2 count d → IsNowhereElse s2 set d name → is_directory_item (item_in (s2.contents set) d name) ≡ false → is_directory_item (item_named (names_at s2.files d) name) ≡ false
-replace_again s s2 count set d name all2 dir else file = by_case (is_taken (item_in (s2.contents set) d name)) refl
+replace_again s s2 count set d name all2 dir nowhere file = by_case (is_taken (item_in (s2.contents set) d name)) refl
   where
     by_case : (b : Bool) → is_taken (item_in (s2.contents set) d name) ≡ b → is_directory_item (item_named (names_at s2.files d) name) ≡ false
     by_case true e =
@@ -349,7 +347,7 @@ replace_again s s2 count set d name all2 dir else file = by_case (is_taken (item
       where
         by_set : (x : ℕ) → (x ≡ set) ⊎ (x ≢ set) → is_taken (item_in (s2.contents x) d name) ≡ false
         by_set x (inl f) = ap (λ (y : ℕ). is_taken (item_in (s2.contents y) d name)) f ∙ e
-        by_set x (inr f) = else x f
+        by_set x (inr f) = nowhere x f
 
 move_stands : (s s2 : Volumes) (count set : ℕ) (parent : Gfid) (name : List ℕ) (target : Gfid) (new_name : List ℕ) (entry : Entry) → Left s s2 count set (op.Move parent name target new_name) (Some entry) → fits (s.contents set) (op.Move parent name target new_name) ≡ true
     → IsAccepted s.files (flat_op.Rename parent name target new_name) → IsThere s set parent name → IsNowhereElse s2 set target new_name → IsAccepted s2.files (flat_op.Rename parent name target new_name)
@@ -374,13 +372,13 @@ stands_again s s2 count set (op.Write g offset bytes) (Some entry) l fit st =
     let w = write_is s.files g offset bytes st.0.answer st.0.after st.0.accepted in
     let k = kind_file count (s.kinds g) (s.contents (s.homes g) (data_cell g)) (s.contents (s.homes g) (meta_cell g)) (s.contents 0 (meta_cell g)) (column s.contents (names_cell g)) w.bytes w.mode w.attrs (sym (l.all g).object_is ∙ w.object_is) in
     let f = file_made s2 count (s2.homes g) g (l.all2 g) (l.grow.kind g kind.File k) refl in
-    (write_again s.files s2.files g offset bytes f.data.bytes f.meta.mode f.meta.attrs st.0 f.object_is, on_again s s2 set g kind.File l.grow k st.1)
+    (write_again s.files s2.files g offset bytes f.body.bytes f.meta.mode f.meta.attrs st.0 f.object_is, on_again s s2 set g kind.File l.grow k st.1)
 stands_again s s2 count set (op.Truncate g size) None l fit st = absurd st
 stands_again s s2 count set (op.Truncate g size) (Some entry) l fit st =
     let w = truncate_is s.files g size st.0.answer st.0.after st.0.accepted in
     let k = kind_file count (s.kinds g) (s.contents (s.homes g) (data_cell g)) (s.contents (s.homes g) (meta_cell g)) (s.contents 0 (meta_cell g)) (column s.contents (names_cell g)) w.bytes w.mode w.attrs (sym (l.all g).object_is ∙ w.object_is) in
     let f = file_made s2 count (s2.homes g) g (l.all2 g) (l.grow.kind g kind.File k) refl in
-    (truncate_again s.files s2.files g size f.data.bytes f.meta.mode f.meta.attrs (fit_parts (s.contents set) (op.Truncate g size) fit).1 f.object_is, on_again s s2 set g kind.File l.grow k st.1)
+    (truncate_again s.files s2.files g size f.body.bytes f.meta.mode f.meta.attrs (fit_parts (s.contents set) (op.Truncate g size) fit).1 f.object_is, on_again s s2 set g kind.File l.grow k st.1)
 stands_again s s2 count set (op.SetMode g mode) None l fit st = absurd st
 stands_again s s2 count set (op.SetMode g mode) (Some entry) l fit st =
     let w = chmod_is s.files g mode st.0.answer st.0.after st.0.accepted in
@@ -463,9 +461,6 @@ module _ (s : Volumes) (count : ℕ) (a b : OpOn) (flat : ShownIsFlat s count) (
   absent_still : (g : Gfid) (i : Aspect) → Bears b.op g → s.contents b.set (record { gfid = g; aspect = i }) ≡ None → (after s a).contents b.set (record { gfid = g; aspect = i }) ≡ None
   absent_still g i n e = by_set (number_is b.set a.set)
     where
-      cell : Cell
-      cell = record { gfid = g; aspect = i }
-
       by_set : (b.set ≡ a.set) ⊎ (b.set ≢ a.set) → (after s a).contents b.set (record { gfid = g; aspect = i }) ≡ None
       by_set (inl f) =
           ap (λ (x : ℕ). (after s a).contents x (record { gfid = g; aspect = i })) f ∙ ap (λ (c : Contents). c (record { gfid = g; aspect = i })) changed

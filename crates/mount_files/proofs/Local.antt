@@ -57,17 +57,17 @@ abbrev pub names_in : ℕ → Column → List Item
 names_in count entry = over (items_in entry) (range_with_len 0 count) []
 
 abbrev pub shown_as : ℕ → Option Kind → Option Content → Option Content → Option Content → Column → Option FlatObject
-shown_as count None data meta first entry = None
-shown_as count (Some kind.File) data meta first entry = file_of data meta
-shown_as count (Some kind.Dir) data meta first entry = directory_of first (is_removed (entry 0)) (names_in count entry)
-shown_as count (Some kind.Link) data meta first entry = None
+shown_as count None body meta first entry = None
+shown_as count (Some kind.File) body meta first entry = file_of body meta
+shown_as count (Some kind.Dir) body meta first entry = directory_of first (is_removed (entry 0)) (names_in count entry)
+shown_as count (Some kind.Link) body meta first entry = None
 
-pub record ShownAt (kinds : Gfid → Option Kind) (homes : Homes) (count : ℕ) (k : Option Kind) (home : ℕ) (data meta entry : Column) (object : Option FlatObject) : Type 0 where
-  pub object_is : object ≡ shown_as count k (data home) (meta home) (meta 0) entry
+pub record ShownAt (kinds : Gfid → Option Kind) (homes : Homes) (count : ℕ) (k : Option Kind) (home : ℕ) (body meta entry : Column) (object : Option FlatObject) : Type 0 where
+  pub object_is : object ≡ shown_as count k (body home) (meta home) (meta 0) entry
   pub directory : k ≡ Some kind.Dir → holds_meta (meta 0) ≡ true
-  pub datas : k ≡ Some kind.File → holds_bytes (data home) ≡ true
+  pub datas : k ≡ Some kind.File → holds_bytes (body home) ≡ true
   pub metas : k ≡ Some kind.File → holds_meta (meta home) ≡ true
-  pub few : (bytes : List ℕ) → data home ≡ Some (Bytes bytes) → length bytes ≤ max_data
+  pub few : (bytes : List ℕ) → body home ≡ Some (Bytes bytes) → length bytes ≤ max_data
   pub names : AreNamesSound kinds homes count (is_removed (entry 0)) (items_in entry)
   pub marked : (set : ℕ) → 0 < set → is_removed (entry set) ≡ false
   pub orphan : k ≡ None → (set : ℕ) → items_of (entry set) ≡ []
@@ -128,9 +128,9 @@ from_local s count all = record {
 
 -- ---- the same with other columns
 
-pub shown_with : (kinds : Gfid → Option Kind) (homes : Homes) (count : ℕ) (k : Option Kind) (home : ℕ) (data meta entry data2 meta2 entry2 : Column) (object object2 : Option FlatObject)
-    → ShownAt kinds homes count k home data meta entry object → data2 ≡ data → meta2 ≡ meta → entry2 ≡ entry → object2 ≡ object → ShownAt kinds homes count k home data2 meta2 entry2 object2
-shown_with kinds homes count k home data meta entry data2 meta2 entry2 object object2 a d m e o =
+pub shown_with : (kinds : Gfid → Option Kind) (homes : Homes) (count : ℕ) (k : Option Kind) (home : ℕ) (body meta entry data2 meta2 entry2 : Column) (object object2 : Option FlatObject)
+    → ShownAt kinds homes count k home body meta entry object → data2 ≡ body → meta2 ≡ meta → entry2 ≡ entry → object2 ≡ object → ShownAt kinds homes count k home data2 meta2 entry2 object2
+shown_with kinds homes count k home body meta entry data2 meta2 entry2 object object2 a d m e o =
     subst (λ (x : Option FlatObject). ShownAt kinds homes count k home data2 meta2 entry2 x) (sym o)
     (subst (λ (x : Column). ShownAt kinds homes count k home data2 meta2 x object) (sym e)
     (subst (λ (x : Column). ShownAt kinds homes count k home data2 x entry object) (sym m)
@@ -153,11 +153,11 @@ names_grow kinds kinds2 homes homes2 count removed family g a = record {
     grown : (set : ℕ) (item : Item) → IsItemAt kinds homes set item → IsItemAt kinds2 homes2 set item
     grown set item i = record { made = g.kind item.gfid item.kind i.made; at_home = λ k. g.home item.gfid item.kind i.made ∙ i.at_home k; on_first = i.on_first }
 
-pub shown_grows : (kinds kinds2 : Gfid → Option Kind) (homes homes2 : Homes) (count : ℕ) (k k2 : Option Kind) (home home2 : ℕ) (data meta entry : Column) (object : Option FlatObject) → Grows kinds kinds2 homes homes2 → k2 ≡ k → home2 ≡ home
-    → ShownAt kinds homes count k home data meta entry object → ShownAt kinds2 homes2 count k2 home2 data meta entry object
-shown_grows kinds kinds2 homes homes2 count k k2 home home2 data meta entry object g ke he a =
-    subst (λ (x : Option Kind). ShownAt kinds2 homes2 count x home2 data meta entry object) (sym ke)
-    (subst (λ (x : ℕ). ShownAt kinds2 homes2 count k x data meta entry object) (sym he)
+pub shown_grows : (kinds kinds2 : Gfid → Option Kind) (homes homes2 : Homes) (count : ℕ) (k k2 : Option Kind) (home home2 : ℕ) (body meta entry : Column) (object : Option FlatObject) → Grows kinds kinds2 homes homes2 → k2 ≡ k → home2 ≡ home
+    → ShownAt kinds homes count k home body meta entry object → ShownAt kinds2 homes2 count k2 home2 body meta entry object
+shown_grows kinds kinds2 homes homes2 count k k2 home home2 body meta entry object g ke he a =
+    subst (λ (x : Option Kind). ShownAt kinds2 homes2 count x home2 body meta entry object) (sym ke)
+    (subst (λ (x : ℕ). ShownAt kinds2 homes2 count k x body meta entry object) (sym he)
     (record {
       object_is = a.object_is;
       directory = a.directory;

@@ -80,10 +80,10 @@ made_grows kinds homes g k set none = record { kind = λ q l e. kind_off kinds g
     differ : (q : Gfid) (l : Kind) → kinds q ≡ Some l → q ≢ g
     differ q l e f = let no : kinds q ≡ None = subst (λ (x : Gfid). kinds x ≡ None) (sym f) none in absurd cc
 
-shown_by : (kinds : Gfid → Option Kind) (homes : Homes) (count : ℕ) (k k2 : Option Kind) (home home2 : ℕ) (data meta entry : Column) (object : Option FlatObject) → k2 ≡ k → home2 ≡ home
-    → ShownAt kinds homes count k home data meta entry object → ShownAt kinds homes count k2 home2 data meta entry object
-shown_by kinds homes count k k2 home home2 data meta entry object ke he a =
-    subst (λ (x : Option Kind). ShownAt kinds homes count x home2 data meta entry object) (sym ke) (subst (λ (x : ℕ). ShownAt kinds homes count k x data meta entry object) (sym he) a)
+shown_by : (kinds : Gfid → Option Kind) (homes : Homes) (count : ℕ) (k k2 : Option Kind) (home home2 : ℕ) (body meta entry : Column) (object : Option FlatObject) → k2 ≡ k → home2 ≡ home
+    → ShownAt kinds homes count k home body meta entry object → ShownAt kinds homes count k2 home2 body meta entry object
+shown_by kinds homes count k k2 home home2 body meta entry object ke he a =
+    subst (λ (x : Option Kind). ShownAt kinds homes count x home2 body meta entry object) (sym ke) (subst (λ (x : ℕ). ShownAt kinds homes count k x body meta entry object) (sym he) a)
 
 over_empty : (family : Family) (sets : List ℕ) → ((set : ℕ) → family set ≡ []) → over family sets [] ≡ []
 over_empty family [] none = refl
@@ -119,8 +119,8 @@ born_some x c e = ap (λ (o : Option Content). born_if_absent x o) e
 
 making_file : (s : Volumes) (count set : ℕ) (g : Gfid) (mode : ℕ) (span : Option Span) (files : Files) → AllShown s count → s.kinds g ≡ None → IsAbsent s set g → object_at files g ≡ Some (new_file mode) → ShownOf (making s set g kind.File mode span files) count g
 making_file s count set g mode span files all none absent object =
-    shown_with (with_kind s.kinds g kind.File) (with_home s.homes g set) count (with_kind s.kinds g kind.File g) (with_home s.homes g set g) data meta (column s.contents (names_cell g)) _ _ _ (object_at files g) (object_at files g)
-    (shown_by (with_kind s.kinds g kind.File) (with_home s.homes g set) count (Some kind.File) (with_kind s.kinds g kind.File g) set (with_home s.homes g set g) data meta (column s.contents (names_cell g)) (object_at files g)
+    shown_with (with_kind s.kinds g kind.File) (with_home s.homes g set) count (with_kind s.kinds g kind.File g) (with_home s.homes g set g) body meta (column s.contents (names_cell g)) _ _ _ (object_at files g) (object_at files g)
+    (shown_by (with_kind s.kinds g kind.File) (with_home s.homes g set) count (Some kind.File) (with_kind s.kinds g kind.File g) set (with_home s.homes g set g) body meta (column s.contents (names_cell g)) (object_at files g)
     (kind_here s.kinds g kind.File) (home_here s.homes g set) made)
     refl refl
     (column_off s.contents set new (names_cell g) (births_off (born kind.File g mode span) (s.contents set) (names_cell g) ((λ e. data_names g g (sym e)), ((λ e. meta_names g g (sym e)), tt))))
@@ -129,8 +129,8 @@ making_file s count set g mode span files all none absent object =
     new : Contents
     new = after_births (s.contents set) (born kind.File g mode span)
 
-    data : Column
-    data = column (with_at s.contents set (after_births (s.contents set) (born kind.File g mode span))) (data_cell g)
+    body : Column
+    body = column (with_at s.contents set (after_births (s.contents set) (born kind.File g mode span))) (data_cell g)
 
     meta : Column
     meta = column (with_at s.contents set (after_births (s.contents set) (born kind.File g mode span))) (meta_cell g)

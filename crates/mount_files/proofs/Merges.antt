@@ -1,6 +1,6 @@
 -- The names of a directory over the sets: they rise, and under each name is what the last set has there, links left out.
-use Rattle.std.proofs.Common.{◌≡◌, ◌≢◌, ◌⊎◌, inl, inr, ◌∙◌, ℕ, zero, suc, ◌+◌, ◌<◌, ◌≤◌, ◌==◌, Bool, true, false, List, [], ◌∷◌, Option, Some, None, if◌then◌else◌, refl, ap, sym, subst, arith}
-use Rattle.std.proofs.lemmas.Bool.{eqb-true, eqb-false}
+use Rattle.std.proofs.Common.{◌≡◌, ◌≢◌, ◌⊎◌, inl, inr, ◌∙◌, ℕ, zero, suc, ◌+◌, ◌<◌, ◌≤◌, ◌==◌, Bool, true, false, List, [], ◌∷◌, Option, Some, None, if◌then◌else◌, nat_lt, refl, ap, sym, subst, arith}
+use Rattle.std.proofs.lemmas.Bool.{eqb-true, eqb-false, ltb-true, ltb-false}
 use Rattle.std.proofs.lemmas.Cmp.{nat_list_cmp_total}
 use Rattle.std.specs.Cmp.Lexicographic.{slice_cmp}
 use Rattle.std.specs.List.{range_with_len}
@@ -192,19 +192,12 @@ pub last_one : (a : ℕ → Option Item) (one : ℕ) (item : Item) (count first 
 last_one a one item zero first so_far low high here others = absurd (omega arith)
 last_one a one item (suc count) first so_far low high here others = by_case (first == one) refl (λ above. last_one a one item count (first + 1) (or_else (a first) so_far) above (omega arith) here others)
   where
-    higher : (first ≡ one → ⊥) → first + 1 ≤ one
-    higher d = by_less (cases first one)
-      where
-        cases : (x y : ℕ) → (x ≡ y) ⊎ ((x + 1 ≤ y) ⊎ (y < x))
-        cases x y = grind arith
-
-        by_less : (first ≡ one) ⊎ ((first + 1 ≤ one) ⊎ (one < first)) → first + 1 ≤ one
-        by_less (inl e) = absurd (d e)
-        by_less (inr (inl h)) = h
-        by_less (inr (inr h)) = absurd (omega (arith, h))
+    above_by : (x y : ℕ) (c : Bool) → nat_lt x y ≡ c → x ≤ y → (x ≡ y → ⊥) → x + 1 ≤ y
+    above_by x y true f h d = let less = ltb-true x y f in omega arith
+    above_by x y false f h d = absurd (d (let more = ltb-false x y f in omega arith))
 
     by_case : (b : Bool) → (first == one) ≡ b → (first + 1 ≤ one → last_of a (range_with_len (first + 1) count) (or_else (a first) so_far) ≡ Some item) → last_of a (range_with_len (first + 1) count) (or_else (a first) so_far) ≡ Some item
     by_case true e later =
         ap (λ (t : Option Item). last_of a (range_with_len (first + 1) count) (or_else t so_far)) (ap a (eqb-true first one e) ∙ here)
         ∙ last_stays a one item (range_with_len (first + 1) count) here others
-    by_case false e later = later (higher (eqb-false first one e))
+    by_case false e later = later (above_by first one (nat_lt first one) refl low (eqb-false first one e))

@@ -38,7 +38,7 @@ meta_is (Some (Bytes bytes)) e = absurd cc
 meta_is (Some (Meta mode attrs span)) e = record { mode = mode; attrs = attrs; span = span; content_is = refl }
 meta_is (Some (Names removed items)) e = absurd cc
 
-file_no_directory : (data meta : Option Content) (names : List Item) (mode : ℕ) (attrs : List Attr) (removed : Bool) → file_of data meta ≡ Some (Directory names mode attrs removed) → ⊥
+file_no_directory : (body meta : Option Content) (names : List Item) (mode : ℕ) (attrs : List Attr) (removed : Bool) → file_of body meta ≡ Some (Directory names mode attrs removed) → ⊥
 file_no_directory None meta names mode attrs removed e = absurd cc
 file_no_directory (Some (Bytes bytes)) None names mode attrs removed e = absurd cc
 file_no_directory (Some (Bytes bytes)) (Some (Bytes others)) names mode attrs removed e = absurd cc
@@ -53,19 +53,19 @@ directory_no_file (Some (Bytes others)) r items bytes mode attrs e = absurd cc
 directory_no_file (Some (Meta m a span)) r items bytes mode attrs e = absurd cc
 directory_no_file (Some (Names s others)) r items bytes mode attrs e = absurd cc
 
-pub kind_directory : (count : ℕ) (k : Option Kind) (data meta first : Option Content) (entry : Column) (names : List Item) (mode : ℕ) (attrs : List Attr) (removed : Bool)
-    → shown_as count k data meta first entry ≡ Some (Directory names mode attrs removed) → k ≡ Some kind.Dir
-kind_directory count None data meta first entry names mode attrs removed e = absurd cc
-kind_directory count (Some kind.File) data meta first entry names mode attrs removed e = absurd (file_no_directory data meta names mode attrs removed e)
-kind_directory count (Some kind.Dir) data meta first entry names mode attrs removed e = refl
-kind_directory count (Some kind.Link) data meta first entry names mode attrs removed e = absurd cc
+pub kind_directory : (count : ℕ) (k : Option Kind) (body meta first : Option Content) (entry : Column) (names : List Item) (mode : ℕ) (attrs : List Attr) (removed : Bool)
+    → shown_as count k body meta first entry ≡ Some (Directory names mode attrs removed) → k ≡ Some kind.Dir
+kind_directory count None body meta first entry names mode attrs removed e = absurd cc
+kind_directory count (Some kind.File) body meta first entry names mode attrs removed e = absurd (file_no_directory body meta names mode attrs removed e)
+kind_directory count (Some kind.Dir) body meta first entry names mode attrs removed e = refl
+kind_directory count (Some kind.Link) body meta first entry names mode attrs removed e = absurd cc
 
-pub kind_file : (count : ℕ) (k : Option Kind) (data meta first : Option Content) (entry : Column) (bytes : List ℕ) (mode : ℕ) (attrs : List Attr)
-    → shown_as count k data meta first entry ≡ Some (File bytes mode attrs) → k ≡ Some kind.File
-kind_file count None data meta first entry bytes mode attrs e = absurd cc
-kind_file count (Some kind.File) data meta first entry bytes mode attrs e = refl
-kind_file count (Some kind.Dir) data meta first entry bytes mode attrs e = absurd (directory_no_file first (is_removed (entry 0)) (names_in count entry) bytes mode attrs e)
-kind_file count (Some kind.Link) data meta first entry bytes mode attrs e = absurd cc
+pub kind_file : (count : ℕ) (k : Option Kind) (body meta first : Option Content) (entry : Column) (bytes : List ℕ) (mode : ℕ) (attrs : List Attr)
+    → shown_as count k body meta first entry ≡ Some (File bytes mode attrs) → k ≡ Some kind.File
+kind_file count None body meta first entry bytes mode attrs e = absurd cc
+kind_file count (Some kind.File) body meta first entry bytes mode attrs e = refl
+kind_file count (Some kind.Dir) body meta first entry bytes mode attrs e = absurd (directory_no_file first (is_removed (entry 0)) (names_in count entry) bytes mode attrs e)
+kind_file count (Some kind.Link) body meta first entry bytes mode attrs e = absurd cc
 
 -- a directory that is shown
 pub record IsDirectory (s : Volumes) (count : ℕ) (d : Gfid) : Type 0 where
@@ -171,19 +171,13 @@ drop_differs entry entry2 set n r all = record {
 
 -- ---- the step
 
-shown_again : (count : ℕ) (k : Option Kind) (data meta first : Option Content) (entry entry2 : Column) → is_removed (entry2 0) ≡ is_removed (entry 0) → names_in count entry2 ≡ names_in count entry → shown_as count k data meta first entry2 ≡ shown_as count k data meta first entry
-shown_again count None data meta first entry entry2 r n = refl
-shown_again count (Some kind.File) data meta first entry entry2 r n = refl
-shown_again count (Some kind.Dir) data meta first entry entry2 r n = ap (λ (b : Bool). directory_of first b (names_in count entry2)) r ∙ ap (λ (l : List Item). directory_of first (is_removed (entry 0)) l) n
-shown_again count (Some kind.Link) data meta first entry entry2 r n = refl
+shown_again : (count : ℕ) (k : Option Kind) (body meta first : Option Content) (entry entry2 : Column) → is_removed (entry2 0) ≡ is_removed (entry 0) → names_in count entry2 ≡ names_in count entry → shown_as count k body meta first entry2 ≡ shown_as count k body meta first entry
+shown_again count None body meta first entry entry2 r n = refl
+shown_again count (Some kind.File) body meta first entry entry2 r n = refl
+shown_again count (Some kind.Dir) body meta first entry entry2 r n = ap (λ (b : Bool). directory_of first b (names_in count entry2)) r ∙ ap (λ (l : List Item). directory_of first (is_removed (entry 0)) l) n
+shown_again count (Some kind.Link) body meta first entry entry2 r n = refl
 
 module _ (s : Volumes) (count set : ℕ) (d : Gfid) (x : Option Content) (files : Files) (all : AllShown s count) (items : List Item) (items_is : items_of x ≡ items) (mark_is : is_removed x ≡ is_removed (s.contents set (names_cell d))) where
-  entry_old : Column
-  entry_old = column s.contents (names_cell d)
-
-  entry_new : Column
-  entry_new = column (put_at s.contents set (names_cell d) x) (names_cell d)
-
   pub again : Relisted (column s.contents (names_cell d)) (column (put_at s.contents set (names_cell d) x) (names_cell d)) set items
   again = relisted s.contents set d x items items_is mark_is
 

@@ -53,9 +53,9 @@ bytes_are (Some (Names removed items)) e = absurd cc
 pub record IsFile (s : Volumes) (set : ℕ) (g : Gfid) : Type 0 where
   pub kind_is : s.kinds g ≡ Some kind.File
   pub home_is : s.homes g ≡ set
-  pub data : HasBytes (s.contents set (data_cell g))
+  pub body : HasBytes (s.contents set (data_cell g))
   pub meta : IsMeta (s.contents set (meta_cell g))
-  pub object_is : object_at s.files g ≡ Some (File data.bytes meta.mode meta.attrs)
+  pub object_is : object_at s.files g ≡ Some (File body.bytes meta.mode meta.attrs)
 
 pub file_made : (s : Volumes) (count set : ℕ) (g : Gfid) → ShownOf s count g → s.kinds g ≡ Some kind.File → s.homes g ≡ set → IsFile s set g
 file_made s count set g a e h =
@@ -64,7 +64,7 @@ file_made s count set g a e h =
     record {
       kind_is = e;
       home_is = h;
-      data = d;
+      body = d;
       meta = m;
       object_is =
           a.object_is
@@ -82,9 +82,6 @@ data_step s count set g new files all f short object others = all_with s count s
   where
     a : ShownOf s count g
     a = all g
-
-    column_new : Column
-    column_new = column (put_at s.contents set (data_cell g) (Some (Bytes new))) (data_cell g)
 
     at_home : put_at s.contents set (data_cell g) (Some (Bytes new)) (s.homes g) (data_cell g) ≡ Some (Bytes new)
     at_home = ap (λ (x : ℕ). put_at s.contents set (data_cell g) (Some (Bytes new)) x (data_cell g)) f.home_is ∙ put_here s.contents set (data_cell g) (Some (Bytes new))
@@ -119,11 +116,11 @@ data_step s count set g new files all f short object others = all_with s count s
 
 -- the edit of a file's bytes makes this of them
 pub bytes_step : (s : Volumes) (count set : ℕ) (g : Gfid) (e : Edit) (change : List ℕ → List ℕ) (files : Files) → AllShown s count → (f : IsFile s set g) → ((bytes : List ℕ) → edited e (Bytes bytes) ≡ Bytes (change bytes))
-    → (length f.data.bytes ≤ max_data → length (change f.data.bytes) ≤ max_data) → object_at files g ≡ Some (File (change f.data.bytes) f.meta.mode f.meta.attrs)
+    → (length f.body.bytes ≤ max_data → length (change f.body.bytes) ≤ max_data) → object_at files g ≡ Some (File (change f.body.bytes) f.meta.mode f.meta.attrs)
     → ((q : Gfid) → q ≢ g → object_at files q ≡ object_at s.files q) → AllShown (put_in s set (data_cell g) (edited_if_present e (s.contents set (data_cell g))) files) count
 bytes_step s count set g e change files all f by short object others =
-    subst (λ (x : Option Content). AllShown (put_in s set (data_cell g) x files) count) (sym (ap (λ (c : Option Content). edited_if_present e c) f.data.content_is ∙ ap (λ (c : Content). Some c) (by f.data.bytes)))
-    (data_step s count set g (change f.data.bytes) files all f (short ((all g).few f.data.bytes (ap (λ (x : ℕ). s.contents x (data_cell g)) f.home_is ∙ f.data.content_is))) object others)
+    subst (λ (x : Option Content). AllShown (put_in s set (data_cell g) x files) count) (sym (ap (λ (c : Option Content). edited_if_present e c) f.body.content_is ∙ ap (λ (c : Content). Some c) (by f.body.bytes)))
+    (data_step s count set g (change f.body.bytes) files all f (short ((all g).few f.body.bytes (ap (λ (x : ℕ). s.contents x (data_cell g)) f.home_is ∙ f.body.content_is))) object others)
 
 -- ---- metadata
 
@@ -134,9 +131,6 @@ with_meta f h (Directory names mode attrs removed) = Directory names (f mode) (h
 
 -- the metadata of an object, where it is
 module _ (s : Volumes) (count set : ℕ) (g : Gfid) (mode : ℕ) (attrs : List Attr) (span : Option Span) (files : Files) (all : AllShown s count) where
-  column_new : Column
-  column_new = column (put_at s.contents set (meta_cell g) (Some (Meta mode attrs span))) (meta_cell g)
-
   held : (o : ℕ) → holds_meta (s.contents o (meta_cell g)) ≡ true → holds_meta (put_at s.contents set (meta_cell g) (Some (Meta mode attrs span)) o (meta_cell g)) ≡ true
   held o h = by_case (number_is o set)
     where
@@ -170,18 +164,18 @@ module _ (s : Volumes) (count set : ℕ) (g : Gfid) (mode : ℕ) (attrs : List A
           (put_off s.contents set (meta_cell g) (names_cell g) (Some (Meta mode attrs span)) (λ e. meta_names g g (sym e)))
           refl
 
-  pub file_meta : (f : IsFile s set g) → object_at files g ≡ Some (File f.data.bytes mode attrs) → ((q : Gfid) → q ≢ g → object_at files q ≡ object_at s.files q) → AllShown (put_in s set (meta_cell g) (Some (Meta mode attrs span)) files) count
+  pub file_meta : (f : IsFile s set g) → object_at files g ≡ Some (File f.body.bytes mode attrs) → ((q : Gfid) → q ≢ g → object_at files q ≡ object_at s.files q) → AllShown (put_in s set (meta_cell g) (Some (Meta mode attrs span)) files) count
   file_meta f object others = meta_step (object ∙ sym shown) others
     where
       at_home : put_at s.contents set (meta_cell g) (Some (Meta mode attrs span)) (s.homes g) (meta_cell g) ≡ Some (Meta mode attrs span)
       at_home = ap (λ (x : ℕ). put_at s.contents set (meta_cell g) (Some (Meta mode attrs span)) x (meta_cell g)) f.home_is ∙ put_here s.contents set (meta_cell g) (Some (Meta mode attrs span))
 
-      shown : shown_as count (s.kinds g) (s.contents (s.homes g) (data_cell g)) (put_at s.contents set (meta_cell g) (Some (Meta mode attrs span)) (s.homes g) (meta_cell g)) (put_at s.contents set (meta_cell g) (Some (Meta mode attrs span)) 0 (meta_cell g)) (column s.contents (names_cell g)) ≡ Some (File f.data.bytes mode attrs)
+      shown : shown_as count (s.kinds g) (s.contents (s.homes g) (data_cell g)) (put_at s.contents set (meta_cell g) (Some (Meta mode attrs span)) (s.homes g) (meta_cell g)) (put_at s.contents set (meta_cell g) (Some (Meta mode attrs span)) 0 (meta_cell g)) (column s.contents (names_cell g)) ≡ Some (File f.body.bytes mode attrs)
       shown =
           ap (λ (k : Option Kind). shown_as count k (s.contents (s.homes g) (data_cell g)) (put_at s.contents set (meta_cell g) (Some (Meta mode attrs span)) (s.homes g) (meta_cell g)) (put_at s.contents set (meta_cell g) (Some (Meta mode attrs span)) 0 (meta_cell g)) (column s.contents (names_cell g))) f.kind_is
           ∙ ap (λ (c : Option Content). file_of (s.contents (s.homes g) (data_cell g)) c) at_home
           ∙ ap (λ (x : ℕ). file_of (s.contents x (data_cell g)) (Some (Meta mode attrs span))) f.home_is
-          ∙ ap (λ (c : Option Content). file_of c (Some (Meta mode attrs span))) f.data.content_is
+          ∙ ap (λ (c : Option Content). file_of c (Some (Meta mode attrs span))) f.body.content_is
 
   pub directory_meta : IsDirectory s count g → set ≡ 0 → object_at files g ≡ Some (Directory (names_in count (column s.contents (names_cell g))) mode attrs (is_removed (s.contents 0 (names_cell g))))
       → ((q : Gfid) → q ≢ g → object_at files q ≡ object_at s.files q) → AllShown (put_in s set (meta_cell g) (Some (Meta mode attrs span)) files) count
@@ -219,7 +213,7 @@ edit_meta s count set g e f h files object all by home first was now others = by
         let file = file_made s count set g (all g) k (home k) in
         subst (λ (x : Option Content). AllShown (put_in s set (meta_cell g) x files) count) (sym (edits_to (s.contents set (meta_cell g)) file.meta))
         (file_meta s count set g (f file.meta.mode) (h file.meta.attrs) file.meta.span files all file
-        (now ∙ ap (λ (o : FlatObject). Some (with_meta f h o)) (same_object object (File file.data.bytes file.meta.mode file.meta.attrs) (sym was ∙ file.object_is))) others)
+        (now ∙ ap (λ (o : FlatObject). Some (with_meta f h o)) (same_object object (File file.body.bytes file.meta.mode file.meta.attrs) (sym was ∙ file.object_is))) others)
 
     of_directory : s.kinds g ≡ Some kind.Dir → AllShown (put_in s set (meta_cell g) (edited_if_present e (s.contents set (meta_cell g))) files) count
     of_directory k =

@@ -43,7 +43,7 @@ use Rattle.mount_files.proofs.Accepting.{object_here, object_off, names_here, na
 use Rattle.mount_files.proofs.Cells.{put_at, put_in, put_off, put_here, content_off, content_here, set_here, set_off, number_is, meta_names}
 use Rattle.mount_files.proofs.Families.{IsItemAt, IsTaken, taken_item, over_here, over_free}
 use Rattle.mount_files.proofs.Local.{Column, column, items_in, names_in, ShownOf, AllShown, gfid_is, to_local, from_local}
-use Rattle.mount_files.proofs.Making.{births_off, born_of_others, making, new_object, new_step, copy_step, removing, mark_step}
+use Rattle.mount_files.proofs.Making.{births_off, born_of_others, making, new_object, new_step, copying, copy_step, removing, mark_step}
 use Rattle.mount_files.proofs.Naming.{kind_file, kind_directory, IsDirectory, directory_made, directory_named, IsOpenDirectory, open_directory, Renames, renames, putting, dropping, put_step, drop_step, put_link, drop_link}
 use Rattle.mount_files.proofs.Objects.{written_short, resized_short, IsFile, file_made, bytes_step, with_meta, edit_meta}
 use Rattle.mount_files.specs.Draft.{with_at, with_kind, with_home, kinds_after, homes_after, by_effect, applied}
@@ -83,20 +83,15 @@ applied_is contents o e = ap (λ (b : Bool). if b then contents_after contents o
 
 -- ---- the state that an op leads to
 
-abbrev stepped : Volumes → ℕ → StoreOp → Option Entry → SetContents → Files → Volumes
-stepped s set o effect contents files = record {
-  contents = contents;
-  homes = by_effect effect s.homes (homes_after s.homes set o);
-  kinds = by_effect effect s.kinds (kinds_after s.kinds o);
-  files = files;
-}
-
-arrives : (s : Volumes) (count set : ℕ) (o : StoreOp) (effect : Option Entry) (contents : SetContents) (files : Files) → fits (s.contents set) o ≡ true → AllShown (stepped s set o effect contents files) count
-    → contents ≡ with_at s.contents set (contents_after (s.contents set) o) → files ≡ by_effect effect s.files (files_with s.files (change_of o)) → AllShown (after_op s set o effect) count
-arrives s count set o effect contents files fit all c f =
-    subst (λ (x : Contents). AllShown (stepped s set o effect (with_at s.contents set x) (by_effect effect s.files (files_with s.files (change_of o)))) count) (sym (applied_is (s.contents set) o fit))
-    (subst (λ (x : Files). AllShown (stepped s set o effect (with_at s.contents set (contents_after (s.contents set) o)) x) count) f
-    (subst (λ (x : SetContents). AllShown (stepped s set o effect x files) count) c all))
+arrives : (s : Volumes) (count set : ℕ) (o : StoreOp) (effect : Option Entry) (t : Volumes) → fits (s.contents set) o ≡ true → AllShown t count
+    → t.contents ≡ with_at s.contents set (contents_after (s.contents set) o) → t.homes ≡ by_effect effect s.homes (homes_after s.homes set o) → t.kinds ≡ by_effect effect s.kinds (kinds_after s.kinds o)
+    → t.files ≡ by_effect effect s.files (files_with s.files (change_of o)) → AllShown (after_op s set o effect) count
+arrives s count set o effect t fit all c h k f =
+    subst (λ (x : Files). AllShown (record { contents = with_at s.contents set (applied (s.contents set) o); homes = by_effect effect s.homes (homes_after s.homes set o); kinds = by_effect effect s.kinds (kinds_after s.kinds o); files = x }) count) f
+    (subst (λ (x : Gfid → Option Kind). AllShown (record { contents = with_at s.contents set (applied (s.contents set) o); homes = by_effect effect s.homes (homes_after s.homes set o); kinds = x; files = t.files }) count) k
+    (subst (λ (x : Homes). AllShown (record { contents = with_at s.contents set (applied (s.contents set) o); homes = x; kinds = t.kinds; files = t.files }) count) h
+    (subst (λ (x : SetContents). AllShown (record { contents = x; homes = t.homes; kinds = t.kinds; files = t.files }) count)
+    (c ∙ ap (λ (x : Contents). with_at s.contents set x) (sym (applied_is (s.contents set) o fit))) all)))
 
 accepted_files : (files : Files) (f : FlatOp) (a : FlatAnswer) (after : Files) → flat files f ≡ Changes a after → after ≡ files_with files (Some f)
 accepted_files files f a after e = sym (ap (λ (x : Outcome). files_in x files) e)
@@ -157,14 +152,14 @@ rewritten_step : (s : Volumes) (count set : ℕ) (g : Gfid) (e : Edit) (change :
     → ((bytes : List ℕ) → edited e (Bytes bytes) ≡ Bytes (change bytes)) → ((bytes : List ℕ) → length bytes ≤ file_limit → length (change bytes) ≤ file_limit)
     → AllShown (put_in s set (data_cell g) (edited_if_present e (s.contents set (data_cell g))) after) count
 rewritten_step s count set g e change after all on w by short =
-    bytes_step s count set g e change after all f by (short f.data.bytes) object (λ q d. ap (λ (x : Files). object_at x q) (sym w.after_is) ∙ object_off s.files g q (File (change w.bytes) w.mode w.attrs) d)
+    bytes_step s count set g e change after all f by (short f.body.bytes) object (λ q d. ap (λ (x : Files). object_at x q) (sym w.after_is) ∙ object_off s.files g q (File (change w.bytes) w.mode w.attrs) d)
   where
     f : IsFile s set g
     f =
         let k = kind_file count (s.kinds g) (s.contents (s.homes g) (data_cell g)) (s.contents (s.homes g) (meta_cell g)) (s.contents 0 (meta_cell g)) (column s.contents (names_cell g)) w.bytes w.mode w.attrs (sym (all g).object_is ∙ w.object_is) in
         file_made s count set g (all g) k (on.file k)
 
-    object : object_at after g ≡ Some (File (change f.data.bytes) f.meta.mode f.meta.attrs)
+    object : object_at after g ≡ Some (File (change f.body.bytes) f.meta.mode f.meta.attrs)
     object =
         ap (λ (x : Files). object_at x g) (sym w.after_is) ∙ object_here s.files g (File (change w.bytes) w.mode w.attrs)
         ∙ ap (remade change) (sym w.object_is ∙ f.object_is)
@@ -228,12 +223,6 @@ module _ (s : Volumes) (count set : ℕ) (parent : Gfid) (item : Item) (mode : �
   differ : parent ≢ item.gfid
   differ e = let none : s.kinds parent ≡ None = ap s.kinds e ∙ new.unmade in let some = dir.directory.kind_is in absurd cc
 
-  files_born : Files
-  files_born = with_object s.files item.gfid (new_object item.kind mode)
-
-  born_state : Volumes
-  born_state = making s set item.gfid item.kind mode span (with_object s.files item.gfid (new_object item.kind mode))
-
   no_link : item.kind ≡ kind.Link → ⊥
   no_link e = let l = w.no_link in let no : is_link item.kind ≡ true = ap is_link e in absurd cc
 
@@ -269,9 +258,6 @@ module _ (s : Volumes) (count set : ℕ) (parent : Gfid) (item : Item) (mode : �
   listed : Renames (with_object s.files item.gfid (new_object item.kind mode)) after parent (with_item (names_at (with_object s.files item.gfid (new_object item.kind mode)) parent) item)
   listed = record { here = here; others = others }
     where
-      inner : Files
-      inner = with_names s.files parent (with_item (names_at s.files parent) item)
-
       here : (o : FlatObject) → object_at (with_object s.files item.gfid (new_object item.kind mode)) parent ≡ Some o
           → object_at after parent ≡ Some (object_with_names o (with_item (names_at (with_object s.files item.gfid (new_object item.kind mode)) parent) item))
       here o e =
@@ -358,11 +344,8 @@ module _ (s : Volumes) (count set : ℕ) (parent : Gfid) (name : List ℕ) (g : 
       let none : item_named (names_at s.files parent) name ≡ None = ap (λ (x : Gfid). item_named (names_at s.files x) name) (sym e ∙ sym gfid_there) ∙ ap (λ (l : List Item). item_named l name) w.empty in
       let some = w.named in absurd cc
 
-  dropped_state : Volumes
-  dropped_state = dropping s set parent name (without_name s.files parent name)
-
   all_dropped : AllShown (dropping s set parent name (without_name s.files parent name)) count
-  all_dropped = drop_step s count set parent name (without_name s.files parent name) all parent_dir.directory (ap is_taken that.item_is ∙ ap not no_link_there) (renames s.files parent _)
+  all_dropped = drop_step s count set parent name (without_name s.files parent name) all parent_dir.directory (ap is_taken that.item_is ∙ ap not no_link_there) (renames s.files parent (without_item (names_at s.files parent) name))
 
   dir_dropped : IsDirectory (dropping s set parent name (without_name s.files parent name)) count g
   dir_dropped = directory_made (dropping s set parent name (without_name s.files parent name)) count g (all_dropped g) kind_there
@@ -375,7 +358,7 @@ module _ (s : Volumes) (count set : ℕ) (parent : Gfid) (name : List ℕ) (g : 
   none_dropped : names_in count (column (dropping s set parent name (without_name s.files parent name)).contents (names_cell g)) ≡ []
   none_dropped =
       sym (directory_named (dropping s set parent name (without_name s.files parent name)) count g dir_dropped)
-      ∙ ap names_of (names_off s.files parent g _ other_dir) ∙ ap (λ (x : Gfid). names_at s.files x) (sym gfid_there) ∙ w.empty
+      ∙ ap names_of (names_off s.files parent g (without_item (names_at s.files parent) name) other_dir) ∙ ap (λ (x : Gfid). names_at s.files x) (sym gfid_there) ∙ w.empty
 
   files_is : with_removed (without_name s.files parent name) g ≡ after
   files_is = ap (λ (x : Gfid). with_removed (without_name s.files parent name) x) (sym gfid_there) ∙ w.after_is
@@ -394,7 +377,7 @@ module _ (s : Volumes) (count set : ℕ) (parent : Gfid) (name : List ℕ) (g : 
 -- ---- a file's name that is moved
 
 module _ (s : Volumes) (count set : ℕ) (parent : Gfid) (name : List ℕ) (target : Gfid) (new_name : List ℕ) (after : Files) (all : AllShown s count) (low : set < count) (present : are_present (s.contents set) (both_names parent target) ≡ true)
-    (there : IsThere s set parent name) (else : IsNowhereElse s set target new_name) (w : IsMoved s.files parent name target new_name after) where
+    (there : IsThere s set parent name) (nowhere : IsNowhereElse s set target new_name) (w : IsMoved s.files parent name target new_name after) where
   source_dir : IsOpenDirectory s count parent
   source_dir = open_directory s count parent w.open_at.names w.open_at.mode w.open_at.attrs (all parent) w.open_at.object_is
 
@@ -414,7 +397,7 @@ module _ (s : Volumes) (count set : ℕ) (parent : Gfid) (name : List ℕ) (targ
   made_moved = (all parent).names.made name set w.item item_there no_link_moved
 
   all_left : AllShown (dropping s set parent name (without_name s.files parent name)) count
-  all_left = drop_step s count set parent name (without_name s.files parent name) all source_dir.directory there (renames s.files parent _)
+  all_left = drop_step s count set parent name (without_name s.files parent name) all source_dir.directory there (renames s.files parent (without_item (names_at s.files parent) name))
 
   target_object : (x : Option FlatObject) → object_at s.files target ≡ x → (o : IsOpen x new_name) → IsOpenDirectory (dropping s set parent name (without_name s.files parent name)) count target
   target_object x e o = by_case (gfid_is target parent)
@@ -423,8 +406,8 @@ module _ (s : Volumes) (count set : ℕ) (parent : Gfid) (name : List ℕ) (targ
       by_case (inl f) =
           open_directory (dropping s set parent name (without_name s.files parent name)) count target (without_item (names_at s.files parent) name) o.mode o.attrs (all_left target)
           (subst (λ (y : Gfid). object_at (without_name s.files parent name) y ≡ Some (Directory (without_item (names_at s.files parent) name) o.mode o.attrs false)) (sym f)
-          (names_here s.files parent (Directory o.names o.mode o.attrs false) _ (ap (λ (y : Gfid). object_at s.files y) (sym f) ∙ e ∙ o.object_is)))
-      by_case (inr d) = open_directory (dropping s set parent name (without_name s.files parent name)) count target o.names o.mode o.attrs (all_left target) (names_off s.files parent target _ d ∙ e ∙ o.object_is)
+          (names_here s.files parent (Directory o.names o.mode o.attrs false) (without_item (names_at s.files parent) name) (ap (λ (y : Gfid). object_at s.files y) (sym f) ∙ e ∙ o.object_is)))
+      by_case (inr d) = open_directory (dropping s set parent name (without_name s.files parent name)) count target o.names o.mode o.attrs (all_left target) (names_off s.files parent target (without_item (names_at s.files parent) name) d ∙ e ∙ o.object_is)
 
   still_names : (c : Option Content) → holds_names (edited_if_present (DropItem name) c) ≡ holds_names c
   still_names None = refl
@@ -446,12 +429,12 @@ module _ (s : Volumes) (count set : ℕ) (parent : Gfid) (name : List ℕ) (targ
   free_left : (o : ℕ) → o ≢ set → is_taken (item_named (items_of ((dropping s set parent name (without_name s.files parent name)).contents o (names_cell target))) new_name) ≡ false
   free_left o d =
       ap (λ (c : Contents). is_taken (item_named (items_of (c (names_cell target))) new_name)) (set_off s.contents set o (with_content (s.contents set) (names_cell parent) (edited_if_present (DropItem name) (s.contents set (names_cell parent)))) d)
-      ∙ else o d
+      ∙ nowhere o d
 
   move_step : AllShown (putting (dropping s set parent name (without_name s.files parent name)) set target (renamed w.item new_name) after) count
   move_step = put_step (dropping s set parent name (without_name s.files parent name)) count set target (renamed w.item new_name) after all_left (target_object (object_at s.files target) refl w.target_open) held_left no_link_moved
       (record { made = made_moved.made; at_home = made_moved.at_home; on_first = made_moved.on_first }) low free_left
-      (subst (λ (x : Files). Renames (without_name s.files parent name) x target (with_item (names_at (without_name s.files parent name) target) (renamed w.item new_name))) w.after_is (renames (without_name s.files parent name) target _))
+      (subst (λ (x : Files). Renames (without_name s.files parent name) x target (with_item (names_at (without_name s.files parent name) target) (renamed w.item new_name))) w.after_is (renames (without_name s.files parent name) target (with_item (names_at (without_name s.files parent name) target) (renamed w.item new_name))))
 
   move_contents : put_at (dropping s set parent name (without_name s.files parent name)).contents set (names_cell target)
       (edited_if_present (PutItem (renamed w.item new_name)) ((dropping s set parent name (without_name s.files parent name)).contents set (names_cell target)))
@@ -467,73 +450,74 @@ after_shown s count set (op.Write g offset bytes) None all now = absurd now.stan
 after_shown s count set (op.Write g offset bytes) (Some entry) all now =
     let a = now.stands.0 in
     let low : offset + length bytes ≤ file_limit = ltb-false file_limit (offset + length bytes) (fit_parts (s.contents set) (op.Write g offset bytes) now.fits_set).1 in
-    arrives s count set (op.Write g offset bytes) (Some entry) _ a.after now.fits_set
+    arrives s count set (op.Write g offset bytes) (Some entry) (put_in s set (data_cell g) (edited_if_present (PutBytes offset bytes) (s.contents set (data_cell g))) a.after) now.fits_set
     (rewritten_step s count set g (PutBytes offset bytes) (λ l. written l offset bytes) a.after all now.stands.1 (write_is s.files g offset bytes a.answer a.after a.accepted) (λ l. refl) (λ l short. written_short l bytes offset low short))
-    refl (accepted_files s.files (flat_op.Write g offset bytes) a.answer a.after a.accepted)
+    refl refl refl (accepted_files s.files (flat_op.Write g offset bytes) a.answer a.after a.accepted)
 after_shown s count set (op.Truncate g size) None all now = absurd now.stands
 after_shown s count set (op.Truncate g size) (Some entry) all now =
     let a = now.stands.0 in
     let low : size ≤ file_limit = ltb-false file_limit size (fit_parts (s.contents set) (op.Truncate g size) now.fits_set).1 in
-    arrives s count set (op.Truncate g size) (Some entry) _ a.after now.fits_set
+    arrives s count set (op.Truncate g size) (Some entry) (put_in s set (data_cell g) (edited_if_present (Resize size) (s.contents set (data_cell g))) a.after) now.fits_set
     (rewritten_step s count set g (Resize size) (λ l. resized l size) a.after all now.stands.1 (truncate_is s.files g size a.answer a.after a.accepted) (λ l. refl) (λ l short. resized_short l size low))
-    refl (accepted_files s.files (flat_op.Truncate g size) a.answer a.after a.accepted)
+    refl refl refl (accepted_files s.files (flat_op.Truncate g size) a.answer a.after a.accepted)
 after_shown s count set (op.SetMode g mode) None all now = absurd now.stands
 after_shown s count set (op.SetMode g mode) (Some entry) all now =
     let a = now.stands.0 in
-    arrives s count set (op.SetMode g mode) (Some entry) _ a.after now.fits_set
+    arrives s count set (op.SetMode g mode) (Some entry) (put_in s set (meta_cell g) (edited_if_present (PutMode mode) (s.contents set (meta_cell g))) a.after) now.fits_set
     (meta_step s count set g (PutMode mode) (λ m. mode) (λ l. l) (λ o. object_with_mode o mode) a.after all now.stands.1 (chmod_is s.files g mode a.answer a.after a.accepted) (λ m l span. refl) (λ o. mode_meta o mode))
-    refl (accepted_files s.files (flat_op.Chmod g mode) a.answer a.after a.accepted)
+    refl refl refl (accepted_files s.files (flat_op.Chmod g mode) a.answer a.after a.accepted)
 after_shown s count set (op.SetAttr g attr) None all now = absurd now.stands
 after_shown s count set (op.SetAttr g attr) (Some entry) all now =
     let a = now.stands.0 in
-    arrives s count set (op.SetAttr g attr) (Some entry) _ a.after now.fits_set
+    arrives s count set (op.SetAttr g attr) (Some entry) (put_in s set (meta_cell g) (edited_if_present (PutAttr attr) (s.contents set (meta_cell g))) a.after) now.fits_set
     (meta_step s count set g (PutAttr attr) (λ m. m) (λ l. with_attr l attr) (λ o. object_with_attrs o (with_attr (object_attrs o) attr)) a.after all now.stands.1 (setattr_is s.files g attr a.answer a.after a.accepted) (λ m l span. refl) (λ o. attrs_meta o (λ l. with_attr l attr)))
-    refl (accepted_files s.files (flat_op.SetAttr g attr) a.answer a.after a.accepted)
+    refl refl refl (accepted_files s.files (flat_op.SetAttr g attr) a.answer a.after a.accepted)
 after_shown s count set (op.DelAttr g name) None all now = absurd now.stands
 after_shown s count set (op.DelAttr g name) (Some entry) all now =
     let a = now.stands.0 in
-    arrives s count set (op.DelAttr g name) (Some entry) _ a.after now.fits_set
+    arrives s count set (op.DelAttr g name) (Some entry) (put_in s set (meta_cell g) (edited_if_present (DropAttr name) (s.contents set (meta_cell g))) a.after) now.fits_set
     (meta_step s count set g (DropAttr name) (λ m. m) (λ l. without_attr l name) (λ o. object_with_attrs o (without_attr (object_attrs o) name)) a.after all now.stands.1 (delattr_is s.files g name a.answer a.after a.accepted) (λ m l span. refl) (λ o. attrs_meta o (λ l. without_attr l name)))
-    refl (accepted_files s.files (flat_op.DelAttr g name) a.answer a.after a.accepted)
+    refl refl refl (accepted_files s.files (flat_op.DelAttr g name) a.answer a.after a.accepted)
 after_shown s count set (op.AddName parent item mode span) None all now =
     let p = fit_parts (s.contents set) (op.AddName parent item mode span) now.fits_set in
-    arrives s count set (op.AddName parent item mode span) None _ s.files now.fits_set
+    arrives s count set (op.AddName parent item mode span) None (putting s set parent item s.files) now.fits_set
     (put_link s count set parent item all now.stands.1 (first_present (s.contents set) (names_cell parent) [] p.0).0 now.stands.0 (or_parts (is_removed (s.contents set (names_cell parent))) (is_taken (item_in (s.contents set) parent item.name)) p.1).1)
-    (ap (λ (k : Kind). with_at s.contents set (after_births (with_content (s.contents set) (names_cell parent) (edited_if_present (PutItem item) (s.contents set (names_cell parent)))) (born k item.gfid mode span))) (sym now.stands.0)) refl
+    (ap (λ (k : Kind). with_at s.contents set (after_births (with_content (s.contents set) (names_cell parent) (edited_if_present (PutItem item) (s.contents set (names_cell parent)))) (born k item.gfid mode span))) (sym now.stands.0)) refl refl refl
 after_shown s count set (op.AddName parent item mode span) (Some entry) all now =
     let p = fit_parts (s.contents set) (op.AddName parent item mode span) now.fits_set in
     let held = (first_present (s.contents set) (names_cell parent) [] p.0).0 in
     let w = added_new s.files parent item mode now.stands.0 now.stands.1.target (files_with s.files (added parent item mode item.kind)) refl in
-    arrives s count set (op.AddName parent item mode span) (Some entry) _ (files_with s.files (added parent item mode item.kind)) now.fits_set
+    arrives s count set (op.AddName parent item mode span) (Some entry)
+    (putting (making s set item.gfid item.kind mode span (with_object s.files item.gfid (new_object item.kind mode))) set parent item (files_with s.files (added parent item mode item.kind))) now.fits_set
     (add_step s count set parent item mode span (files_with s.files (added parent item mode item.kind)) all now.on_set held now.stands.1 w)
-    (add_contents s count set parent item mode span (files_with s.files (added parent item mode item.kind)) all now.on_set held now.stands.1 w) refl
+    (add_contents s count set parent item mode span (files_with s.files (added parent item mode item.kind)) all now.on_set held now.stands.1 w) refl refl refl
 after_shown s count set (op.DropName parent name) None all now =
-    arrives s count set (op.DropName parent name) None _ s.files now.fits_set (drop_link s count set parent name all now.stands) refl refl
+    arrives s count set (op.DropName parent name) None (dropping s set parent name s.files) now.fits_set (drop_link s count set parent name all now.stands) refl refl refl refl
 after_shown s count set (op.DropName parent name) (Some entry) all now =
     let a = now.stands.0 in
     let w = dropped_is s.files parent name a.answer a.after a.accepted in
     let dir = open_directory s count parent w.open_at.names w.open_at.mode w.open_at.attrs (all parent) w.open_at.object_is in
-    arrives s count set (op.DropName parent name) (Some entry) _ a.after now.fits_set
+    arrives s count set (op.DropName parent name) (Some entry) (dropping s set parent name a.after) now.fits_set
     (drop_step s count set parent name a.after all dir.directory now.stands.1 (subst (λ (x : Files). Renames s.files x parent (without_item (names_at s.files parent) name)) w.after_is (renames s.files parent (without_item (names_at s.files parent) name))))
-    refl (accepted_files s.files (flat_op.Unlink parent name) a.answer a.after a.accepted)
+    refl refl refl (accepted_files s.files (flat_op.Unlink parent name) a.answer a.after a.accepted)
 after_shown s count set (op.DropDir parent name g) None all now = absurd now.stands
 after_shown s count set (op.DropDir parent name g) (Some entry) all now =
     let a = now.stands.0 in
     let p = fit_parts (s.contents set) (op.DropDir parent name g) now.fits_set in
     let that = that_directory (item_in (s.contents set) parent name) g (not_not (is_that_directory (item_in (s.contents set) parent name) g) (or_parts (not (is_that_directory (item_in (s.contents set) parent name) g)) (has_real_name (items_of (s.contents set (names_cell g)))) p.1).0) in
     let w = removed_is s.files parent name a.answer a.after a.accepted in
-    arrives s count set (op.DropDir parent name g) (Some entry) _ a.after now.fits_set
-    (remove_step s count set parent name g a.after all p.0 that w) (remove_contents s count set parent name g a.after all p.0 that w) (accepted_files s.files (flat_op.Rmdir parent name) a.answer a.after a.accepted)
+    arrives s count set (op.DropDir parent name g) (Some entry) (removing (dropping s set parent name (without_name s.files parent name)) g a.after) now.fits_set
+    (remove_step s count set parent name g a.after all p.0 that w) (remove_contents s count set parent name g a.after all p.0 that w) refl refl (accepted_files s.files (flat_op.Rmdir parent name) a.answer a.after a.accepted)
 after_shown s count set (op.Move parent name target new_name) None all now = absurd now.stands
 after_shown s count set (op.Move parent name target new_name) (Some entry) all now =
     let a = now.stands.0 in
     let p = fit_parts (s.contents set) (op.Move parent name target new_name) now.fits_set in
     let w = moved_is s.files parent name target new_name a.answer a.after a.accepted in
-    arrives s count set (op.Move parent name target new_name) (Some entry) _ a.after now.fits_set
+    arrives s count set (op.Move parent name target new_name) (Some entry) (putting (dropping s set parent name (without_name s.files parent name)) set target (renamed w.item new_name) a.after) now.fits_set
     (move_step s count set parent name target new_name a.after all now.on_set p.0 now.stands.1.0 now.stands.1.1 w)
-    (move_contents s count set parent name target new_name a.after all now.on_set p.0 now.stands.1.0 now.stands.1.1 w) (accepted_files s.files (flat_op.Rename parent name target new_name) a.answer a.after a.accepted)
+    (move_contents s count set parent name target new_name a.after all now.on_set p.0 now.stands.1.0 now.stands.1.1 w) refl refl (accepted_files s.files (flat_op.Rename parent name target new_name) a.answer a.after a.accepted)
 after_shown s count set (op.MakeCopy g span) None all now =
-    arrives s count set (op.MakeCopy g span) None _ s.files now.fits_set (copy_step s count set g span all) refl refl
+    arrives s count set (op.MakeCopy g span) None (copying s set g span) now.fits_set (copy_step s count set g span all) refl refl refl refl
 after_shown s count set (op.MakeCopy g span) (Some entry) all now = absurd now.stands.1
 
 pub one_op : OneOp
