@@ -247,7 +247,7 @@ object_again s s2 count set g o all all2 grow on e =
 -- ---- names
 
 -- a name that no set has is not shown
-free_again : (s : Volumes) (count : ℕ) (d : Gfid) (name : List ℕ) → AllShown s count → IsDirectory s count d → ((x : ℕ) → is_taken (item_in (s.contents x) d name) ≡ false) → item_named (names_at s.files d) name ≡ None
+pub free_again : (s : Volumes) (count : ℕ) (d : Gfid) (name : List ℕ) → AllShown s count → IsDirectory s count d → ((x : ℕ) → is_taken (item_in (s.contents x) d name) ≡ false) → item_named (names_at s.files d) name ≡ None
 free_again s count d name all dir free =
     ap (λ (l : List Item). item_named l name) (directory_named s count d dir)
     ∙ over_named (items_in (column s.contents (names_cell d))) (range_with_len 0 count) [] name (all d).names.rising
@@ -272,7 +272,7 @@ dir_again s s2 count set o e d name l touched w =
     record { before = was.directory; now = now; open_now = open_again s2 count d name now (l.mark d name touched ∙ was.kept) w.short }
 
 -- the item of a name on the set is shown still
-item_again : (s2 : Volumes) (count set : ℕ) (d : Gfid) (name : List ℕ) (item : Item) → AllShown s2 count → IsDirectory s2 count d → item_in (s2.contents set) d name ≡ Some item → is_link item.kind ≡ false → item_named (names_at s2.files d) name ≡ Some item
+pub item_again : (s2 : Volumes) (count set : ℕ) (d : Gfid) (name : List ℕ) (item : Item) → AllShown s2 count → IsDirectory s2 count d → item_in (s2.contents set) d name ≡ Some item → is_link item.kind ≡ false → item_named (names_at s2.files d) name ≡ Some item
 item_again s2 count set d name item all2 dir e link =
     ap (λ (l : List Item). item_named l name) (directory_named s2 count d dir)
     ∙ over_here s2.kinds s2.homes count (is_removed (s2.contents 0 (names_cell d))) (items_in (column s2.contents (names_cell d))) name set item (all2 d).names e link

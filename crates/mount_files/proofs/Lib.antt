@@ -10,3 +10,4 @@ pub mod Naming
 pub mod Objects
 pub mod Ops
 pub mod Rises
+pub mod Sentences

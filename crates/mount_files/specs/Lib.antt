@@ -1,3 +1,4 @@
 pub mod Draft
 pub mod Pairs
+pub mod Seen
 pub mod Showing

@@ -1,4 +1,5 @@
 ghost use Rattle.mount_files.specs.Pairs.{TwoOps, AllOps};
+ghost use Rattle.mount_files.specs.Seen.{NameHere, NameNowhere};
 ghost use Rattle.mount_files.specs.Showing.{OneOp};
 
 /// Where the contents of all sets show the flat file system, and an op fits its set, with an effect that the flat file system
@@ -15,4 +16,13 @@ pub fn op_is_shown()
 pub fn ops_stay_possible()
     ensures two { TwoOps }
     ensures all { AllOps }
+{}
+
+/// A name that a set has as a file's or a directory's is in the flat file system, and its directory is not removed: no op that
+/// fits removes the directory, and one that touches the name needs the directory's names on that very set. A name that no set
+/// has is not in the flat file system, and each op that touches a name of the directory needs the directory's names on a set
+/// of the graph. The call does nothing: its contract exports this.
+pub fn names_are_known()
+    ensures here { NameHere }
+    ensures nowhere { NameNowhere }
 {}

@@ -5,4 +5,4 @@
 
 mod laws;
 
-pub use laws::{op_is_shown, ops_stay_possible};
+pub use laws::{names_are_known, op_is_shown, ops_stay_possible};
