@@ -165,27 +165,27 @@ AreUnnamed name items = Each (λ (item : Item). IsUnnamed name item) items
 
 pub unnamed_is : (items : List Item) (name : List ℕ) → IsRising items → is_taken (item_named items name) ≡ false → AreUnnamed name items
 unnamed_is [] name s e = tt
-unnamed_is (i ∷ is) name s e = by_case (same i.name name) refl e
+unnamed_is (i ∷ is) name s e = by_case (same i.name name) refl (λ h. unnamed_is is name (rest_rises i is s) h) e
   where
-    by_case : (b : Bool) → same i.name name ≡ b → is_taken (if b then Some i else item_named is name) ≡ false → AreUnnamed name (i ∷ is)
-    by_case true f g =
-        (λ n. link_by (is_link i.kind) g, unnamed_is is name (rest_rises i is s) (subst (λ (m : List ℕ). is_taken (item_named is m) ≡ false) (same_is i.name name f) (ap is_taken (above_none i.name is (first_above i is s)))))
+    by_case : (b : Bool) → same i.name name ≡ b → (is_taken (item_named is name) ≡ false → AreUnnamed name is) → is_taken (if b then Some i else item_named is name) ≡ false → AreUnnamed name (i ∷ is)
+    by_case true f rest g =
+        (λ n. link_by (is_link i.kind) g, rest (subst (λ (m : List ℕ). is_taken (item_named is m) ≡ false) (same_is i.name name f) (ap is_taken (above_none i.name is (first_above i is s)))))
       where
         link_by : (l : Bool) → not l ≡ false → l ≡ true
         link_by true h = refl
         link_by false h = absurd cc
-    by_case false f g = (λ n. absurd (differ n), unnamed_is is name (rest_rises i is s) g)
+    by_case false f rest g = (λ n. absurd (differ n), rest g)
       where
         differ : i.name ≡ name → ⊥
         differ n = let yes : same i.name name ≡ true = subst (λ (m : List ℕ). same i.name m ≡ true) n (same_self i.name) in absurd cc
 
 pub unnamed_untaken : (items : List Item) (name : List ℕ) → AreUnnamed name items → is_taken (item_named items name) ≡ false
 unnamed_untaken [] name h = refl
-unnamed_untaken (i ∷ is) name h = by_case (same i.name name) refl
+unnamed_untaken (i ∷ is) name h = by_case (same i.name name) refl (unnamed_untaken is name h.1)
   where
-    by_case : (b : Bool) → same i.name name ≡ b → is_taken (if b then Some i else item_named is name) ≡ false
-    by_case true f = ap not (h.0 (same_is i.name name f))
-    by_case false f = unnamed_untaken is name h.1
+    by_case : (b : Bool) → same i.name name ≡ b → is_taken (item_named is name) ≡ false → is_taken (if b then Some i else item_named is name) ≡ false
+    by_case true f rest = ap not (h.0 (same_is i.name name f))
+    by_case false f rest = rest
 
 put_all : (name : List ℕ) (items : List Item) (item : Item) → IsUnnamed name item → AreUnnamed name items → AreUnnamed name (with_item items item)
 put_all name [] item p h = (p, tt)

@@ -171,7 +171,7 @@ drop_differs entry entry2 set n r all = record {
 
 -- ---- the step
 
-shown_again : (count : ℕ) (k : Option Kind) (body meta first : Option Content) (entry entry2 : Column) → is_removed (entry2 0) ≡ is_removed (entry 0) → names_in count entry2 ≡ names_in count entry → shown_as count k body meta first entry2 ≡ shown_as count k body meta first entry
+pub shown_again : (count : ℕ) (k : Option Kind) (body meta first : Option Content) (entry entry2 : Column) → is_removed (entry2 0) ≡ is_removed (entry 0) → names_in count entry2 ≡ names_in count entry → shown_as count k body meta first entry2 ≡ shown_as count k body meta first entry
 shown_again count None body meta first entry entry2 r n = refl
 shown_again count (Some kind.File) body meta first entry entry2 r n = refl
 shown_again count (Some kind.Dir) body meta first entry entry2 r n = ap (λ (b : Bool). directory_of first b (names_in count entry2)) r ∙ ap (λ (l : List Item). directory_of first (is_removed (entry 0)) l) n
