@@ -17,7 +17,7 @@ use Rattle.fop_types.specs.declared.cells.Cell.{Cell}
 use Rattle.fop_types.specs.declared.cells.Gfid.{Gfid}
 use Rattle.fop_types.specs.declared.contents.Content.{Content}
 use Rattle.mount_files.proofs.Local.{Column, column, ShownOf, AllShown, gfid_is, shown_with}
-use Rattle.mount_files.specs.Draft.{with_at}
+use Rattle.afr_machine.specs.Replicas.{with_at}
 
 -- ---- one set
 

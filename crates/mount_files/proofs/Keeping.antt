@@ -376,7 +376,7 @@ pub op_untaken : (contents : Contents) (o : StoreOp) (dir : Gfid) (name : List �
 op_untaken contents o dir name off rising e =
     ap (λ (l : List Item). is_taken (item_named l name)) (births_same items_of (names_cell dir) (λ c b. b.items) (births o) (after_edits contents (edits contents o)) (births_bare o))
     ∙ unnamed_untaken (items_of (after_edits contents (edits contents o) (names_cell dir))) name
-      (edits_all name (names_cell dir) (edits contents o) contents (puts_none contents o dir name off) (unnamed_is (items_of (contents (names_cell dir))) name rising e))
+    (edits_all name (names_cell dir) (edits contents o) contents (puts_none contents o dir name off) (unnamed_is (items_of (contents (names_cell dir))) name rising e))
 
 -- a directory that the op does not remove is not removed
 pub op_mark : (contents : Contents) (o : StoreOp) (dir : Gfid) → (Removes o dir → ⊥) → is_removed (contents_after contents o (names_cell dir)) ≡ is_removed (contents (names_cell dir))

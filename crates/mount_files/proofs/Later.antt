@@ -45,7 +45,8 @@ use Rattle.mount_files.proofs.Naming.{kind_file, kind_directory, IsDirectory, di
 use Rattle.mount_files.proofs.Objects.{IsFile, file_made}
 use Rattle.mount_files.proofs.Ops.{after_shown, applied_is, fit_parts, IsThat, that_directory, not_not, shown_item, one_op}
 use Rattle.mount_files.proofs.Rises.{same_items, none_rises}
-use Rattle.mount_files.specs.Draft.{with_at, with_kind, with_home, applied}
+use Rattle.afr_machine.specs.Replicas.{with_at}
+use Rattle.mount_laws.specs.Steps.{with_kind, with_home, applied}
 use Rattle.mount_files.specs.Pairs.{OpOn, Touches, Removes, BirthsOf, Bears, Needs, AreApart, Fits, after, TwoOps, FitInOrder, AreAllApart, AllOps}
 use Rattle.mount_files.specs.Showing.{ShownIsFlat, FitsNow, IsOn, IsNew, IsThere, IsNowhereElse, IsPlaced, IsUnshown, Stands, after_op}
 
@@ -257,7 +258,7 @@ empty_again : (s : Volumes) (count : ℕ) (d : Gfid) → AllShown s count → Is
 empty_again s count d all dir free =
     directory_named s count d dir
     ∙ same_items (names_in count (column s.contents (names_cell d))) [] (over_rises (items_in (column s.contents (names_cell d))) (range_with_len 0 count) [] (all d).names.rising none_rises) none_rises
-      (λ name. ap (λ (l : List Item). item_named l name) (sym (directory_named s count d dir)) ∙ free_again s count d name all dir (λ x. free x name))
+    (λ name. ap (λ (l : List Item). item_named l name) (sym (directory_named s count d dir)) ∙ free_again s count d name all dir (λ x. free x name))
 
 -- a directory in which the second op touches a name is open still
 record IsOpenAgain (s s2 : Volumes) (count : ℕ) (d : Gfid) (name : List ℕ) : Type 0 where
@@ -393,19 +394,23 @@ stands_again s s2 count set (op.DelAttr g name) None l fit st = absurd st
 stands_again s s2 count set (op.DelAttr g name) (Some entry) l fit st =
     let w = delattr_is s.files g name st.0.answer st.0.after st.0.accepted in
     let again = object_again s s2 count set g w.object l.all l.all2 l.grow st.1 w.object_is in
-    let some : is_none (attr_named (object_attrs again.object) name) ≡ false = ap (λ (x : List Attr). is_none (attr_named x name)) (again.attrs_are ∙ ap attrs_of (l.kept (meta_cell g) (inl refl))) ∙ (fit_parts (s.contents set) (op.DelAttr g name) fit).1 in
-    (changes_to s2.files (flat_op.DelAttr g name) (flat_answer.Call answer.Done) (with_object s2.files g (object_with_attrs again.object (without_attr (object_attrs again.object) name)))
-    (ap (λ (x : Option FlatObject). delattr_outcome s2.files g name x) again.object_is
-    ∙ attr_there (attr_named (object_attrs again.object) name) some (done (with_object s2.files g (object_with_attrs again.object (without_attr (object_attrs again.object) name))))), again.on)
+    let some : is_none (attr_named (object_attrs again.object) name) ≡ false = ap (λ (x : List Attr). is_none (attr_named x name)) (again.attrs_are ∙ ap attrs_of (l.kept (meta_cell g) (inl refl))) ∙ (fit_parts (s.contents set) (op.DelAttr g name) fit).1 in (
+      changes_to s2.files (flat_op.DelAttr g name) (flat_answer.Call answer.Done) (with_object s2.files g (object_with_attrs again.object (without_attr (object_attrs again.object) name)))
+          (ap (λ (x : Option FlatObject). delattr_outcome s2.files g name x) again.object_is
+          ∙ attr_there (attr_named (object_attrs again.object) name) some (done (with_object s2.files g (object_with_attrs again.object (without_attr (object_attrs again.object) name))))),
+      again.on,
+    )
 stands_again s s2 count set (op.AddName parent item mode span) None l fit st = (st.0, l.grow.kind parent kind.Dir st.1)
 stands_again s s2 count set (op.AddName parent item mode span) (Some entry) l fit st =
-    let bears = new_bears s parent item mode span item.kind st.0 in
-    (add_stands s s2 count set parent item mode span entry item.kind refl l st.0, record {
-      target = st.1.target;
-      unmade = l.unmade item.gfid bears st.1.unmade;
-      absent = λ a. l.absent item.gfid a bears (st.1.absent a);
-      directory = st.1.directory;
-    })
+    let bears = new_bears s parent item mode span item.kind st.0 in (
+      add_stands s s2 count set parent item mode span entry item.kind refl l st.0,
+      record {
+        target = st.1.target;
+        unmade = l.unmade item.gfid bears st.1.unmade;
+        absent = λ a. l.absent item.gfid a bears (st.1.absent a);
+        directory = st.1.directory;
+      },
+    )
 stands_again s s2 count set (op.DropName parent name) None l fit st = ap (λ (c : Option Content). is_taken (item_named (items_of c) name)) (l.kept (names_cell parent) (inl refl)) ∙ st
 stands_again s s2 count set (op.DropName parent name) (Some entry) l fit st =
     let w = dropped_is s.files parent name st.0.answer st.0.after st.0.accepted in

@@ -35,7 +35,8 @@ use Rattle.mount_files.proofs.Families.{AreNamesSound, over_free}
 use Rattle.mount_files.proofs.Local.{Column, column, items_in, names_in, shown_as, ShownAt, ShownOf, AllShown, shown_with, shown_grows, Grows, names_grow, gfid_is}
 use Rattle.mount_files.proofs.Merges.{Family, over}
 use Rattle.mount_files.proofs.Naming.{IsDirectory, shown_again}
-use Rattle.mount_files.specs.Draft.{with_at, with_kind, with_home}
+use Rattle.afr_machine.specs.Replicas.{with_at}
+use Rattle.mount_laws.specs.Steps.{with_kind, with_home}
 
 -- ---- births
 
@@ -307,7 +308,7 @@ copy_step s count set g span all q = by_case (gfid_is q g)
     object (Some kind.Dir) e =
         ap (λ (c : Option Content). directory_of c (is_removed (with_at s.contents set (after_births (s.contents set) (born kind.Dir g 0 span)) 0 (names_cell g))) (names_in count (column (with_at s.contents set (after_births (s.contents set) (born kind.Dir g 0 span))) (names_cell g)))) (meta_same 0 (a.directory e))
         ∙ shown_again count (Some kind.Dir) (s.contents (s.homes g) (data_cell g)) (s.contents (s.homes g) (meta_cell g)) (s.contents 0 (meta_cell g)) (column s.contents (names_cell g)) (column (with_at s.contents set (after_births (s.contents set) (born kind.Dir g 0 span))) (names_cell g))
-            (same_of is_removed mark_same 0) (ap (λ (l : Family). over l (range_with_len 0 count) []) lists)
+        (same_of is_removed mark_same 0) (ap (λ (l : Family). over l (range_with_len 0 count) []) lists)
     object (Some kind.Link) e = refl
 
     changed : ShownAt s.kinds s.homes count (s.kinds g) (s.homes g) (column s.contents (data_cell g)) (column (with_at s.contents set (after_births (s.contents set) (born kind.Dir g 0 span))) (meta_cell g))

@@ -46,7 +46,8 @@ use Rattle.mount_files.proofs.Local.{Column, column, items_in, names_in, ShownOf
 use Rattle.mount_files.proofs.Making.{births_off, born_of_others, making, new_object, new_step, copying, copy_step, removing, mark_step}
 use Rattle.mount_files.proofs.Naming.{kind_file, kind_directory, IsDirectory, directory_made, directory_named, IsOpenDirectory, open_directory, Renames, renames, putting, dropping, put_step, drop_step, put_link, drop_link}
 use Rattle.mount_files.proofs.Objects.{written_short, resized_short, IsFile, file_made, bytes_step, with_meta, edit_meta}
-use Rattle.mount_files.specs.Draft.{with_at, with_kind, with_home, kinds_after, homes_after, by_effect, applied}
+use Rattle.afr_machine.specs.Replicas.{with_at}
+use Rattle.mount_laws.specs.Steps.{with_kind, with_home, kinds_after, homes_after, by_effect, applied}
 use Rattle.mount_files.specs.Showing.{files_with, after_op, IsOn, IsNew, IsThere, IsNowhereElse, IsPlaced, IsUnshown, Stands, FitsNow, OneOp, ShownIsFlat}
 
 -- ---- what fits
@@ -253,7 +254,7 @@ module _ (s : Volumes) (count set : ℕ) (parent : Gfid) (item : Item) (mode : �
   free o d =
       ap (λ (c : Contents). is_taken (item_named (items_of (c (names_cell parent))) item.name)) (set_off s.contents set o (after_births (s.contents set) (born item.kind item.gfid mode span)) d)
       ∙ over_free s.kinds s.homes count (is_removed (s.contents 0 (names_cell parent))) (items_in (column s.contents (names_cell parent))) item.name o (all parent).names
-        (ap (λ (l : List Item). item_named l item.name) (sym (directory_named s count parent dir.directory)) ∙ w.free)
+      (ap (λ (l : List Item). item_named l item.name) (sym (directory_named s count parent dir.directory)) ∙ w.free)
 
   listed : Renames (with_object s.files item.gfid (new_object item.kind mode)) after parent (with_item (names_at (with_object s.files item.gfid (new_object item.kind mode)) parent) item)
   listed = record { here = here; others = others }

@@ -1,4 +1,3 @@
-pub mod Draft
 pub mod Pairs
 pub mod Seen
 pub mod Showing

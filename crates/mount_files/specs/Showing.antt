@@ -16,7 +16,8 @@ use Rattle.fop_types.specs.declared.flat.FlatOp.{FlatOp}
 use Rattle.fop_types.specs.declared.history.Entry.{Entry}
 use Rattle.fop_types.specs.declared.store_ops.StoreOp.{StoreOp}
 use Rattle.fop_types.specs.declared.store_ops.StoreOp.TheVariants as op
-use Rattle.mount_files.specs.Draft.{with_at, applied, kinds_after, homes_after, by_effect}
+use Rattle.afr_machine.specs.Replicas.{with_at}
+use Rattle.mount_laws.specs.Steps.{applied, kinds_after, homes_after, by_effect}
 
 -- ---- the files
 
