@@ -2,9 +2,10 @@ ghost use Rattle.mount_files.specs.Pairs.{TwoOps, AllOps};
 ghost use Rattle.mount_files.specs.Seen.{NameHere, NameNowhere};
 ghost use Rattle.mount_files.specs.Showing.{OneOp};
 
-/// Where the contents of all sets show the flat file system, and an op fits its set, with an effect that the flat file system
-/// accepts or none, what the sets show after it is the flat file system after the op's operation. The call does nothing: its
-/// contract exports this.
+/// Where the contents of all sets show the flat file system, and an op fits its set, what the sets show after it is the flat
+/// file system after the op's operation. An op has no effect, or one that the flat file system accepts; then it is on the set
+/// that has its object or its name, a new name's object was not made and has no cell there, and no other set has the new name
+/// of a move. The call does nothing: its contract exports this.
 pub fn op_is_shown()
     ensures { OneOp }
 {}
