@@ -1,0 +1,12 @@
+pub mod Staying
+pub mod Spread
+pub mod Lists
+pub mod Ops
+pub mod Contents
+pub mod Settled
+pub mod AsBorn
+pub mod OpsGood
+pub mod Good
+pub mod Found
+pub mod Present
+pub mod Split

@@ -1,0 +1,9 @@
+-- In reading order: who goes on accusing a replica; what a decision finds at each replica; the adopted changes of a cell and
+-- what they leave; good copies.
+pub mod Staying
+pub mod Spread
+pub mod Adopted
+pub mod Good
+pub mod Found
+pub mod Present
+pub mod Split

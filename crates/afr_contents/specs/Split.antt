@@ -1,0 +1,25 @@
+-- A lock phase that reached every replica splits no cell. Ours.
+use Rattle.std.specs.Prelude.{◌≡◌, ◌<◌, ◌≤◌, ℕ, true, false}
+use Rattle.fop_types.specs.declared.cells.Cell.{Cell}
+use Rattle.afr_machine.specs.Replicas.{Size, IsSize}
+use Rattle.afr_machine.specs.Touching.{has_cell}
+use Rattle.afr_machine.specs.Phases.{HasSound}
+use Rattle.afr_machine.specs.States.{State}
+use Rattle.afr_machine.specs.Steps.{IsReached}
+use Rattle.afr_laws.specs.Seen.{IsSuperseded}
+use Rattle.afr_soundness.specs.Replaced.{HasCopy}
+
+-- a lock phase that ended and reached every replica, before it or a later one over the cell writes; its rows show each copy of the
+-- cell that is there, so the cell was not born since
+pub record SawAll (size : Size) (m : State) (p : ℕ) (cell : Cell) : Type 0 where
+  pub one : 1 ≤ p
+  pub low : p ≤ m.ended
+  pub covers : has_cell (m.phases p).cells cell ≡ true
+  pub unwritten : (m.phases p).wrote ≡ false
+  pub last : IsSuperseded m.phases m.ended p cell → ⊥
+  pub all : (k : ℕ) → k < size.replicas → (m.phases p).reached k ≡ true
+  pub shown : (k : ℕ) → k < size.replicas → HasCopy m k cell → ((m.phases p).rows k cell).present ≡ true
+
+-- finds a sound replica on each cell of which some replica has a copy
+abbrev pub SeenAllHasSound : Type 0
+SeenAllHasSound = (size : Size) (m : State) → IsSize size → IsReached size m → (p k : ℕ) (cell : Cell) → SawAll size m p cell → k < size.replicas → HasCopy m k cell → HasSound size (m.phases p) cell
