@@ -29,8 +29,9 @@ pub fn every_confirmed_accuses()
 {}
 
 /// The law of what later lock phases see, of every state that allowed steps lead to, for one, three and five replicas. A lock phase
-/// whose transaction is to settle a change sees, at each brick that confirmed a post or settle of an earlier lock phase, that the
-/// brick accuses whomever this one accuses on the change's cells; nobody that it reached confirms there afterwards.
+/// whose transaction is to settle a change sees, at each brick that it reached and that confirmed a post or settle of the change
+/// in an earlier lock phase, that the brick accuses whomever the earlier one accuses on the change's cells; also where the
+/// confirmation is noted only later.
 pub fn every_later_shows()
     ensures { EveryLaterShows }
 {}
