@@ -1,9 +1,11 @@
 -- Inputs that have a brick go down are among those that were sent.
 use Rattle.std.proofs.Common.{◌≡◌, refl, sym, ap, subst, ◌∙◌, arith}
 use Rattle.std.specs.Prelude.{ℕ, zero, suc, ◌≢◌, ◌==◌, ◌+◌, ◌-◌, ◌&&◌, ◌||◌, Bool, true, false, List, [], ◌∷◌, Some, slice_get}
-use Rattle.std.specs.List.{list_any}
+use Rattle.std.specs.Cmp.Derive.{both_true}
 use Rattle.std.specs.Cmp.Lexicographic.{pointwise}
-use Rattle.std.proofs.lemmas.Bool.{eqb-false, true_from_ne_false}
+use Rattle.std.proofs.lemmas.Bool.{eq-eqb}
+use Rattle.std.proofs.lemmas.List.Folds.{list_any_at}
+use Rattle.std.proofs.lemmas.Option.{get_or_from_slice_get, slice_get_within}
 use Rattle.fop_types.specs.declared.messages.Input.TheVariants as input
 use Rattle.script_lang.specs.declared.scripts.Action.TheVariants as action
 use Rattle.wire_xdr.specs.WireText.{input_text, IsInput}
@@ -16,42 +18,19 @@ use Rattle.mount_log.specs.declared.logs.Log.{Log}
 use Rattle.mount_log.specs.declared.logs.SentLine.{SentLine}
 use Rattle.log_audit.specs.Caused.{IsDownSent, IsEventCarried, AreCarried, IsCaused, AreCaused}
 
-same : (a b : ℕ) → a ≡ b → (a == b) ≡ true
-same a b e = true_from_ne_false (a == b) (λ f. eqb-false a b f e)
-
-both : (a b : Bool) → a ≡ true → b ≡ true → (a && b) ≡ true
-both true b x y = y
-both false b x y = absurd cc
-
 pointwise_same : (xs : List ℕ) → pointwise ◌==◌ xs xs ≡ true
 pointwise_same [] = refl
-pointwise_same (x ∷ xs) = both (x == x) (pointwise ◌==◌ xs xs) (same x x refl) (pointwise_same xs)
+pointwise_same (x ∷ xs) = both_true (eq-eqb x x refl) (pointwise_same xs)
 
 lists_same : (xs ys : List ℕ) → xs ≡ ys → pointwise ◌==◌ xs ys ≡ true
 lists_same xs ys e = subst (λ (zs : List ℕ). pointwise ◌==◌ xs zs ≡ true) e (pointwise_same xs)
 
-either_left : (a b : Bool) → a ≡ true → (a || b) ≡ true
-either_left true b e = refl
-either_left false b e = absurd cc
-
-either_right : (a b : Bool) → b ≡ true → (a || b) ≡ true
-either_right true b e = refl
-either_right false b e = e
-
-module _ {X : Type 0} where
-  some_is : (a b : X) → Some a ≡ Some b → a ≡ b
-  some_is a b e = cc
-
-  any_at : (test : X → Bool) (xs : List X) (k : ℕ) (x : X) → slice_get xs k ≡ Some x → test x ≡ true → list_any test xs ≡ true
-  any_at test [] k x is passes = absurd cc
-  any_at test (y ∷ xs) zero x is passes = either_left (test y) (list_any test xs) (ap test (some_is y x is) ∙ passes)
-  any_at test (y ∷ xs) (suc k) x is passes = either_right (test y) (list_any test xs) (any_at test xs k x is passes)
-
 pub sent_at : (log : Log) (k number brick serve : ℕ) (line : SentLine) → slice_get log.sent k ≡ Some line → IsDownSent number brick serve line → was_sent log number brick (input.Down serve) ≡ true
 sent_at log k number brick serve line there down =
-    any_at (is_sent_in number brick (input.Down serve)) log.sent k line there
-    (both (line.event == number) ((line.brick == brick) && pointwise ◌==◌ line.bytes (input_text (input.Down serve))) (same line.event number down.event)
-    (both (line.brick == brick) (pointwise ◌==◌ line.bytes (input_text (input.Down serve))) (same line.brick brick down.brick_is) (lists_same line.bytes (input_text (input.Down serve)) down.bytes)))
+    list_any_at (is_sent_in number brick (input.Down serve)) log.sent k line (slice_get_within log.sent k line there)
+    (subst (λ (l : SentLine). is_sent_in number brick (input.Down serve) l ≡ true) (sym (get_or_from_slice_get log.sent k line line there)) here) where
+      here : is_sent_in number brick (input.Down serve) line ≡ true
+      here = both_true (eq-eqb line.event number down.event) (both_true (eq-eqb line.brick brick down.brick_is) (lists_same line.bytes (input_text (input.Down serve)) down.bytes))
 
 -- the bytes of an input are read as it
 module _ (back : MessagesReadBack) (log : Log) (caused : AreCaused log) (carried : AreCarried log) where

@@ -11,8 +11,9 @@ use Rattle.wire_xdr.specs.WireText.{input_text}
 use Rattle.wire_messages.specs.Messages.{output_in}
 use Rattle.wire_messages.specs.declared.messages.Message.{Message}
 use Rattle.wire_messages.specs.declared.messages.Message.TheVariants.{Whole, Wrong}
+use Rattle.mount_log.proofs.Items.{some_is}
 use Rattle.mount_log.specs.Connections.{IsConnected, AtSwitch, AtOpened, IsForDown, ByArmed}
-use Rattle.mount_log.specs.Follows.{IsEvent}
+use Rattle.mount_log.specs.Follows.{IsEvent, IsArmedLine}
 use Rattle.mount_log.specs.Graphs.{switches_in, switched_by}
 use Rattle.mount_log.specs.Procedures.{proc_in}
 use Rattle.mount_log.specs.declared.logs.HubEvent.{HubEvent}
@@ -20,7 +21,9 @@ use Rattle.mount_log.specs.declared.logs.HubEvent.TheVariants as logged
 use Rattle.mount_log.specs.declared.logs.Log.{Log}
 use Rattle.mount_log.specs.declared.logs.SentLine.{SentLine}
 use Rattle.log_audit.specs.Caused.{event_of, IsOpening, IsConnecting, IsCounted, IsBeforeRequest}
+use Rattle.log_audit.specs.Armed.{AreArmedFrom}
 use Rattle.log_audit.specs.declared.causes.Switched.{Switched}
+use Rattle.log_audit.specs.declared.armed_lines.ArmedLines.{ArmedLines}
 
 -- a true answer means more
 pub ok_gives : {E A B : Type 0} → (r : Result Bool E) → IfOk r (λ yes. yes ≡ true → A) → (A → B) → IfOk r (λ yes. yes ≡ true → B)
@@ -84,20 +87,28 @@ module _ (log : Log) (line : SentLine) (graph : ℕ) (passed : Switched) (made :
 
 -- ---- downs
 
+-- two armed lines of one stretch are of the same event and brick
+alike : {event brick : ℕ} {a b : SentLine} → IsArmedLine event brick a → IsArmedLine event brick b → IsArmedLine a.event a.brick b
+alike x y = record { armable = y.armable; same_brick = y.same_brick ∙ sym x.same_brick; same_event = y.same_event ∙ sym x.same_event }
+
 abbrev with_bytes : SentLine → List ℕ → SentLine
 with_bytes line bytes = record { event = line.event; brick = line.brick; bytes = bytes }
 
-pub armed : (log : Log) (k : ℕ) (line : SentLine) (serve : ℕ) → slice_get log.sent k ≡ Some line → line.bytes ≡ input_text (input.Down serve) → IsBeforeRequest log.sent (k + 1) line → IsForDown log line serve
-armed log k line serve there bytes before = by (proc_in before.request.bytes) refl before.is_request where
+pub down_armed : (log : Log) (k : ℕ) (line : SentLine) (serve : ℕ) (armed : ArmedLines) → slice_get log.sent k ≡ Some line → line.bytes ≡ input_text (input.Down serve) → AreArmedFrom log.sent k armed
+    → IsBeforeRequest log.sent k armed.stop line → IsForDown log line serve
+down_armed log k line serve armed there bytes is_run before = by (proc_in before.request.bytes) refl before.is_request where
   by : (o : Option Proc) → proc_in before.request.bytes ≡ o → is_some o ≡ true → IsForDown log line serve
   by None is none = absurd cc
   by (Some p) is some = ByArmed p (record {
     place = k;
+    request_at = armed.stop;
     sent = input.Down serve;
     request = before.request;
     is_input = refl;
-    first = there ∙ ap (λ (b : List ℕ). Some (with_bytes line b)) bytes;
-    next = before.there;
+    there = there ∙ ap (λ (b : List ℕ). Some (with_bytes line b)) bytes;
+    later = before.later;
+    between = λ j other behind below is_there. alike (is_run.each k line (omega arith) before.later there) (is_run.each j other (omega (arith, behind)) below is_there);
+    request_there = before.there;
     same_brick = before.same_brick;
     same_event = before.same_event;
     is_request = is;
@@ -109,12 +120,9 @@ armed log k line serve there bytes before = by (proc_in before.request.bytes) re
 pub each_next : {X : Type 0} → (P : ℕ → X → Type 0) (xs : List X) (n : ℕ) (x : X) → slice_get xs n ≡ Some x → P n x → ((k : ℕ) (y : X) → k < n → slice_get xs k ≡ Some y → P k y)
     → (k : ℕ) (y : X) → k < n + 1 → slice_get xs k ≡ Some y → P k y
 each_next {X = X} P xs n x there own before k y lt is = by (nat_lt k n) refl where
-  some : (a b : X) → Some a ≡ Some b → a ≡ b
-  some a b e = cc
-
   by : (t : Bool) → nat_lt k n ≡ t → P k y
   by true e = before k y (ltb-true k n e) is
   by false e =
       let le = ltb-false k n e in let same : n ≡ k = omega (arith, lt, le) in
-      let x_is : x ≡ y = some x y (sym there ∙ ap (slice_get xs) same ∙ is) in
+      let x_is : x ≡ y = some_is x y (sym there ∙ ap (slice_get xs) same ∙ is) in
       subst (λ (z : X). P k z) x_is (subst (λ (m : ℕ). P m x) same own)

@@ -2,6 +2,7 @@
 use Rattle.std.proofs.Common.{◌≡◌, refl, sym, ap, ◌∙◌, arith}
 use Rattle.std.specs.Prelude.{ℕ, zero, suc, ◌<◌, ◌≤◌, ◌+◌, ◌==◌, ◌&&◌, not, Bool, true, false, List, [], ◌∷◌, ◌++◌, length, slice_get, Option, Some, None, if◌then◌else◌}
 use Rattle.xlator_law.specs.declared.winds.WindNo.{WindNo}
+use Rattle.mount_log.proofs.Items.{some_is}
 use Rattle.mount_log.specs.Winds.{is_wind, times_opened, times_ended}
 use Rattle.mount_log.specs.declared.logs.WindLine.{WindLine}
 
@@ -36,9 +37,7 @@ module _ {X : Type 0} where
   was_there (z ∷ xs) x y (suc k) is lt = was_there xs x y k is (omega (arith, lt))
 
   pub is_last : (xs : List X) (x y : X) (k : ℕ) → slice_get (xs ++ x ∷ []) k ≡ Some y → length xs ≤ k → (k ≡ length xs) × (y ≡ x)
-  is_last [] x y zero is le = (refl, sym (some_is x y is)) where
-    some_is : (a b : X) → Some a ≡ Some b → a ≡ b
-    some_is a b e = cc
+  is_last [] x y zero is le = (refl, sym (some_is x y is))
   is_last [] x y (suc k) is le = absurd cc
   is_last (z ∷ xs) x y zero is le = absurd (omega (arith, le))
   is_last (z ∷ xs) x y (suc k) is le = let ih = is_last xs x y k is (omega (arith, le)) in (ap suc ih.0, ih.1)

@@ -7,12 +7,12 @@ use Rattle.script_lang.specs.declared.scripts.CallLine.{CallLine}
 use Rattle.script_lang.specs.declared.scripts.Phase.{Phase}
 use Rattle.script_lang.specs.declared.scripts.Script.{Script}
 use Rattle.mount_log.specs.Follows.{AreInOrder, IsNextLine, IsFinished}
+use Rattle.mount_log.specs.Logs.{submits_in, is_submit}
 use Rattle.mount_log.specs.Submissions.{session_line, submits_of, submissions_of, submissions_from, submitted_by, with_submission}
 use Rattle.mount_log.specs.declared.logs.HubEvent.{HubEvent}
 use Rattle.mount_log.specs.declared.logs.HubEvent.TheVariants as logged
 use Rattle.mount_log.specs.declared.logs.Log.{Log}
 use Rattle.log_audit.specs.Replied.{HaveOne}
-use Rattle.log_audit.specs.Submitted.{submits_among, is_one}
 
 module _ {X : Type 0} where
   regroup : (xs : List X) (x : X) (ys : List X) → (xs ++ x ∷ []) ++ ys ≡ xs ++ x ∷ ys
@@ -33,7 +33,7 @@ with_one session (Some l) line rest e = let n = length rest in let s : suc n ≡
 
 module _ (script : Script) (log : Log) (order : AreInOrder script log) where
   one_event : (before : List HubEvent) (e : HubEvent) (rest : List Submission) → ((session line : ℕ) → e ≡ logged.Submit session line → IsNextLine script log (length before) session line) → take (length before) log.events ≡ before
-      → length (submitted_by script before e rest) ≡ is_one e + length rest
+      → length (submitted_by script before e rest) ≡ is_submit e + length rest
   one_event before (logged.Submit session line) rest next prefix =
       let n = next session line refl in
       with_one session (session_line script session (submits_of session before)) n.there rest (ap (λ (l : List HubEvent). session_line script session (submits_of session l)) (sym prefix) ∙ n.next)
@@ -42,7 +42,7 @@ module _ (script : Script) (log : Log) (order : AreInOrder script log) where
   one_event before (logged.Act a) rest next prefix = let n = length rest in let s : n ≡ 0 + n = omega arith in s
   one_event before (logged.Arm brick p count a) rest next prefix = let n = length rest in let s : n ≡ 0 + n = omega arith in s
 
-  many : (before es : List HubEvent) → log.events ≡ before ++ es → length (submissions_from script before es) ≡ submits_among es
+  many : (before es : List HubEvent) → log.events ≡ before ++ es → length (submissions_from script before es) ≡ submits_in es
   many before [] is = refl
   many before (e ∷ es) is =
       let ih = many (before ++ e ∷ []) es (is ∙ sym (regroup before e es)) in
@@ -50,5 +50,5 @@ module _ (script : Script) (log : Log) (order : AreInOrder script log) where
       let o = one_event before e (submissions_from script (before ++ e ∷ []) es) (λ session line e_is. order (length before) session line (ap (λ (l : List HubEvent). slice_get l (length before)) is ∙ next_is before e es ∙ ap Some e_is)) prefix in
       omega (arith, ih, o)
 
-  pub finished : submits_among log.events ≡ length (calls_of script.phases) → HaveOne (length (calls_of script.phases)) log.replies → IsFinished script log
-  finished all one = record { submitted = many [] log.events refl ∙ all; replied = one.each }
+  pub finished : submits_in log.events ≡ length (calls_of script.phases) → HaveOne (length (calls_of script.phases)) log.replies → IsFinished script log
+  finished all one = record { submitted = many [] log.events refl ∙ all; replied = one.each; no_other = one.many }

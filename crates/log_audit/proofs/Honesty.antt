@@ -12,6 +12,7 @@ use Rattle.wire_messages.specs.declared.messages.Message.TheVariants.{Whole}
 use Rattle.brick_machine.specs.Journal.{Journal}
 use Rattle.brick_machine.specs.Laws.{OutputsStay}
 use Rattle.brick_machine.specs.Machine.{texts_of, outputs_of}
+use Rattle.mount_log.proofs.Items.{some_is}
 use Rattle.mount_log.specs.Arrivals.{inputs_to, arrivals_from, arrival_from, sent_before}
 use Rattle.mount_log.specs.declared.logs.HubEvent.{HubEvent}
 use Rattle.mount_log.specs.declared.logs.HubEvent.TheVariants as logged
@@ -86,9 +87,7 @@ none_arrive many brick (e ∷ es) all le = none_one many brick e (arrivals_from 
 
 each_from : (many : ℕ) (events : List HubEvent) (k : ℕ) (e : HubEvent) → AllByRecursion (IsFrom many) events → slice_get events k ≡ Some e → IsFrom many e
 each_from many [] k e all is = absurd cc
-each_from many (x ∷ events) zero e all is = subst (λ (y : HubEvent). IsFrom many y) (some x e is) all.0 where
-  some : (a b : HubEvent) → Some a ≡ Some b → a ≡ b
-  some a b f = cc
+each_from many (x ∷ events) zero e all is = subst (λ (y : HubEvent). IsFrom many y) (some_is x e is) all.0
 each_from many (x ∷ events) (suc k) e all is = each_from many events k e all.1 is
 
 there_is : {X : Type 0} (xs : List X) (k : ℕ) → k < length xs → (o : Option X) → slice_get xs k ≡ o → o ≡ None → ⊥
@@ -123,19 +122,7 @@ module _ (stay : OutputsStay) (log : Log) (bricks : List Journal) (from : AllByR
   }
 
   pub journals : HasJournals log bricks
-  journals = record { journals = λ brick b there. (each brick b (slice_get_within bricks brick b there) there).journal }
-
--- one brick more
-pub one_more : (log : Log) (bricks : List Journal) (n : ℕ) (j : Journal) → slice_get bricks n ≡ Some j → IsHonestAt log n j
-    → ((k : ℕ) (b : Journal) → k < n → slice_get bricks k ≡ Some b → IsHonestAt log k b)
-    → (k : ℕ) (b : Journal) → k < n + 1 → slice_get bricks k ≡ Some b → IsHonestAt log k b
-one_more log bricks n j there own before k b lt is = by (nat_lt k n) refl where
-  some : (x y : Journal) → Some x ≡ Some y → x ≡ y
-  some x y f = cc
-
-  by : (t : Bool) → nat_lt k n ≡ t → IsHonestAt log k b
-  by true e = before k b (ltb-true k n e) is
-  by false e =
-      let le = ltb-false k n e in let same : k ≡ n = omega (arith, lt, le) in
-      let jb : j ≡ b = some j b (sym there ∙ ap (slice_get bricks) (sym same) ∙ is) in
-      subst (λ (x : Journal). IsHonestAt log k x) jb (subst (λ (m : ℕ). IsHonestAt log m j) (sym same) own)
+  journals = record {
+    arrived = λ brick b there. (each brick b (slice_get_within bricks brick b there) there).arrivals;
+    journals = λ brick b there. (each brick b (slice_get_within bricks brick b there) there).journal;
+  }

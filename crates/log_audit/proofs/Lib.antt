@@ -8,4 +8,5 @@ pub mod Submitting
 pub mod Seen
 pub mod Endings
 pub mod Causing
+pub mod Arming
 pub mod Carrying

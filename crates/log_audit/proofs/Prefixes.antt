@@ -3,6 +3,7 @@ use Rattle.std.proofs.Common.{◌≡◌, refl, sym, ap, ◌∙◌, arith}
 use Rattle.std.specs.Prelude.{ℕ, zero, suc, ◌+◌, ◌≤◌, ◌==◌, ◌&&◌, Bool, true, false, List, [], ◌∷◌, ◌++◌, length, take, drop, slice_get, Option, None, Some}
 use Rattle.std.specs.Cmp.Lexicographic.{pointwise}
 use Rattle.std.proofs.lemmas.Bool.{eqb-true}
+use Rattle.mount_log.proofs.Items.{some_is}
 
 -- lists that are compared item by item
 both : (a b : Bool) → (a && b) ≡ true → (a ≡ true) × (b ≡ true)
@@ -16,9 +17,6 @@ same_list (x ∷ xs) [] e = absurd cc
 same_list (x ∷ xs) (y ∷ ys) e = let p = both (x == y) (pointwise ◌==◌ xs ys) e in ap (λ l. x ∷ l) (same_list xs ys p.1) ∙ ap (λ z. z ∷ ys) (eqb-true x y p.0)
 
 module _ {X : Type 0} where
-  some_is : (a b : X) → Some a ≡ Some b → a ≡ b
-  some_is a b e = cc
-
   head_is : (a b : X) (us vs : List X) → a ∷ us ≡ b ∷ vs → a ≡ b
   head_is a b us vs e = cc
 

@@ -1,33 +1,13 @@
 -- Calls that have a reply, with one reply more.
 use Rattle.std.proofs.Common.{◌≡◌, refl, sym, ap, subst, ◌∙◌, arith, get_or}
 use Rattle.std.specs.Prelude.{ℕ, zero, suc, ◌≢◌, ◌<◌, ◌≤◌, ◌+◌, ◌-◌, ◌==◌, Bool, true, false, List, [], ◌∷◌, ◌++◌, Option, None, Some, length, take, slice_get, slice_set, if◌then◌else◌}
-use Rattle.std.proofs.lemmas.Bool.{eqb-true, eqb-false, false_from_ne_true, true_from_ne_false}
-use Rattle.std.proofs.lemmas.List.{take_more, take_all}
+use Rattle.std.proofs.lemmas.Bool.{eqb-true, eqb-false, eq-eqb, ne_eqb}
+use Rattle.std.proofs.lemmas.List.{take_more, take_all, length-set}
 use Rattle.std.proofs.lemmas.Option.{slice_get_within}
+use Rattle.mount_log.proofs.Items.{some_is, at_set, beside_set}
 use Rattle.mount_log.specs.Follows.{replies_to}
 use Rattle.mount_log.specs.declared.logs.ReplyLine.{ReplyLine}
 use Rattle.log_audit.specs.Replied.{HaveOne, AreSeen, Sees, all_seen}
-
-module _ {X : Type 0} where
-  some_is : (a b : X) → Some a ≡ Some b → a ≡ b
-  some_is a b e = cc
-
-  at_set : (xs : List X) (j : ℕ) (x : X) → j < length xs → slice_get (slice_set xs j x) j ≡ Some x
-  at_set [] j x lt = absurd (omega (arith, lt))
-  at_set (y ∷ xs) zero x lt = refl
-  at_set (y ∷ xs) (suc j) x lt = at_set xs j x (omega (arith, lt))
-
-  beside_set : (xs : List X) (j k : ℕ) (x : X) → k ≢ j → slice_get (slice_set xs j x) k ≡ slice_get xs k
-  beside_set [] j k x ne = refl
-  beside_set (y ∷ xs) zero zero x ne = absurd (ne refl)
-  beside_set (y ∷ xs) zero (suc k) x ne = refl
-  beside_set (y ∷ xs) (suc j) zero x ne = refl
-  beside_set (y ∷ xs) (suc j) (suc k) x ne = beside_set xs j k x (λ e. ne (ap suc e))
-
-  long_set : (xs : List X) (j : ℕ) (x : X) → length (slice_set xs j x) ≡ length xs
-  long_set [] j x = refl
-  long_set (y ∷ xs) zero x = refl
-  long_set (y ∷ xs) (suc j) x = ap suc (long_set xs j x)
 
 abbrev one : Bool → ℕ
 one b = if b then 1 else 0
@@ -36,12 +16,6 @@ replies_push : (number : ℕ) (rs : List ReplyLine) (r : ReplyLine) → replies_
 replies_push number [] r = let n = one (r.call == number) in let z : n + 0 ≡ 0 + n = omega arith in z
 replies_push number (x ∷ rs) r = let ih = replies_push number rs r in omega (arith, ih)
 
-same : (a b : ℕ) → a ≡ b → (a == b) ≡ true
-same a b e = true_from_ne_false (a == b) (λ f. eqb-false a b f e)
-
-differs : (a b : ℕ) → a ≢ b → (a == b) ≡ false
-differs a b ne = false_from_ne_true (a == b) (λ e. ne (eqb-true a b e))
-
 module _ (calls : ℕ) (rs : List ReplyLine) (r : ReplyLine) (old new : List Bool) (seen : AreSeen calls rs old) (sees : Sees old r.call new) where
   by_index : (index : ℕ) (b : Bool) → slice_get (slice_set old sees.index true) index ≡ Some b → (t : Bool) → (index == sees.index) ≡ t → replies_to (index + 1) (rs ++ r ∷ []) ≡ one b
   by_index index b is true e =
@@ -49,20 +23,20 @@ module _ (calls : ℕ) (rs : List ReplyLine) (r : ReplyLine) (old new : List Boo
       let lt : sees.index < length old = slice_get_within old sees.index false sees.before in
       let b_is : true ≡ b = some_is true b (sym (at_set old sees.index true lt) ∙ ap (slice_get (slice_set old sees.index true)) (sym s) ∙ is) in
       let none : replies_to (index + 1) rs ≡ 0 = seen.each index false (ap (slice_get old) s ∙ sees.before) in
-      let c = sees.call_is in let its : (r.call == index + 1) ≡ true = same r.call (index + 1) (omega (arith, c, s)) in
+      let c = sees.call_is in let its : (r.call == index + 1) ≡ true = eq-eqb r.call (index + 1) (omega (arith, c, s)) in
       let p : replies_to (index + 1) (rs ++ r ∷ []) ≡ replies_to (index + 1) rs + 1 = replies_push (index + 1) rs r ∙ ap (λ (t : Bool). replies_to (index + 1) rs + one t) its in
       let v : replies_to (index + 1) (rs ++ r ∷ []) ≡ 1 = omega (arith, p, none) in
       v ∙ ap one b_is
   by_index index b is false e =
       let ne : index ≢ sees.index = eqb-false index sees.index e in
-      let c = sees.call_is in let other : (r.call == index + 1) ≡ false = differs r.call (index + 1) (λ f. ne (omega (arith, c, f))) in
+      let c = sees.call_is in let other : (r.call == index + 1) ≡ false = ne_eqb r.call (index + 1) (λ f. ne (omega (arith, c, f))) in
       let p : replies_to (index + 1) (rs ++ r ∷ []) ≡ replies_to (index + 1) rs + 0 = replies_push (index + 1) rs r ∙ ap (λ (t : Bool). replies_to (index + 1) rs + one t) other in
       let v : replies_to (index + 1) (rs ++ r ∷ []) ≡ replies_to (index + 1) rs = omega (arith, p) in
       v ∙ seen.each index b (sym (beside_set old sees.index index true ne) ∙ is)
 
   one_seen : AreSeen calls (rs ++ r ∷ []) new
   one_seen = record {
-    long = ap length sees.after ∙ long_set old sees.index true ∙ seen.long;
+    long = ap length sees.after ∙ length-set old sees.index true ∙ seen.long;
     each = λ index b is. by_index index b (ap (λ (l : List Bool). slice_get l index) (sym sees.after) ∙ is) (index == sees.index) refl;
   }
 
@@ -81,8 +55,8 @@ each_seen [] index lt e = absurd (omega (arith, lt))
 each_seen (b ∷ seen) zero lt e = ap Some (both_seen b (all_seen seen) e).0
 each_seen (b ∷ seen) (suc index) lt e = each_seen seen index (omega (arith, lt)) (both_seen b (all_seen seen) e).1
 
-pub have_one : (calls : ℕ) (replies : List ReplyLine) (i : ℕ) (seen : List Bool) → length replies ≤ i → AreSeen calls (take i replies) seen → all_seen seen ≡ true → HaveOne calls replies
-have_one calls replies i seen le are all = record { each = at } where
+pub have_one : (calls : ℕ) (replies : List ReplyLine) (i : ℕ) (seen : List Bool) → length replies ≡ calls → length replies ≤ i → AreSeen calls (take i replies) seen → all_seen seen ≡ true → HaveOne calls replies
+have_one calls replies i seen many le are all = record { many = many; each = at } where
   whole : AreSeen calls replies seen
   whole = subst (λ (l : List ReplyLine). AreSeen calls l seen) (take_all i replies le) are
 

@@ -49,8 +49,9 @@ pub record IsCounted (events : List HubEvent) (passed : Switched) : Type 0 where
   pub count : passed.count ≡ length (switches_in (take passed.next events))
   pub few : passed.count ≤ passed.next
 
--- the line at this place is a request to the same brick in the same event
-pub record IsBeforeRequest (sent : List SentLine) (next : ℕ) (line : SentLine) : Type 0 where
+-- the line at this later place is a request to the same brick in the same event
+pub record IsBeforeRequest (sent : List SentLine) (k next : ℕ) (line : SentLine) : Type 0 where
+  pub later : k < next
   pub request : SentLine
   pub there : slice_get sent next ≡ Some request
   pub same_brick : request.brick ≡ line.brick

@@ -32,6 +32,8 @@ pub record HasHonestArrivals (log : Log) : Type 0 where
   pub timely : (k brick : ℕ) (bytes : List ℕ) (output : Output) → slice_get log.events k ≡ Some (logged.Arrive brick bytes)
       → output_in bytes ≡ Whole output → output.taken ≤ sent_before (k + 1) brick log.sent
 
--- the journals of a run's bricks are prefixes of what was sent to them
+-- of each of a run's bricks, the journal is a prefix of what was sent to it, and what arrived from it is one of its outputs
 pub record HasJournals (log : Log) (bricks : List Journal) : Type 0 where
+  pub arrived : (brick : ℕ) (b : Journal) → slice_get bricks brick ≡ Some b
+      → take (length (arrivals_from brick log.events)) (texts_of b.journal) ≡ arrivals_from brick log.events
   pub journals : (brick : ℕ) (b : Journal) → slice_get bricks brick ≡ Some b → take (length b.journal) (inputs_to brick log.sent) ≡ b.journal

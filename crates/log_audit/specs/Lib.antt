@@ -1,4 +1,5 @@
--- In reading order: the last wind of each slot; what it says of the winds so far; prefixes; timely arrivals; causes of what was sent.
+-- In reading order: the last wind of each slot; what it says of the winds so far; prefixes; timely arrivals; lines
+-- that can be armed; causes of what was sent.
 pub mod Slots
 pub mod Agreeing
 pub mod Prefixes
@@ -6,4 +7,5 @@ pub mod Arriving
 pub mod Honest
 pub mod Submitted
 pub mod Replied
+pub mod Armed
 pub mod Caused

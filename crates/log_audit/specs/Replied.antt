@@ -4,6 +4,7 @@ use Rattle.mount_log.specs.Follows.{replies_to}
 use Rattle.mount_log.specs.declared.logs.ReplyLine.{ReplyLine}
 
 pub record HaveOne (calls : ℕ) (replies : List ReplyLine) : Type 0 where
+  pub many : length replies ≡ calls
   pub each : (number : ℕ) → 1 ≤ number → number ≤ calls → replies_to number replies ≡ 1
 
 -- each call of so many has no reply yet, or one that was seen

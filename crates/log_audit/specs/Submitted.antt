@@ -1,5 +1,5 @@
 -- What sessions have submitted, and what they have left.
-use Rattle.std.specs.Prelude.{◌≡◌, ℕ, ◌+◌, List, [], ◌∷◌, Option, Some, None, slice_get, take, drop}
+use Rattle.std.specs.Prelude.{◌≡◌, ℕ, List, Option, Some, slice_get, take, drop}
 use Rattle.script_lang.specs.declared.scripts.CallLine.{CallLine}
 use Rattle.script_lang.specs.declared.scripts.Script.{Script}
 use Rattle.mount_log.specs.Lines.{queue_of, places_from}
@@ -22,15 +22,3 @@ AreNext script events =
 -- each session has left what it did not submit in these events
 abbrev pub HaveLeft : Script → List HubEvent → List (List LineAt) → Type 0
 HaveLeft script events queues = (session : ℕ) → queue_of queues session ≡ drop (submits_of session events) (places_from session 0 script.phases)
-
-abbrev pub is_one : HubEvent → ℕ
-is_one (logged.Submit session line) = 1
-is_one (logged.Arrive brick bytes) = 0
-is_one (logged.Run graph task) = 0
-is_one (logged.Act a) = 0
-is_one (logged.Arm brick p count a) = 0
-
--- how many of these events submit a call
-abbrev pub submits_among : List HubEvent → ℕ
-submits_among [] = 0
-submits_among (e ∷ es) = is_one e + submits_among es

@@ -10,8 +10,10 @@ ghost use Rattle.fop_types.specs.declared.messages.Input.TheVariants as input;
 ghost use Rattle.fop_types.specs.declared.messages.OutKind.TheVariants.{Opened};
 ghost use Rattle.wire_xdr.specs.WireText.{input_text};
 ghost use Rattle.wire_messages.specs.Messages.{input_in, output_in};
+ghost use Rattle.log_audit.specs.Armed.{AreArmedFrom};
 ghost use Rattle.log_audit.specs.Caused.{event_of, IsSwitch, IsOpening, IsConnecting, IsCounted, IsBeforeRequest, IsInputCaused, IsCaused, AreCaused};
 
+use crate::armed_lines::{ArmedLines, armed_at, none_armed};
 use crate::requests::is_request;
 use fop_types::{Input, OutKind};
 use mount_log::{HubEvent, Log, SentLine};
@@ -237,28 +239,43 @@ fn are_together(a: &SentLine, b: &SentLine) -> bool
     a.brick == b.brick && a.event == b.event
 }
 
-// Whether the line at a place is a request to the same brick in the same event as another line.
-fn is_before_request(log: &Log, next: usize, line: &SentLine) -> bool
-    ensures { result ≡ true → IsBeforeRequest log.now.sent next line.now }
+// Whether the line at a place behind another is a request to the same brick in the same event.
+fn is_before_request(log: &Log, k: usize, next: usize, line: &SentLine) -> bool
+    ensures { result ≡ true → IsBeforeRequest log.now.sent k next line.now }
 {
+    if next <= k {
+        return false;
+    }
     match line_at(log, next) {
         Some(request) => are_together(request, line) && is_request_line(request),
         None => false,
     }
 }
 
-fn is_down_caused(log: &Log, k: usize, line: &SentLine, serve: u32) -> bool
+// The armed lines that the line at a place is among, behind those that the line before was.
+fn armed_by(
+    alloc: Global,
+    log: &Log,
+    at: usize,
+    before: ArmedLines,
+) -> Result<ArmedLines, AllocError>
+    requires { AreArmedFrom log.now.sent at before }
+    ensures { IfOk result (λ armed. AreArmedFrom log.now.sent at armed) }
+{
+    armed_at(alloc, log.sent.as_slice(), at, before)
+}
+
+// The armed lines that it is among are given.
+fn is_down_caused(log: &Log, k: usize, line: &SentLine, serve: u32, armed: ArmedLines) -> bool
     requires there { slice_get log.now.sent k ≡ Some line.now }
     requires bytes { line.now.bytes ≡ input_text (input.Down serve) }
+    requires armed { AreArmedFrom log.now.sent k armed }
     ensures { result ≡ true → IsForDown log.now line.now serve }
 {
     if is_act_of_down(log, line, serve) {
         return true;
     }
-    if k >= log.sent.len() {
-        return false;
-    }
-    is_before_request(log, k + 1, line)
+    is_before_request(log, k, armed.stop, line)
 }
 
 // ---- all
@@ -270,16 +287,18 @@ fn is_input_caused(
     line: &SentLine,
     input: &Input,
     passed: Switched,
+    armed: ArmedLines,
 ) -> Result<bool, AllocError>
     requires there { slice_get log.now.sent k ≡ Some line.now }
     requires bytes { line.now.bytes ≡ input_text input.now }
     requires counted { IsCounted log.now.events passed }
+    requires armed { AreArmedFrom log.now.sent k armed }
     ensures { IfOk result (λ yes. yes ≡ true → IsInputCaused log.now line.now input.now) }
 {
     match input {
         Input::Up => Ok(is_up_caused(log, line)),
         Input::Connect { graph, .. } => is_connect_caused(alloc, log, line, *graph, passed),
-        Input::Down { serve } => Ok(is_down_caused(log, k, line, *serve)),
+        Input::Down { serve } => Ok(is_down_caused(log, k, line, *serve, armed)),
         _ => Ok(true),
     }
 }
@@ -290,13 +309,15 @@ fn is_caused(
     k: usize,
     line: &SentLine,
     passed: Switched,
+    armed: ArmedLines,
 ) -> Result<bool, AllocError>
     requires there { slice_get log.now.sent k ≡ Some line.now }
     requires counted { IsCounted log.now.events passed }
+    requires armed { AreArmedFrom log.now.sent k armed }
     ensures { IfOk result (λ yes. yes ≡ true → IsCaused log.now line.now (input_in line.now.bytes)) }
 {
     match input_of(alloc, line.bytes.as_slice())? {
-        Message::Whole(input) => is_input_caused(alloc, log, k, line, &input, passed),
+        Message::Whole(input) => is_input_caused(alloc, log, k, line, &input, passed, armed),
         Message::Wrong { place: _ } => Ok(true),
     }
 }
@@ -309,12 +330,14 @@ pub fn lines_are_caused(alloc: Global, log: &Log) -> Result<bool, AllocError>
     ensures { IfOk result (λ yes. yes ≡ true → AreCaused log.now) }
 {
     let mut passed = Switched { next: 0, count: 0 };
+    let mut armed = none_armed();
     for k in 0..log.sent.len() {
         let Some(line) = line_at(log, k) else {
             return Ok(false);
         };
         passed = passed_to(log, line.event, passed);
-        if !is_caused(alloc, log, k, line, passed)? {
+        armed = armed_by(alloc, log, k, armed)?;
+        if !is_caused(alloc, log, k, line, passed, armed)? {
             return Ok(false);
         }
     }

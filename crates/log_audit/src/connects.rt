@@ -10,7 +10,8 @@ use wire_messages::messages_read_back;
 
 /// Whether each input that connects a graph was sent at the start, for a switch or for an Opened; each that has a brick go
 /// down or up for its action, or before the request for which it was armed; and whether each action that has a brick go
-/// down has sent its input.
+/// down has sent its input. It is false, too, where lines do not stand in the order of their events, or the first line of an
+/// event that has a brick go down is not that input.
 ///
 /// # Errors
 /// Out of memory.

@@ -2,7 +2,7 @@
 ghost use Rattle.std.specs.Prelude.{◌≡◌, ◌≤◌, true, length, IfOk};
 ghost use Rattle.script_lang.specs.Accepted.{IsAccepted, calls_of};
 ghost use Rattle.mount_log.specs.Follows.{AreInOrder, IsFinished};
-ghost use Rattle.log_audit.specs.Submitted.{submits_among};
+ghost use Rattle.mount_log.specs.Logs.{submits_in};
 
 use crate::finished::have_one_reply;
 use mount_log::{HubEvent, Log};
@@ -10,7 +10,7 @@ use script_lang::{Phase, Script};
 use std::alloc::{AllocError, Global};
 
 fn count_submits(events: &[HubEvent]) -> usize
-    ensures { result ≡ submits_among events.now }
+    ensures { result ≡ submits_in events.now }
 {
     let mut count = 0usize;
     for event in events {
@@ -33,7 +33,8 @@ fn count_calls(phases: &[Phase]) -> usize
     count
 }
 
-/// Whether each call of the script was submitted and has one reply, where sessions submit their lines in order.
+/// Whether each call of the script was submitted and has one reply, and nothing else has one, where sessions submit their
+/// lines in order (`submits_are_in_order`).
 ///
 /// # Errors
 /// Out of memory.

@@ -1,5 +1,5 @@
 //! Whether each call has one reply.
-ghost use Rattle.std.specs.Prelude.{◌≡◌, ◌≤◌, ℕ, true, [], IfOk};
+ghost use Rattle.std.specs.Prelude.{◌≡◌, ◌≤◌, ℕ, true, [], length, IfOk};
 ghost use Rattle.log_audit.specs.Replied.{HaveOne, AreSeen, Sees, all_seen};
 
 use mount_log::ReplyLine;
@@ -42,7 +42,13 @@ fn are_all(seen: &[bool]) -> bool
     true
 }
 
-/// Whether each call of so many, by their numbers from 1, has one reply.
+fn are_as_many(replies: &[ReplyLine], calls: usize) -> bool
+    ensures { result ≡ true → length replies.now ≡ calls }
+{
+    replies.len() == calls
+}
+
+/// Whether each call of so many, by their numbers from 1, has one reply, and there is no other.
 ///
 /// # Errors
 /// Out of memory.
@@ -53,6 +59,9 @@ pub fn have_one_reply(
 ) -> Result<bool, AllocError>
     ensures { IfOk result (λ yes. yes ≡ true → HaveOne calls replies.now) }
 {
+    if !are_as_many(replies, calls) {
+        return Ok(false);
+    }
     let mut seen = none_seen(alloc, calls)?;
     for reply in replies {
         if !see(&mut seen, reply.call) {

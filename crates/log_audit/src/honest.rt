@@ -45,8 +45,9 @@ fn is_honest(alloc: Global, log: &Log, brick: u8, at: &Brick) -> Result<bool, Al
     are_timely(alloc, brick, events, sent)
 }
 
-/// Whether each brick's journal is a prefix of what was sent to it, and what arrived is honest. There are at most 255
-/// bricks, else the answer is false.
+/// Whether each brick's journal is a prefix of what was sent to it, and what arrived is honest and of the brick's own
+/// outputs. It is false, too, where there are more than 255 bricks, or what was sent does not stand in the order of its
+/// events.
 ///
 /// # Errors
 /// Out of memory.

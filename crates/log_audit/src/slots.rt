@@ -1,3 +1,4 @@
+//! The last wind of each slot, line by line.
 ghost use Rattle.std.specs.Prelude.{◌≡◌, ◌<◌, ℕ, Some, [], true, IfOk, length, slice_set};
 ghost use Rattle.log_audit.specs.Slots.{slot_at, step, is_closed, are_closed, Takes};
 

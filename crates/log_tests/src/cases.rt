@@ -14,7 +14,8 @@ const SCRIPT: &[u8] =
     b"brick b0 h0 /b0\nvolfile g\nvolume c0\ntype protocol/client\nend-volume\nend-volfile\nstart g\nphase\ndo s mkdir /a 755\ndo s stat /a\ndo t stat /\n";
 
 // Graph 1 is connected from the start, and the index of the first call is answered. The brick goes down and comes up, and
-// is connected again; a switch makes graph 2; and the brick goes down before the index of the second call.
+// is connected again; a switch makes graph 2; and the brick goes down, and is to fail an index, before the index of the second
+// call.
 const HONEST: Rows = Rows {
     events: &[
         &[0, 0, 9],
@@ -26,6 +27,7 @@ const HONEST: Rows = Rows {
         &[1, 0, 0, 4, 2],
         &[4, 0],
         &[5, 0, 1],
+        &[6, 0, 1],
         &[0, 0, 10],
         &[0, 1, 11],
         &[1, 0, 0, 5, 3, 1, 1],
@@ -37,10 +39,11 @@ const HONEST: Rows = Rows {
         &[5, 0, 2],
         &[7, 0, 3, 1, 1],
         &[8, 0, 3, 2, 1],
-        &[10, 0, 1, 0],
-        &[10, 0, 0, 1, 0, 2, 10],
+        &[11, 0, 1, 0],
+        &[11, 0, 5, 10, 1],
+        &[11, 0, 0, 1, 0, 2, 10],
     ],
-    replies: &[&[3, 1], &[12, 3], &[12, 2]],
+    replies: &[&[3, 1], &[13, 3], &[13, 2]],
     winds: &[
         &[1, 1, 0, 0, 1],
         &[1, 1, 0, 0, 0],
@@ -55,39 +58,42 @@ const HONEST: Rows = Rows {
 const NOTHING: usize = 99;
 
 // An edit, and the letters of the audits that then answer false.
-const CASES: [(Of, usize, &[u32], &[u8]); 27] = [
+const CASES: [(Of, usize, &[u32], &[u8]); 29] = [
     (Of::Winds, NOTHING, &[], b""),
     // A wind that does not end, one that ends in another graph or for another call, ends twice, or comes again.
     (Of::Winds, 5, &[], b"w"),
-    (Of::Winds, 1, &[2, 1, 0, 0, 0], b"w"),
-    (Of::Winds, 1, &[1, 2, 0, 0, 0], b"w"),
-    (Of::Winds, 5, &[2, 2, 0, 1, 0], b"w"),
-    (Of::Winds, 0, &[], b"w"),
-    (Of::Winds, 2, &[2, 2, 0, 0, 1], b"w"),
+    (Of::Winds, 1, &[2, 1, 0, 0, 0], b"wo"),
+    (Of::Winds, 1, &[1, 2, 0, 0, 0], b"wo"),
+    (Of::Winds, 5, &[2, 2, 0, 1, 0], b"wo"),
+    (Of::Winds, 0, &[], b"wo"),
+    (Of::Winds, 2, &[2, 2, 0, 0, 1], b"wo"),
     // An arrival that the brick did not put out, one of no brick, and one before its input.
     (Of::Events, 1, &[1, 0, 0, 1, 3, 2, 1], b"a"),
-    (Of::Events, 11, &[1, 1, 0, 5, 3, 1, 1], b"a"),
-    (Of::Events, 11, &[1, 0, 0, 5, 3, 2, 1], b"a"),
+    (Of::Events, 12, &[1, 1, 0, 5, 3, 1, 1], b"a"),
+    (Of::Events, 12, &[1, 0, 0, 5, 3, 2, 1], b"a"),
     (Of::Sent, 1, &[3, 0, 0, 0, 0, 1, 10], b"a"),
     // Inputs that were served and not sent.
     (Of::Served, 4, &[3, 2, 1], b"a"),
     (Of::Sent, 1, &[1, 0, 0, 0, 0, 1, 11], b"a"),
     // A line before its time, one that is none, and a session that is none.
     (Of::Events, 0, &[0, 0, 10], b"s"),
-    (Of::Events, 9, &[0, 0, 11], b"s"),
-    (Of::Events, 10, &[0, 2, 11], b"s"),
+    (Of::Events, 10, &[0, 0, 11], b"s"),
+    (Of::Events, 11, &[0, 2, 11], b"s"),
     // A call that is not submitted, one without a reply, one with two, and a reply to none.
-    (Of::Events, 10, &[5, 0, 1], b"f"),
+    (Of::Events, 11, &[5, 0, 1], b"f"),
     (Of::Replies, 1, &[], b"f"),
-    (Of::Replies, 1, &[12, 1], b"f"),
-    (Of::Replies, 2, &[12, 4], b"f"),
-    (Of::Replies, 2, &[12, 0], b"f"),
+    (Of::Replies, 1, &[13, 1], b"f"),
+    (Of::Replies, 2, &[13, 4], b"f"),
+    (Of::Replies, 2, &[13, 0], b"f"),
     // A Connect for nothing, of a graph that the switch does not make, and without an Opened.
     (Of::Sent, 5, &[9, 0, 3, 2, 1], b"c"),
     (Of::Sent, 5, &[8, 0, 3, 1, 1], b"c"),
     (Of::Sent, 4, &[6, 0, 3, 1, 1], b"c"),
-    // A Down before no request, an Up for nothing, and a Down that its action does not send.
-    (Of::Sent, 7, &[], b"c"),
+    // A Down before no request, one before an input of another brick, and one alone before its request; an Up for nothing;
+    // and an action that does not send its Down.
+    (Of::Sent, 8, &[], b"c"),
+    (Of::Sent, 7, &[11, 1, 5, 10, 1], b"c"),
+    (Of::Sent, 7, &[], b""),
     (Of::Sent, 5, &[8, 0, 2], b"c"),
     (Of::Events, 8, &[2, 0, 0], b"c"),
 ];

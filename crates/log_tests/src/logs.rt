@@ -11,7 +11,7 @@ use xlator_law::WindNo;
 ///
 /// ```text
 ///   events   0 session line · 1 brick units.. · 2 brick serve (down) · 3 brick (up) · 4 volfile (switch)
-///            · 5 brick count (a Down is armed for an index)
+///            · 5 brick count (a Down is armed for an index) · 6 the same (a fault is armed)
 ///   sent     event brick units..
 ///   replies  event call
 ///   winds    graph call slot turn, 1 where it is opened
@@ -69,9 +69,8 @@ fn arrival(alloc: Global, row: &[u32]) -> Result<HubEvent, AllocError> {
     })
 }
 
-fn armed(row: &[u32]) -> HubEvent {
-    let brick = small(row, 1);
-    HubEvent::Arm(brick, Proc::Index, number(row, 2), Action::Down(brick, 0))
+fn armed(row: &[u32], action: Action) -> HubEvent {
+    HubEvent::Arm(small(row, 1), Proc::Index, number(row, 2), action)
 }
 
 fn event(alloc: Global, row: &[u32]) -> Result<HubEvent, AllocError> {
@@ -84,7 +83,8 @@ fn event(alloc: Global, row: &[u32]) -> Result<HubEvent, AllocError> {
         2 => Ok(HubEvent::Act(Action::Down(small(row, 1), number(row, 2)))),
         3 => Ok(HubEvent::Act(Action::Up(small(row, 1)))),
         4 => Ok(HubEvent::Act(Action::Switch(small(row, 1)))),
-        _ => Ok(armed(row)),
+        5 => Ok(armed(row, Action::Down(small(row, 1), 0))),
+        _ => Ok(armed(row, Action::Fault(small(row, 1), Proc::Index, 1))),
     }
 }
 

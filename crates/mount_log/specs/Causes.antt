@@ -1,7 +1,7 @@
 -- What an I/O error rests on: bricks that were lost to the call's graph, each with the number of its last connection; bricks
 -- that answered a request of the call by a fault, each with its place in the journal; or rows that bricks showed with the
 -- locks of the call.
-use Rattle.std.specs.Prelude.{◌≡◌, ◌≢◌, ℕ, ◌+◌, ◌-◌, ◌<◌, ◌≤◌, ◌==◌, false, List, [], ◌++◌, Option, None, Some, Contains, length, map, slice_get}
+use Rattle.std.specs.Prelude.{◌≡◌, ◌≢◌, ℕ, ◌+◌, ◌-◌, ◌<◌, ◌≤◌, ◌==◌, ◌⊎◌, false, List, [], ◌++◌, Option, None, Some, Contains, length, map, slice_get}
 use Rattle.std.specs.List.{AllByRecursion, IsDistinct}
 use Rattle.fop_types.specs.declared.answers.Answer.{Answer}
 use Rattle.fop_types.specs.declared.answers.Answer.TheVariants as answer
@@ -19,7 +19,7 @@ use Rattle.graph_build.specs.declared.plans.Plan.{Plan}
 use Rattle.script_lang.specs.declared.scripts.Script.{Script}
 use Rattle.wire_messages.specs.Messages.{output_in}
 use Rattle.wire_messages.specs.declared.messages.Message.TheVariants.{Whole}
-use Rattle.xlator_law.specs.Numbers.{wind_number}
+use Rattle.xlator_law.specs.Numbers.{wind_number, open_before}
 use Rattle.mount_log.specs.declared.logs.HubEvent.TheVariants as logged
 use Rattle.mount_log.specs.declared.logs.Log.{Log}
 use Rattle.mount_log.specs.declared.logs.ReplyLine.{ReplyLine}
@@ -55,13 +55,13 @@ pub record IsLost (log : Log) (plan : SetPlan) (call until : ℕ) (pair : ℕ ×
   pub closed : is_open_after log (graph_of_call log call) pair.0 moment ≡ false
   pub number : pair.1 ≡ last_connection log (graph_of_call log call) pair.0 moment
 
--- a wind of a call was opened in the log
+-- a wind of a call was opened in the log: that of a request, or of the open that goes before it
 pub record IsWindOf (log : Log) (call wind : ℕ) : Type 0 where
   pub place : ℕ
   pub line : WindLine
   pub there : slice_get log.winds place ≡ Some line
   pub call_is : line.call ≡ call
-  pub wind_is : wind_number line.wind ≡ wind
+  pub wind_is : (wind_number line.wind ≡ wind) ⊎ (wind_number (open_before line.wind) ≡ wind)
 
 -- the brick answered this to a request of the call, by the event of this number
 pub record IsRepliedBy (log : Log) (call until brick wind : ℕ) (r : BrickRep) (output : Output) : Type 0 where
@@ -107,9 +107,16 @@ pub record IsFault (log : Log) (plan : SetPlan) (call until : ℕ) (faults lost 
   pub each_lost : AllByRecursion (IsLost log plan call until) lost
   pub enough : AreEnough plan (map brick_of faults ++ map brick_of lost)
 
--- the rows that bricks showed; that no brick is sound by them is a clause of its own, over the rows of one lock phase
+abbrev pub shower_of : SplitRow → ℕ
+shower_of row = row.brick
+
+-- the rows that the bricks of a quorum showed; that they are of one lock phase, and no brick is sound by them, is not said here
 pub record IsSplit (log : Log) (plan : SetPlan) (call until : ℕ) (rows : List SplitRow) : Type 0 where
   pub each : AllByRecursion (IsShown log plan call until) rows
+  pub bricks : List ℕ
+  pub differ : IsDistinct ◌==◌ bricks
+  pub enough : plan.q ≤ length bricks
+  pub have_rows : AllByRecursion (Contains (map shower_of rows)) bricks
 
 -- ---- an I/O error has its cause
 

@@ -76,7 +76,7 @@ graph_of_call log call = 1 + length (switches_in (take (submitted_at log call - 
 
 -- ---- what is sent for what
 
--- a Down was sent for an action of its event, or directly before the request for which it was armed
+-- a Down was sent for an action of its event, or directly before a request
 pub data IsForDown (log : Log) (line : SentLine) (serve : ℕ) : Type 0 where
   ByAction : IsEvent log line.event (logged.Act (action.Down line.brick serve)) → IsForDown log line serve
   ByArmed : (p : Proc) → IsSentBefore log line.event line.brick p (action.Down line.brick serve) → IsForDown log line serve
@@ -89,7 +89,8 @@ pub data IsConnected (log : Log) (line : SentLine) (graph : ℕ) : Type 0 where
   AtOpened : (bytes : List ℕ) (output : Output) → IsEvent log line.event (logged.Arrive line.brick bytes)
       → output_in bytes ≡ Whole output → output.kind ≡ out.Opened → IsConnected log line graph
 
--- D7.4, as far as it says what each line was sent for; graphs and numbers are those that an input has, below 2^32
+-- What was sent to connect graphs and to have bricks go down and up was sent for its cause, and each action that has a brick
+-- go down sent its input. Graphs and numbers are those that an input has, below 2^32.
 pub record ConnectsAreCaused (log : Log) : Type 0 where
   pub connects : (k graph : ℕ) (line : SentLine) → slice_get log.sent k ≡ Some line → IsUnit graph → line.bytes ≡ input_text (input.Connect graph 1) → IsConnected log line graph
   pub downs : (k serve : ℕ) (line : SentLine) → slice_get log.sent k ≡ Some line → IsUnit serve → line.bytes ≡ input_text (input.Down serve)

@@ -58,14 +58,38 @@ input_of (action.Cut brick) = None
 input_of action.Heal = None
 input_of (action.Switch volfile) = None
 
--- in this event the action's input is sent to a brick directly before a request of this procedure
+-- an action can be armed to send the input
+abbrev pub CanBeArmed : Input → Type 0
+CanBeArmed (input.Down serve) = Unit {0}
+CanBeArmed (input.FaultAt p number) = Unit {0}
+CanBeArmed input.Up = ⊥
+CanBeArmed (input.Connect graph version) = ⊥
+CanBeArmed (input.Disconnect graph) = ⊥
+CanBeArmed (input.Request wind graph req) = ⊥
+
+pub record AreArmable (bytes : List ℕ) : Type 0 where
+  pub sent : Input
+  pub can : CanBeArmed sent
+  pub text : bytes ≡ input_text sent
+
+-- in this event the line sends the brick an input that can be armed
+pub record IsArmedLine (number brick : ℕ) (line : SentLine) : Type 0 where
+  pub armable : AreArmable line.bytes
+  pub same_brick : line.brick ≡ brick
+  pub same_event : line.event ≡ number
+
+-- In this event the action's input is sent to a brick directly before a request of this procedure. Several actions may be
+-- armed for one request, so between the two there may be inputs of others.
 pub record IsSentBefore (log : Log) (number brick : ℕ) (p : Proc) (a : Action) : Type 0 where
   pub place : ℕ
+  pub request_at : ℕ
   pub sent : Input
   pub request : SentLine
   pub is_input : input_of a ≡ Some sent
-  pub first : slice_get log.sent place ≡ Some (record { event = number; brick = brick; bytes = input_text sent })
-  pub next : slice_get log.sent (place + 1) ≡ Some request
+  pub there : slice_get log.sent place ≡ Some (record { event = number; brick = brick; bytes = input_text sent })
+  pub later : place < request_at
+  pub between : (k : ℕ) (line : SentLine) → place < k → k < request_at → slice_get log.sent k ≡ Some line → IsArmedLine number brick line
+  pub request_there : slice_get log.sent request_at ≡ Some request
   pub same_brick : request.brick ≡ brick
   pub same_event : request.event ≡ number
   pub is_request : proc_in request.bytes ≡ Some p
@@ -97,6 +121,7 @@ pub record IsControlBefore (script : Script) (brick : ℕ) (p : Proc) (count : �
 pub record RunOf (script : Script) (log : Log) : Type 0 where
   pub carried_at : ℕ → ℕ → ℕ
   pub ended_at : ℕ → ℕ
+  pub rises : (phase : ℕ) → ended_at phase ≤ ended_at (phase + 1)
   pub carried : (phase at : ℕ) (c : ControlLine) → control_at script phase at ≡ Some c → IsCarriedIn log (carried_at phase at) c
   pub within : (phase at : ℕ) (c : ControlLine) → control_at script phase at ≡ Some c → carried_at phase at ≤ ended_at phase
   pub after : (phase at : ℕ) (c : ControlLine) → control_at script (phase + 1) at ≡ Some c → ended_at phase < carried_at (phase + 1) at
@@ -124,7 +149,9 @@ abbrev pub replies_to : ℕ → List ReplyLine → ℕ
 replies_to number [] = 0
 replies_to number (reply ∷ replies) = (if reply.call == number then 1 else 0) + replies_to number replies
 
--- every call was submitted and has one reply; that every control was carried out is in the plan of the run
+-- every call was submitted and has one reply, and nothing else has; that every control was carried out is in the plan of the
+-- run
 pub record IsFinished (script : Script) (log : Log) : Type 0 where
   pub submitted : length (submissions_of script log) ≡ length (calls_of script.phases)
   pub replied : (number : ℕ) → 1 ≤ number → number ≤ length (calls_of script.phases) → replies_to number log.replies ≡ 1
+  pub no_other : length log.replies ≡ length (calls_of script.phases)

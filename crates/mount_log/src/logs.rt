@@ -84,6 +84,7 @@ fn reserve<T: Drop>(alloc: Global, list: &mut Seq<T>, more: usize) -> Result<(),
 fn append<T: Drop>(alloc: Global, list: &mut Seq<T>, more: &mut Seq<T>) -> Result<(), AllocError>
     ensures list { OnOk result (list.new ≡ list.old ++ more.old) }
     ensures more { OnOk result (more.new ≡ []) }
+    ensures err { OnErr result (list.new ≡ list.old) }
 {
     let mut items = mem::replace(list, Seq::new(alloc)).into_vec();
     let mut added = mem::replace(more, Seq::new(alloc)).into_vec();
@@ -183,7 +184,8 @@ impl Log {
     /// # Errors
     /// Out of memory; the log is unchanged.
     pub fn add_winds(&mut self, alloc: Global, lines: &mut Log) -> Result<(), AllocError>
-        ensures { OnOk result (self.new ≡ with_cut self.old lines.old) }
+        ensures ok { OnOk result (self.new ≡ with_cut self.old lines.old) }
+        ensures err { OnErr result (self.new ≡ self.old) }
     {
         reserve(alloc, &mut self.winds, lines.winds.len())?;
         append(alloc, &mut self.winds, &mut lines.winds)

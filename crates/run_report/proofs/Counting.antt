@@ -1,7 +1,7 @@
 -- The winds of each graph, with one line more.
 use Rattle.std.proofs.Common.{◌≡◌, refl, sym, ap, subst, ◌∙◌, arith, get_or, set}
 use Rattle.std.specs.Prelude.{ℕ, ◌≢◌, ◌<◌, ◌≤◌, ◌+◌, ◌^◌, ◌==◌, ◌&&◌, not, Bool, true, false, List, length, take, count_by, if◌then◌else◌}
-use Rattle.std.proofs.lemmas.Bool.{eqb-true, eqb-false, false_from_ne_true, true_from_ne_false}
+use Rattle.std.proofs.lemmas.Bool.{eqb-true, eqb-false, eq-eqb, ne_eqb}
 use Rattle.std.proofs.lemmas.List.{get_or-set_same, get_or-set_other, length-set, length-take-le}
 use Rattle.std.proofs.lemmas.List.Sums.{count_by_more_yes, count_by_more_no, count_by-le-length}
 use Rattle.mount_log.specs.declared.logs.WindLine.{WindLine}
@@ -17,12 +17,6 @@ of_right : (a b c : Bool) → a ≡ true → b ≡ c → (a && b) ≡ c
 of_right true b c e f = f
 of_right false b c e f = absurd cc
 
-same : (a b : ℕ) → a ≡ b → (a == b) ≡ true
-same a b e = true_from_ne_false (a == b) (λ f. eqb-false a b f e)
-
-differs : (a b : ℕ) → a ≢ b → (a == b) ≡ false
-differs a b ne = false_from_ne_true (a == b) (λ e. ne (eqb-true a b e))
-
 module _ (winds : List WindLine) (i : ℕ) (d : WindLine) (lt : i < length winds) where
   more : (test : WindLine → Bool) (b : Bool) → test (get_or winds i d) ≡ b → count_by test (take (i + 1) winds) ≡ count_by test (take i winds) + (if b then 1 else 0)
   more test true e = count_by_more_yes test winds i d lt e
@@ -35,8 +29,8 @@ module _ (winds : List WindLine) (i : ℕ) (d : WindLine) (lt : i < length winds
   pub kept : (graphs : ℕ) (counts : List Winds) → ((at : ℕ) → at < length counts → at + 1 ≢ (get_or winds i d).graph) → AreCountsOf graphs (take i winds) counts → AreCountsOf graphs (take (i + 1) winds) counts
   kept graphs counts none a = record {
     long = a.long;
-    opened = λ at w within. of_other (is_opening_in (at + 1)) _ (no_left ((get_or winds i d).graph == at + 1) (get_or winds i d).opened (differs (get_or winds i d).graph (at + 1) (λ e. none at within (sym e)))) (a.opened at w within);
-    ended = λ at w within. of_other (is_end_in (at + 1)) _ (no_left ((get_or winds i d).graph == at + 1) (not (get_or winds i d).opened) (differs (get_or winds i d).graph (at + 1) (λ e. none at within (sym e)))) (a.ended at w within);
+    opened = λ at w within. of_other (is_opening_in (at + 1)) _ (no_left ((get_or winds i d).graph == at + 1) (get_or winds i d).opened (ne_eqb (get_or winds i d).graph (at + 1) (λ e. none at within (sym e)))) (a.opened at w within);
+    ended = λ at w within. of_other (is_end_in (at + 1)) _ (no_left ((get_or winds i d).graph == at + 1) (not (get_or winds i d).opened) (ne_eqb (get_or winds i d).graph (at + 1) (λ e. none at within (sym e)))) (a.ended at w within);
   }
 
   -- the line is of this graph
@@ -45,12 +39,12 @@ module _ (winds : List WindLine) (i : ℕ) (d : WindLine) (lt : i < length winds
     next_opened : next.opened ≡ count_by (is_opening_in (place + 1)) (take (i + 1) winds)
     next_opened =
         let w : was.opened ≡ count_by (is_opening_in (place + 1)) (take i winds) = ap (λ (c : Winds). c.opened) was_is ∙ a.opened place was there in
-        opened ∙ ap (λ n. n + (if (get_or winds i d).opened then 1 else 0)) w ∙ sym (more (is_opening_in (place + 1)) (get_or winds i d).opened (of_right ((get_or winds i d).graph == place + 1) (get_or winds i d).opened (get_or winds i d).opened (same (get_or winds i d).graph (place + 1) (sym its)) refl))
+        opened ∙ ap (λ n. n + (if (get_or winds i d).opened then 1 else 0)) w ∙ sym (more (is_opening_in (place + 1)) (get_or winds i d).opened (of_right ((get_or winds i d).graph == place + 1) (get_or winds i d).opened (get_or winds i d).opened (eq-eqb (get_or winds i d).graph (place + 1) (sym its)) refl))
 
     next_ended : next.ended ≡ count_by (is_end_in (place + 1)) (take (i + 1) winds)
     next_ended =
         let w : was.ended ≡ count_by (is_end_in (place + 1)) (take i winds) = ap (λ (c : Winds). c.ended) was_is ∙ a.ended place was there in
-        ended ∙ ap (λ n. n + (if not (get_or winds i d).opened then 1 else 0)) w ∙ sym (more (is_end_in (place + 1)) (not (get_or winds i d).opened) (of_right ((get_or winds i d).graph == place + 1) (not (get_or winds i d).opened) (not (get_or winds i d).opened) (same (get_or winds i d).graph (place + 1) (sym its)) refl))
+        ended ∙ ap (λ n. n + (if not (get_or winds i d).opened then 1 else 0)) w ∙ sym (more (is_end_in (place + 1)) (not (get_or winds i d).opened) (of_right ((get_or winds i d).graph == place + 1) (not (get_or winds i d).opened) (not (get_or winds i d).opened) (eq-eqb (get_or winds i d).graph (place + 1) (sym its)) refl))
 
     by_place : (at : ℕ) (w : Winds) → at < length counts → (b : Bool) → (at == place) ≡ b → ((get_or (set counts place next) at w).opened ≡ count_by (is_opening_in (at + 1)) (take (i + 1) winds)) × ((get_or (set counts place next) at w).ended ≡ count_by (is_end_in (at + 1)) (take (i + 1) winds))
     by_place at w within true e =
@@ -63,8 +57,8 @@ module _ (winds : List WindLine) (i : ℕ) (d : WindLine) (lt : i < length winds
         let ne : at ≢ place = eqb-false at place e in
         let g : get_or (set counts place next) at w ≡ get_or counts at w = get_or-set_other counts place at next w ne in
         let other : (get_or winds i d).graph ≢ at + 1 = λ f. ne (omega (arith, f, its)) in (
-          ap (λ (c : Winds). c.opened) g ∙ of_other (is_opening_in (at + 1)) _ (no_left ((get_or winds i d).graph == at + 1) (get_or winds i d).opened (differs (get_or winds i d).graph (at + 1) other)) (a.opened at w within),
-          ap (λ (c : Winds). c.ended) g ∙ of_other (is_end_in (at + 1)) _ (no_left ((get_or winds i d).graph == at + 1) (not (get_or winds i d).opened) (differs (get_or winds i d).graph (at + 1) other)) (a.ended at w within),
+          ap (λ (c : Winds). c.opened) g ∙ of_other (is_opening_in (at + 1)) _ (no_left ((get_or winds i d).graph == at + 1) (get_or winds i d).opened (ne_eqb (get_or winds i d).graph (at + 1) other)) (a.opened at w within),
+          ap (λ (c : Winds). c.ended) g ∙ of_other (is_end_in (at + 1)) _ (no_left ((get_or winds i d).graph == at + 1) (not (get_or winds i d).opened) (ne_eqb (get_or winds i d).graph (at + 1) other)) (a.ended at w within),
         )
 
     pub counted : AreCountsOf graphs (take (i + 1) winds) (set counts place next)

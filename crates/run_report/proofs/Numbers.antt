@@ -1,17 +1,15 @@
 -- Where the first reply to each call is, with one reply more.
 use Rattle.std.proofs.Common.{◌≡◌, refl, sym, ap, subst, ◌∙◌, arith}
 use Rattle.std.specs.Prelude.{ℕ, zero, suc, ◌≢◌, ◌<◌, ◌≤◌, ◌+◌, ◌==◌, Bool, true, false, List, [], ◌∷◌, ◌++◌, Option, None, Some, length, find, slice_get, slice_set, if◌then◌else◌}
-use Rattle.std.proofs.lemmas.Bool.{eqb-true, eqb-false, false_from_ne_true, true_from_ne_false}
-use Rattle.std.proofs.lemmas.List.{length-append}
+use Rattle.std.proofs.lemmas.Bool.{eqb-true, eqb-false, eq-eqb, ne_eqb}
+use Rattle.std.proofs.lemmas.List.{length-append, length-set}
 use Rattle.std.proofs.lemmas.Option.{slice_get_within}
+use Rattle.mount_log.proofs.Items.{some_is, at_set, beside_set}
 use Rattle.mount_log.specs.declared.logs.ReplyLine.{ReplyLine}
 use Rattle.run_report.specs.Reports.{reply_to}
 use Rattle.run_report.specs.Numbers.{noted, noted_at, reply_at, AreByNumber}
 
 module _ {X : Type 0} where
-  some_is : (a b : X) → Some a ≡ Some b → a ≡ b
-  some_is a b e = cc
-
   kept : (xs : List X) (x : X) (k : ℕ) → k < length xs → slice_get (xs ++ x ∷ []) k ≡ slice_get xs k
   kept [] x k lt = absurd (omega (arith, lt))
   kept (y ∷ xs) x zero lt = refl
@@ -20,23 +18,6 @@ module _ {X : Type 0} where
   last : (xs : List X) (x : X) → slice_get (xs ++ x ∷ []) (length xs) ≡ Some x
   last [] x = refl
   last (y ∷ xs) x = last xs x
-
-  at_set : (xs : List X) (j : ℕ) (x : X) → j < length xs → slice_get (slice_set xs j x) j ≡ Some x
-  at_set [] j x lt = absurd (omega (arith, lt))
-  at_set (y ∷ xs) zero x lt = refl
-  at_set (y ∷ xs) (suc j) x lt = at_set xs j x (omega (arith, lt))
-
-  beside_set : (xs : List X) (j k : ℕ) (x : X) → k ≢ j → slice_get (slice_set xs j x) k ≡ slice_get xs k
-  beside_set [] j k x ne = refl
-  beside_set (y ∷ xs) zero zero x ne = absurd (ne refl)
-  beside_set (y ∷ xs) zero (suc k) x ne = refl
-  beside_set (y ∷ xs) (suc j) zero x ne = refl
-  beside_set (y ∷ xs) (suc j) (suc k) x ne = beside_set xs j k x (λ e. ne (ap suc e))
-
-  long_set : (xs : List X) (j : ℕ) (x : X) → length (slice_set xs j x) ≡ length xs
-  long_set [] j x = refl
-  long_set (y ∷ xs) zero x = refl
-  long_set (y ∷ xs) (suc j) x = ap suc (long_set xs j x)
 
   abbrev found_or : Option X → Bool → X → Option X
   found_or None b x = if b then Some x else None
@@ -51,16 +32,10 @@ module _ {X : Type 0} where
   found_push p [] x = refl
   found_push p (y ∷ xs) x = found_step p y xs x (p y) (found_push p xs x)
 
-same : (a b : ℕ) → a ≡ b → (a == b) ≡ true
-same a b e = true_from_ne_false (a == b) (λ f. eqb-false a b f e)
-
-differs : (a b : ℕ) → a ≢ b → (a == b) ≡ false
-differs a b ne = false_from_ne_true (a == b) (λ e. ne (eqb-true a b e))
-
 module _ (rs : List ReplyLine) (r : ReplyLine) where
   -- what is known of a call stays, where the reply is another's or a later one
   of_other : (number : ℕ) → r.call ≢ number → reply_to number (rs ++ r ∷ []) ≡ reply_to number rs
-  of_other number ne = found_push (λ (x : ReplyLine). x.call == number) rs r ∙ by (reply_to number rs) (differs r.call number ne) where
+  of_other number ne = found_push (λ (x : ReplyLine). x.call == number) rs r ∙ by (reply_to number rs) (ne_eqb r.call number ne) where
     by : (o : Option ReplyLine) → (r.call == number) ≡ false → found_or o (r.call == number) r ≡ o
     by None e = ap (λ (b : Bool). if b then Some r else None) e
     by (Some x) e = refl
@@ -71,7 +46,7 @@ module _ (rs : List ReplyLine) (r : ReplyLine) where
   first : (number : ℕ) → r.call ≡ number → reply_to number rs ≡ None → reply_to number (rs ++ r ∷ []) ≡ Some r
   first number its none =
       found_push (λ (y : ReplyLine). y.call == number) rs r ∙ ap (λ (o : Option ReplyLine). found_or o (r.call == number) r) none
-      ∙ ap (λ (b : Bool). if b then Some r else None) (same r.call number its)
+      ∙ ap (λ (b : Bool). if b then Some r else None) (eq-eqb r.call number its)
 
   stays_at : (place : Option ℕ) → ((at : ℕ) → place ≡ Some at → at < length rs) → reply_at (rs ++ r ∷ []) place ≡ reply_at rs place
   stays_at None low = refl
@@ -108,7 +83,7 @@ module _ (rs : List ReplyLine) (r : ReplyLine) where
             had index (Some x) e lt each = later (index + 1) x (sym each ∙ e) ∙ sym (sym each ∙ e)
       by index place there false e = of_other (index + 1) (λ f. eqb-false index j e (omega (arith, f, its)))
     by_place j its (Some None) is = record {
-      long = long_set places j (Some (length rs)) ∙ a.long;
+      long = length-set places j (Some (length rs)) ∙ a.long;
       each = λ index place there. by index place there (index == j) refl;
       known = λ index at there. low index at there (index == j) refl;
     } where

@@ -5,6 +5,7 @@ use Rattle.wire_messages.specs.Messages.{input_in}
 use Rattle.mount_log.specs.declared.logs.SentLine.{SentLine}
 use Rattle.log_audit.specs.Caused.{IsCaused}
 use Rattle.log_audit.proofs.Causing.{each_next}
+use Rattle.log_audit.proofs.Arming.{armed_later}
 use Rattle.log_audit.proofs.causes.lines_are_caused.Goals as goal
 
 pub loop-k-preserved : goal.loop-k-preserved
@@ -12,6 +13,7 @@ loop-k-preserved c = (
   each_next (λ (n : ℕ) (line : SentLine). IsCaused c.args.log.now line (input_in line.bytes)) c.args.log.now.sent c.loop-k.k c.in-Some.line.now (sym c.in-Some.ensures) (c.in_ok-is_caused.ensures c.if-not-branch.false)
       c.loop-k.invariant.0,
   c.passed_to-passed.ensures,
+  armed_later c.args.log.now.sent c.loop-k.k _ c.in_ok-armed.ensures,
 )
 
 pub returns : goal.returns

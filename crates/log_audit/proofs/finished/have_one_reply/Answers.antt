@@ -10,5 +10,5 @@ loop-reply-preserved c =
 
 pub returns : goal.returns
 returns c = λ yes.
-    have_one c.args.calls c.args.replies.now c.loop-reply.reply-index c.loop-reply.seen.items c.loop-reply-test.false c.loop-reply.invariant
+    have_one c.args.calls c.args.replies.now c.loop-reply.reply-index c.loop-reply.seen.items (c.are_as_many.ensures c.if-not-are_as_many.false) c.loop-reply-test.false c.loop-reply.invariant
     (ap all_seen (sym c.as_slice.ensures.value) ∙ sym c.are_all.ensures ∙ yes)

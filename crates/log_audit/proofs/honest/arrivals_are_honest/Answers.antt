@@ -1,15 +1,17 @@
 use Rattle.std.proofs.Common.{◌≡◌, sym, ap, subst, ◌∙◌, arith}
-use Rattle.std.specs.Prelude.{◌<◌, Some, length, slice_get}
+use Rattle.std.specs.Prelude.{ℕ, ◌<◌, Some, length, slice_get}
 use Rattle.std.specs.List.{AllByRecursion}
 use Rattle.std.proofs.lemmas.Option.{slice_get-get_or}
 use Rattle.mount_log.specs.declared.logs.HubEvent.{HubEvent}
-use Rattle.log_audit.specs.Honest.{IsFrom}
-use Rattle.log_audit.proofs.Honesty.{honest, journals, one_more}
+use Rattle.brick_machine.specs.Journal.{Journal}
+use Rattle.log_audit.specs.Honest.{IsFrom, IsHonestAt}
+use Rattle.log_audit.proofs.Causing.{each_next}
+use Rattle.log_audit.proofs.Honesty.{honest, journals}
 use Rattle.log_audit.proofs.honest.arrivals_are_honest.Goals as goal
 
 pub loop-brick-preserved : goal.loop-brick-preserved
 loop-brick-preserved c =
-    one_more c.args.log.now c.args.bricks.now c.loop-brick.brick c.index-bricks-brick.result
+    each_next (λ (k : ℕ) (b : Journal). IsHonestAt c.args.log.now k b) c.args.bricks.now c.loop-brick.brick c.index-bricks-brick.result
     (slice_get-get_or c.args.bricks.now c.loop-brick.brick c.index-bricks-brick.result c.loop-brick-test.true ∙ ap Some (sym c.index-bricks-brick.is))
     (c.in_ok-is_honest.ensures c.if-not-branch.false) c.loop-brick.invariant
 
