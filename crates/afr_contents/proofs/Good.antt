@@ -39,6 +39,7 @@ use Rattle.afr_contents.specs.Good.IsGood.{Absent, Settled, Ahead}
 use Rattle.afr_contents.proofs.Staying.{accusations_stay}
 use Rattle.afr_contents.proofs.Spread.{decisions_spread}
 use Rattle.afr_contents.proofs.Lists.{below_adopted}
+use Rattle.afr_contents.proofs.OfAdopted.{changes_of_adopted}
 use Rattle.afr_contents.proofs.Ops.{some_of, first_is, fits_same, content_same, contents_on}
 use Rattle.afr_contents.proofs.OpsGood.{op_leaves, op_makes}
 use Rattle.afr_contents.proofs.Settled.{Deciding, Adopting, decides_that, decides_alike, on_stays, on_adds, adopted_now, settled_stays, unsettled_not_on}
@@ -325,4 +326,4 @@ module _ (size : Size) (m : State) (r : IsReached size m) (step : Step) (allowed
       by_case (Leaves none) = other_keeps none front right h
 
 pub steps_keep_good : StepsKeepGood
-steps_keep_good size m step r allowed adopted fronts right h = λ i cell low. keeps size m r step allowed adopted i cell low (fronts i) right (h i cell low)
+steps_keep_good size m step r allowed fronts right h = λ i cell low. keeps size m r step allowed (changes_of_adopted size m r) i cell low (fronts i) right (h i cell low)

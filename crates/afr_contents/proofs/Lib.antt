@@ -3,6 +3,7 @@ pub mod Spread
 pub mod Lists
 pub mod Ops
 pub mod Contents
+pub mod OfAdopted
 pub mod Settled
 pub mod AsBorn
 pub mod OpsGood

@@ -13,7 +13,7 @@ use Rattle.afr_machine.specs.Requests.Input.{Asked}
 use Rattle.afr_machine.specs.Changes.{is_unsettled}
 use Rattle.afr_machine.specs.States.{State}
 use Rattle.afr_machine.specs.Steps.{Step, Allowed, after, IsReached}
-use Rattle.afr_contents.specs.Adopted.{adopted_on, settled, ChangesOfAdopted}
+use Rattle.afr_contents.specs.Adopted.{adopted_on, settled}
 use Rattle.afr_contents.specs.Staying.{accusers_staying, IsAccused, SendsPardon}
 
 -- a copy that has the unsettled change besides
@@ -77,9 +77,8 @@ PardonsAreRight size m step = (k i : ℕ) (cell : Cell) → i < size.replicas �
 
 -- ---- steps
 
--- Each step keeps the copies good or accused, where unsettled changes are of cells whose birth is adopted, whatever is at the front of
--- a line is right, and whom a clear names that is sent.
+-- Each step keeps the copies good or accused, where whatever is at the front of a line is right, and whom a clear names that is sent.
 abbrev pub StepsKeepGood : Type 0
 StepsKeepGood =
-    (size : Size) (m : State) (step : Step) → IsReached size m → Allowed size m step → ChangesOfAdopted m → ((i : ℕ) → FrontIsRight size m i) → PardonsAreRight size m step →
+    (size : Size) (m : State) (step : Step) → IsReached size m → Allowed size m step → ((i : ℕ) → FrontIsRight size m i) → PardonsAreRight size m step →
     CopiesGoodOrAccused size m → CopiesGoodOrAccused size (after size m step)

@@ -1,4 +1,4 @@
-ghost use Rattle.afr_contents.specs.Adopted.{EveryAdoptedIsAsBorn};
+ghost use Rattle.afr_contents.specs.Adopted.{EveryAdoptedIsAsBorn, EveryChangeIsOfAdopted};
 ghost use Rattle.afr_contents.specs.Good.{StepsKeepGood};
 ghost use Rattle.afr_contents.specs.Found.{FreeIsGood, GoodIsSettled, ReadyHaveAdopted, AppliersHaveAdopted, SourcesAreGood};
 ghost use Rattle.afr_contents.specs.Present.{EveryChangeIsPresent};
@@ -10,9 +10,15 @@ pub fn every_adopted_is_as_born()
     ensures { EveryAdoptedIsAsBorn }
 {}
 
+/// The law of unsettled changes and what is adopted, of every state that allowed steps lead to: each cell of an unsettled change has
+/// an adopted content, so its birth is adopted.
+pub fn every_change_is_of_adopted()
+    ensures { EveryChangeIsOfAdopted }
+{}
+
 /// The law of good copies. From a state in which each replica's copy of each cell is good, or the replica is accused by
-/// itself or by a quorum which go on accusing it, each step leads to one in which this holds. It is open yet that its four
-/// premises hold of every state: each unsettled change is of cells whose birth is adopted; a replacement at the front of a
+/// itself or by a quorum which go on accusing it, each step leads to one in which this holds. It is open yet that its three
+/// premises hold of every state: a replacement at the front of a
 /// line carries a good copy, or its brick is accused; an op there finds settled copies of the cells that it needs, or its
 /// brick is accused on them; whom a clear names that is sent is good, or accused without the brick to which it is sent.
 pub fn steps_keep_good()

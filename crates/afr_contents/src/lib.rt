@@ -16,7 +16,8 @@ mod copies;
 mod decisions;
 
 pub use copies::{
-    appliers_have_adopted, every_adopted_is_as_born, every_change_is_present, free_is_good,
-    good_is_settled, ready_have_adopted, seen_all_has_sound, sources_are_good, steps_keep_good,
+    appliers_have_adopted, every_adopted_is_as_born, every_change_is_of_adopted,
+    every_change_is_present, free_is_good, good_is_settled, ready_have_adopted, seen_all_has_sound,
+    sources_are_good, steps_keep_good,
 };
 pub use decisions::{accusations_stay, every_decision_is_spread};
