@@ -9,5 +9,6 @@ pub mod AsBorn
 pub mod OpsGood
 pub mod Good
 pub mod Found
+pub mod Naming
 pub mod Present
 pub mod Split

@@ -5,5 +5,8 @@ pub mod Spread
 pub mod Adopted
 pub mod Good
 pub mod Found
+pub mod Naming
+pub mod Lasting
+pub mod Coming
 pub mod Present
 pub mod Split
