@@ -43,11 +43,11 @@ use Rattle.afr_contents.specs.Found.{FreeIsGood, IsSettledFor, GoodIsSettled, Re
 use Rattle.afr_contents.proofs.Ops.{first_has}
 
 -- who goes on accusing accuses
-staying_coming : (m : State) (cell : Cell) (i k : ℕ) → accusers_staying m cell i k ≡ true → accusers_coming m cell i k ≡ true
+pub staying_coming : (m : State) (cell : Cell) (i k : ℕ) → accusers_staying m cell i k ≡ true → accusers_coming m cell i k ≡ true
 staying_coming m cell i k h =
     or_left (accuses_at (m.bricks k).store cell i) (comes (m.bricks k).line cell i) (both_left (accuses_at (m.bricks k).store cell i) (not (pardons_coming (m.bricks k).line cell i)) h)
 
-not_accused : (size : Size) (m : State) (cell : Cell) (i : ℕ) → IsFree size m cell i → IsAccused size m cell i → ⊥
+pub not_accused : (size : Size) (m : State) (cell : Cell) (i : ℕ) → IsFree size m cell i → IsAccused size m cell i → ⊥
 not_accused size m cell i free (inl itself) = apart_bools (staying_coming m cell i i itself) free.itself
 not_accused size m cell i free (inr many) =
     let more = count_within size.replicas (accusers_staying m cell i) (accusers_coming m cell i) (λ k low h. staying_coming m cell i k h) in

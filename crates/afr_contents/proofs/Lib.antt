@@ -10,5 +10,10 @@ pub mod OpsGood
 pub mod Good
 pub mod Found
 pub mod Naming
+pub mod Lasting
+pub mod Using
+pub mod Confirming
+pub mod Clean
+pub mod Once
 pub mod Present
 pub mod Split

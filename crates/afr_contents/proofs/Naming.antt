@@ -265,10 +265,21 @@ module _ (size : Size) (m : State) (r : IsReached size m) (step : Step) (allowed
 
   -- ---- whom a clear may name
 
+  -- the sink confirms a replacement now, and with it all of them
+  pub record ConfirmsNow (t i : ℕ) (cell : Cell) : Type 0 where
+    pub by : Sender
+    pub at : Cell
+    pub found : Fetched
+    pub answer : Answer
+    pub step_is : step ≡ Step.HandsIn i
+    pub handed : IsHandedIn m i by (Replace at found) answer
+    pub txn : by.txn ≡ t
+    pub copied : is_copied_to (new.txns t).stage cell i ≡ true
+
   pub data PardonFrom (t k i : ℕ) (cell : Cell) : Type 0 where
     Was : MayPardon size m t k i cell → PardonFrom t k i cell
     Ends : step ≡ Step.Turns t Turn.Reaches → IsSoundIn size (phase_of new t) cell i → PardonFrom t k i cell
-    Confirms : (by : Sender) → (at : Cell) → (found : Fetched) → (answer : Answer) → step ≡ Step.HandsIn i → IsHandedIn m i by (Replace at found) answer → by.txn ≡ t → is_copied_to (new.txns t).stage cell i ≡ true → PardonFrom t k i cell
+    Confirms : ConfirmsNow t i cell → PardonFrom t k i cell
 
   pub pardon_from : (t k i : ℕ) (cell : Cell) → i < size.replicas → MayPardon size new t k i cell → PardonFrom t k i cell
   pardon_from t k i cell few h = by_names h.names where
@@ -287,7 +298,7 @@ module _ (size : Size) (m : State) (r : IsReached size m) (step : Step) (allowed
 
     by_sink : is_copied_to (new.txns t).stage cell i ≡ true → SinkFrom t i cell → PardonFrom t k i cell
     by_sink now (SinkFrom.Was sink) = was (copied_to_behind (m.txns t).stage cell i sink) (inr sink)
-    by_sink now (SinkFrom.Confirms by at found answer step_is handed txn) = Confirms by at found answer step_is handed txn now
+    by_sink now (SinkFrom.Confirms by at found answer step_is handed txn) = Confirms (record { by = by; at = at; found = found; answer = answer; step_is = step_is; handed = handed; txn = txn; copied = now })
 
     by_names : IsSourceFor size new t cell i ⊎ (is_copied_to (new.txns t).stage cell i ≡ true) → PardonFrom t k i cell
     by_names (inl source) = by_source (source_from t i cell few h.covers source)
