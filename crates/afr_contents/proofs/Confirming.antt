@@ -16,7 +16,7 @@ use Rattle.afr_machine.proofs.Tables.{at_same}
 use Rattle.afr_machine.proofs.Keeping.{replied_beside}
 use Rattle.afr_laws.specs.Asking.{IsReplacing}
 use Rattle.afr_laws.specs.Fresh.{is_behind}
-use Rattle.afr_laws.proofs.Bools.{apart_bools}
+use Rattle.afr_laws.proofs.Bools.{apart_bools, both}
 use Rattle.afr_laws.proofs.Heard.{Heard, replied_txns}
 use Rattle.afr_laws.proofs.Fresh.Steps.{step_phases}
 use Rattle.afr_laws.proofs.Fresh.Known.{phases_are_known}
@@ -72,19 +72,21 @@ module _ (size : Size) (m : State) (r : IsReached size m) (k : ℕ) (by : Sender
   same_links = ap (λ (x : State). x.links) handed_new ∙ (replied_beside (without_first_output m k) k by (Replace at found) answer).links
 
   pub confirmed_used : IsUsed new by.txn k
-  confirmed_used = record {
+  confirmed_used = record { not_out = ap (λ (x : Txn). x.out k) replaced_txn ∙ member.not_out; held = both ((phase_of new by.txn).reached k) (open_grants new by.txn k) reached granted } where
+    o : HasOpen m by.txn k
+    o = has_open m by.txn k (handed_open size m r k by (Replace at found) answer h behind)
+
+    reached : (phase_of new by.txn).reached k ≡ true
     reached =
         ap (λ p. (new.phases p).reached k) (ap (λ (x : Txn). x.phase) replaced_txn)
-        ∙ ap (λ (f : Replicas). f k) ((step_phases size m (Step.HandsIn k)).reached (m.txns by.txn).phase (phases_are_known size m r by.txn).low) ∙ member.reached;
-    not_out = ap (λ (x : Txn). x.out k) replaced_txn ∙ member.not_out;
+        ∙ ap (λ (f : Replicas). f k) ((step_phases size m (Step.HandsIn k)).reached (m.txns by.txn).phase (phases_are_known size m r by.txn).low) ∙ member.reached
+
+    granted : open_grants new by.txn k ≡ true
     granted = opens (after size m (Step.HandsIn k)) by.txn k (record {
       grant = o.grant;
       granted = ap (λ (x : Txn). x.grants k) replaced_txn ∙ o.granted;
       current = ap (λ (f : ℕ → ℕ → Link). is_current (f k (new.txns by.txn).graph) o.grant.connection) same_links ∙ ap (λ g. is_current (m.links k g) o.grant.connection) (ap (λ (x : Txn). x.graph) replaced_txn) ∙ o.current;
-    });
-  } where
-    o : HasOpen m by.txn k
-    o = has_open m by.txn k (handed_open size m r k by (Replace at found) answer h behind)
+    })
 
 -- a sink that may be named from now on
 module _ (size : Size) (m : State) (r : IsReached size m) (step : Step) (allowed : Allowed size m step) (t i : ℕ) (cell : Cell) (c : ConfirmsNow size m r step allowed t i cell) where

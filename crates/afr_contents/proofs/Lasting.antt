@@ -23,12 +23,12 @@ use Rattle.afr_soundness.specs.Runs.{KnowsRun, IsSourceOf}
 use Rattle.afr_soundness.proofs.Free.{last_spares, ready_is_free}
 use Rattle.afr_soundness.proofs.Runs.{runs_are_known}
 use Rattle.afr_contents.specs.Staying.{accusers_staying, SendsPardon}
-use Rattle.afr_contents.specs.Naming.{IsOfGroup, CanSource, IsSourceFor, is_copied_to, MayPardon}
+use Rattle.afr_contents.specs.Naming.{IsOfGroup, CanSource, IsSourceFor, is_copied_to, held_by, MayPardon}
 use Rattle.afr_contents.specs.Lasting.{IsLasting, IsAccusedApart}
 use Rattle.afr_contents.proofs.Staying.{accusations_stay}
 use Rattle.afr_contents.proofs.Found.{staying_coming}
 use Rattle.afr_contents.proofs.Naming.{PardonFrom, ConfirmsNow, pardon_from}
-use Rattle.afr_contents.proofs.Using.{granted_of}
+use Rattle.afr_contents.proofs.Using.{member_held}
 
 -- whom a quorum goes on accusing is not free
 pub accused_not_free : (size : Size) (m : State) (cell : Cell) (i : ℕ) (by : Replicas) → size.quorum ≤ count size.replicas by → ((k : ℕ) → k < size.replicas → by k ≡ true → accusers_staying m cell i k ≡ true) → IsFree size m cell i → ⊥
@@ -56,7 +56,7 @@ module _ (size : Size) (m : State) (r : IsReached size m) (t k i : ℕ) (cells :
 
   pub clear_pardons : MayPardon size m t k i cell
   clear_pardons = record {
-    granted = granted_of m t k may.next.member.grant;
+    held = member_held size m t k may.next.member;
     covers = known.within cell of_run;
     names = by_who (either_way (may.run.sources i) (is_confirmed_sink may.run i) (sym (ap (λ (f : Replicas). f i) may.who_are) ∙ names));
   }
@@ -109,7 +109,7 @@ module _ (size : Size) (m : State) (r : IsReached size m) (step : Step) (allowed
       stay k low h = lasting_stays k (a.each k low h)
 
       -- where no sink confirms that one of them may pardon
-      pub accused_goes : ((t k : ℕ) → k < size.replicas → a.by k ≡ true → open_grants new t k ≡ true → ConfirmsNow size m r step allowed t i cell → ⊥) → IsAccusedApart size new cell i those
+      pub accused_goes : ((t k : ℕ) → k < size.replicas → a.by k ≡ true → held_by new t k ≡ true → ConfirmsNow size m r step allowed t i cell → ⊥) → IsAccusedApart size new cell i those
       accused_goes none = record {
         by = a.by;
         many = a.many;
@@ -119,7 +119,7 @@ module _ (size : Size) (m : State) (r : IsReached size m) (step : Step) (allowed
         lasts : (k : ℕ) → k < size.replicas → a.by k ≡ true → (t : ℕ) → MayPardon size new t k i cell → PardonFrom size m r step allowed t k i cell → ⊥
         lasts k low h t p (PardonFrom.Was was) = (a.each k low h).lasts t was
         lasts k low h t p (PardonFrom.Ends step_is sound) = accused_not_free size (after size m step) cell i a.by a.many stay (ends_free is_size t i cell step_is p.covers sound)
-        lasts k low h t p (PardonFrom.Confirms c) = none t k low h p.granted c
+        lasts k low h t p (PardonFrom.Confirms c) = none t k low h p.held c
 
         apart_from : (k : ℕ) → (those k ≡ true) ⊎ (those k ≡ false) → these k ≡ false → those k ≡ false
         apart_from k (inl there) none_there = apart_bools (smaller k there) none_there

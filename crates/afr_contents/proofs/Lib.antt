@@ -15,5 +15,7 @@ pub mod Using
 pub mod Confirming
 pub mod Clean
 pub mod Once
+pub mod Copying
+pub mod Decided
 pub mod Present
 pub mod Split

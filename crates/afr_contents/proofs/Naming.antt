@@ -24,7 +24,7 @@ use Rattle.afr_machine.specs.Turns.{Turn, MayReach, IsCopied, MayCopyFor, MayCop
 use Rattle.afr_machine.specs.Steps.{Step, Allowed, after, IsReached}
 use Rattle.afr_laws.specs.OwnChanges.{was_unsettled}
 use Rattle.afr_laws.specs.Fresh.{is_behind}
-use Rattle.afr_laws.proofs.Bools.{apart_bools, both_left, both_right}
+use Rattle.afr_laws.proofs.Bools.{apart_bools, both, both_left, both_right}
 use Rattle.afr_laws.proofs.Fresh.Phased.{PhasesGo}
 use Rattle.afr_laws.proofs.Flying.{on_their_way}
 use Rattle.afr_laws.proofs.Waiting.{waits_fit}
@@ -44,7 +44,7 @@ use Rattle.afr_soundness.proofs.Runs.{sound_stays}
 use Rattle.afr_soundness.proofs.States.{phase_stays}
 use Rattle.afr_soundness.proofs.Unsettled.{UnsettledFrom, unsettled_from, becomes_own, settled_was}
 use Rattle.afr_soundness.proofs.Deciding.Whose.{decides_exactly}
-use Rattle.afr_contents.specs.Naming.{MayCopyFrom, IsOfGroup, CanSource, IsSourceFor, is_copied_to, MayPardon}
+use Rattle.afr_contents.specs.Naming.{MayCopyFrom, IsOfGroup, CanSource, IsSourceFor, is_copied_to, held_by, MayPardon}
 
 -- ---- by stages
 
@@ -260,6 +260,15 @@ module _ (size : Size) (m : State) (r : IsReached size m) (step : Step) (allowed
           current = links_back size m step allowed k (m.txns t).graph o.grant.connection ((grants_are_held size m r).handed t k o.grant is).numbered (subst (λ g. is_current (new.links k g) o.grant.connection ≡ true) graph o.current);
         })
 
+  pub reached_before : (t k : ℕ) → is_behind (m.txns t).stage ≡ true → (phase_of new t).reached k ≡ (phase_of m t).reached k
+  reached_before t k behind =
+      ap (λ p. (new.phases p).reached k) (phase_stays size m r step allowed t behind) ∙ ap (λ (f : Replicas). f k) (goes.reached (m.txns t).phase (phases_are_known size m r t).low)
+
+  pub held_before : (t k : ℕ) → is_behind (m.txns t).stage ≡ true → is_behind (new.txns t).stage ≡ true → held_by new t k ≡ true → held_by m t k ≡ true
+  held_before t k was behind h =
+      both ((phase_of m t).reached k) (open_grants m t k) (sym (reached_before t k was) ∙ both_left ((phase_of new t).reached k) (open_grants new t k) h)
+      (granted_before t k was behind (both_right ((phase_of new t).reached k) (open_grants new t k) h))
+
   pub cells_before : (t : ℕ) → is_behind (m.txns t).stage ≡ true → (phase_of new t).cells ≡ (phase_of m t).cells
   cells_before t behind = ap (λ p. (new.phases p).cells) (phase_stays size m r step allowed t behind) ∙ goes.cells (m.txns t).phase (phases_are_known size m r t).low
 
@@ -290,7 +299,7 @@ module _ (size : Size) (m : State) (r : IsReached size m) (step : Step) (allowed
       by_case (inr sink) = copied_to_behind (new.txns t).stage cell i sink
 
     was : is_behind (m.txns t).stage ≡ true → IsSourceFor size m t cell i ⊎ (is_copied_to (m.txns t).stage cell i ≡ true) → PardonFrom t k i cell
-    was was_behind names = Was (record { granted = granted_before t k was_behind behind h.granted; covers = sym (ap (λ cs. has_cell cs cell) (cells_before t was_behind)) ∙ h.covers; names = names })
+    was was_behind names = Was (record { held = held_before t k was_behind behind h.held; covers = sym (ap (λ cs. has_cell cs cell) (cells_before t was_behind)) ∙ h.covers; names = names })
 
     by_source : SourceFrom t i cell → PardonFrom t k i cell
     by_source (SourceFrom.Was source) = was (source_behind size m.changes (m.txns t).job (m.txns t).work (phase_of m t) cell i (m.txns t).stage source) (inl source)

@@ -23,22 +23,31 @@ use Rattle.afr_laws.specs.Apart.IsGranted.{HandedIn}
 use Rattle.afr_laws.specs.Fresh.{is_behind}
 use Rattle.afr_laws.specs.Grants.{lock_of}
 use Rattle.afr_laws.specs.Work.{shares_of, changes_in}
-use Rattle.afr_laws.proofs.Bools.{apart_bools, both, not_false}
+use Rattle.afr_laws.proofs.Bools.{apart_bools, both, both_left, both_right}
 use Rattle.afr_laws.proofs.Apart.Steps.{grants_apart}
 use Rattle.afr_laws.proofs.Copies.Asks.{share_at}
 use Rattle.afr_laws.proofs.Fresh.Known.{phases_are_known}
 use Rattle.afr_laws.proofs.Overtaken.Steps.{HasOpen, has_open, opens}
 use Rattle.afr_laws.proofs.Work.Known.{works_are_known}
 use Rattle.afr_soundness.proofs.Copied.Lines.{behind_locks}
-use Rattle.afr_contents.specs.Naming.{MayCopyFrom, CanSource, IsSourceFor, is_copied_to}
+use Rattle.afr_contents.specs.Naming.{MayCopyFrom, CanSource, IsSourceFor, held_by}
 use Rattle.afr_contents.specs.Coming.{IsUsed}
 use Rattle.afr_contents.proofs.Naming.{source_behind, copied_to_behind}
 
 pub granted_of : (m : State) (t k : ℕ) → HasGrant m t k → open_grants m t k ≡ true
 granted_of m t k g = opens m t k (record { grant = g.grant; granted = g.granted; current = g.still_open })
 
+pub member_held : (size : Size) (m : State) (t k : ℕ) → IsMember size m t k → held_by m t k ≡ true
+member_held size m t k h = both ((phase_of m t).reached k) (open_grants m t k) h.reached (granted_of m t k h.grant)
+
 pub used_of : (size : Size) (m : State) (t k : ℕ) → IsMember size m t k → IsUsed m t k
-used_of size m t k h = record { reached = h.reached; not_out = h.not_out; granted = granted_of m t k h.grant }
+used_of size m t k h = record { not_out = h.not_out; held = member_held size m t k h }
+
+pub held_reached : (m : State) (t k : ℕ) → held_by m t k ≡ true → (phase_of m t).reached k ≡ true
+held_reached m t k h = both_left ((phase_of m t).reached k) (open_grants m t k) h
+
+pub held_granted : (m : State) (t k : ℕ) → held_by m t k ≡ true → open_grants m t k ≡ true
+held_granted m t k h = both_right ((phase_of m t).reached k) (open_grants m t k) h
 
 module _ (size : Size) (m : State) (r : IsReached size m) where
   may_alone : (own : Job) (phase : Phase) (work : Work) → MayCopyFrom m.changes own phase work → shares_of own work ≡ false

@@ -13,10 +13,9 @@ use Rattle.afr_machine.specs.Changes.{is_unsettled}
 use Rattle.afr_machine.specs.Transactions.{CopyRun}
 use Rattle.afr_machine.specs.Transactions.Stage.{Applying, Copying}
 use Rattle.afr_machine.specs.States.{State, phase_of}
-use Rattle.afr_machine.specs.Turns.{open_grants}
 use Rattle.afr_laws.specs.Senders.{EachInput}
 use Rattle.afr_contents.specs.Good.{IsGood, IsGoodAt, IsSettledCopy}
-use Rattle.afr_contents.specs.Naming.{IsSourceFor}
+use Rattle.afr_contents.specs.Naming.{IsSourceFor, held_by}
 use Rattle.afr_contents.specs.Lasting.{IsAccusedApart}
 
 -- ---- requests in a line
@@ -33,22 +32,21 @@ IsRightAt size m i other = Unit {0}
 
 -- ---- what a transaction knows
 
--- its lock phase reached the brick, which is not out, and whose grant is on the connection that is open
+-- the brick is held, and not out
 pub record IsUsed (m : State) (t k : ℕ) : Type 0 where
-  pub reached : (phase_of m t).reached k ≡ true
   pub not_out : (m.txns t).out k ≡ false
-  pub granted : open_grants m t k ≡ true
+  pub held : held_by m t k ≡ true
 
--- A source that it uses is good, or each replica that it uses is accused by a quorum of which it uses none; so is what it fetched.
+-- A source that it uses is good, or each replica that it uses is accused by a quorum of which it holds none; so is what it fetched.
 abbrev pub SourcesGoodOrLost : Size → State → Type 0
 SourcesGoodOrLost size m =
     (t s i : ℕ) (cell : Cell) → s < size.replicas → i < size.replicas → has_cell (phase_of m t).cells cell ≡ true → IsSourceFor size m t cell s → IsUsed m t s → IsUsed m t i →
-    IsGoodAt m s cell ⊎ IsAccusedApart size m cell i (open_grants m t)
+    IsGoodAt m s cell ⊎ IsAccusedApart size m cell i (held_by m t)
 
 abbrev pub FetchedGoodOrLost : Size → State → Type 0
 FetchedGoodOrLost size m =
     (t i : ℕ) (run : CopyRun) (cell : Cell) (found : Fetched) → i < size.replicas → (m.txns t).stage ≡ Copying run → run.fetched cell ≡ Some found → IsUsed m t i →
-    IsGood m cell (Some found.copy) ⊎ IsAccusedApart size m cell i (open_grants m t)
+    IsGood m cell (Some found.copy) ⊎ IsAccusedApart size m cell i (held_by m t)
 
 -- a brick to which the op of an unsettled change is still to be sent has exactly the adopted changes of its cells
 abbrev pub LeftAreSettled : Size → State → Type 0

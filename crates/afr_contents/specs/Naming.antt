@@ -40,8 +40,12 @@ abbrev pub is_copied_to : Stage → Cell → ℕ → Bool
 is_copied_to (Copying run) cell i = is_confirmed_sink run i && has_cell run.cells cell
 is_copied_to other cell i = false
 
+-- the bricks that its lock phase reached, and whose grant is on the connection that is open
+abbrev pub held_by : State → ℕ → Replicas
+held_by m t k = (phase_of m t).reached k && open_grants m t k
+
 -- a clear over the cell that names the replica may be sent to the brick, now or later in this lock phase
 pub record MayPardon (size : Size) (m : State) (t k i : ℕ) (cell : Cell) : Type 0 where
-  pub granted : open_grants m t k ≡ true
+  pub held : held_by m t k ≡ true
   pub covers : has_cell (phase_of m t).cells cell ≡ true
   pub names : IsSourceFor size m t cell i ⊎ (is_copied_to (m.txns t).stage cell i ≡ true)
