@@ -38,6 +38,7 @@ use Rattle.afr_soundness.specs.Later.{IsOf}
 use Rattle.afr_soundness.proofs.Applied.{applied_holds}
 use Rattle.afr_soundness.proofs.Copied.Lines.{each_both}
 use Rattle.afr_soundness.proofs.Deciding.Whose.{decides_exactly}
+use Rattle.afr_soundness.proofs.Takers.Steps.{inside}
 use Rattle.afr_soundness.proofs.Unsettled.{UnsettledFrom, unsettled_from, is_some_change}
 use Rattle.afr_decisions.specs.Asks.{IsNewAt}
 use Rattle.afr_decisions.specs.Confirmed.{IsReported}
@@ -58,8 +59,8 @@ use Rattle.afr_contents.specs.Lasting.{IsLasting, IsAccusedApart}
 use Rattle.afr_contents.proofs.Staying.{accusations_stay}
 use Rattle.afr_contents.proofs.Spread.{none_coming, is_outside}
 use Rattle.afr_contents.proofs.Settled.{Deciding}
-use Rattle.afr_contents.proofs.Naming.{copied_to_behind}
 use Rattle.afr_contents.proofs.Using.{held_granted}
+use Rattle.afr_contents.proofs.Unaccused.{group_unaccused, unreached_accused}
 use Rattle.afr_contents.proofs.Copying.{SourceOf, CameBefore, held_unconfirmed, copying_before, source_of}
 
 -- the replica has the change as decided, and no op of it is on its way there
@@ -163,7 +164,7 @@ module _ (size : Size) (m : State) (is_size : IsSize size) (r : IsReached size m
   pub by_quorum : IsDecidedBy size m phase u d.may.adopts
   by_quorum = counted_decides size is_size m r d.txn u d.may.adopts d.may.many (d.may.decision ∙ ap (λ (n : ℕ). Some (n, d.may.adopts)) (sym d.at))
 
-  unsettled : is_unsettled (m.changes u).verdict ≡ true
+  abbrev pub unsettled : is_unsettled (m.changes u).verdict ≡ true
   unsettled = d.unsettled
 
   verdict_now : (new.changes u).verdict ≡ verdict_of d.may.adopts
@@ -185,75 +186,106 @@ module _ (size : Size) (m : State) (is_size : IsSize size) (r : IsReached size m
     other same (inl does) = apart_bools now (ap (λ n. is_unsettled (new.changes n).verdict) same ∙ ap is_unsettled (verdict_now ∙ ap verdict_of does))
     other same (inr drops) = apart_bools now (ap (λ n. is_unsettled (new.changes n).verdict) same ∙ ap is_unsettled (verdict_now ∙ ap verdict_of drops))
 
-  -- ---- who might pardon one of those who confirmed
+  -- ---- a transaction that settles the change beside
 
-  module _ (cell : Cell) (touches : has_cell (m.changes u).cells cell ≡ true) (t k : ℕ) (noted : (m.phases phase).confirmed k ≡ true) (held : held_by m t k ≡ true) where
-    before_not : CameBefore size m r u unsettled cell touches t → ⊥
-    before_not c = held_unconfirmed size m r u unsettled cell touches t c phase k d.may.adopts by_quorum noted held
+  module _ (t : ℕ) (group : Replicas) (adopts : Bool) (is : (m.txns t).stage ≡ Settling u group adopts) where
+    settling_behind : is_behind (m.txns t).stage ≡ true
+    settling_behind = ap is_behind is
 
-    -- the transaction settles the change, and agrees
-    settles : (i : ℕ) → i < size.replicas → (group : Replicas) (adopts : Bool) → (m.txns t).stage ≡ Settling u group adopts → group i ≡ true → IsAsDecided m u d.may.adopts i
-    settles i few group adopts is in_it = subst (λ b. IsAsDecided m u b i) (by_order (cases_lt (m.txns t).phase phase) (cases_eq phase (m.txns t).phase)) (group_as_decided size m is_size r u unsettled i few (m.txns t).phase group adopts s in_it) where
-      behind : is_behind (m.txns t).stage ≡ true
-      behind = ap is_behind is
+    settling : IsSettling m (m.txns t).phase u group adopts
+    settling = record {
+      one = ((decides_exactly size m r).transactions t).one settling_behind;
+      low = (phases_are_known size m r t).low;
+      decides = subst (λ st. DecidesIn size m.changes (m.txns t).work st (phase_of m t)) is ((decides_exactly size m r).transactions t).decides;
+    }
 
-      s : IsSettling m (m.txns t).phase u group adopts
-      s = record {
-        one = ((decides_exactly size m r).transactions t).one behind;
-        low = (phases_are_known size m r t).low;
-        decides = subst (λ st. DecidesIn size m.changes (m.txns t).work st (phase_of m t)) is ((decides_exactly size m r).transactions t).decides;
-      }
+    settles_of : IsOf u (m.phases (m.txns t).phase).decides
+    settles_of = subst (IsOf u) (sym settling.decides) refl
 
-      settles_of : IsOf u (m.phases (m.txns t).phase).decides
-      settles_of = subst (IsOf u) (sym s.decides) refl
+    -- it agrees, but where the lock phase that decides ended later
+    pub settler_agrees : phase ≤ (m.txns t).phase → adopts ≡ d.may.adopts
+    settler_agrees least = by_order (cases_eq phase (m.txns t).phase) where
+      by_order : (phase ≡ (m.txns t).phase) ⊎ (phase ≢ (m.txns t).phase) → adopts ≡ d.may.adopts
+      by_order (inl same) = decides_alike u adopts d.may.adopts (m.phases (m.txns t).phase).decides (subst (DecidesAs u adopts) (sym settling.decides) (refl, refl)) (subst (λ p. DecidesAs u d.may.adopts (m.phases p).decides) same by_quorum.decides)
+      by_order (inr other) = sym ((decisions_stand size m is_size r).later phase (m.txns t).phase u d.may.adopts adopts group by_quorum settling (omega (arith, least, other)))
 
+    pub settler_has : (i : ℕ) → i < size.replicas → group i ≡ true → phase ≤ (m.txns t).phase → IsAsDecided m u d.may.adopts i
+    settler_has i few in_it least = subst (λ b. IsAsDecided m u b i) (settler_agrees least) (group_as_decided size m is_size r u unsettled i few (m.txns t).phase group adopts settling in_it)
+
+    module _ (cell : Cell) (touches : has_cell (m.changes u).cells cell ≡ true) where
       shared : share (phase_of m t).cells (m.phases phase).cells ≡ true
       shared =
-          share_at (phase_of m t).cells (m.phases phase).cells cell (ap (λ cs. has_cell cs cell) (decided_cells size m r (m.txns t).phase u s.one s.low settles_of) ∙ touches)
+          share_at (phase_of m t).cells (m.phases phase).cells cell (ap (λ cs. has_cell cs cell) (decided_cells size m r (m.txns t).phase u settling.one settling.low settles_of) ∙ touches)
           (ap (λ cs. has_cell cs cell) (decided_cells size m r phase u by_quorum.one by_quorum.low (decides_of u d.may.adopts (m.phases phase).decides by_quorum.decides)) ∙ touches)
 
-      by_order : ((m.txns t).phase < phase) ⊎ (phase ≤ (m.txns t).phase) → (phase ≡ (m.txns t).phase) ⊎ (phase ≢ (m.txns t).phase) → adopts ≡ d.may.adopts
-      by_order (inl later) other =
-          apart_bools (held_granted m t k held)
-          (overtaken_apart size m r t phase k behind ((works_are_known size m r t).exclusive (ap changes_in is)) (record { later = later; ended = by_quorum.low; common = shared }) ((keeps_confirmed size m r).phases phase k by_quorum.one by_quorum.low noted).reached)
-      by_order (inr least) (inl same) = decides_alike u adopts d.may.adopts (m.phases (m.txns t).phase).decides (subst (DecidesAs u adopts) (sym s.decides) (refl, refl)) (subst (λ p. DecidesAs u d.may.adopts (m.phases p).decides) same by_quorum.decides)
-      by_order (inr least) (inr other) = sym ((decisions_stand size m is_size r).later phase (m.txns t).phase u d.may.adopts adopts group by_quorum s (omega (arith, least, other)))
+      -- and then it holds no brick that this one reached
+      pub later_unheld : (k : ℕ) → (m.txns t).phase < phase → (m.phases phase).reached k ≡ true → held_by m t k ≡ true → ⊥
+      later_unheld k later reached held =
+          apart_bools (held_granted m t k held) (overtaken_apart size m r t phase k settling_behind ((works_are_known size m r t).exclusive (ap changes_in is)) (record { later = later; ended = by_quorum.low; common = shared }) reached)
 
-    module _ (i : ℕ) (few : i < size.replicas) (covers : has_cell (phase_of m t).cells cell ≡ true) where
-      by_source : CanSource size new.changes (m.txns t).job (m.txns t).work (phase_of m t) cell i (m.txns t).stage → SourceOf size m r u unsettled cell touches t covers → IsAsDecided m u d.may.adopts i
-      by_source source (SourceOf.Before c) = absurd (before_not c)
-      by_source source (SourceOf.Settled group adopts is) = settles i few group adopts is (subst (CanSource size new.changes (m.txns t).job (m.txns t).work (phase_of m t) cell i) is source)
+      -- whom its group has is not accused, where it holds one of those who confirmed
+      settles_not : (k i : ℕ) → i < size.replicas → (m.phases phase).confirmed k ≡ true → held_by m t k ≡ true → group i ≡ true → (m.phases phase).accused i ≡ true → ⊥
+      settles_not k i few noted held in_it accused = by_order (cases_lt (m.txns t).phase phase) (cases_eq phase (m.txns t).phase) where
+        by_order : ((m.txns t).phase < phase) ⊎ (phase ≤ (m.txns t).phase) → (phase ≡ (m.txns t).phase) ⊎ (phase ≢ (m.txns t).phase) → ⊥
+        by_order (inl later) other = later_unheld k later ((keeps_confirmed size m r).phases phase k by_quorum.one by_quorum.low noted).reached held
+        by_order (inr least) (inl same) =
+            let reported : IsReported size m.changes (m.phases phase) k (BySettles u group adopts) = subst (IsReported size m.changes (m.phases phase) k) (ap (λ p. (m.phases p).decides) same ∙ settling.decides) ((keeps_confirmed size m r).phases phase k by_quorum.one by_quorum.low noted).reported in
+            apart_bools accused (reported i ∙ inside size group i in_it)
+        by_order (inr least) (inr other) = group_unaccused size m is_size r phase u d.may.adopts by_quorum i few (m.txns t).phase group adopts settling (omega (arith, least, other)) in_it accused
 
-      by_sink : (stage : Stage) → (m.txns t).stage ≡ stage → is_copied_to stage cell i ≡ true → IsAsDecided m u d.may.adopts i
-      by_sink (Copying run) is h = absurd (before_not (copying_before size m r u unsettled cell touches t covers run is))
+  -- ---- nobody may pardon who confirmed one whom the lock phase accuses
+
+  module _ (cell : Cell) (touches : has_cell (m.changes u).cells cell ≡ true) where
+    pub source_now : (t s : ℕ) (covers : has_cell (phase_of m t).cells cell ≡ true) → CanSource size new.changes (m.txns t).job (m.txns t).work (phase_of m t) cell s (m.txns t).stage → SourceOf size m r u unsettled cell touches t covers
+    source_now t s covers h = source_of size m r u unsettled cell touches t covers new.changes still s (m.txns t).stage refl h
+
+    module _ (t k i : ℕ) (few : i < size.replicas) (noted : (m.phases phase).confirmed k ≡ true) (accused : (m.phases phase).accused i ≡ true) (held : held_by m t k ≡ true) (covers : has_cell (phase_of m t).cells cell ≡ true) where
+      before_not : CameBefore size m r u unsettled cell touches t → ⊥
+      before_not c = held_unconfirmed size m r u unsettled cell touches t c phase k d.may.adopts by_quorum noted held
+
+      by_source : CanSource size new.changes (m.txns t).job (m.txns t).work (phase_of m t) cell i (m.txns t).stage → SourceOf size m r u unsettled cell touches t covers → ⊥
+      by_source source (SourceOf.Before c) = before_not c
+      by_source source (SourceOf.Settled group adopts is) = settles_not t group adopts is cell touches k i few noted held (subst (CanSource size new.changes (m.txns t).job (m.txns t).work (phase_of m t) cell i) is source) accused
+
+      by_sink : (stage : Stage) → (m.txns t).stage ≡ stage → is_copied_to stage cell i ≡ true → ⊥
+      by_sink (Copying run) is h = before_not (copying_before size m r u unsettled cell touches t covers run is)
       by_sink other is h = absurd (let no : false ≡ true = h in cc)
 
-      by_names : IsSourceFor size (record m { changes = new.changes; adopted = new.adopted }) t cell i ⊎ (is_copied_to (m.txns t).stage cell i ≡ true) → IsAsDecided m u d.may.adopts i
-      by_names (inl source) = by_source source (source_of size m r u unsettled cell touches t covers new.changes still i (m.txns t).stage refl source)
+      by_names : IsSourceFor size (record m { changes = new.changes; adopted = new.adopted }) t cell i ⊎ (is_copied_to (m.txns t).stage cell i ≡ true) → ⊥
+      by_names (inl source) = by_source source (source_now t i covers source)
       by_names (inr sink) = by_sink (m.txns t).stage refl sink
 
-  pardon_as_decided : (cell : Cell) → has_cell (m.changes u).cells cell ≡ true → (t k i : ℕ) → i < size.replicas → (m.phases phase).confirmed k ≡ true → MayPardon size (record m { changes = new.changes; adopted = new.adopted }) t k i cell → IsAsDecided m u d.may.adopts i
-  pardon_as_decided cell touches t k i few noted p = by_names cell touches t k noted (sym (held_same t k) ∙ p.held) i few p.covers p.names
+    unpardoned : (t k i : ℕ) → i < size.replicas → (m.phases phase).confirmed k ≡ true → (m.phases phase).accused i ≡ true → MayPardon size (record m { changes = new.changes; adopted = new.adopted }) t k i cell → ⊥
+    unpardoned t k i few noted accused p = by_names t k i few noted accused (sym (held_same t k) ∙ p.held) p.covers p.names
 
-  -- ---- whoever is not as decided is accused
+    -- ---- so whom it accuses is accused for good
 
-  module _ (i : ℕ) (few : i < size.replicas) (not_so : IsAsDecided m u d.may.adopts i → ⊥) (cell : Cell) (touches : has_cell (m.changes u).cells cell ≡ true) (these : Replicas) (apart : (k : ℕ) → (m.phases phase).confirmed k ≡ true → these k ≡ false) where
-    accuses : (k : ℕ) → (m.phases phase).confirmed k ≡ true → accusers_staying m cell i k ≡ true
-    accuses k noted =
-        let a : AccusesStaying m k cell i = confirmed_accuse size m r phase u k i cell by_quorum.one by_quorum.low (decides_of u d.may.adopts (m.phases phase).decides by_quorum.decides) unsettled noted touches
-            (left_out size m is_size r u unsettled i few phase d.may.adopts by_quorum not_so) in
-        both (accuses_at (m.bricks k).store cell i) (not (pardons_coming (m.bricks k).line cell i)) a.accuses (not_false (none_coming (λ by ask. pardons ask cell i ≡ false) cell i (λ by ask none. none) (m.bricks k).line a.line))
+    module _ (i : ℕ) (few : i < size.replicas) (accused : (m.phases phase).accused i ≡ true) (these : Replicas) (apart : (k : ℕ) → (m.phases phase).confirmed k ≡ true → these k ≡ false) where
+      accuses : (k : ℕ) → (m.phases phase).confirmed k ≡ true → accusers_staying m cell i k ≡ true
+      accuses k noted =
+          let a : AccusesStaying m k cell i = confirmed_accuse size m r phase u k i cell by_quorum.one by_quorum.low (decides_of u d.may.adopts (m.phases phase).decides by_quorum.decides) unsettled noted touches accused in
+          both (accuses_at (m.bricks k).store cell i) (not (pardons_coming (m.bricks k).line cell i)) a.accuses (not_false (none_coming (λ by ask. pardons ask cell i ≡ false) cell i (λ by ask none. none) (m.bricks k).line a.line))
 
-    unsent : (k : ℕ) → SendsPardon step k cell i → ⊥
-    unsent k s = absurd (let no : Step.Decides d.txn ≡ Step.Asks s.txn k s.first _ = sym d.step_is ∙ s.is in cc)
+      unsent : (k : ℕ) → SendsPardon step k cell i → ⊥
+      unsent k s = absurd (let no : Step.Decides d.txn ≡ Step.Asks s.txn k s.first _ = sym d.step_is ∙ s.is in cc)
 
-    pub decided_accused : IsAccusedApart size new cell i these
-    decided_accused = record {
-      by = (m.phases phase).confirmed;
-      many = by_quorum.many;
-      each = λ k low noted. record {
-        stays = accusations_stay size m step allowed k i cell (accuses k noted) (unsent k);
-        lasts = λ t p. not_so (pardon_as_decided cell touches t k i few noted (subst (λ x. MayPardon size x t k i cell) new_is p));
-      };
-      apart = λ k low noted. apart k noted;
-    }
+      pub decided_accused : IsAccusedApart size new cell i these
+      decided_accused = record {
+        by = (m.phases phase).confirmed;
+        many = by_quorum.many;
+        each = λ k low noted. record {
+          stays = accusations_stay size m step allowed k i cell (accuses k noted) (unsent k);
+          lasts = λ t p. unpardoned t k i few noted accused (subst (λ x. MayPardon size x t k i cell) new_is p);
+        };
+        apart = λ k low noted. apart k noted;
+      }
+
+  -- whoever is not as decided is accused
+  pub left_out_now : (i : ℕ) → i < size.replicas → (IsAsDecided m u d.may.adopts i → ⊥) → (m.phases phase).accused i ≡ true
+  left_out_now i few not_so = left_out size m is_size r u unsettled i few phase d.may.adopts by_quorum not_so
+
+  pub unreached_now : (i : ℕ) → i < size.replicas → (m.phases phase).reached i ≡ false → (m.phases phase).accused i ≡ true
+  unreached_now i few none = unreached_accused size m is_size r phase u d.may.adopts by_quorum i few none
+
+  pub reached_of : (k : ℕ) → (m.phases phase).confirmed k ≡ true → (m.phases phase).reached k ≡ true
+  reached_of k noted = ((keeps_confirmed size m r).phases phase k by_quorum.one by_quorum.low noted).reached

@@ -16,6 +16,7 @@ pub mod Confirming
 pub mod Clean
 pub mod Once
 pub mod Copying
+pub mod Unaccused
 pub mod Decided
 pub mod Present
 pub mod Split
