@@ -82,16 +82,16 @@ module _ (size : Size) (m : State) (r : IsReached size m) (step : Step) (allowed
   needed u = (changes_are_own size m r).fit.needs_are u
 
   -- two unsettled changes of one cell are one
-  one_on : (cell : Cell) (u v : ℕ) → is_unsettled (m.changes u).verdict ≡ true → is_unsettled (m.changes v).verdict ≡ true → has_cell (m.changes u).cells cell ≡ true → has_cell (m.changes v).cells cell ≡ true → u ≡ v
+  pub one_on : (cell : Cell) (u v : ℕ) → is_unsettled (m.changes u).verdict ≡ true → is_unsettled (m.changes v).verdict ≡ true → has_cell (m.changes u).cells cell ≡ true → has_cell (m.changes v).cells cell ≡ true → u ≡ v
   one_on cell u v x y h k = one_unsettled size m r u v x y (share_at (m.changes u).cells (m.changes v).cells cell h k)
 
   -- ---- no decision on the cell
 
   module _ (cell : Cell) (none : (u : ℕ) → DecidesOn cell u → ⊥) where
-    list_stays : adopted_on new cell ≡ adopted_on m cell
+    pub list_stays : adopted_on new cell ≡ adopted_on m cell
     list_stays = on_stays size m r step allowed cell (λ u a. none u (decides_adopting cell u a))
 
-    content_stays : (content : Content) → settled m cell ≡ Some content → settled new cell ≡ Some content
+    pub content_stays : (content : Content) → settled m cell ≡ Some content → settled new cell ≡ Some content
     content_stays content h = settled_stays size m r step allowed cell content (λ u a. none u (decides_adopting cell u a)) h
 
     module _ (u : ℕ) (held : Copy) (a : IsAhead m cell u held) where
@@ -176,11 +176,11 @@ module _ (size : Size) (m : State) (r : IsReached size m) (step : Step) (allowed
 
   -- ---- whether it decides one
 
-  data IsDeciding (cell : Cell) : Type 0 where
+  pub data IsDeciding (cell : Cell) : Type 0 where
     Decides : (u : ℕ) → DecidesOn cell u → IsDeciding cell
     Leaves : ((u : ℕ) → DecidesOn cell u → ⊥) → IsDeciding cell
 
-  is_deciding : (cell : Cell) (st : Step) → step ≡ st → Allowed size m st → IsDeciding cell
+  pub is_deciding : (cell : Cell) (st : Step) → step ≡ st → Allowed size m st → IsDeciding cell
   is_deciding cell (Step.Decides t) is h = by_case (is_or_not (is_unsettled (m.changes h.change).verdict)) (is_or_not (has_cell (m.changes h.change).cells cell)) where
     only : (u : ℕ) → DecidesOn cell u → u ≡ h.change
     only u d = decides_that size m r step allowed u d.decision t h is

@@ -18,5 +18,7 @@ pub mod Once
 pub mod Copying
 pub mod Unaccused
 pub mod Decided
+pub mod Values
+pub mod FetchedGood
 pub mod Present
 pub mod Split
