@@ -20,5 +20,6 @@ pub mod Unaccused
 pub mod Decided
 pub mod Values
 pub mod FetchedGood
+pub mod CopiesGood
 pub mod Present
 pub mod Split
