@@ -176,7 +176,7 @@ module _ (size : Size) (m : State) (is_size : IsSize size) (r : IsReached size m
         by_case false = ap (λ (c : Change). c.verdict) (at_same m.changes u _)
 
   -- what is unsettled after it was so, and is another change
-  still : (w : ℕ) → is_unsettled (new.changes w).verdict ≡ true → (is_unsettled (m.changes w).verdict ≡ true) × (w ≢ u)
+  pub still : (w : ℕ) → is_unsettled (new.changes w).verdict ≡ true → (is_unsettled (m.changes w).verdict ≡ true) × (w ≢ u)
   still w now = (by_case (unsettled_from size m r step allowed w now), λ same. other same (is_or_not d.may.adopts)) where
     by_case : UnsettledFrom size m r step allowed w → is_unsettled (m.changes w).verdict ≡ true
     by_case (UnsettledFrom.Was h) = h

@@ -21,5 +21,6 @@ pub mod Decided
 pub mod Values
 pub mod FetchedGood
 pub mod CopiesGood
+pub mod LinesGood
 pub mod Present
 pub mod Split
