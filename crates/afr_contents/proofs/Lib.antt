@@ -22,5 +22,6 @@ pub mod Values
 pub mod FetchedGood
 pub mod CopiesGood
 pub mod LinesGood
+pub mod SourcesGood
 pub mod Present
 pub mod Split
