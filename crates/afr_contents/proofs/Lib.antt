@@ -23,5 +23,6 @@ pub mod FetchedGood
 pub mod CopiesGood
 pub mod LinesGood
 pub mod SourcesGood
+pub mod LeftGood
 pub mod Present
 pub mod Split
