@@ -24,5 +24,6 @@ pub mod CopiesGood
 pub mod LinesGood
 pub mod SourcesGood
 pub mod LeftGood
+pub mod Coming
 pub mod Present
 pub mod Split

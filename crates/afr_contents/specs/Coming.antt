@@ -4,7 +4,7 @@ use Rattle.std.specs.Prelude.{◌≡◌, ◌<◌, ◌⊎◌, ℕ, true, false, S
 use Rattle.fop_types.specs.StoreOps.{needs}
 use Rattle.fop_types.specs.declared.cells.Cell.{Cell}
 use Rattle.fop_types.specs.declared.store_ops.StoreOp.{StoreOp}
-use Rattle.afr_machine.specs.Replicas.{Size, nobody}
+use Rattle.afr_machine.specs.Replicas.{Size, IsSize, nobody}
 use Rattle.afr_machine.specs.Touching.{has_cell}
 use Rattle.afr_machine.specs.Copies.{Fetched}
 use Rattle.afr_machine.specs.Requests.{Ask}
@@ -13,6 +13,7 @@ use Rattle.afr_machine.specs.Changes.{is_unsettled}
 use Rattle.afr_machine.specs.Transactions.{CopyRun}
 use Rattle.afr_machine.specs.Transactions.Stage.{Applying, Copying}
 use Rattle.afr_machine.specs.States.{State, phase_of}
+use Rattle.afr_machine.specs.Steps.{IsReached}
 use Rattle.afr_laws.specs.Senders.{EachInput}
 use Rattle.afr_contents.specs.Good.{IsGood, IsGoodAt, IsSettledCopy}
 use Rattle.afr_contents.specs.Naming.{IsSourceFor, held_by}
@@ -62,3 +63,6 @@ pub record ComesGood (size : Size) (m : State) : Type 0 where
   pub sources : SourcesGoodOrLost size m
   pub fetched : FetchedGoodOrLost size m
   pub left : LeftAreSettled size m
+
+abbrev pub EveryStateComesGood : Type 0
+EveryStateComesGood = (size : Size) (m : State) → IsSize size → IsReached size m → ComesGood size m

@@ -4,7 +4,7 @@ use Rattle.std.specs.Prelude.{◌≡◌, ◌≢◌, ◌<◌, ◌≤◌, ◌⊎�
 use Rattle.fop_types.specs.StoreOps.{needs, fits, content_after}
 use Rattle.fop_types.specs.declared.cells.Cell.{Cell}
 use Rattle.fop_types.specs.declared.store_ops.StoreOp.{StoreOp}
-use Rattle.afr_machine.specs.Replicas.{Size, count}
+use Rattle.afr_machine.specs.Replicas.{Size, IsSize, count}
 use Rattle.afr_machine.specs.Touching.{has_cell}
 use Rattle.afr_machine.specs.Copies.{Copy, Fetched}
 use Rattle.afr_machine.specs.Requests.{Sender, Input}
@@ -42,6 +42,10 @@ IsGoodOrAccused size m i cell = IsGoodAt m i cell ⊎ IsAccused size m cell i
 -- each replica's copy of each cell is good, or it is accused
 abbrev pub CopiesGoodOrAccused : Size → State → Type 0
 CopiesGoodOrAccused size m = (i : ℕ) (cell : Cell) → i < size.replicas → IsGoodOrAccused size m i cell
+
+-- of every state
+abbrev pub EveryCopyIsGood : Type 0
+EveryCopyIsGood = (size : Size) (m : State) → IsSize size → IsReached size m → CopiesGoodOrAccused size m
 
 -- ---- what is right
 
