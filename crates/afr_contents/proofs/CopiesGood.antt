@@ -25,12 +25,12 @@ use Rattle.afr_laws.proofs.Sharing.{cells_are}
 use Rattle.afr_soundness.specs.Copied.{is_copying, IsReplacedAt}
 use Rattle.afr_soundness.proofs.Copied.Stores.{recopies, stored_puts}
 use Rattle.afr_soundness.proofs.Copied.Steps.{copies_stand}
-use Rattle.afr_contents.specs.Good.{IsGood, IsGoodAt, IsSettledCopy, IsNextOp}
+use Rattle.afr_contents.specs.Good.{IsGood, IsGoodAt}
 use Rattle.afr_contents.specs.Naming.{is_copied_to, held_by}
 use Rattle.afr_contents.specs.Lasting.{IsAccusedApart}
 use Rattle.afr_contents.specs.Coming.{FindsSettled, IsRightAt, IsUsed, ComesGood}
 use Rattle.afr_contents.proofs.OpsGood.{op_makes}
-use Rattle.afr_contents.proofs.Good.{DecidesOn}
+use Rattle.afr_contents.proofs.Keeping.{DecidesOn}
 use Rattle.afr_contents.proofs.Naming.{ConfirmsNow}
 use Rattle.afr_contents.proofs.Using.{held_granted}
 use Rattle.afr_contents.proofs.Confirming.{now_used}
@@ -104,15 +104,12 @@ module _ (size : Size) (m : State) (is_size : IsSize size) (r : IsReached size m
     abbrev Value : Option Copy → Type 0
     Value copy = IsGood m cell copy ⊎ IsAccusedApart size m cell i nobody
 
-    next_op : (u : ℕ) (op : StoreOp) (by : Sender) (rest : List Input) → (m.bricks i).line ≡ Asked by (Op u op) ∷ rest → FindsSettled m i u op → IsNextOp m i u op
-    next_op u op by rest front h = record { by = by; rest = rest; front = front; unsettled = λ c has. (h c has).0; finds = λ c has. (h c has).1 }
-
     module _ (good : IsGoodAt m i cell) where
       front_right : (by : Sender) (ask : Ask) (rest : List Input) → (m.bricks i).line ≡ Asked by ask ∷ rest → IsRightAt size m i ask
       front_right by ask rest front = (subst (EachInput (λ b a. IsRightAt size m i a)) front (was.lines i few)).0
 
       changing : (by : Sender) (ask : Ask) (rest : List Input) → (m.bricks i).line ≡ Asked by ask ∷ rest → recopies ask cell ≡ true → IsRightAt size m i ask → Value (stored_by ask (m.bricks i).store cell).copy
-      changing by (Op u op) rest front has (inl finds) = inl (op_makes size m r i u op by rest front cell (next_op u op by rest front finds) has good)
+      changing by (Op u op) rest front has (inl finds) = inl (op_makes size m r i u op by rest front cell finds has good)
       changing by (Op u op) rest front has (inr accused) = inr (accused cell has)
       changing by (Replace at found) rest front has (inl right) =
           inl (subst (IsGood m cell) (sym (found_copy (stored_by (Replace at found) (m.bricks i).store cell).copy _ found (stored_puts (m.bricks i).store at cell found has)))

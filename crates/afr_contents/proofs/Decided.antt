@@ -88,6 +88,7 @@ module _ (size : Size) (m : State) (is_size : IsSize size) (r : IsReached size m
       by_case : IsOpOf m.changes v op → ⊥
       by_case (inl birth) = let one = is_some_change size m r u (m.changes u).cells (share_at (m.changes u).cells (m.changes u).cells some.cell some.has some.has) in let none = birth.0 in absurd (omega (arith, one, none, same))
       by_case (inr sent) = apart_bools ((applied_holds size m r).done u i unsettled done some.cell some.has) (ap (has_change (applied m i some.cell)) (sym same) ∙ new some.cell (needed sent.1))
+
     no_op : (m.changes u).done i ≡ true → (ask : Ask) → Carries m.changes ask → IsNewAt m i ask → IsNoOpOf u ask
     no_op done (Op v op) carries new = not_that done v op carries new
     no_op done other carries new = tt

@@ -39,7 +39,7 @@ use Rattle.afr_contents.specs.Good.{IsGood, IsGoodAt}
 use Rattle.afr_contents.specs.Naming.{IsOfGroup, CanSource, IsSourceFor, is_copied_to, held_by}
 use Rattle.afr_contents.specs.Lasting.{IsAccusedApart}
 use Rattle.afr_contents.specs.Coming.{IsUsed, SourcesGoodOrLost, FetchedGoodOrLost}
-use Rattle.afr_contents.proofs.Good.{DecidesOn}
+use Rattle.afr_contents.proofs.Keeping.{DecidesOn}
 use Rattle.afr_contents.proofs.Naming.{ConfirmsNow, held_before, cells_before}
 use Rattle.afr_contents.proofs.Using.{Alone, used_alone, held_granted}
 use Rattle.afr_contents.proofs.Confirming.{now_used}
@@ -130,12 +130,12 @@ module _ (size : Size) (m : State) (is_size : IsSize size) (r : IsReached size m
     pub carried : (copy : Option Copy) → ((u : ℕ) → DecidesOn size m r step allowed cell u → has_change (changes_of copy) u ≡ false) → IsGood m cell copy ⊎ IsAccusedApart size m cell i (held_by m t) → IsGood new cell copy ⊎ IsAccusedApart size new cell i (held_by new t)
     carried copy without = value_goes size m is_size r step allowed i few cell (held_by m t) (held_by new t) smaller
         (accused_on size m is_size r step allowed i few cell (held_by m t) (held_by new t) smaller (no_sink t i cell alone behind)) copy on_decision where
-      by_verdict : (u : ℕ) (d : DecidesOn size m r step allowed cell u) → (d.decision.may.adopts ≡ true) ⊎ (d.decision.may.adopts ≡ false) → (has_change (changes_of copy) u ≡ d.decision.may.adopts) ⊎ IsAccusedApart size new cell i (held_by new t)
-      by_verdict u d (inl adopts) = inr (lost u d adopts)
-      by_verdict u d (inr drops) = inl (without u d ∙ sym drops)
+          by_verdict : (u : ℕ) (d : DecidesOn size m r step allowed cell u) → (d.decision.may.adopts ≡ true) ⊎ (d.decision.may.adopts ≡ false) → (has_change (changes_of copy) u ≡ d.decision.may.adopts) ⊎ IsAccusedApart size new cell i (held_by new t)
+          by_verdict u d (inl adopts) = inr (lost u d adopts)
+          by_verdict u d (inr drops) = inl (without u d ∙ sym drops)
 
-      on_decision : (u : ℕ) (d : DecidesOn size m r step allowed cell u) → (has_change (changes_of copy) u ≡ d.decision.may.adopts) ⊎ IsAccusedApart size new cell i (held_by new t)
-      on_decision u d = by_verdict u d (is_or_not d.decision.may.adopts)
+          on_decision : (u : ℕ) (d : DecidesOn size m r step allowed cell u) → (has_change (changes_of copy) u ≡ d.decision.may.adopts) ⊎ IsAccusedApart size new cell i (held_by new t)
+          on_decision u d = by_verdict u d (is_or_not d.decision.may.adopts)
 
   -- ---- what was fetched
 

@@ -40,7 +40,7 @@ use Rattle.afr_contents.specs.Found.{IsSettledFor}
 use Rattle.afr_contents.specs.Lasting.{IsAccusedApart}
 use Rattle.afr_contents.specs.Coming.{IsUsed, LeftAreSettled, ComesGood}
 use Rattle.afr_contents.proofs.Found.{ready_have_adopted}
-use Rattle.afr_contents.proofs.Good.{DecidesOn, one_on}
+use Rattle.afr_contents.proofs.Keeping.{DecidesOn, one_on}
 use Rattle.afr_contents.proofs.Using.{held_reached, held_granted}
 use Rattle.afr_contents.proofs.Decided.{still}
 use Rattle.afr_contents.proofs.Values.{settled_goes, copy_kept}
@@ -54,7 +54,7 @@ copies_of size m was i cell low = by_case (was i cell low) where
   by_case (inr a) =
       let more = count_within size.replicas a.by (accusers_staying m cell i) (λ k few h. (a.each k few h).stays) in
       let enough = a.many in
-      inr (inr (omega (arith, more, enough)))
+      inr (omega (arith, more, enough))
 
 -- ---- at a brick that it uses, the front changes a copy only as the stage asks
 

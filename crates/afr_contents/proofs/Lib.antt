@@ -7,7 +7,7 @@ pub mod OfAdopted
 pub mod Settled
 pub mod AsBorn
 pub mod OpsGood
-pub mod Good
+pub mod Keeping
 pub mod Found
 pub mod Naming
 pub mod Lasting
@@ -25,5 +25,6 @@ pub mod LinesGood
 pub mod SourcesGood
 pub mod LeftGood
 pub mod Coming
+pub mod Laws
 pub mod Present
 pub mod Split

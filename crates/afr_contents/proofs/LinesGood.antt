@@ -46,7 +46,7 @@ use Rattle.afr_contents.specs.Good.{IsGood, IsSettledCopy}
 use Rattle.afr_contents.specs.Naming.{held_by}
 use Rattle.afr_contents.specs.Lasting.{IsAccusedApart}
 use Rattle.afr_contents.specs.Coming.{FindsSettled, IsRightAt, ComesGood}
-use Rattle.afr_contents.proofs.Good.{DecidesOn, one_on}
+use Rattle.afr_contents.proofs.Keeping.{DecidesOn, one_on}
 use Rattle.afr_contents.proofs.Settled.{Deciding}
 use Rattle.afr_contents.proofs.Naming.{ConfirmsNow}
 use Rattle.afr_contents.proofs.Using.{used_of, held_granted, work_covers}

@@ -193,13 +193,13 @@ module _ (size : Size) (m : State) (r : IsReached size m) (step : Step) (allowed
       by_move (TxnMove.Posts step_is may is) = absurd (of_txn _ is)
       by_move (TxnMove.SettlesAs group adopts step_is may is) = Was (subst (CanSource size m.changes (m.txns t).job (m.txns t).work (phase_of m t) cell s) (sym may.turn)
           (subst (MayCopyFrom m.changes (m.txns t).job (phase_of m t)) (sym may.work_is) may.is_unsettled, ((may.group_is s few).0 (of_txn _ is)).sound cell touched)) where
-        same_cells : (phase_of new t).cells ≡ (m.changes may.change).cells
-        same_cells =
-            ap (λ p. (new.phases p).cells) (phase_stays size m r step allowed t (ap is_behind may.turn)) ∙ goes.cells (m.txns t).phase low
-            ∙ (phases_are_known size m r t).cells (ap is_behind may.turn) ∙ ap (cells_of_work m.changes (m.txns t)) may.work_is
+            same_cells : (phase_of new t).cells ≡ (m.changes may.change).cells
+            same_cells =
+                ap (λ p. (new.phases p).cells) (phase_stays size m r step allowed t (ap is_behind may.turn)) ∙ goes.cells (m.txns t).phase low
+                ∙ (phases_are_known size m r t).cells (ap is_behind may.turn) ∙ ap (cells_of_work m.changes (m.txns t)) may.work_is
 
-        touched : has_cell (m.changes may.change).cells cell ≡ true
-        touched = sym (ap (λ cs. has_cell cs cell) same_cells) ∙ covers
+            touched : has_cell (m.changes may.change).cells cell ≡ true
+            touched = sym (ap (λ cs. has_cell cs cell) same_cells) ∙ covers
       by_move (TxnMove.Bears step_is may is) = absurd (of_txn _ is)
       by_move (TxnMove.Copies run step_is may is) = Was (copies_from (m.txns t).work run.group refl may.allowed (group_back run.group (of_txn _ is)))
       by_move (TxnMove.Clears step_is may is) = Was (subst (CanSource size m.changes (m.txns t).job (m.txns t).work (phase_of m t) cell s) (sym may.turn) (group_back may.run.group (of_txn _ is)))

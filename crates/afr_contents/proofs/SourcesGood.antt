@@ -28,7 +28,7 @@ use Rattle.afr_contents.specs.Good.{IsGood, IsGoodAt}
 use Rattle.afr_contents.specs.Naming.{IsOfGroup, CanSource, IsSourceFor, held_by}
 use Rattle.afr_contents.specs.Lasting.{IsAccusedApart}
 use Rattle.afr_contents.specs.Coming.{IsUsed, SourcesGoodOrLost, ComesGood}
-use Rattle.afr_contents.proofs.Good.{DecidesOn}
+use Rattle.afr_contents.proofs.Keeping.{DecidesOn}
 use Rattle.afr_contents.proofs.Naming.{SourceFrom, source_from, source_behind, held_before, cells_before}
 use Rattle.afr_contents.proofs.Using.{Alone, source_alone, held_granted, work_covers}
 use Rattle.afr_contents.proofs.Lasting.{next_reached, ends_free, accused_not_free}

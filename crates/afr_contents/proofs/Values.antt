@@ -23,7 +23,7 @@ use Rattle.afr_contents.specs.Naming.{held_by}
 use Rattle.afr_contents.specs.Lasting.{IsAccusedApart}
 use Rattle.afr_contents.proofs.OfAdopted.{changes_of_adopted}
 use Rattle.afr_contents.proofs.OpsGood.{op_leaves}
-use Rattle.afr_contents.proofs.Good.{DecidesOn, IsDeciding, is_deciding, list_stays, content_stays, good_stays, good_decided}
+use Rattle.afr_contents.proofs.Keeping.{DecidesOn, IsDeciding, is_deciding, list_stays, content_stays, good_stays, good_decided}
 use Rattle.afr_contents.proofs.Naming.{ConfirmsNow}
 use Rattle.afr_contents.proofs.Lasting.{accused_goes}
 

@@ -1,5 +1,4 @@
 ghost use Rattle.afr_contents.specs.Adopted.{EveryAdoptedIsAsBorn, EveryChangeIsOfAdopted};
-ghost use Rattle.afr_contents.specs.Good.{StepsKeepGood};
 ghost use Rattle.afr_contents.specs.Found.{FreeIsGood, GoodIsSettled, ReadyHaveAdopted, AppliersHaveAdopted, SourcesAreGood};
 ghost use Rattle.afr_contents.specs.Present.{EveryChangeIsPresent};
 ghost use Rattle.afr_contents.specs.Split.{SeenAllHasSound};
@@ -16,17 +15,8 @@ pub fn every_change_is_of_adopted()
     ensures { EveryChangeIsOfAdopted }
 {}
 
-/// The law of good copies. From a state in which each replica's copy of each cell is good, or the replica is accused by
-/// itself or by a quorum which go on accusing it, each step leads to one in which this holds. It is open yet that its three
-/// premises hold of every state: a replacement at the front of a
-/// line carries a good copy, or its brick is accused; an op there finds settled copies of the cells that it needs, or its
-/// brick is accused on them; whom a clear names that is sent is good, or accused without the brick to which it is sent.
-pub fn steps_keep_good()
-    ensures { StepsKeepGood }
-{}
-
-/// The law of free replicas: where each replica's copy of a cell is good or the replica accused, whoever has a copy, does not
-/// accuse itself and is accused by fewer than a quorum is good.
+/// The law of free replicas, of every state that allowed steps lead to, for one, three and five replicas: whoever has a copy of a cell,
+/// does not accuse itself and is accused by fewer than a quorum is good on it.
 pub fn free_is_good()
     ensures { FreeIsGood }
 {}
@@ -38,8 +28,7 @@ pub fn good_is_settled()
     ensures { GoodIsSettled }
 {}
 
-/// The law of what is read, of every state that allowed steps lead to in which each replica's copy of each cell is good or the
-/// replica accused, for one, three and five replicas; that this is each of them is open yet. Behind its own lock phase, and
+/// The law of what is ready, of every state that allowed steps lead to, for one, three and five replicas. Behind its own lock phase, and
 /// before its change becomes unsettled, a read or change finds in each replica that was sound on a cell in that lock phase, or
 /// received a copy, exactly the cell's adopted changes and the content that is adopted, also where its grant has ended.
 pub fn ready_have_adopted()
