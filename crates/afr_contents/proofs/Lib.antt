@@ -26,5 +26,6 @@ pub mod SourcesGood
 pub mod LeftGood
 pub mod Coming
 pub mod Laws
+pub mod ShownMoves
 pub mod Present
 pub mod Split

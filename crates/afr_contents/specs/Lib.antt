@@ -8,5 +8,6 @@ pub mod Found
 pub mod Naming
 pub mod Lasting
 pub mod Coming
+pub mod Reading
 pub mod Present
 pub mod Split
