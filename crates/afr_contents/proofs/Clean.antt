@@ -47,7 +47,7 @@ module _ (size : Size) (m : State) (r : IsReached size m) (t k : ℕ) (used : (m
   held : IsGranted m k (lock_of t (m.txns t).graph open_one.grant)
   held = HandedIn t open_one.grant (record { granted = open_one.granted; still_open = open_one.current; holding = behind_locks (m.txns t).stage behind }) refl
 
-  own_none : EachInput (λ by ask. by.txn ≡ t → ⊥) (m.bricks k).line
+  pub own_none : EachInput (λ by ask. by.txn ≡ t → ⊥) (m.bricks k).line
   own_none =
       own_each m k t None (m.bricks k).line ((on_their_way size m r).numbered k).line
       (connects_come_first size m r k (m.txns t).graph (both_left _ _ open_one.current)).line

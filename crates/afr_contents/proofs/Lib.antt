@@ -13,6 +13,7 @@ pub mod Naming
 pub mod Lasting
 pub mod Using
 pub mod Confirming
+pub mod Inputs
 pub mod Clean
 pub mod Once
 pub mod Copying
@@ -27,5 +28,7 @@ pub mod LeftGood
 pub mod Coming
 pub mod Laws
 pub mod ShownMoves
+pub mod ReadAsks
+pub mod ReadShows
 pub mod Present
 pub mod Split
