@@ -30,5 +30,6 @@ pub mod Laws
 pub mod ShownMoves
 pub mod ReadAsks
 pub mod ReadShows
+pub mod Verdicts
 pub mod Present
 pub mod Split

@@ -16,9 +16,10 @@ use Rattle.afr_machine.specs.Requests.Input.{Asked}
 use Rattle.afr_machine.specs.Bricks.{stored_by, answer_of, answer_of_fetch}
 use Rattle.afr_machine.specs.Transactions.{Stage, Txn, cells_of_job, settles_first, is_over, may_hold}
 use Rattle.afr_machine.specs.Transactions.Work.{Own, Settles}
-use Rattle.afr_machine.specs.Transactions.Stage.{Over, Locking, Locked, Copying}
+use Rattle.afr_machine.specs.Transactions.Stage.{Over, Locking, Locked, Copying, Polling, Unlocking}
 use Rattle.afr_machine.specs.States.{State, is_current, phase_of}
-use Rattle.afr_machine.specs.Turns.{MayReach, open_grants}
+use Rattle.afr_machine.specs.Answering.{passed}
+use Rattle.afr_machine.specs.Turns.{MayReach, IsCopied, open_grants}
 use Rattle.afr_machine.specs.Steps.{Step, Allowed, after, IsReached, IsRefusal}
 use Rattle.afr_machine.specs.Moves.{IsTaken}
 use Rattle.afr_machine.proofs.BrickMoves.{bricks_move}
@@ -28,6 +29,7 @@ use Rattle.afr_laws.specs.Fresh.{is_behind}
 use Rattle.afr_laws.specs.OwnChanges.{was_unsettled}
 use Rattle.afr_laws.proofs.Bools.{apart_bools, both}
 use Rattle.afr_laws.proofs.Copies.Asks.{share_at}
+use Rattle.afr_laws.proofs.Fresh.Turns.{copied_behind, copies_behind}
 use Rattle.afr_laws.proofs.OwnChanges.Steps.{changes_are_own}
 use Rattle.afr_laws.proofs.Sound.{soundness_is_counted}
 use Rattle.afr_laws.proofs.Standing.Steps.{links_back}
@@ -243,3 +245,108 @@ module _ (size : Size) (m : State) (is_size : IsSize size) (r : IsReached size m
 replies_show : (size : Size) (m : State) → IsSize size → IsReached size m → RepliesShow m
 replies_show size m is_size IsReached.Start = λ k. tt
 replies_show size m is_size (IsReached.Further old step reached allowed) = λ k. replies_after size old is_size reached step allowed k (replies_show size old is_size reached k)
+
+-- ---- what is shown
+
+passed_over : (stage : Stage) → is_over (passed stage) ≡ is_over stage
+passed_over (Locking cells shared next) = refl
+passed_over other = refl
+
+keeps_over : (old later : Stage) → StageKeeps old later → is_over later ≡ is_over old
+keeps_over old later (StageKeeps.StaysIn is) = ap is_over is
+keeps_over old later (StageKeeps.PassesOn is) = ap is_over is ∙ passed_over old
+keeps_over old later (StageKeeps.CopiesOn run other was is same) = ap is_over is ∙ sym (ap is_over was)
+
+behind_runs : (stage : Stage) → is_behind stage ≡ true → is_over stage ≡ false
+behind_runs Over h = absurd (let no : false ≡ true = h in cc)
+behind_runs other h = refl
+
+copied_runs : (stage : Stage) → IsCopied stage → is_over stage ≡ false
+copied_runs stage h = behind_runs stage (copied_behind stage h)
+
+holds_runs : (stage : Stage) → may_hold stage ≡ true → is_over stage ≡ false
+holds_runs Over h = absurd (let no : false ≡ true = h in cc)
+holds_runs other h = refl
+
+rests_runs : (stage : Stage) → (stage ≡ Unlocking) ⊎ (stage ≡ Polling) → is_over stage ≡ false
+rests_runs stage (inl is) = ap is_over is
+rests_runs stage (inr is) = ap is_over is
+
+module _ (size : Size) (m : State) (is_size : IsSize size) (r : IsReached size m) (was : ReadsShowAdopted m) (step : Step) (allowed : Allowed size m step) (t : ℕ) (cell : Cell) (found : Fetched) where
+  abbrev next : State
+  next = after size m step
+
+  not_copying : (stage : Stage) (k : ℕ) → is_copying stage ≡ false → IsFetching stage k cell → ⊥
+  not_copying (Copying run) k plain h = absurd (let no : true ≡ false = plain in cc)
+  not_copying other k plain h = absurd h
+
+  -- what comes now is right
+  module _ (now : ShowsNow m step t cell found) where
+    locked_by : ((m.txns now.by.txn).stage ≡ Locked) × IsReadOf (m.txns now.by.txn).job cell ⊎ IsFetching (m.txns now.by.txn).stage now.brick cell → (m.txns now.by.txn).stage ≡ Locked
+    locked_by (inl reads) = reads.0
+    locked_by (inr fetches) = absurd (not_copying (m.txns now.by.txn).stage now.brick (ap (λ n. is_copying (m.txns n).stage) now.txn ∙ now.plain) fetches)
+
+    locked_now : (m.txns now.by.txn).stage ≡ Locked
+    locked_now = locked_by (handed_asked size m r now.brick now.by (Fetch cell) (Shows found) now.handed)
+
+    member : IsMemberOf (phase_of m now.by.txn) (m.txns now.by.txn) now.brick
+    member = asked_are_members size m r now.by.txn now.brick (ap is_behind locked_now) (handed_waits size m r now.brick now.by (Fetch cell) (Shows found) now.handed)
+
+    used_now : IsUsed m now.by.txn now.brick
+    used_now = record {
+      not_out = member.not_out;
+      held = both ((phase_of m now.by.txn).reached now.brick) (open_grants m now.by.txn now.brick) member.reached (handed_open size m r now.brick now.by (Fetch cell) (Shows found) now.handed (ap is_behind locked_now));
+    }
+
+    right : ReadRight m now.by.txn cell found
+    right = reply_at (ShowsRead m now.brick) now.by (Fetch cell) (Shows found) (m.bricks now.brick).outputs (replies_show size m is_size r now.brick)
+        (subst (IsReplyIn now.by (Fetch cell) (Shows found)) (sym now.handed.front) (inl (refl, (refl, refl)))) now.handed.current locked_now used_now
+
+    shown_now : IsShown m t cell found
+    shown_now = subst (λ n. IsShown m n cell found) now.txn (record {
+      reads = right.reads;
+      settled = ((changes_are_own size m r).own now.by.txn).settled right.work (ap may_hold locked_now);
+      adopted = λ runs. right.adopted;
+    })
+
+  -- and stays so
+  module _ (s : IsShown m t cell found) where
+    kept : (y : Txn) → next.txns t ≡ y → y.job ≡ (m.txns t).job → ((m.txns t).settled ≡ true → y.settled ≡ true) → (is_over y.stage ≡ false → is_over (m.txns t).stage ≡ false) → IsShown next t cell found
+    kept y is same_job more ran = record {
+      reads = subst (λ j. IsReadOf j cell) (sym (ap (λ (z : Txn). z.job) is ∙ same_job)) s.reads;
+      settled = ap (λ (z : Txn). z.settled) is ∙ more s.settled;
+      adopted = λ runs. by_run (ran (sym (ap (λ (z : Txn). is_over z.stage) is) ∙ runs));
+    } where
+      by_run : is_over (m.txns t).stage ≡ false → IsAdoptedCopy next cell found.copy
+      by_run runs = adopted_goes size m is_size r step allowed cell found.copy (undecided size m is_size r step allowed t cell s.reads s.settled runs) (s.adopted runs)
+
+    running : (stage : Stage) → (m.txns t).stage ≡ stage → is_over stage ≡ false → is_over (m.txns t).stage ≡ false
+    running stage is h = ap is_over is ∙ h
+
+    shown_stays : ((next.txns t).shown cell ≡ Some found) → TxnMove size m step t (next.txns t) → IsShown next t cell found
+    shown_stays shown (TxnMove.Goes quiet g) = kept (next.txns t) refl g.task.own.job (λ h. g.task.own.settled ∙ h) (λ h. sym (keeps_over (m.txns t).stage (next.txns t).stage g.stage) ∙ h)
+    shown_stays shown (TxnMove.Begins graph own step_is at is) = absurd (let no : None ≡ Some found = sym (ap (λ (z : Txn). z.shown cell) is) ∙ shown in cc)
+    shown_stays shown (TxnMove.Locks Own step_is may is) = kept _ is refl (λ h. refl) (λ h. running _ may.turn refl)
+    shown_stays shown (TxnMove.Locks (Settles u) step_is may is) = kept _ is refl (λ h. h) (λ h. running _ may.turn refl)
+    shown_stays shown (TxnMove.Reaches step_is may is) = kept _ is refl (λ h. h) (λ h. running _ may.turn refl)
+    shown_stays shown (TxnMove.Marks step_is may is) = kept _ is refl (λ h. h) (λ h. copied_runs (m.txns t).stage may.copied)
+    shown_stays shown (TxnMove.Unsettles step_is may is) = kept _ is refl (λ h. h) (λ h. running _ may.turn refl)
+    shown_stays shown (TxnMove.Posts step_is may is) = kept _ is refl (λ h. h) (λ h. running _ may.turn refl)
+    shown_stays shown (TxnMove.SettlesAs group adopts step_is may is) = kept _ is refl (λ h. h) (λ h. running _ may.turn refl)
+    shown_stays shown (TxnMove.Bears step_is may is) = kept _ is refl (λ h. h) (λ h. running _ may.turn refl)
+    shown_stays shown (TxnMove.Copies run step_is may is) = kept _ is refl (λ h. h) (λ h. behind_runs (m.txns t).stage (copies_behind m t (m.txns t).work run.group may.allowed))
+    shown_stays shown (TxnMove.Clears step_is may is) = kept _ is refl (λ h. h) (λ h. running _ may.turn refl)
+    shown_stays shown (TxnMove.Polls step_is may is) = kept _ is refl (λ h. h) (λ h. running _ may.turn refl)
+    shown_stays shown (TxnMove.Unlocks step_is may is) = kept _ is refl (λ h. h) (λ h. holds_runs (m.txns t).stage may.turn)
+    shown_stays shown (TxnMove.Rests step_is may is) = kept _ is refl (λ h. h) (λ h. rests_runs (m.txns t).stage may.turn)
+    shown_stays shown (TxnMove.Ends step_is may is) = kept _ is refl (λ h. h) (λ h. running _ may refl)
+
+  shown_after : (next.txns t).shown cell ≡ Some found → IsShown next t cell found
+  shown_after shown = by_case (shown_from size m step allowed t cell found shown) where
+    by_case : ((m.txns t).shown cell ≡ Some found) ⊎ ShowsNow m step t cell found → IsShown next t cell found
+    by_case (inl old) = shown_stays (was t cell found old) shown (txn_moves size m step allowed t)
+    by_case (inr now) = shown_stays (shown_now now) shown (txn_moves size m step allowed t)
+
+pub reads_show_adopted : EveryReadShowsAdopted
+reads_show_adopted size m is_size IsReached.Start = λ t cell found shown. absurd (let no : None ≡ Some found = shown in cc)
+reads_show_adopted size m is_size (IsReached.Further old step reached allowed) = λ t cell found shown. shown_after size old is_size reached (reads_show_adopted size old is_size reached) step allowed t cell found shown

@@ -9,5 +9,6 @@ pub mod Naming
 pub mod Lasting
 pub mod Coming
 pub mod Reading
+pub mod Verdicts
 pub mod Present
 pub mod Split
