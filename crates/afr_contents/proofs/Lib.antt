@@ -31,5 +31,6 @@ pub mod ShownMoves
 pub mod ReadAsks
 pub mod ReadShows
 pub mod Verdicts
+pub mod Agreeing
 pub mod Present
 pub mod Split

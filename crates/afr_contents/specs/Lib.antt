@@ -10,5 +10,6 @@ pub mod Lasting
 pub mod Coming
 pub mod Reading
 pub mod Verdicts
+pub mod Guarded
 pub mod Present
 pub mod Split

@@ -1,42 +1,11 @@
-ghost use Rattle.afr_contents.specs.Adopted.{EveryAdoptedIsAsBorn, EveryChangeIsOfAdopted};
-ghost use Rattle.afr_contents.specs.Found.{FreeIsGood, GoodIsSettled, ReadyHaveAdopted, AppliersHaveAdopted, SourcesAreGood};
+ghost use Rattle.afr_contents.specs.Found.{AppliersHaveAdopted, SourcesAreGood};
 ghost use Rattle.afr_contents.specs.Present.{EveryChangeIsPresent};
 ghost use Rattle.afr_contents.specs.Split.{SeenAllHasSound};
+ghost use Rattle.afr_contents.specs.Verdicts.{EveryConfirmedEqualsSource};
 
-/// The law of births that are adopted, of every state that allowed steps lead to: a cell without adopted changes has the
-/// content that it was born with, once its birth is adopted.
-pub fn every_adopted_is_as_born()
-    ensures { EveryAdoptedIsAsBorn }
-{}
-
-/// The law of unsettled changes and what is adopted, of every state that allowed steps lead to: each cell of an unsettled change has
-/// an adopted content, so its birth is adopted.
-pub fn every_change_is_of_adopted()
-    ensures { EveryChangeIsOfAdopted }
-{}
-
-/// The law of free replicas, of every state that allowed steps lead to, for one, three and five replicas: whoever has a copy of a cell,
-/// does not accuse itself and is accused by fewer than a quorum is good on it.
-pub fn free_is_good()
-    ensures { FreeIsGood }
-{}
-
-/// The law of what is settled, of every state that allowed steps lead to. While a read runs and its settling has ended, and
-/// while a change does so that has not become unsettled, a good copy of one of its cells has exactly the cell's adopted
-/// changes and the content that is adopted.
-pub fn good_is_settled()
-    ensures { GoodIsSettled }
-{}
-
-/// The law of what is ready, of every state that allowed steps lead to, for one, three and five replicas. Behind its own lock phase, and
-/// before its change becomes unsettled, a read or change finds in each replica that was sound on a cell in that lock phase, or
-/// received a copy, exactly the cell's adopted changes and the content that is adopted, also where its grant has ended.
-pub fn ready_have_adopted()
-    ensures { ReadyHaveAdopted }
-{}
-
-/// The law of ops, of the same states. While an unsettled change is applied, a replica that is ready for it in its lock phase, is
-/// spared from then on, and has not applied it, has exactly the cell's adopted changes and the content that is adopted.
+/// The law of ops, of every state that allowed steps lead to, for one, three and five replicas. While an unsettled change is applied, a
+/// replica that is ready for it in its lock phase, is spared from then on, and has not applied it, has exactly the cell's
+/// adopted changes and the content that is adopted.
 pub fn appliers_have_adopted()
     ensures { AppliersHaveAdopted }
 {}
@@ -45,6 +14,12 @@ pub fn appliers_have_adopted()
 /// good on the cell, and so is what was fetched from one that the transaction uses still.
 pub fn sources_are_good()
     ensures { SourcesAreGood }
+{}
+
+/// The law of confirmed copies, of every state that allowed steps lead to. A sink that confirmed the replacement of a cell has the copy of
+/// one of the sources, with its last change, while the transaction uses both.
+pub fn every_confirmed_equals_source()
+    ensures { EveryConfirmedEqualsSource }
 {}
 
 /// The law of copies that are there, of every state that allowed steps lead to. A replica whose copy a lock phase saw has one
