@@ -1,6 +1,6 @@
 -- Copies agree, and with that all that a guarded set keeps.
-use Rattle.std.proofs.Common.{◌≡◌, ◌∙◌, ℕ, Bool, true, refl, sym, ap, inl, inr, ◌⊎◌, arith, Option}
-use Rattle.std.specs.Prelude.{◌∷◌, not}
+use Rattle.std.proofs.Common.{◌∙◌, sym, ap, inl, inr, ◌⊎◌, arith, Option}
+use Rattle.std.specs.Prelude.{not}
 use Rattle.fop_types.specs.declared.cells.Cell.{Cell}
 use Rattle.afr_machine.specs.Replicas.{Size}
 use Rattle.afr_machine.specs.Copies.{Copy, changes_of}

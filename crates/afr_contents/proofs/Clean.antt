@@ -1,6 +1,6 @@
 -- At a brick that a transaction uses and of which it awaits no answer, no request in the line changes a copy of its cells.
 use Rattle.std.proofs.Common.{◌≡◌, ◌∙◌, ℕ, Bool, true, false, refl, sym, ap, subst, ◌⊎◌, inl, inr}
-use Rattle.std.specs.Prelude.{List, [], ◌∷◌, ◌++◌, ◌≢◌}
+use Rattle.std.specs.Prelude.{List, [], ◌++◌, ◌≢◌}
 use Rattle.std.proofs.lemmas.Bool.{cases_eq}
 use Rattle.fop_types.specs.declared.cells.Cell.{Cell}
 use Rattle.afr_machine.specs.Replicas.{Size}

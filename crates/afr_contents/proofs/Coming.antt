@@ -1,15 +1,14 @@
 -- Copies are good, or their replicas accused for good, and so is what is on its way to them, over every list of steps.
-use Rattle.std.proofs.Common.{◌≡◌, ◌∙◌, ℕ, Bool, true, false, refl, sym, ap, ◌⊎◌, inl, inr, Option, Some, None}
-use Rattle.std.specs.Prelude.{List, [], if◌then◌else◌}
+use Rattle.std.proofs.Common.{◌≡◌, ◌∙◌, Bool, true, false, refl, sym, ap, inl, Option, Some, None}
+use Rattle.std.specs.Prelude.{[], if◌then◌else◌}
 use Rattle.fop_types.specs.Cells.{root, meta_cell, names_cell}
 use Rattle.fop_types.specs.declared.cells.Cell.{Cell}
 use Rattle.fop_types.specs.declared.contents.Content.TheVariants.{Meta, Names}
-use Rattle.afr_machine.specs.Replicas.{Size, IsSize}
+use Rattle.afr_machine.specs.Replicas.{Size}
 use Rattle.afr_machine.specs.Touching.{is_cell}
-use Rattle.afr_machine.specs.Copies.{Copy, Kept, content_of, changes_of, nothing_kept, born_as, root_alone}
-use Rattle.afr_machine.specs.Transactions.{Stage}
-use Rattle.afr_machine.specs.States.{State, start}
-use Rattle.afr_machine.specs.Steps.{Step, Allowed, after, IsReached}
+use Rattle.afr_machine.specs.Copies.{Copy, content_of, changes_of, nothing_kept, born_as, root_alone}
+use Rattle.afr_machine.specs.States.{start}
+use Rattle.afr_machine.specs.Steps.{IsReached}
 use Rattle.afr_laws.specs.Seen.{is_applying}
 use Rattle.afr_soundness.specs.Copied.{is_copying}
 use Rattle.afr_contents.specs.Adopted.{first_of}

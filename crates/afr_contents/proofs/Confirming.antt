@@ -1,12 +1,12 @@
 -- A sink that confirms a replacement: its transaction uses it, before the step and after it.
-use Rattle.std.proofs.Common.{◌≡◌, ◌∙◌, ℕ, Bool, true, false, refl, sym, ap, subst}
-use Rattle.std.specs.Prelude.{if◌then◌else◌, Option}
+use Rattle.std.proofs.Common.{◌≡◌, ◌∙◌, ℕ, true, refl, sym, ap, subst}
+use Rattle.std.specs.Prelude.{if◌then◌else◌}
 use Rattle.fop_types.specs.declared.cells.Cell.{Cell}
-use Rattle.afr_machine.specs.Replicas.{Replicas, Size, with_at}
+use Rattle.afr_machine.specs.Replicas.{Replicas, Size}
 use Rattle.afr_machine.specs.Copies.{Fetched}
-use Rattle.afr_machine.specs.Requests.{Sender, Ask, Answer}
+use Rattle.afr_machine.specs.Requests.{Sender, Answer}
 use Rattle.afr_machine.specs.Requests.Ask.{Replace, OpenFirst}
-use Rattle.afr_machine.specs.Transactions.{Grant, CopyRun, Stage, Txn}
+use Rattle.afr_machine.specs.Transactions.{CopyRun, Stage, Txn}
 use Rattle.afr_machine.specs.Transactions.Stage.{Copying}
 use Rattle.afr_machine.specs.States.{State, Link, is_current, phase_of}
 use Rattle.afr_machine.specs.Answering.{with_replaced, replacing, taking, missing, hearing, at_rest, replied, without_first_output}

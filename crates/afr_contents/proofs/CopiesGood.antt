@@ -1,21 +1,16 @@
 -- Each copy is good, or its replica is accused for good: one step.
-use Rattle.std.proofs.Common.{◌≡◌, ◌∙◌, ℕ, ◌<◌, Bool, true, false, refl, sym, ap, subst, ◌⊎◌, inl, inr, Option, Some, None}
+use Rattle.std.proofs.Common.{◌≡◌, ◌∙◌, ℕ, ◌<◌, Bool, true, false, refl, sym, ap, subst, ◌⊎◌, inl, inr, Option, Some}
 use Rattle.std.specs.Prelude.{List, [], ◌∷◌, ◌||◌}
-use Rattle.fop_types.specs.StoreOps.{needs}
 use Rattle.fop_types.specs.declared.cells.Cell.{Cell}
-use Rattle.fop_types.specs.declared.store_ops.StoreOp.{StoreOp}
-use Rattle.afr_machine.specs.Replicas.{Replicas, Size, IsSize, nobody}
+use Rattle.afr_machine.specs.Replicas.{Size, IsSize, nobody}
 use Rattle.afr_machine.specs.Touching.{is_cell, has_cell}
-use Rattle.afr_machine.specs.Copies.{Copy, Fetched, changes_of, has_change}
-use Rattle.afr_machine.specs.Requests.{Sender, Ask, Answer, Input, Output}
+use Rattle.afr_machine.specs.Copies.{Copy, changes_of, has_change}
+use Rattle.afr_machine.specs.Requests.{Sender, Ask, Input, Output}
 use Rattle.afr_machine.specs.Requests.Ask.{Op, Replace}
 use Rattle.afr_machine.specs.Requests.Input.{Asked}
 use Rattle.afr_machine.specs.Requests.Output.{Answered}
 use Rattle.afr_machine.specs.Bricks.{stored_by}
-use Rattle.afr_machine.specs.Changes.{is_unsettled}
-use Rattle.afr_machine.specs.Transactions.{CopyRun}
-use Rattle.afr_machine.specs.Transactions.Stage.{Copying}
-use Rattle.afr_machine.specs.States.{State, phase_of}
+use Rattle.afr_machine.specs.States.{State}
 use Rattle.afr_machine.specs.Sending.{is_replaced}
 use Rattle.afr_machine.specs.Steps.{Step, Allowed, after, IsReached}
 use Rattle.afr_laws.specs.Senders.{EachInput}
@@ -28,14 +23,14 @@ use Rattle.afr_soundness.proofs.Copied.Steps.{copies_stand}
 use Rattle.afr_contents.specs.Good.{IsGood, IsGoodAt}
 use Rattle.afr_contents.specs.Naming.{is_copied_to, held_by}
 use Rattle.afr_contents.specs.Lasting.{IsAccusedApart}
-use Rattle.afr_contents.specs.Coming.{FindsSettled, IsRightAt, IsUsed, ComesGood}
+use Rattle.afr_contents.specs.Coming.{IsRightAt, IsUsed, ComesGood}
 use Rattle.afr_contents.proofs.OpsGood.{op_makes}
 use Rattle.afr_contents.proofs.Keeping.{DecidesOn}
 use Rattle.afr_contents.proofs.Naming.{ConfirmsNow}
 use Rattle.afr_contents.proofs.Using.{held_granted}
 use Rattle.afr_contents.proofs.Confirming.{now_used}
 use Rattle.afr_contents.proofs.Lasting.{next_reached}
-use Rattle.afr_contents.proofs.Decided.{IsAsDecided, new_is, left_out_now, decided_accused}
+use Rattle.afr_contents.proofs.Decided.{new_is, left_out_now, decided_accused}
 use Rattle.afr_contents.proofs.Values.{same_or_not, accused_of, found_copy, value_goes, accused_on, stored_good, moved}
 use Rattle.afr_contents.proofs.FetchedGood.{IsCopiedTo, copied_run, fetched_after}
 

@@ -1,7 +1,7 @@
 -- A transaction that may come to copy, and an unsettled change of one of its cells that it does not settle: its lock phase came before
 -- the change, so it holds no brick that has the change or confirmed a decision of it.
 use Rattle.std.proofs.Common.{◌≡◌, ◌∙◌, ℕ, ◌≤◌, ◌<◌, Bool, true, false, refl, sym, ap, subst, ◌⊎◌, inl, inr, arith, Option, Some, None}
-use Rattle.std.specs.Prelude.{List, ◌≢◌}
+use Rattle.std.specs.Prelude.{◌≢◌}
 use Rattle.std.proofs.lemmas.Bool.{cases_eq, cases_lt}
 use Rattle.fop_types.specs.declared.cells.Cell.{Cell}
 use Rattle.fop_types.specs.declared.jobs.Job.{Job}
@@ -16,9 +16,8 @@ use Rattle.afr_machine.specs.Transactions.Work.{Own, Settles}
 use Rattle.afr_machine.specs.Transactions.Stage.{Locked, Settling, Copying}
 use Rattle.afr_machine.specs.States.{State, phase_of}
 use Rattle.afr_machine.specs.Births.{cells_of_work}
-use Rattle.afr_machine.specs.Turns.{open_grants}
 use Rattle.afr_machine.specs.Steps.{IsReached}
-use Rattle.afr_laws.specs.Fresh.{is_behind, IsWorkOf}
+use Rattle.afr_laws.specs.Fresh.{is_behind}
 use Rattle.afr_laws.specs.Work.{shares_of, changes_in}
 use Rattle.afr_laws.proofs.Bools.{apart_bools, is_or_not}
 use Rattle.afr_laws.proofs.Copies.Asks.{share_at}
@@ -44,9 +43,8 @@ use Rattle.afr_decisions.proofs.Confirmed.{keeps_confirmed}
 use Rattle.afr_decisions.proofs.Settlings.{settlings_stand}
 use Rattle.afr_decisions.proofs.Shown.{decided_cells}
 use Rattle.afr_decisions.proofs.Stands.{decides_of}
-use Rattle.afr_contents.specs.Naming.{MayCopyFrom, CanSource, IsSourceFor, held_by}
-use Rattle.afr_contents.proofs.Naming.{source_behind}
-use Rattle.afr_contents.proofs.Using.{held_reached, held_granted, source_alone}
+use Rattle.afr_contents.specs.Naming.{MayCopyFrom, CanSource, held_by}
+use Rattle.afr_contents.proofs.Using.{held_reached, held_granted}
 
 module _ (size : Size) (m : State) (r : IsReached size m) (u : ℕ) (unsettled : is_unsettled (m.changes u).verdict ≡ true) (cell : Cell) (touches : has_cell (m.changes u).cells cell ≡ true) where
   marked : IsMarked m u

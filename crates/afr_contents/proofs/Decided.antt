@@ -1,17 +1,17 @@
 -- A step that decides an unsettled change: each replica is as decided, or a quorum accuses it for good on each of the change's cells.
 use Rattle.std.proofs.Common.{◌≡◌, ◌∙◌, ℕ, ◌≤◌, ◌<◌, Bool, true, false, refl, sym, ap, subst, ◌⊎◌, inl, inr, arith, Option, Some, None}
-use Rattle.std.specs.Prelude.{List, ◌≢◌, ◌&&◌, not}
+use Rattle.std.specs.Prelude.{◌≢◌, ◌&&◌, not}
 use Rattle.std.proofs.lemmas.Bool.{cases_eq, cases_lt}
 use Rattle.fop_types.specs.StoreOps.{needs}
 use Rattle.fop_types.specs.declared.cells.Cell.{Cell}
 use Rattle.fop_types.specs.declared.store_ops.StoreOp.{StoreOp}
-use Rattle.afr_machine.specs.Replicas.{Replicas, Size, IsSize, outside, with_at}
+use Rattle.afr_machine.specs.Replicas.{Replicas, Size, IsSize}
 use Rattle.afr_machine.specs.Touching.{has_cell, share}
 use Rattle.afr_machine.specs.Copies.{has_change}
-use Rattle.afr_machine.specs.Requests.{Sender, Ask}
+use Rattle.afr_machine.specs.Requests.{Ask}
 use Rattle.afr_machine.specs.Requests.Ask.{Op}
 use Rattle.afr_machine.specs.Changes.{Change, is_unsettled, verdict_of}
-use Rattle.afr_machine.specs.Phases.{Deciding as PhaseDeciding, IsSoundIn}
+use Rattle.afr_machine.specs.Phases.{Deciding as PhaseDeciding}
 use Rattle.afr_machine.specs.Phases.Deciding.{NoChange, ByPosts, BySettles}
 use Rattle.afr_machine.specs.Transactions.{Grant, Stage}
 use Rattle.afr_machine.specs.Transactions.Stage.{Settling, Copying}
@@ -55,7 +55,7 @@ use Rattle.afr_decisions.proofs.Stands.{decides_of, group_has, spared_has, some_
 use Rattle.afr_contents.specs.Staying.{accusers_staying, pardons_coming, SendsPardon}
 use Rattle.afr_contents.specs.Spread.{HasAsDecided}
 use Rattle.afr_contents.specs.Naming.{CanSource, IsSourceFor, is_copied_to, held_by, MayPardon}
-use Rattle.afr_contents.specs.Lasting.{IsLasting, IsAccusedApart}
+use Rattle.afr_contents.specs.Lasting.{IsAccusedApart}
 use Rattle.afr_contents.proofs.Staying.{accusations_stay}
 use Rattle.afr_contents.proofs.Spread.{none_coming, is_outside}
 use Rattle.afr_contents.proofs.Settled.{Deciding}

@@ -1,14 +1,12 @@
 -- What was fetched for a copy is good, or whoever it may be put to is accused by a quorum apart from the bricks that the transaction
 -- holds: one step.
-use Rattle.std.proofs.Common.{◌≡◌, ◌∙◌, ℕ, ◌<◌, Bool, true, false, refl, sym, ap, subst, ◌⊎◌, inl, inr, Option, Some, None}
-use Rattle.std.specs.Prelude.{◌≢◌}
-use Rattle.std.proofs.lemmas.Bool.{cases_eq}
+use Rattle.std.proofs.Common.{◌≡◌, ◌∙◌, ℕ, ◌<◌, true, false, refl, sym, ap, subst, ◌⊎◌, inl, inr, Option, Some, None}
 use Rattle.fop_types.specs.declared.cells.Cell.{Cell}
 use Rattle.afr_machine.specs.Replicas.{Replicas, Size, IsSize}
 use Rattle.afr_machine.specs.Touching.{has_cell}
 use Rattle.afr_machine.specs.Copies.{Copy, Fetched, changes_of, has_change}
 use Rattle.afr_machine.specs.Requests.{Sender}
-use Rattle.afr_machine.specs.Requests.Ask.{Fetch, Replace}
+use Rattle.afr_machine.specs.Requests.Ask.{Fetch}
 use Rattle.afr_machine.specs.Requests.Answer.{Content}
 use Rattle.afr_machine.specs.Transactions.{CopyRun, Stage}
 use Rattle.afr_machine.specs.Transactions.Stage.{Locked, Copying}
@@ -18,7 +16,7 @@ use Rattle.afr_machine.specs.Turns.{IsSource, open_grants}
 use Rattle.afr_machine.specs.Steps.{Step, Allowed, after, IsReached}
 use Rattle.afr_laws.specs.Asking.{IsReadOf, IsFetching, IsAskedBy}
 use Rattle.afr_laws.specs.Fresh.{is_behind}
-use Rattle.afr_laws.specs.Work.{shares_of, changes_in}
+use Rattle.afr_laws.specs.Work.{changes_in}
 use Rattle.afr_laws.proofs.Bools.{apart_bools, both, both_left, both_right, is_or_not}
 use Rattle.afr_laws.proofs.Work.Known.{works_are_known}
 use Rattle.afr_soundness.specs.Copied.{Uses, ShowsCopy, copy_at, is_copying}
@@ -45,7 +43,7 @@ use Rattle.afr_contents.proofs.Using.{Alone, used_alone, held_granted}
 use Rattle.afr_contents.proofs.Confirming.{now_used}
 use Rattle.afr_contents.proofs.Lasting.{next_reached}
 use Rattle.afr_contents.proofs.Copying.{CameBefore, held_without, held_unconfirmed, copying_before}
-use Rattle.afr_contents.proofs.Decided.{by_quorum, phase, held_still, left_out_now, decided_accused}
+use Rattle.afr_contents.proofs.Decided.{by_quorum, phase, left_out_now, decided_accused}
 use Rattle.afr_contents.proofs.Values.{found_copy, value_goes, accused_on}
 
 -- a sink that may be named is one of a copy

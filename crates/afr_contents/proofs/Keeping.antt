@@ -10,7 +10,7 @@ use Rattle.afr_machine.specs.Touching.{has_cell}
 use Rattle.afr_machine.specs.Copies.{Copy, changes_of, has_change}
 use Rattle.afr_machine.specs.Changes.{Change, is_unsettled}
 use Rattle.afr_machine.specs.States.{State}
-use Rattle.afr_machine.specs.Steps.{Step, Allowed, after, IsReached, decided}
+use Rattle.afr_machine.specs.Steps.{Step, Allowed, after, IsReached}
 use Rattle.afr_laws.proofs.Bools.{apart_bools, is_or_not}
 use Rattle.afr_laws.proofs.Copies.Asks.{share_at}
 use Rattle.afr_laws.proofs.Copies.Contents.{needed_present}

@@ -1,16 +1,15 @@
 -- Who accuses a replica for good goes on doing so, until a sink confirms its replacements; and whoever a lock phase that ends now
 -- finds sound is accused by no quorum.
-use Rattle.std.proofs.Common.{◌≡◌, ◌∙◌, ℕ, ◌≤◌, ◌<◌, Bool, true, false, refl, sym, ap, subst, ◌⊎◌, inl, inr, arith, Option, Some, None}
+use Rattle.std.proofs.Common.{◌≡◌, ◌∙◌, ℕ, ◌≤◌, ◌<◌, true, false, sym, ap, subst, ◌⊎◌, inl, inr, arith, Option, Some, None}
 use Rattle.std.specs.Prelude.{List, ◌+◌, ◌||◌, not}
 use Rattle.fop_types.specs.declared.cells.Cell.{Cell}
 use Rattle.afr_machine.specs.Replicas.{Replicas, Size, IsSize, count}
 use Rattle.afr_machine.specs.Touching.{has_cell}
-use Rattle.afr_machine.specs.Requests.Ask.{Clear}
 use Rattle.afr_machine.specs.Phases.{Phase, IsSoundIn}
-use Rattle.afr_machine.specs.Transactions.{CopyRun, Txn}
-use Rattle.afr_machine.specs.Transactions.Stage.{Locked, Copying}
+use Rattle.afr_machine.specs.Transactions.{Txn}
+use Rattle.afr_machine.specs.Transactions.Stage.{Locked}
 use Rattle.afr_machine.specs.States.{State, phase_of}
-use Rattle.afr_machine.specs.Sending.{MayClear, cleared_by, is_confirmed_sink}
+use Rattle.afr_machine.specs.Sending.{MayClear, is_confirmed_sink}
 use Rattle.afr_machine.specs.Turns.{Turn, IsSource, open_grants, phase_reached}
 use Rattle.afr_machine.specs.Steps.{Step, Allowed, after, IsReached}
 use Rattle.afr_machine.proofs.Tables.{at_same}
@@ -19,7 +18,7 @@ use Rattle.afr_laws.specs.Sound.{accusers_coming}
 use Rattle.afr_laws.proofs.Bools.{apart_bools, is_or_not, both, either_way}
 use Rattle.afr_laws.proofs.Counts.{count_within}
 use Rattle.afr_soundness.specs.Clears.{IsFree}
-use Rattle.afr_soundness.specs.Runs.{KnowsRun, IsSourceOf}
+use Rattle.afr_soundness.specs.Runs.{KnowsRun}
 use Rattle.afr_soundness.proofs.Free.{last_spares, ready_is_free}
 use Rattle.afr_soundness.proofs.Runs.{runs_are_known}
 use Rattle.afr_contents.specs.Staying.{accusers_staying, SendsPardon}

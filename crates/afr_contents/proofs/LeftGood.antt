@@ -1,22 +1,20 @@
 -- A brick to which the op of an unsettled change is still to be sent has exactly the adopted changes of its cells: one step.
-use Rattle.std.proofs.Common.{◌≡◌, ◌∙◌, ℕ, ◌≤◌, ◌<◌, Bool, true, false, refl, sym, ap, subst, ◌⊎◌, inl, inr, arith, Some}
+use Rattle.std.proofs.Common.{◌≡◌, ◌∙◌, ℕ, ◌≤◌, ◌<◌, true, false, sym, ap, subst, ◌⊎◌, inl, inr, arith}
 use Rattle.std.specs.Prelude.{List, ◌∷◌}
 use Rattle.fop_types.specs.declared.cells.Cell.{Cell}
-use Rattle.fop_types.specs.declared.store_ops.StoreOp.{StoreOp}
-use Rattle.afr_machine.specs.Replicas.{Replicas, Size, IsSize, nobody, count}
+use Rattle.afr_machine.specs.Replicas.{Size, IsSize, nobody}
 use Rattle.afr_machine.specs.Touching.{has_cell}
-use Rattle.afr_machine.specs.Copies.{Fetched}
 use Rattle.afr_machine.specs.Requests.{Sender, Ask, Input}
 use Rattle.afr_machine.specs.Requests.Ask.{Op, Replace}
 use Rattle.afr_machine.specs.Requests.Input.{Asked}
-use Rattle.afr_machine.specs.Changes.{Change, is_unsettled}
+use Rattle.afr_machine.specs.Changes.{is_unsettled}
 use Rattle.afr_machine.specs.Changes.Verdict.{Drawn}
-use Rattle.afr_machine.specs.Transactions.{Stage, Txn, cells_of_job, is_over}
+use Rattle.afr_machine.specs.Transactions.{is_over}
 use Rattle.afr_machine.specs.Transactions.Work.{Own}
 use Rattle.afr_machine.specs.Transactions.Stage.{Marking, Applying, Bearing}
 use Rattle.afr_machine.specs.States.{State, phase_of}
 use Rattle.afr_machine.specs.Births.{cells_of_work}
-use Rattle.afr_machine.specs.Steps.{Step, Allowed, MayUnsettle, after, IsReached}
+use Rattle.afr_machine.specs.Steps.{Step, Allowed, after, IsReached}
 use Rattle.afr_laws.specs.Senders.{EachInput}
 use Rattle.afr_laws.specs.Asking.{IsAskedBy, IsReplacing}
 use Rattle.afr_laws.specs.Fresh.{is_behind, IsWorkOf}

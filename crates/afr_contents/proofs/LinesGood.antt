@@ -1,21 +1,21 @@
 -- What each op and replacement in a line brings is right, or its brick is accused on each cell that it changes: one step.
-use Rattle.std.proofs.Common.{◌≡◌, ◌∙◌, ℕ, ◌≤◌, ◌<◌, Bool, true, false, refl, sym, ap, subst, ◌⊎◌, inl, inr, arith, Option, Some, None}
-use Rattle.std.specs.Prelude.{List, [], ◌∷◌, ◌++◌}
+use Rattle.std.proofs.Common.{◌≡◌, ◌∙◌, ℕ, ◌<◌, Bool, true, false, refl, sym, ap, subst, ◌⊎◌, inl, inr, arith, Some}
+use Rattle.std.specs.Prelude.{List, ◌∷◌}
 use Rattle.fop_types.specs.StoreOps.{needs}
 use Rattle.fop_types.specs.Jobs.{IsJob}
 use Rattle.fop_types.specs.declared.cells.Cell.{Cell}
 use Rattle.fop_types.specs.declared.store_ops.StoreOp.{StoreOp}
-use Rattle.afr_machine.specs.Replicas.{Replicas, Size, IsSize, nobody}
+use Rattle.afr_machine.specs.Replicas.{Size, IsSize, nobody}
 use Rattle.afr_machine.specs.Touching.{is_cell, has_cell}
-use Rattle.afr_machine.specs.Copies.{Copy, Store, Fetched, changes_of, has_change}
+use Rattle.afr_machine.specs.Copies.{Copy, Store, Fetched, has_change}
 use Rattle.afr_machine.specs.Requests.{Sender, Ask, Input}
 use Rattle.afr_machine.specs.Requests.Ask.{Op, Replace}
-use Rattle.afr_machine.specs.Requests.Input.{Asked, Steered}
+use Rattle.afr_machine.specs.Requests.Input.{Asked}
 use Rattle.afr_machine.specs.Bricks.{Brick}
 use Rattle.afr_machine.specs.Changes.{Change, is_unsettled}
 use Rattle.afr_machine.specs.Transactions.{CopyRun, Stage}
 use Rattle.afr_machine.specs.Transactions.Stage.{Applying, Bearing, Copying}
-use Rattle.afr_machine.specs.States.{State, phase_of}
+use Rattle.afr_machine.specs.States.{State}
 use Rattle.afr_machine.specs.Sending.{MayAsk, asks_of, inputs_of, sender_of}
 use Rattle.afr_machine.specs.Steps.{Step, Allowed, after, IsReached}
 use Rattle.afr_machine.specs.Moves.{BrickMove, IsTaken}
@@ -26,13 +26,11 @@ use Rattle.afr_laws.specs.Asking.{IsAskedBy, IsReplacing}
 use Rattle.afr_laws.specs.Copies.{IsOpOf, Carries}
 use Rattle.afr_laws.specs.Fresh.{is_behind}
 use Rattle.afr_laws.proofs.Bools.{apart_bools, is_or_not, or_right}
-use Rattle.afr_laws.proofs.Connecting.{served_line, steered_line}
+use Rattle.afr_laws.proofs.Connecting.{served_line}
 use Rattle.afr_laws.proofs.Copies.Asks.{birth_needs}
 use Rattle.afr_laws.proofs.Copies.Served.{steered_store}
 use Rattle.afr_laws.proofs.Copies.Steps.{copies_are_of_changes}
 use Rattle.afr_laws.proofs.OwnChanges.Steps.{changes_are_own}
-use Rattle.afr_laws.proofs.Senders.{inputs_append}
-use Rattle.afr_laws.proofs.Sharing.{cells_are}
 use Rattle.afr_soundness.specs.CopyApart.{IsNoOpOf, IsWithout, IsCopyApart}
 use Rattle.afr_soundness.proofs.ChangeMoves.{ChangeMove, change_moves, cells_stay}
 use Rattle.afr_soundness.proofs.Copied.Lines.{each_both, recopied_by_own}

@@ -1,13 +1,13 @@
 -- Whom clears may name after a step: whom they might have named before, whoever is sound in a lock phase that ends now, or a sink
 -- that confirms a replacement now.
 use Rattle.std.proofs.Common.{◌≡◌, ◌∙◌, ℕ, ◌≤◌, ◌<◌, Bool, true, false, refl, sym, ap, subst, ◌⊎◌, inl, inr, arith, Option, Some, None}
-use Rattle.std.specs.Prelude.{List, [], ◌∷◌, ◌≢◌, ◌&&◌, ◌||◌, ◌==◌}
+use Rattle.std.specs.Prelude.{List, [], ◌∷◌, ◌≢◌, ◌&&◌, ◌||◌}
 use Rattle.std.proofs.lemmas.Bool.{cases_eq, ne_eqb}
 use Rattle.fop_types.specs.declared.cells.Cell.{Cell}
 use Rattle.fop_types.specs.declared.jobs.Job.{Job}
 use Rattle.fop_types.specs.declared.jobs.Job.TheVariants as job
 use Rattle.afr_machine.specs.Replicas.{Replicas, Size}
-use Rattle.afr_machine.specs.Touching.{is_cell, has_cell}
+use Rattle.afr_machine.specs.Touching.{has_cell}
 use Rattle.afr_machine.specs.Copies.{Fetched}
 use Rattle.afr_machine.specs.Requests.{Sender, Answer}
 use Rattle.afr_machine.specs.Requests.Ask.{Replace}
@@ -18,9 +18,9 @@ use Rattle.afr_machine.specs.Transactions.Work.{Own, Settles}
 use Rattle.afr_machine.specs.Transactions.Stage.{Locking, Locked, Settling, Copying}
 use Rattle.afr_machine.specs.States.{State, is_current, phase_of}
 use Rattle.afr_machine.specs.Sending.{is_replaced, is_confirmed_sink}
-use Rattle.afr_machine.specs.Answering.{passed, with_replaced}
+use Rattle.afr_machine.specs.Answering.{passed}
 use Rattle.afr_machine.specs.Births.{cells_of_work}
-use Rattle.afr_machine.specs.Turns.{Turn, MayReach, IsCopied, MayCopyFor, MayCopyAs, FollowsSettling, open_grants}
+use Rattle.afr_machine.specs.Turns.{Turn, IsCopied, MayCopyFor, MayCopyAs, FollowsSettling, open_grants}
 use Rattle.afr_machine.specs.Steps.{Step, Allowed, after, IsReached}
 use Rattle.afr_laws.specs.OwnChanges.{was_unsettled}
 use Rattle.afr_laws.specs.Fresh.{is_behind}

@@ -1,20 +1,18 @@
 -- What is adopted is never taken away, and an unsettled change is of cells whose birth is adopted, over every list of steps.
-use Rattle.std.proofs.Common.{◌≡◌, ◌∙◌, ℕ, Bool, true, false, refl, sym, ap, subst, Option, Some, None}
+use Rattle.std.proofs.Common.{◌≡◌, ◌∙◌, true, false, sym, ap, Option, Some, None}
 use Rattle.std.specs.Prelude.{List, is_some}
 use Rattle.fop_types.specs.StoreOps.{Contents, births, born_on}
 use Rattle.fop_types.specs.declared.cells.Cell.{Cell}
 use Rattle.fop_types.specs.declared.contents.Content.{Content}
-use Rattle.fop_types.specs.declared.store_ops.StoreOp.{StoreOp}
 use Rattle.afr_machine.specs.Replicas.{Size}
 use Rattle.afr_machine.specs.Touching.{has_cell}
-use Rattle.afr_machine.specs.Changes.{is_unsettled}
 use Rattle.afr_machine.specs.States.{State}
 use Rattle.afr_machine.specs.Steps.{Step, Allowed, after, IsReached}
 use Rattle.afr_laws.proofs.Copies.Contents.{content_stays}
 use Rattle.afr_soundness.proofs.ChangeMoves.{cells_stay}
 use Rattle.afr_soundness.proofs.Unsettled.{UnsettledFrom, unsettled_from, drawn_from}
 use Rattle.afr_contents.specs.Adopted.{ChangesOfAdopted, EveryChangeIsOfAdopted}
-use Rattle.afr_contents.proofs.Ops.{some_of, after_births_on, contents_on, unborn}
+use Rattle.afr_contents.proofs.Ops.{after_births_on, contents_on, unborn}
 use Rattle.afr_contents.proofs.Contents.{ContentsMove, contents_move}
 
 -- births leave a content that is there

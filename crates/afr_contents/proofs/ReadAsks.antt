@@ -1,6 +1,6 @@
 -- A read draws no change, and fetches only from bricks that are sound on the cell, over every list of steps.
 use Rattle.std.proofs.Common.{◌≡◌, ◌∙◌, ℕ, Bool, true, false, refl, sym, ap, subst, ◌⊎◌, inl, inr}
-use Rattle.std.specs.Prelude.{List, [], ◌∷◌}
+use Rattle.std.specs.Prelude.{List}
 use Rattle.fop_types.specs.declared.cells.Cell.{Cell}
 use Rattle.fop_types.specs.declared.jobs.Job.{Job}
 use Rattle.fop_types.specs.declared.jobs.Job.TheVariants as job
@@ -8,7 +8,7 @@ use Rattle.afr_machine.specs.Replicas.{Size, IsSize}
 use Rattle.afr_machine.specs.Requests.{Sender, Ask, Input}
 use Rattle.afr_machine.specs.Requests.Ask.{Fetch}
 use Rattle.afr_machine.specs.Phases.{IsSoundIn}
-use Rattle.afr_machine.specs.Transactions.{Stage, Txn, settles_first}
+use Rattle.afr_machine.specs.Transactions.{Stage, Txn}
 use Rattle.afr_machine.specs.Transactions.Work.{Own, Settles}
 use Rattle.afr_machine.specs.Transactions.Stage.{Locking, Locked, Copying}
 use Rattle.afr_machine.specs.States.{State, phase_of}

@@ -1,6 +1,6 @@
 -- What a read shows is what is adopted, over every list of steps.
-use Rattle.std.proofs.Common.{◌≡◌, ◌∙◌, ℕ, ◌<◌, Bool, true, false, refl, sym, ap, subst, ◌⊎◌, inl, inr, Option, Some, None, arith}
-use Rattle.std.specs.Prelude.{List, [], ◌∷◌, ◌&&◌}
+use Rattle.std.proofs.Common.{◌≡◌, ◌∙◌, ℕ, Bool, true, false, refl, sym, ap, subst, ◌⊎◌, inl, inr, Option, Some, None, arith}
+use Rattle.std.specs.Prelude.{List, ◌∷◌}
 use Rattle.fop_types.specs.declared.cells.Cell.{Cell}
 use Rattle.fop_types.specs.declared.contents.Content.{Content}
 use Rattle.fop_types.specs.declared.contents.Row.{Row}
@@ -13,7 +13,7 @@ use Rattle.afr_machine.specs.Requests.{Sender, Ask, Answer, Input}
 use Rattle.afr_machine.specs.Requests.Ask.{Fetch}
 use Rattle.afr_machine.specs.Requests.Answer.{Content as Shows, Gone, Rows}
 use Rattle.afr_machine.specs.Requests.Input.{Asked}
-use Rattle.afr_machine.specs.Bricks.{stored_by, answer_of, answer_of_fetch}
+use Rattle.afr_machine.specs.Bricks.{answer_of, answer_of_fetch}
 use Rattle.afr_machine.specs.Transactions.{Stage, Txn, cells_of_job, settles_first, is_over, may_hold}
 use Rattle.afr_machine.specs.Transactions.Work.{Own, Settles}
 use Rattle.afr_machine.specs.Transactions.Stage.{Over, Locking, Locked, Copying, Polling, Unlocking}
@@ -26,7 +26,6 @@ use Rattle.afr_machine.proofs.BrickMoves.{bricks_move}
 use Rattle.afr_laws.specs.Senders.{EachInput}
 use Rattle.afr_laws.specs.Asking.{IsReadOf, IsFetching, IsAskedBy}
 use Rattle.afr_laws.specs.Fresh.{is_behind}
-use Rattle.afr_laws.specs.OwnChanges.{was_unsettled}
 use Rattle.afr_laws.proofs.Bools.{apart_bools, both}
 use Rattle.afr_laws.proofs.Copies.Asks.{share_at}
 use Rattle.afr_laws.proofs.Fresh.Turns.{copied_behind, copies_behind}
@@ -42,7 +41,7 @@ use Rattle.afr_soundness.proofs.TxnMoves.{StageKeeps, GoesOn, TxnMove, txn_moves
 use Rattle.afr_soundness.proofs.Copied.Kept.{out_back}
 use Rattle.afr_soundness.proofs.Copied.Steps.{asked_now}
 use Rattle.afr_soundness.proofs.Posted.{front_numbered, front_asked}
-use Rattle.afr_soundness.proofs.Replies.{HoldsOtherwise, move_replies, replies_of, reply_at, reply_numbered}
+use Rattle.afr_soundness.proofs.Replies.{move_replies, replies_of, reply_at, reply_numbered}
 use Rattle.afr_soundness.proofs.Takers.Asked.{asked_are_members}
 use Rattle.afr_soundness.proofs.Unsettled.{is_some_change, no_other_unsettled}
 use Rattle.afr_decisions.proofs.Handed.{handed_open}

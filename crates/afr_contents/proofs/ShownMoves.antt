@@ -9,7 +9,7 @@ use Rattle.afr_machine.specs.Requests.{Sender, Ask, Answer, Output}
 use Rattle.afr_machine.specs.Requests.Ask.{Lock, Fetch, Replace}
 use Rattle.afr_machine.specs.Requests.Answer.{Rows, Content}
 use Rattle.afr_machine.specs.Requests.Output.{Answered, Closed, Opened, Connected}
-use Rattle.afr_machine.specs.Transactions.{Work, CopyRun, Stage, Txn, new_txn}
+use Rattle.afr_machine.specs.Transactions.{Work, Stage, Txn, new_txn}
 use Rattle.afr_machine.specs.Transactions.Work.{Own, Settles}
 use Rattle.afr_machine.specs.Transactions.Stage.{Over, Locking, Locked, Marking, Applying, Posting, Settling, Bearing, Copying, Polling, Unlocking}
 use Rattle.afr_machine.specs.States.{State, is_current}

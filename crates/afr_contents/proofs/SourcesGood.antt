@@ -3,7 +3,6 @@ use Rattle.std.proofs.Common.{◌≡◌, ◌∙◌, ℕ, ◌≤◌, ◌<◌, Boo
 use Rattle.std.specs.Prelude.{List, ◌∷◌}
 use Rattle.std.proofs.lemmas.Bool.{cases_lt}
 use Rattle.fop_types.specs.declared.cells.Cell.{Cell}
-use Rattle.fop_types.specs.declared.store_ops.StoreOp.{StoreOp}
 use Rattle.afr_machine.specs.Replicas.{Replicas, Size, IsSize, nobody}
 use Rattle.afr_machine.specs.Touching.{is_cell, has_cell}
 use Rattle.afr_machine.specs.Copies.{Fetched, changes_of, has_change}
@@ -33,7 +32,7 @@ use Rattle.afr_contents.proofs.Naming.{SourceFrom, source_from, source_behind, h
 use Rattle.afr_contents.proofs.Using.{Alone, source_alone, held_granted, work_covers}
 use Rattle.afr_contents.proofs.Lasting.{next_reached, ends_free, accused_not_free}
 use Rattle.afr_contents.proofs.Copying.{SourceOf, CameBefore, held_without, held_unconfirmed}
-use Rattle.afr_contents.proofs.Decided.{IsAsDecided, new_is, by_quorum, phase, settler_has, later_unheld, source_now, left_out_now, unreached_now, reached_of, decided_accused}
+use Rattle.afr_contents.proofs.Decided.{new_is, by_quorum, phase, settler_has, later_unheld, source_now, left_out_now, unreached_now, reached_of, decided_accused}
 use Rattle.afr_contents.proofs.Values.{value_goes, accused_on, kept_good}
 use Rattle.afr_contents.proofs.FetchedGood.{used_before, no_sink}
 use Rattle.afr_contents.proofs.CopiesGood.{copy_after}

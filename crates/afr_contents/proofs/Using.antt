@@ -1,13 +1,12 @@
 -- Bricks that a transaction uses while it may come to copy: its locks there are exclusive, and nobody else uses them on one of its cells.
-use Rattle.std.proofs.Common.{◌≡◌, ◌∙◌, ℕ, ◌<◌, Bool, true, false, refl, sym, ap, subst, ◌⊎◌, inl, inr}
-use Rattle.std.specs.Prelude.{◌≢◌, ◌&&◌, not, Some}
+use Rattle.std.proofs.Common.{◌≡◌, ◌∙◌, ℕ, true, false, refl, sym, ap, ◌⊎◌, inl, inr}
+use Rattle.std.specs.Prelude.{◌≢◌, ◌&&◌, not}
 use Rattle.std.proofs.lemmas.Bool.{cases_eq}
 use Rattle.fop_types.specs.declared.cells.Cell.{Cell}
 use Rattle.fop_types.specs.declared.jobs.Job.{Job}
 use Rattle.fop_types.specs.declared.jobs.Job.TheVariants as job
 use Rattle.afr_machine.specs.Replicas.{Size}
 use Rattle.afr_machine.specs.Touching.{has_cell, share}
-use Rattle.afr_machine.specs.Locks.{conflict}
 use Rattle.afr_machine.specs.Changes.{Change}
 use Rattle.afr_machine.specs.Phases.{Phase}
 use Rattle.afr_machine.specs.Transactions.{Work, Stage}
@@ -32,7 +31,6 @@ use Rattle.afr_laws.proofs.Work.Known.{works_are_known}
 use Rattle.afr_soundness.proofs.Copied.Lines.{behind_locks}
 use Rattle.afr_contents.specs.Naming.{MayCopyFrom, CanSource, IsSourceFor, held_by}
 use Rattle.afr_contents.specs.Coming.{IsUsed}
-use Rattle.afr_contents.proofs.Naming.{source_behind, copied_to_behind}
 
 pub granted_of : (m : State) (t k : ℕ) → HasGrant m t k → open_grants m t k ≡ true
 granted_of m t k g = opens m t k (record { grant = g.grant; granted = g.granted; current = g.still_open })

@@ -1,6 +1,6 @@
 -- What a step makes of a copy that is good, or whose brick is accused.
 use Rattle.std.proofs.Common.{◌≡◌, ◌∙◌, ℕ, ◌<◌, Bool, true, false, refl, sym, ap, subst, ◌⊎◌, inl, inr, Option, Some, None}
-use Rattle.std.specs.Prelude.{List, [], ◌∷◌, if◌then◌else◌}
+use Rattle.std.specs.Prelude.{List, ◌∷◌, if◌then◌else◌}
 use Rattle.fop_types.specs.declared.cells.Cell.{Cell}
 use Rattle.afr_machine.specs.Replicas.{Replicas, Size, IsSize, nobody}
 use Rattle.afr_machine.specs.Touching.{is_cell, has_cell}
@@ -16,7 +16,6 @@ use Rattle.afr_machine.specs.Moves.BrickMove.{Stays, Takes, Hands, Serves, Refus
 use Rattle.afr_machine.proofs.BrickMoves.{bricks_move}
 use Rattle.afr_laws.proofs.Bools.{or_right}
 use Rattle.afr_laws.proofs.Copies.Served.{served_store, steered_store}
-use Rattle.afr_soundness.specs.Copied.{copy_in}
 use Rattle.afr_soundness.proofs.Copied.Stores.{recopies, move_copy, stored_keeps}
 use Rattle.afr_contents.specs.Good.{IsGood, IsGoodAt, IsSettledCopy}
 use Rattle.afr_contents.specs.Naming.{held_by}

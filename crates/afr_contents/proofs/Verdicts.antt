@@ -1,17 +1,16 @@
 -- A good copy has each adopted change of its cell and no dropped one.
-use Rattle.std.proofs.Common.{◌≡◌, ◌∙◌, ℕ, zero, suc, ◌≤◌, ◌<◌, Bool, true, false, refl, sym, ap, subst, ◌⊎◌, inl, inr, arith, Option, Some, None}
-use Rattle.std.specs.Prelude.{List, [], ◌∷◌, ◌&&◌, ◌||◌, ◌==◌, ◌≢◌, if◌then◌else◌}
+use Rattle.std.proofs.Common.{◌≡◌, ◌∙◌, ℕ, zero, suc, ◌≤◌, ◌<◌, Bool, true, false, refl, sym, ap, ◌⊎◌, inl, inr, arith, Option}
+use Rattle.std.specs.Prelude.{[], ◌∷◌, ◌&&◌, ◌||◌, ◌==◌, ◌≢◌, if◌then◌else◌}
 use Rattle.std.proofs.lemmas.Bool.{cases_eq, cases_lt, eq-eqb, ne_eqb}
 use Rattle.fop_types.specs.declared.cells.Cell.{Cell}
-use Rattle.afr_machine.specs.Replicas.{Size, IsSize}
+use Rattle.afr_machine.specs.Replicas.{Size}
 use Rattle.afr_machine.specs.Touching.{has_cell}
 use Rattle.afr_machine.specs.Copies.{Copy, changes_of, has_change}
-use Rattle.afr_machine.specs.Changes.{Change, Verdict, is_unsettled, is_adopted, is_adopted_on}
+use Rattle.afr_machine.specs.Changes.{Change, is_unsettled, is_adopted, is_adopted_on}
 use Rattle.afr_machine.specs.Changes.Verdict.{Undrawn, Adopted, Dropped}
 use Rattle.afr_machine.specs.States.{State}
-use Rattle.afr_machine.specs.Steps.{Step, Allowed, after, IsReached}
-use Rattle.afr_laws.specs.Numbers.{applied}
-use Rattle.afr_laws.proofs.Bools.{apart_bools, is_or_not, both, or_left, or_last, either_way}
+use Rattle.afr_machine.specs.Steps.{IsReached}
+use Rattle.afr_laws.proofs.Bools.{apart_bools, is_or_not, both, or_left, or_last}
 use Rattle.afr_laws.proofs.Copies.Asks.{share_at}
 use Rattle.afr_laws.proofs.Drawn.{changes_are_drawn}
 use Rattle.afr_soundness.specs.Copied.{IsFetched, IsReplacedAt}
@@ -22,7 +21,7 @@ use Rattle.afr_soundness.proofs.Unsettled.{is_some_change}
 use Rattle.afr_decisions.specs.Stands.{IsLater}
 use Rattle.afr_decisions.proofs.Stands.{later_reached, verdicts_stand}
 use Rattle.afr_contents.specs.Adopted.{adopted_below, adopted_on}
-use Rattle.afr_contents.specs.Good.{IsGood, IsGoodAt}
+use Rattle.afr_contents.specs.Good.{IsGood}
 use Rattle.afr_contents.specs.Good.IsGood.{Absent, Settled, Ahead}
 use Rattle.afr_contents.specs.Verdicts.{EveryGoodCopyHasVerdicts, EveryConfirmedEqualsSource}
 use Rattle.afr_contents.proofs.Lists.{below_adopted}

@@ -6,7 +6,7 @@ use Rattle.afr_machine.specs.Replicas.{Replicas, Size}
 use Rattle.afr_machine.specs.Touching.{has_cell}
 use Rattle.afr_machine.specs.Changes.{Change, is_unsettled}
 use Rattle.afr_machine.specs.Phases.{Phase, IsSoundIn}
-use Rattle.afr_machine.specs.Transactions.{Work, CopyRun, Stage}
+use Rattle.afr_machine.specs.Transactions.{Work, Stage}
 use Rattle.afr_machine.specs.Transactions.Work.{Own, Settles}
 use Rattle.afr_machine.specs.Transactions.Stage.{Locked, Settling, Copying}
 use Rattle.afr_machine.specs.States.{State, phase_of}
