@@ -1,4 +1,5 @@
--- Whoever is free is good; so what a read finds, and a change before it becomes unsettled, is settled, and what is copied is good.
+-- Where each copy is good or its replica accused, whoever is free is good; so what a read finds, and a change before it becomes unsettled,
+-- is settled, and what is copied is good.
 use Rattle.std.proofs.Common.{◌≡◌, ◌∙◌, ℕ, ◌≤◌, ◌<◌, Bool, true, false, refl, sym, ap, subst, ◌⊎◌, inl, inr, arith, Option, Some, None}
 use Rattle.std.specs.Prelude.{[], ◌∷◌, ◌&&◌, ◌||◌, ◌≢◌, not, nat_lt, is_some}
 use Rattle.std.proofs.lemmas.Bool.{cases_eq, eq-eqb}
@@ -35,26 +36,25 @@ use Rattle.afr_soundness.proofs.Free.{last_spares, ready_is_free}
 use Rattle.afr_soundness.proofs.Later.Steps.{later_are_quiet}
 use Rattle.afr_soundness.proofs.Runs.{runs_are_known}
 use Rattle.afr_soundness.proofs.Unsettled.{is_some_change, one_unsettled, no_other_unsettled}
-use Rattle.afr_contents.specs.Staying.{pardons_coming, accusers_staying, IsAccused}
+use Rattle.afr_contents.specs.Staying.{pardons_coming, accusers_staying, IsAccusedByMany}
 use Rattle.afr_contents.specs.Adopted.{adopted_on}
 use Rattle.afr_contents.specs.Good.{IsGood, IsGoodAt, IsGoodOrAccused, CopiesGoodOrAccused, IsSettledCopy}
 use Rattle.afr_contents.specs.Good.IsGood.{Absent, Settled, Ahead}
-use Rattle.afr_contents.specs.Found.{FreeIsGood, IsSettledFor, GoodIsSettled, ReadyHaveAdopted, IsApplying, AppliersHaveAdopted, CopiesAreGood, SourcesAreGood}
+use Rattle.afr_contents.specs.Found.{IsSettledFor, GoodIsSettled, IsApplying, CopiesAreGood}
 use Rattle.afr_contents.proofs.Ops.{first_has}
 
 -- who goes on accusing accuses
-staying_coming : (m : State) (cell : Cell) (i k : ℕ) → accusers_staying m cell i k ≡ true → accusers_coming m cell i k ≡ true
+pub staying_coming : (m : State) (cell : Cell) (i k : ℕ) → accusers_staying m cell i k ≡ true → accusers_coming m cell i k ≡ true
 staying_coming m cell i k h =
     or_left (accuses_at (m.bricks k).store cell i) (comes (m.bricks k).line cell i) (both_left (accuses_at (m.bricks k).store cell i) (not (pardons_coming (m.bricks k).line cell i)) h)
 
-not_accused : (size : Size) (m : State) (cell : Cell) (i : ℕ) → IsFree size m cell i → IsAccused size m cell i → ⊥
-not_accused size m cell i free (inl itself) = apart_bools (staying_coming m cell i i itself) free.itself
-not_accused size m cell i free (inr many) =
+not_accused : (size : Size) (m : State) (cell : Cell) (i : ℕ) → IsFree size m cell i → IsAccusedByMany size m cell i → ⊥
+not_accused size m cell i free many =
     let more = count_within size.replicas (accusers_staying m cell i) (accusers_coming m cell i) (λ k low h. staying_coming m cell i k h) in
     let few = free.few in
     omega (arith, more, many, few)
 
-pub free_is_good : FreeIsGood
+pub free_is_good : (size : Size) (m : State) → CopiesGoodOrAccused size m → (i : ℕ) (cell : Cell) → i < size.replicas → IsFree size m cell i → IsGoodAt m i cell
 free_is_good size m good i cell low free = by_case (good i cell low) where
   by_case : IsGoodOrAccused size m i cell → IsGoodAt m i cell
   by_case (inl is) = is
@@ -246,11 +246,6 @@ module _ (size : Size) (m : State) (is : IsSize size) (r : IsReached size m) (go
   pub appliers_have : IsSettledCopy m cell ((m.bricks k).store cell).copy
   appliers_have = without ((m.bricks k).store cell).copy free.present a.unapplied (free_is_good size m good k cell a.replica free)
 
-pub appliers_have_adopted : AppliersHaveAdopted
-appliers_have_adopted size m is r good t u k cell a = appliers_have size m is r good t u k cell a
-
-pub ready_have_adopted : ReadyHaveAdopted
+pub ready_have_adopted : (size : Size) (m : State) → IsSize size → IsReached size m → CopiesGoodOrAccused size m → (t k : ℕ) (cell : Cell) → k < size.replicas → IsSettledFor m t cell →
+    is_before (m.txns t).stage ≡ true → (m.txns t).work ≡ Own → IsReadyIn size (phase_of m t) cell k → IsSettledCopy m cell ((m.bricks k).store cell).copy
 ready_have_adopted size m is r good t k cell few s before work ready = ready_has size m is r good t k cell few s before work ready
-
-pub sources_are_good : SourcesAreGood
-sources_are_good size m is r good t run cell copies has last = copies_good size m is r good t run cell copies has last

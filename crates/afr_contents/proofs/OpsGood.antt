@@ -23,7 +23,8 @@ use Rattle.afr_laws.proofs.Copies.Contents.{content_stays}
 use Rattle.afr_laws.proofs.Copies.Steps.{copies_are_of_changes}
 use Rattle.afr_laws.proofs.OwnChanges.Steps.{changes_are_own}
 use Rattle.afr_contents.specs.Adopted.{first_of, settled}
-use Rattle.afr_contents.specs.Good.{IsGood, IsGoodAt, IsSettledCopy, IsNextOp}
+use Rattle.afr_contents.specs.Good.{IsGood, IsGoodAt, IsSettledCopy}
+use Rattle.afr_contents.specs.Coming.{FindsSettled}
 use Rattle.afr_contents.specs.Good.IsGood.{Absent, Settled, Ahead}
 use Rattle.afr_contents.proofs.Ops.{some_of, fits_same, content_same, left_alone, born_settled, unborn}
 use Rattle.afr_contents.proofs.AsBorn.{adopted_as_born}
@@ -54,9 +55,9 @@ module _ (size : Size) (m : State) (r : IsReached size m) (i u : ℕ) (op : Stor
     kept None (Some content) is (Ahead held v e a) = absurd (let no : None ≡ Some held = e in cc)
 
     -- one that it needs, where it finds settled copies
-    module _ (n : IsNextOp m i u op) (has : has_cell (needs op) cell ≡ true) where
+    module _ (n : FindsSettled m i u op) (has : has_cell (needs op) cell ≡ true) where
       agrees : (d : Cell) → has_cell (needs op) d ≡ true → contents_of (m.bricks i).store d ≡ settled m d
-      agrees d there = ap content_of (n.finds d there).is ∙ sym (n.finds d there).content
+      agrees d there = ap content_of (n d there).1.is ∙ sym (n d there).1.content
 
       op_is : op ≡ (m.changes u).op
       op_is = by_case of_change where
@@ -68,19 +69,19 @@ module _ (size : Size) (m : State) (r : IsReached size m) (i u : ℕ) (op : Stor
       touched = ap (λ cs. has_cell cs cell) ((changes_are_own size m r).fit.needs_are u ∙ ap needs (sym op_is)) ∙ has
 
       some_content : is_some (content_after (contents_of (m.bricks i).store) op cell) ≡ true
-      some_content = content_stays (contents_of (m.bricks i).store) op cell (ap (λ c. is_some (content_of c)) (n.finds cell has).is)
+      some_content = content_stays (contents_of (m.bricks i).store) op cell (ap (λ c. is_some (content_of c)) (n cell has).1.is)
 
       altered : fits (contents_of (m.bricks i).store) op ≡ true → Served true
       altered fit = some_of (content_after (contents_of (m.bricks i).store) op cell) some_content ahead where
         f : IsSettledCopy m cell ((m.bricks i).store cell).copy
-        f = n.finds cell has
+        f = (n cell has).1
 
         ahead : (content : Content) → content_after (contents_of (m.bricks i).store) op cell ≡ Some content → Served true
         ahead content is =
             Ahead (record { changes = u ∷ f.held.changes; content = content }) u
             (ap (λ c. copy_with (changes_after true u c) (content_after (contents_of (m.bricks i).store) op cell)) f.is ∙ ap (copy_with (u ∷ f.held.changes)) is)
             (record {
-              unsettled = n.unsettled cell has;
+              unsettled = (n cell has).0;
               touches = touched;
               fitting = ap (fits (settled m)) (sym op_is) ∙ sym (fits_same (contents_of (m.bricks i).store) (settled m) op agrees) ∙ fit;
               changes = ap (λ l. u ∷ l) f.changes;
@@ -96,7 +97,7 @@ module _ (size : Size) (m : State) (r : IsReached size m) (i u : ℕ) (op : Stor
       by_fit false = good
       by_fit true = subst Served (sym other) (kept ((m.bricks i).store cell).copy (content_after (contents_of (m.bricks i).store) op cell) (left_alone (contents_of (m.bricks i).store) op cell other) good)
 
-    pub op_makes : IsNextOp m i u op → has_cell (needs op) cell ≡ true → IsGoodAt m i cell → IsGood m cell (stored_by (Op u op) (m.bricks i).store cell).copy
+    pub op_makes : FindsSettled m i u op → has_cell (needs op) cell ≡ true → IsGoodAt m i cell → IsGood m cell (stored_by (Op u op) (m.bricks i).store cell).copy
     op_makes n has good = by_fit (fits (contents_of (m.bricks i).store) op) refl where
       by_fit : (b : Bool) → fits (contents_of (m.bricks i).store) op ≡ b → After b
       by_fit false fit = good

@@ -41,7 +41,7 @@ clears_not : (cell : Cell) (i : ℕ) (ask : Ask) → ClearsNot cell ask → pard
 clears_not cell i (Clear cells who) h = ap (λ b. b && who i) h
 clears_not cell i other h = refl
 
-is_outside : (size : Size) (set : Replicas) (i : ℕ) → i < size.replicas → set i ≡ false → outside size set i ≡ true
+pub is_outside : (size : Size) (set : Replicas) (i : ℕ) → i < size.replicas → set i ≡ false → outside size set i ≡ true
 is_outside size set i low none = both (nat_lt i size.replicas) (not (set i)) (lt-ltb i size.replicas low) (not_false none)
 
 module _ (size : Size) (m : State) (r : IsReached size m) (t u : ℕ) (unsettled : is_unsettled (m.changes u).verdict ≡ true) (many : size.quorum ≤ count size.replicas (m.txns t).confirmed) where

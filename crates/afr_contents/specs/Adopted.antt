@@ -29,6 +29,9 @@ settled m cell = first_of (m.adopted cell) (m.born cell)
 abbrev pub ChangesOfAdopted : State → Type 0
 ChangesOfAdopted m = (u : ℕ) (cell : Cell) → is_unsettled (m.changes u).verdict ≡ true → has_cell (m.changes u).cells cell ≡ true → is_some (m.adopted cell) ≡ true
 
+abbrev pub EveryChangeIsOfAdopted : Type 0
+EveryChangeIsOfAdopted = (size : Size) (m : State) → IsReached size m → ChangesOfAdopted m
+
 -- a cell without adopted changes has the content that it was born with, once its birth is adopted
 abbrev pub AdoptedAsBorn : State → Type 0
 AdoptedAsBorn m = (cell : Cell) (content : Content) → adopted_on m cell ≡ [] → m.adopted cell ≡ Some content → m.born cell ≡ Some content

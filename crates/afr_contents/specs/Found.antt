@@ -1,5 +1,5 @@
--- What is found at good replicas: whoever is free is good where each replica is good or accused; so a read, and a change before it
--- becomes unsettled, finds exactly the adopted changes, and a copy what is good. Ours.
+-- What is found at replicas: whoever is free is good; so a read, and a change before it becomes unsettled, finds exactly the adopted
+-- changes, and a copy what is good. Ours.
 use Rattle.std.specs.Prelude.{◌≡◌, ◌<◌, ◌≤◌, ℕ, true, false, Some}
 use Rattle.fop_types.specs.declared.cells.Cell.{Cell}
 use Rattle.afr_machine.specs.Replicas.{Size, IsSize}
@@ -19,10 +19,10 @@ use Rattle.afr_laws.specs.Sound.{IsSpared}
 use Rattle.afr_soundness.specs.Clears.{IsFree}
 use Rattle.afr_soundness.specs.Copied.{Uses, IsFetched}
 use Rattle.afr_soundness.specs.Later.{is_before}
-use Rattle.afr_contents.specs.Good.{IsGood, IsGoodAt, CopiesGoodOrAccused, IsSettledCopy}
+use Rattle.afr_contents.specs.Good.{IsGood, IsGoodAt, IsSettledCopy}
 
 abbrev pub FreeIsGood : Type 0
-FreeIsGood = (size : Size) (m : State) → CopiesGoodOrAccused size m → (i : ℕ) (cell : Cell) → i < size.replicas → IsFree size m cell i → IsGoodAt m i cell
+FreeIsGood = (size : Size) (m : State) → IsSize size → IsReached size m → (i : ℕ) (cell : Cell) → i < size.replicas → IsFree size m cell i → IsGoodAt m i cell
 
 -- ---- reads, and changes before they become unsettled
 
@@ -41,7 +41,7 @@ GoodIsSettled = (size : Size) (m : State) → IsReached size m → (t : ℕ) (ce
 -- so behind its own lock phase it finds them in each replica that was sound in it, or received a copy
 abbrev pub ReadyHaveAdopted : Type 0
 ReadyHaveAdopted =
-    (size : Size) (m : State) → IsSize size → IsReached size m → CopiesGoodOrAccused size m → (t k : ℕ) (cell : Cell) → k < size.replicas → IsSettledFor m t cell →
+    (size : Size) (m : State) → IsSize size → IsReached size m → (t k : ℕ) (cell : Cell) → k < size.replicas → IsSettledFor m t cell →
     is_before (m.txns t).stage ≡ true → (m.txns t).work ≡ Own → IsReadyIn size (phase_of m t) cell k → IsSettledCopy m cell ((m.bricks k).store cell).copy
 
 -- and a change that is unsettled finds them in each of these that is spared, and where it is not applied yet
@@ -56,7 +56,7 @@ pub record IsApplying (size : Size) (m : State) (t u k : ℕ) (cell : Cell) : Ty
 
 abbrev pub AppliersHaveAdopted : Type 0
 AppliersHaveAdopted =
-    (size : Size) (m : State) → IsSize size → IsReached size m → CopiesGoodOrAccused size m → (t u k : ℕ) (cell : Cell) → IsApplying size m t u k cell → IsSettledCopy m cell ((m.bricks k).store cell).copy
+    (size : Size) (m : State) → IsSize size → IsReached size m → (t u k : ℕ) (cell : Cell) → IsApplying size m t u k cell → IsSettledCopy m cell ((m.bricks k).store cell).copy
 
 -- ---- copies
 
@@ -67,5 +67,5 @@ pub record CopiesAreGood (size : Size) (m : State) (t : ℕ) (run : CopyRun) (ce
 
 abbrev pub SourcesAreGood : Type 0
 SourcesAreGood =
-    (size : Size) (m : State) → IsSize size → IsReached size m → CopiesGoodOrAccused size m → (t : ℕ) (run : CopyRun) (cell : Cell) → (m.txns t).stage ≡ Copying run → has_cell run.cells cell ≡ true →
+    (size : Size) (m : State) → IsSize size → IsReached size m → (t : ℕ) (run : CopyRun) (cell : Cell) → (m.txns t).stage ≡ Copying run → has_cell run.cells cell ≡ true →
     (IsSuperseded m.phases m.ended (m.txns t).phase cell → ⊥) → CopiesAreGood size m t run cell

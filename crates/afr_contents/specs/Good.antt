@@ -1,20 +1,16 @@
 -- Good copies: a copy of a cell has each adopted change of the cell, no dropped one, at most the unsettled one that touches it,
 -- and the content that these leave. Ours.
-use Rattle.std.specs.Prelude.{◌≡◌, ◌≢◌, ◌<◌, ◌≤◌, ◌⊎◌, ◌&&◌, ◌==◌, not, ℕ, true, List, [], ◌∷◌, Option, Some, None}
-use Rattle.fop_types.specs.StoreOps.{needs, fits, content_after}
+use Rattle.std.specs.Prelude.{◌≡◌, ◌<◌, ◌⊎◌, ℕ, true, [], ◌∷◌, Option, Some, None}
+use Rattle.fop_types.specs.StoreOps.{fits, content_after}
 use Rattle.fop_types.specs.declared.cells.Cell.{Cell}
-use Rattle.fop_types.specs.declared.store_ops.StoreOp.{StoreOp}
-use Rattle.afr_machine.specs.Replicas.{Size, count}
+use Rattle.afr_machine.specs.Replicas.{Size, IsSize}
 use Rattle.afr_machine.specs.Touching.{has_cell}
-use Rattle.afr_machine.specs.Copies.{Copy, Fetched}
-use Rattle.afr_machine.specs.Requests.{Sender, Input}
-use Rattle.afr_machine.specs.Requests.Ask.{Op, Replace}
-use Rattle.afr_machine.specs.Requests.Input.{Asked}
+use Rattle.afr_machine.specs.Copies.{Copy}
 use Rattle.afr_machine.specs.Changes.{is_unsettled}
 use Rattle.afr_machine.specs.States.{State}
-use Rattle.afr_machine.specs.Steps.{Step, Allowed, after, IsReached}
-use Rattle.afr_contents.specs.Adopted.{adopted_on, settled, ChangesOfAdopted}
-use Rattle.afr_contents.specs.Staying.{accusers_staying, IsAccused, SendsPardon}
+use Rattle.afr_machine.specs.Steps.{IsReached}
+use Rattle.afr_contents.specs.Adopted.{adopted_on, settled}
+use Rattle.afr_contents.specs.Staying.{IsAccusedByMany}
 
 -- a copy that has the unsettled change besides
 pub record IsAhead (m : State) (cell : Cell) (u : ℕ) (held : Copy) : Type 0 where
@@ -35,15 +31,19 @@ pub data IsGood (m : State) (cell : Cell) (copy : Option Copy) : Type 0 where
 abbrev pub IsGoodAt : State → ℕ → Cell → Type 0
 IsGoodAt m i cell = IsGood m cell ((m.bricks i).store cell).copy
 
--- its copy is good, or it is accused by itself or by a quorum, which go on accusing it
+-- its copy is good, or a quorum accuses it and goes on doing so
 abbrev pub IsGoodOrAccused : Size → State → ℕ → Cell → Type 0
-IsGoodOrAccused size m i cell = IsGoodAt m i cell ⊎ IsAccused size m cell i
+IsGoodOrAccused size m i cell = IsGoodAt m i cell ⊎ IsAccusedByMany size m cell i
 
 -- each replica's copy of each cell is good, or it is accused
 abbrev pub CopiesGoodOrAccused : Size → State → Type 0
 CopiesGoodOrAccused size m = (i : ℕ) (cell : Cell) → i < size.replicas → IsGoodOrAccused size m i cell
 
--- ---- what is right
+-- of every state
+abbrev pub EveryCopyIsGood : Type 0
+EveryCopyIsGood = (size : Size) (m : State) → IsSize size → IsReached size m → CopiesGoodOrAccused size m
+
+-- ---- exactly the adopted changes
 
 -- the copy has exactly the adopted changes, and their content
 pub record IsSettledCopy (m : State) (cell : Cell) (copy : Option Copy) : Type 0 where
@@ -51,35 +51,3 @@ pub record IsSettledCopy (m : State) (cell : Cell) (copy : Option Copy) : Type 0
   pub is : copy ≡ Some held
   pub changes : held.changes ≡ adopted_on m cell
   pub content : settled m cell ≡ Some held.content
-
--- the op at the front of a line is that of a birth, or of a change that is unsettled and finds settled copies of its cells
-pub record IsNextOp (m : State) (i u : ℕ) (op : StoreOp) : Type 0 where
-  pub by : Sender
-  pub rest : List Input
-  pub front : (m.bricks i).line ≡ Asked by (Op u op) ∷ rest
-  pub unsettled : (cell : Cell) → has_cell (needs op) cell ≡ true → is_unsettled (m.changes u).verdict ≡ true
-  pub finds : (cell : Cell) → has_cell (needs op) cell ≡ true → IsSettledCopy m cell ((m.bricks i).store cell).copy
-
--- What is at the front of the replica's line: a replacement carries a good copy, or the replica is accused; an op finds settled
--- copies, or the replica is accused on each cell that it needs.
-pub record FrontIsRight (size : Size) (m : State) (i : ℕ) : Type 0 where
-  pub replaces : (by : Sender) (at : Cell) (found : Fetched) (rest : List Input) → (m.bricks i).line ≡ Asked by (Replace at found) ∷ rest → IsGood m at (Some found.copy) ⊎ IsAccused size m at i
-  pub applies : (by : Sender) (u : ℕ) (op : StoreOp) (rest : List Input) → (m.bricks i).line ≡ Asked by (Op u op) ∷ rest → IsNextOp m i u op ⊎ ((cell : Cell) → has_cell (needs op) cell ≡ true → IsAccused size m cell i)
-
--- without this brick the replica is accused still
-abbrev pub IsAccusedElsewhere : Size → State → Cell → ℕ → ℕ → Type 0
-IsAccusedElsewhere size m cell i k =
-    ((i ≢ k) × (accusers_staying m cell i i ≡ true)) ⊎ (size.quorum ≤ count size.replicas (λ j. not (j == k) && accusers_staying m cell i j))
-
--- whom a clear names that is sent to the brick: each is good on its cells, or accused elsewhere
-abbrev pub PardonsAreRight : Size → State → Step → Type 0
-PardonsAreRight size m step = (k i : ℕ) (cell : Cell) → i < size.replicas → SendsPardon step k cell i → IsGoodAt m i cell ⊎ IsAccusedElsewhere size m cell i k
-
--- ---- steps
-
--- Each step keeps the copies good or accused, where unsettled changes are of cells whose birth is adopted, whatever is at the front of
--- a line is right, and whom a clear names that is sent.
-abbrev pub StepsKeepGood : Type 0
-StepsKeepGood =
-    (size : Size) (m : State) (step : Step) → IsReached size m → Allowed size m step → ChangesOfAdopted m → ((i : ℕ) → FrontIsRight size m i) → PardonsAreRight size m step →
-    CopiesGoodOrAccused size m → CopiesGoodOrAccused size (after size m step)

@@ -5,5 +5,11 @@ pub mod Spread
 pub mod Adopted
 pub mod Good
 pub mod Found
+pub mod Naming
+pub mod Lasting
+pub mod Coming
+pub mod Reading
+pub mod Verdicts
+pub mod Guarded
 pub mod Present
 pub mod Split

@@ -1,5 +1,5 @@
 -- Who accuses a replica and goes on doing so: the brick's row accuses it, and no clear in the brick's line names it. Ours.
-use Rattle.std.specs.Prelude.{◌≡◌, ◌≤◌, ◌⊎◌, ◌||◌, ◌&&◌, ℕ, Bool, true, false, not, List, [], ◌∷◌}
+use Rattle.std.specs.Prelude.{◌≡◌, ◌≤◌, ◌||◌, ◌&&◌, ℕ, Bool, true, false, not, List, [], ◌∷◌}
 use Rattle.fop_types.specs.declared.cells.Cell.{Cell}
 use Rattle.afr_machine.specs.Replicas.{Replicas, Size, count}
 use Rattle.afr_machine.specs.Touching.{has_cell}
@@ -26,10 +26,6 @@ accusers_staying m cell i k = stays_accusing (m.bricks k) cell i
 -- a quorum accuses the replica on the cell and goes on doing so
 abbrev pub IsAccusedByMany : Size → State → Cell → ℕ → Type 0
 IsAccusedByMany size m cell i = size.quorum ≤ count size.replicas (accusers_staying m cell i)
-
--- the replica accuses itself and goes on doing so, or a quorum accuses it so
-abbrev pub IsAccused : Size → State → Cell → ℕ → Type 0
-IsAccused size m cell i = (accusers_staying m cell i i ≡ true) ⊎ IsAccusedByMany size m cell i
 
 -- ---- steps
 

@@ -1,47 +1,11 @@
-ghost use Rattle.afr_contents.specs.Adopted.{EveryAdoptedIsAsBorn};
-ghost use Rattle.afr_contents.specs.Good.{StepsKeepGood};
-ghost use Rattle.afr_contents.specs.Found.{FreeIsGood, GoodIsSettled, ReadyHaveAdopted, AppliersHaveAdopted, SourcesAreGood};
+ghost use Rattle.afr_contents.specs.Found.{AppliersHaveAdopted, SourcesAreGood};
 ghost use Rattle.afr_contents.specs.Present.{EveryChangeIsPresent};
 ghost use Rattle.afr_contents.specs.Split.{SeenAllHasSound};
+ghost use Rattle.afr_contents.specs.Verdicts.{EveryConfirmedEqualsSource};
 
-/// The law of births that are adopted, of every state that allowed steps lead to: a cell without adopted changes has the
-/// content that it was born with, once its birth is adopted.
-pub fn every_adopted_is_as_born()
-    ensures { EveryAdoptedIsAsBorn }
-{}
-
-/// The law of good copies. From a state in which each replica's copy of each cell is good, or the replica is accused by
-/// itself or by a quorum which go on accusing it, each step leads to one in which this holds. It is open yet that its four
-/// premises hold of every state: each unsettled change is of cells whose birth is adopted; a replacement at the front of a
-/// line carries a good copy, or its brick is accused; an op there finds settled copies of the cells that it needs, or its
-/// brick is accused on them; whom a clear names that is sent is good, or accused without the brick to which it is sent.
-pub fn steps_keep_good()
-    ensures { StepsKeepGood }
-{}
-
-/// The law of free replicas: where each replica's copy of a cell is good or the replica accused, whoever has a copy, does not
-/// accuse itself and is accused by fewer than a quorum is good.
-pub fn free_is_good()
-    ensures { FreeIsGood }
-{}
-
-/// The law of what is settled, of every state that allowed steps lead to. While a read runs and its settling has ended, and
-/// while a change does so that has not become unsettled, a good copy of one of its cells has exactly the cell's adopted
-/// changes and the content that is adopted.
-pub fn good_is_settled()
-    ensures { GoodIsSettled }
-{}
-
-/// The law of what is read, of every state that allowed steps lead to in which each replica's copy of each cell is good or the
-/// replica accused, for one, three and five replicas; that this is each of them is open yet. Behind its own lock phase, and
-/// before its change becomes unsettled, a read or change finds in each replica that was sound on a cell in that lock phase, or
-/// received a copy, exactly the cell's adopted changes and the content that is adopted, also where its grant has ended.
-pub fn ready_have_adopted()
-    ensures { ReadyHaveAdopted }
-{}
-
-/// The law of ops, of the same states. While an unsettled change is applied, a replica that is ready for it in its lock phase, is
-/// spared from then on, and has not applied it, has exactly the cell's adopted changes and the content that is adopted.
+/// The law of ops, of every state that allowed steps lead to, for one, three and five replicas. While an unsettled change is applied, a
+/// replica that is ready for it in its lock phase, is spared from then on, and has not applied it, has exactly the cell's
+/// adopted changes and the content that is adopted.
 pub fn appliers_have_adopted()
     ensures { AppliersHaveAdopted }
 {}
@@ -50,6 +14,12 @@ pub fn appliers_have_adopted()
 /// good on the cell, and so is what was fetched from one that the transaction uses still.
 pub fn sources_are_good()
     ensures { SourcesAreGood }
+{}
+
+/// The law of confirmed copies, of every state that allowed steps lead to. A sink that confirmed the replacement of a cell has the copy of
+/// one of the sources, with its last change, while the transaction uses both.
+pub fn every_confirmed_equals_source()
+    ensures { EveryConfirmedEqualsSource }
 {}
 
 /// The law of copies that are there, of every state that allowed steps lead to. A replica whose copy a lock phase saw has one

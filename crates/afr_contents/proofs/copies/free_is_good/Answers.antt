@@ -1,5 +1,0 @@
-use Rattle.afr_contents.proofs.Found.{free_is_good}
-use Rattle.afr_contents.proofs.copies.free_is_good.Goals as goal
-
-pub returns : goal.returns
-returns c = free_is_good

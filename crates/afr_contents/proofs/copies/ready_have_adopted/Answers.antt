@@ -1,5 +1,0 @@
-use Rattle.afr_contents.proofs.Found.{ready_have_adopted}
-use Rattle.afr_contents.proofs.copies.ready_have_adopted.Goals as goal
-
-pub returns : goal.returns
-returns c = ready_have_adopted

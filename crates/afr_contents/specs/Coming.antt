@@ -1,0 +1,68 @@
+-- What copies will be: what each op and replacement in a line brings is right, or its brick is accused; so is what transactions
+-- copy. Ours.
+use Rattle.std.specs.Prelude.{◌≡◌, ◌<◌, ◌⊎◌, ℕ, true, false, Some}
+use Rattle.fop_types.specs.StoreOps.{needs}
+use Rattle.fop_types.specs.declared.cells.Cell.{Cell}
+use Rattle.fop_types.specs.declared.store_ops.StoreOp.{StoreOp}
+use Rattle.afr_machine.specs.Replicas.{Size, IsSize, nobody}
+use Rattle.afr_machine.specs.Touching.{has_cell}
+use Rattle.afr_machine.specs.Copies.{Fetched}
+use Rattle.afr_machine.specs.Requests.{Ask}
+use Rattle.afr_machine.specs.Requests.Ask.{Op, Replace}
+use Rattle.afr_machine.specs.Changes.{is_unsettled}
+use Rattle.afr_machine.specs.Transactions.{CopyRun}
+use Rattle.afr_machine.specs.Transactions.Stage.{Applying, Copying}
+use Rattle.afr_machine.specs.States.{State, phase_of}
+use Rattle.afr_machine.specs.Steps.{IsReached}
+use Rattle.afr_laws.specs.Senders.{EachInput}
+use Rattle.afr_contents.specs.Good.{IsGood, IsGoodAt, IsSettledCopy}
+use Rattle.afr_contents.specs.Naming.{IsSourceFor, held_by}
+use Rattle.afr_contents.specs.Lasting.{IsAccusedApart}
+
+-- ---- requests in a line
+
+-- the change is unsettled, and the replica's copies of the cells that the op needs have exactly the adopted changes
+abbrev pub FindsSettled : State → ℕ → ℕ → StoreOp → Type 0
+FindsSettled m i u op = (cell : Cell) → has_cell (needs op) cell ≡ true → (is_unsettled (m.changes u).verdict ≡ true) × IsSettledCopy m cell ((m.bricks i).store cell).copy
+
+-- what the request brings is right, or the replica is accused on each cell that it changes
+abbrev pub IsRightAt : Size → State → ℕ → Ask → Type 0
+IsRightAt size m i (Op u op) = FindsSettled m i u op ⊎ ((cell : Cell) → has_cell (needs op) cell ≡ true → IsAccusedApart size m cell i nobody)
+IsRightAt size m i (Replace at found) = IsGood m at (Some found.copy) ⊎ IsAccusedApart size m at i nobody
+IsRightAt size m i other = Unit {0}
+
+-- ---- what a transaction knows
+
+-- the brick is held, and not out
+pub record IsUsed (m : State) (t k : ℕ) : Type 0 where
+  pub not_out : (m.txns t).out k ≡ false
+  pub held : held_by m t k ≡ true
+
+-- A source that it uses is good, or each replica that it uses is accused by a quorum of which it holds none; so is what it fetched.
+abbrev pub SourcesGoodOrLost : Size → State → Type 0
+SourcesGoodOrLost size m =
+    (t s i : ℕ) (cell : Cell) → s < size.replicas → i < size.replicas → has_cell (phase_of m t).cells cell ≡ true → IsSourceFor size m t cell s → IsUsed m t s → IsUsed m t i →
+    IsGoodAt m s cell ⊎ IsAccusedApart size m cell i (held_by m t)
+
+abbrev pub FetchedGoodOrLost : Size → State → Type 0
+FetchedGoodOrLost size m =
+    (t i : ℕ) (run : CopyRun) (cell : Cell) (found : Fetched) → i < size.replicas → (m.txns t).stage ≡ Copying run → run.fetched cell ≡ Some found → IsUsed m t i →
+    IsGood m cell (Some found.copy) ⊎ IsAccusedApart size m cell i (held_by m t)
+
+-- a brick to which the op of an unsettled change is still to be sent has exactly the adopted changes of its cells
+abbrev pub LeftAreSettled : Size → State → Type 0
+LeftAreSettled size m =
+    (t u k : ℕ) (cell : Cell) → k < size.replicas → (m.txns t).stage ≡ Applying u → is_unsettled (m.changes u).verdict ≡ true → (m.txns t).left k ≡ true → IsUsed m t k →
+    has_cell (m.changes u).cells cell ≡ true → IsSettledCopy m cell ((m.bricks k).store cell).copy
+
+-- ---- all of it
+
+pub record ComesGood (size : Size) (m : State) : Type 0 where
+  pub copies : (i : ℕ) (cell : Cell) → i < size.replicas → IsGoodAt m i cell ⊎ IsAccusedApart size m cell i nobody
+  pub lines : (i : ℕ) → i < size.replicas → EachInput (λ by ask. IsRightAt size m i ask) (m.bricks i).line
+  pub sources : SourcesGoodOrLost size m
+  pub fetched : FetchedGoodOrLost size m
+  pub left : LeftAreSettled size m
+
+abbrev pub EveryStateComesGood : Type 0
+EveryStateComesGood = (size : Size) (m : State) → IsSize size → IsReached size m → ComesGood size m
