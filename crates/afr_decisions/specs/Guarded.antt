@@ -1,4 +1,4 @@
--- What a guarded set keeps, under the names of the rules, as far as it is proved: copies that agree are not here. Ours.
+-- What a guarded set keeps, under the names of the rules, but that copies agree, which `afr_contents` adds. Ours.
 use Rattle.std.specs.Prelude.{◌≡◌, ℕ, Bool, true, Some}
 use Rattle.afr_machine.specs.Replicas.{Size, IsSize}
 use Rattle.afr_machine.specs.Requests.{Ask}

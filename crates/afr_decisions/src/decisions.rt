@@ -17,8 +17,8 @@ pub fn every_verdict_stands()
     ensures { EveryVerdictStands }
 {}
 
-/// The law of guarded sets, of every state that allowed steps lead to, for one, three and five replicas, as far as it is proved: all
-/// but that copies agree.
+/// The law of guarded sets, of every state that allowed steps lead to, for one, three and five replicas: these facts, and those of
+/// `afr_laws` and `afr_soundness`, under the names of the rules. That copies agree is a law of `afr_contents`.
 pub fn every_state_is_guarded()
     ensures { EveryStateIsGuarded }
 {}
