@@ -19,7 +19,8 @@
 mod states;
 
 pub use states::{
-    every_state_keeps_answers, every_state_keeps_births, every_state_keeps_effects, every_state_keeps_graphs, every_state_keeps_holds,
-    every_state_keeps_homes, every_state_keeps_layouts, every_state_keeps_objects, every_state_keeps_presence, every_state_keeps_settled,
-    every_state_keeps_sights,
+    every_state_keeps_answers, every_state_keeps_births, every_state_keeps_effects,
+    every_state_keeps_graphs, every_state_keeps_holds, every_state_keeps_homes,
+    every_state_keeps_layouts, every_state_keeps_objects, every_state_keeps_presence,
+    every_state_keeps_settled, every_state_keeps_sights,
 };
