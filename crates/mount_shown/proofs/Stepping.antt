@@ -39,7 +39,7 @@ adopted_is m u =
       files = files;
     }) (files_entered m.ops (change_of change.op) change.effect)
 
-sent_are : (m : State) (t : Task) (asked : Job) → t.job ≡ asked → AreAfterBirths (volumes m) t.set asked (volumes (sending_births m t))
+pub sent_are : (m : State) (t : Task) (asked : Job) → t.job ≡ asked → AreAfterBirths (volumes m) t.set asked (volumes (sending_births m t))
 sent_are m t (job.Birth cells (op.MakeCopy gfid span)) e =
     ap (λ (asked : Job). record { contents = with_at m.adopted t.set (after_births (m.adopted t.set) (births_by asked)); homes = m.homes; kinds = m.kinds; files = files_after first_files m.ops }) e
 sent_are m t (job.Birth cells (op.Write gfid offset bytes)) e = tt

@@ -6,5 +6,7 @@
 #![tactic(auto)]
 
 mod bridge;
+mod pending;
 
 pub use bridge::{sets_may_be_more, start_is_empty, steps_are_ops};
+pub use pending::steps_keep_files;
