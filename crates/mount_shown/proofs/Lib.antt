@@ -1,7 +1,13 @@
+pub mod Asked
 pub mod Bearing
+pub mod Beginning
 pub mod Counts
 pub mod Deciding
+pub mod Founding
 pub mod Jobs
 pub mod Keeping
+pub mod Moving
+pub mod Planned
+pub mod Standing
 pub mod Starting
 pub mod Stepping

@@ -7,6 +7,8 @@
 
 mod bridge;
 mod pending;
+mod trial;
 
 pub use bridge::{sets_may_be_more, start_is_empty, steps_are_ops};
 pub use pending::steps_keep_files;
+pub use trial::scratch;

@@ -1,0 +1,9 @@
+use Rattle.mount_shown.proofs.Founding.{accepts}
+use Rattle.mount_shown.proofs.Beginning.{cells_apart}
+use Rattle.mount_shown.proofs.Asked.{none_begun}
+use Rattle.mount_shown.proofs.Standing.{handed_stands, still_shown}
+use Rattle.mount_shown.proofs.Planned.{reads_listed, handed_bounded, run_sound}
+use Rattle.mount_shown.proofs.trial.scratch.Goals as goal
+
+pub returns : goal.returns
+returns c = tt

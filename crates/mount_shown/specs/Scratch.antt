@@ -1,0 +1,2 @@
+abbrev pub Nothing : Type 0
+Nothing = Unit {0}

@@ -1,0 +1,4 @@
+ghost use Rattle.mount_shown.specs.Scratch.{Nothing};
+pub fn scratch()
+    ensures { Nothing }
+{}
