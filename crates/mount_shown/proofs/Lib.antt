@@ -3,11 +3,15 @@ pub mod Bearing
 pub mod Beginning
 pub mod Counts
 pub mod Deciding
+pub mod First
 pub mod Founding
 pub mod Jobs
 pub mod Keeping
 pub mod Moving
+pub mod Names
+pub mod Objects
 pub mod Planned
+pub mod Renaming
 pub mod Standing
 pub mod Starting
 pub mod Stepping

@@ -1,3 +1,6 @@
+use Rattle.mount_shown.proofs.Renaming.{moves_first}
+use Rattle.mount_shown.proofs.Objects.{changes_object}
+use Rattle.mount_shown.proofs.First.{adds, drops, removes}
 use Rattle.mount_shown.proofs.Founding.{accepts}
 use Rattle.mount_shown.proofs.Beginning.{cells_apart}
 use Rattle.mount_shown.proofs.Asked.{none_begun}
