@@ -7,6 +7,7 @@ pub mod First
 pub mod Founding
 pub mod Jobs
 pub mod Keeping
+pub mod Knowing
 pub mod Moving
 pub mod Names
 pub mod Objects

@@ -1,3 +1,4 @@
 pub mod Bridge
+pub mod Known
 pub mod Pending
 pub mod Scratch

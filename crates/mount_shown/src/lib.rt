@@ -6,9 +6,11 @@
 #![tactic(auto)]
 
 mod bridge;
+mod known;
 mod pending;
 mod trial;
 
 pub use bridge::{sets_may_be_more, start_is_empty, steps_are_ops};
+pub use known::calls_know_names;
 pub use pending::steps_keep_files;
 pub use trial::scratch;
