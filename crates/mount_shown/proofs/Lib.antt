@@ -3,6 +3,7 @@ pub mod Bearing
 pub mod Beginning
 pub mod Counts
 pub mod Deciding
+pub mod Editing
 pub mod First
 pub mod Founding
 pub mod Jobs
@@ -11,6 +12,7 @@ pub mod Knowing
 pub mod Moving
 pub mod Names
 pub mod Objects
+pub mod Owned
 pub mod Planned
 pub mod Renaming
 pub mod Standing

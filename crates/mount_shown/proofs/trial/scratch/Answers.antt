@@ -1,3 +1,5 @@
+use Rattle.mount_shown.proofs.Editing.{real_stays, link_stays}
+use Rattle.mount_shown.proofs.Owned.{own_stands}
 use Rattle.mount_shown.proofs.Renaming.{moves_first}
 use Rattle.mount_shown.proofs.Objects.{changes_object}
 use Rattle.mount_shown.proofs.First.{adds, drops, removes}
