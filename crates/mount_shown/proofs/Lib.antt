@@ -3,6 +3,7 @@ pub mod Bearing
 pub mod Beginning
 pub mod Counts
 pub mod Deciding
+pub mod Dropping
 pub mod Editing
 pub mod First
 pub mod Founding
