@@ -70,7 +70,7 @@ use Rattle.mount_shown.specs.Pending.{KeepsFiles}
 
 -- ---- operations that are accepted
 
-open_add : (files : Files) (parent : Gfid) (item : Item) (mode : ℕ) (k : Kind) → Accepts files (added parent item mode k) → IsOpen (object_at files parent) item.name
+pub open_add : (files : Files) (parent : Gfid) (item : Item) (mode : ℕ) (k : Kind) → Accepts files (added parent item mode k) → IsOpen (object_at files parent) item.name
 open_add files parent item mode kind.File a = (added_is files parent item.name (with_new files parent (item_of item.name item.gfid kind.File) (new_file mode)) a.answer a.after a.accepted).open_at
 open_add files parent item mode kind.Dir a = (added_is files parent item.name (with_new files parent (item_of item.name item.gfid kind.Dir) (new_directory mode)) a.answer a.after a.accepted).open_at
 open_add files parent item mode kind.Link a = absurd a

@@ -10,6 +10,7 @@ pub mod Founding
 pub mod Jobs
 pub mod Keeping
 pub mod Knowing
+pub mod Listing
 pub mod Moving
 pub mod Names
 pub mod Objects
