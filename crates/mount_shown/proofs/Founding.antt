@@ -85,7 +85,7 @@ pub record NamesAs (now : Option Content) (shown : DirNames) : Type 0 where
   pub items : items_of now ≡ shown.items
   pub removed : is_removed now ≡ shown.removed
 
-names_as : (now x : Option Content) (place : ℕ) (shown : DirNames) → IsSameStill now x → ◌≡◌ {A = Result DirNames IoError} (Ok (names_shown x place)) (Ok shown) → NamesAs now shown
+pub names_as : (now x : Option Content) (place : ℕ) (shown : DirNames) → IsSameStill now x → ◌≡◌ {A = Result DirNames IoError} (Ok (names_shown x place)) (Ok shown) → NamesAs now shown
 names_as now x place shown k e = by_case k
   where
     same : (a b : DirNames) → ◌≡◌ {A = Result DirNames IoError} (Ok a) (Ok b) → a ≡ b

@@ -20,3 +20,4 @@ pub mod Renaming
 pub mod Standing
 pub mod Starting
 pub mod Stepping
+pub mod Watching

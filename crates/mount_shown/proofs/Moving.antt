@@ -104,3 +104,26 @@ module _ (first : List (List ℕ)) (P : State → ℕ → Handed → Type 0)
   pub every_handed : (m : State) → IsReached first m → (c : ℕ) (run : Run) → Runs m c run → P m c run.handed
   every_handed _ (IsReached.Start planned) = λ c run runs. absurd cc
   every_handed _ (IsReached.Further old step reached allowed) = λ c run runs. step_handed old reached (every_handed old reached) step allowed c run (run_steps old step allowed c run runs)
+
+-- The same for one step.
+module _ (m : State) (P : State → ℕ → Handed → Type 0)
+    (none : (n : State) (c : ℕ) → P n c [])
+    (stays : (step : Step) → Allowed m step → (c : ℕ) (run : Run) → Runs m c run → P m c run.handed → P (after m step) c run.handed)
+    (replied : (t : Task) (shown : SetReply) → MayHandIn m t shown → P m t.call t.run.handed → P (after m (Step.HandsIn t shown)) t.call (Replied t.set t.job shown ∷ t.run.handed))
+    (held : (c : ℕ) (run : Run) (dir : Gfid) (next : Course) → MayExtend m c run dir next → P m c run.handed → P (after m (Step.Extends c run dir next)) c (Held dir ∷ run.handed))
+    (a : (c : ℕ) (run : Run) → Runs m c run → P m c run.handed) where
+  one_handed : (step : Step) → Allowed m step → (c : ℕ) (run : Run) → RunStep m step c run → P (after m step) c run.handed
+  one_handed step allowed _ _ (Stays _ c run runs differ) = stays step allowed c run runs (a c run runs)
+  one_handed _ allowed _ _ (Begins c f kept h) = none (after m (Step.Begins c f kept)) c
+  one_handed _ allowed _ _ (Settles t u adopts h) = stays (Step.Settles t u adopts) allowed t.call t.run h.under_way.runs (a t.call t.run h.under_way.runs)
+  one_handed _ allowed _ _ (EndsSettling t h) = stays (Step.EndsSettling t) allowed t.call t.run h.under_way.runs (a t.call t.run h.under_way.runs)
+  one_handed _ allowed _ _ (BeginsChange t u h) = stays (Step.BeginsChange t u) allowed t.call t.run h.under_way.runs (a t.call t.run h.under_way.runs)
+  one_handed _ allowed _ _ (Decides t u h) = stays (Step.Decides t u) allowed t.call t.run h.under_way.runs (a t.call t.run h.under_way.runs)
+  one_handed _ allowed _ _ (SendsBirths t h) = stays (Step.SendsBirths t) allowed t.call t.run h.under_way.runs (a t.call t.run h.under_way.runs)
+  one_handed _ allowed _ _ (ConfirmsBirths t h) = stays (Step.ConfirmsBirths t) allowed t.call t.run h.under_way.runs (a t.call t.run h.under_way.runs)
+  one_handed _ allowed _ _ (HandsIn t shown h) = replied t shown h (a t.call t.run h.under_way.runs)
+  one_handed _ allowed _ _ (Extends c run dir next h) = held c run dir next h (a c run h.runs)
+  one_handed _ allowed _ _ (Releases c run gfid h) = stays (Step.Releases c run gfid) allowed c run h.runs (a c run h.runs)
+
+  pub step_keeps_handed : (step : Step) → Allowed m step → (c : ℕ) (run : Run) → Runs (after m step) c run → P (after m step) c run.handed
+  step_keeps_handed step allowed c run runs = one_handed step allowed c run (run_steps m step allowed c run runs)

@@ -1,3 +1,4 @@
+use Rattle.mount_shown.proofs.Watching.{step_names}
 use Rattle.mount_shown.proofs.Listing.{op_dirs}
 use Rattle.mount_shown.proofs.Dropping.{fops_drop_last}
 use Rattle.mount_shown.proofs.Editing.{real_stays, link_stays}
