@@ -2,6 +2,7 @@ pub mod Asked
 pub mod Bearing
 pub mod Beginning
 pub mod Counts
+pub mod Decided
 pub mod Deciding
 pub mod Dropping
 pub mod Editing
@@ -15,6 +16,7 @@ pub mod Moving
 pub mod Names
 pub mod Objects
 pub mod Owned
+pub mod Parts
 pub mod Planned
 pub mod Renaming
 pub mod Standing

@@ -130,7 +130,7 @@ pub touches_is : (o : StoreOp) (e : Option Entry) (dir : Gfid) (name : List ℕ)
 touches_is o None dir name = inr (λ k. k)
 touches_is o (Some entry) dir name = touch_is o dir name
 
-births_stay : (m : State) (t : Task) (set : ℕ) (cell : Cell) → StaysOrBorn (m.adopted set cell) (with_at m.adopted t.set (after_births (m.adopted t.set) (births_by t.job)) set cell)
+pub births_stay : (m : State) (t : Task) (set : ℕ) (cell : Cell) → StaysOrBorn (m.adopted set cell) (with_at m.adopted t.set (after_births (m.adopted t.set) (births_by t.job)) set cell)
 births_stay m t set cell =
     at_case (λ i (one : Contents). StaysOrBorn (m.adopted i cell) (one cell)) m.adopted t.set (after_births (m.adopted t.set) (births_by t.job)) (births_leave (births_by t.job) (m.adopted t.set) cell (jobs_have_none t.job)) set (λ differ. inl refl)
 

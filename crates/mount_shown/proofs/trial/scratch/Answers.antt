@@ -1,3 +1,5 @@
+use Rattle.mount_shown.proofs.Parts.{no_rmdir}
+use Rattle.mount_shown.proofs.Decided.{run_before, step_moved}
 use Rattle.mount_shown.proofs.Watching.{step_names}
 use Rattle.mount_shown.proofs.Listing.{op_dirs}
 use Rattle.mount_shown.proofs.Dropping.{fops_drop_last}
