@@ -53,7 +53,7 @@ use Rattle.mount_files.specs.Showing.{ShownIsFlat, FitsNow, IsOn, IsNew, IsThere
 -- ---- what the first op leaves
 
 -- a name that an op puts is one that it touches
-puts_touched : (s : Volumes) (set : ℕ) (o : StoreOp) (e : Option Entry) (dir : Gfid) (name : List ℕ) → Stands s set o e → Puts o dir name → Touches o e dir name
+pub puts_touched : (s : Volumes) (set : ℕ) (o : StoreOp) (e : Option Entry) (dir : Gfid) (name : List ℕ) → Stands s set o e → Puts o dir name → Touches o e dir name
 puts_touched s set (op.Write g offset bytes) e dir name st p = absurd p
 puts_touched s set (op.Truncate g size) e dir name st p = absurd p
 puts_touched s set (op.SetMode g mode) e dir name st p = absurd p

@@ -144,7 +144,7 @@ moved_there contents parent name target new_name item fit there real = record {
 -- ---- own changes
 
 -- an entry of a call by its number and its part
-entries_are : (one other : Entry) → one.call ≡ other.call → one.part ≡ other.part → one ≡ other
+pub entries_are : (one other : Entry) → one.call ≡ other.call → one.part ≡ other.part → one ≡ other
 entries_are one other e f = ap (λ (c : ℕ). entry_of c one.part) e ∙ ap (λ (p : ℕ). entry_of other.call p) f
   where
     entry_of : ℕ → ℕ → Entry
@@ -153,10 +153,10 @@ entries_are one other e f = ap (λ (c : ℕ). entry_of c one.part) e ∙ ap (λ 
 pub own_entry : (first : List (List ℕ)) (m : State) → IsReached first m → (u : ℕ) (entry : Entry) → (m.changes u).verdict ≢ Undrawn → (m.changes u).effect ≡ Some entry → IsOwnEntry m.began (m.changes u) entry
 own_entry first m reached u entry begun effect = subst (λ (x : Option Entry). IsOwnEffect m.began (m.changes u) x) effect (effect_own first m reached u begun)
 
-adopted_begun : (v : Verdict) → v ≡ Adopted → v ≢ Undrawn
+pub adopted_begun : (v : Verdict) → v ≡ Adopted → v ≢ Undrawn
 adopted_begun v e f = let clash : Adopted ≡ Undrawn = sym e ∙ f in absurd cc
 
-unsettled_begun : (v : Verdict) → v ≡ Unsettled → v ≢ Undrawn
+pub unsettled_begun : (v : Verdict) → v ≡ Unsettled → v ≢ Undrawn
 unsettled_begun v e f = let clash : Unsettled ≡ Undrawn = sym e ∙ f in absurd cc
 
 -- once a rename's move is adopted, no change of its call with an effect is unsettled
@@ -201,7 +201,7 @@ own_settled first m reached c run runs u by begun cell need = record {
   has = subst (λ (cs : List Cell). has_cell cs cell ≡ true) (sym (are_whole first m reached u begun)) (has_needed (needs (m.changes u).op) cell need);
 }
 
-not_adopted : (c set : ℕ) (asked : Job) → (change_by c set asked).verdict ≡ Adopted → ⊥
+pub not_adopted : (c set : ℕ) (asked : Job) → (change_by c set asked).verdict ≡ Adopted → ⊥
 not_adopted c set (job.Change cells fd o effect) e = let clash : Unsettled ≡ Adopted = e in absurd cc
 not_adopted c set (job.Read cells fd dir) e = let clash : Undrawn ≡ Adopted = e in absurd cc
 not_adopted c set (job.Birth cells o) e = let clash : Undrawn ≡ Adopted = e in absurd cc

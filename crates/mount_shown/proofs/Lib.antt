@@ -8,6 +8,7 @@ pub mod Dropping
 pub mod Editing
 pub mod First
 pub mod Founding
+pub mod Gone
 pub mod Jobs
 pub mod Keeping
 pub mod Knowing
