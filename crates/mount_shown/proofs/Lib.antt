@@ -20,6 +20,7 @@ pub mod Owned
 pub mod Parts
 pub mod Planned
 pub mod Renaming
+pub mod Second
 pub mod Standing
 pub mod Starting
 pub mod Stepping

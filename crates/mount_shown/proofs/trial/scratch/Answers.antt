@@ -1,3 +1,4 @@
+use Rattle.mount_shown.proofs.Second.{moves_second}
 use Rattle.mount_shown.proofs.Gone.{step_gone}
 use Rattle.mount_shown.proofs.Parts.{no_rmdir}
 use Rattle.mount_shown.proofs.Decided.{run_before, step_moved}
