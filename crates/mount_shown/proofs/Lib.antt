@@ -12,6 +12,7 @@ pub mod Gone
 pub mod Jobs
 pub mod Keeping
 pub mod Knowing
+pub mod Links
 pub mod Listing
 pub mod Moving
 pub mod Names

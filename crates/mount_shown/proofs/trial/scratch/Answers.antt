@@ -1,3 +1,4 @@
+use Rattle.mount_shown.proofs.Links.{adds_link, drops_link}
 use Rattle.mount_shown.proofs.Second.{moves_second}
 use Rattle.mount_shown.proofs.Gone.{step_gone}
 use Rattle.mount_shown.proofs.Parts.{no_rmdir}
