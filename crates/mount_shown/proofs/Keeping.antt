@@ -9,12 +9,11 @@ use Rattle.mount_laws.specs.States.{State, Change, set_count}
 use Rattle.mount_laws.specs.Steps.{Step, Task, after, adopting, change_by}
 use Rattle.mount_shown.proofs.Deciding.{dropped_stands, adopted_stands, begun_stands, more_stand}
 use Rattle.mount_shown.proofs.Bearing.{births_stand}
-use Rattle.mount_shown.proofs.Starting.{start_empty}
 use Rattle.mount_shown.proofs.Stepping.{adopted_is}
 use Rattle.mount_shown.specs.Bridge.{op_of}
-use Rattle.mount_shown.specs.Pending.{FilesStand, KeepsFiles, BeginsWell, ChangesBeginWell, StepsKeepFiles}
+use Rattle.mount_shown.specs.Pending.{FilesStand, KeepsFiles, BeginsWell}
 
-step_files : (first : List (List ℕ)) (m : State) (step : Step) → IsReached first m → Allowed m step → ((t : Task) (u : ℕ) → Allowed m (Step.BeginsChange t u) → BeginsWell m t) → KeepsFiles m → KeepsFiles (after m step)
+pub step_files : (first : List (List ℕ)) (m : State) (step : Step) → IsReached first m → Allowed m step → ((t : Task) (u : ℕ) → Allowed m (Step.BeginsChange t u) → BeginsWell m t) → KeepsFiles m → KeepsFiles (after m step)
 step_files first m (Step.Settles t u true) reached h well a =
     subst (λ (s : Volumes). FilesStand s (set_count m) (after m (Step.Settles t u true)).changes) (sym (adopted_is m u)) (adopted_stands (volumes m) (set_count m) m.changes a u h.unsettled.verdict)
 step_files first m (Step.Settles t u false) reached h well a = dropped_stands (volumes m) (set_count m) m.changes a u h.unsettled.verdict
@@ -34,9 +33,3 @@ step_files first m (Step.Releases c run gfid) reached h well a = a
 step_files first m (Step.Learns c run dir spans) reached h well a = a
 step_files first m (Step.Answers c run answer place) reached h well a = a
 step_files first m (Step.AnswersAbove c run answer) reached h well a = a
-
-pub steps_keep : StepsKeepFiles
-steps_keep first well _ (IsReached.Start planned) = record { shown = start_empty first planned.enough; alone = λ u e. absurd cc; apart = λ u w differ e. absurd cc }
-steps_keep first well _ (IsReached.Further old step reached allowed) =
-    let a = steps_keep first well old reached in
-    step_files first old step reached allowed (λ t u h. well old reached a t u h) a

@@ -6,6 +6,7 @@ pub mod Decided
 pub mod Deciding
 pub mod Dropping
 pub mod Editing
+pub mod Every
 pub mod First
 pub mod Founding
 pub mod Gone

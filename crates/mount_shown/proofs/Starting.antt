@@ -30,12 +30,12 @@ use Rattle.mount_laws.specs.States.{start}
 use Rattle.mount_shown.specs.Bridge.{StartIsEmpty}
 
 -- nothing, or an empty directory's
-data IsBare : Option Content → Type 0 where
+pub data IsBare : Option Content → Type 0 where
   Absent : IsBare None
   Metadata : (mode : ℕ) → IsBare (Some (Meta mode [] None))
   Empty : IsBare (Some (Names false []))
 
-bare : (cell : Cell) → IsBare (contents_of root_alone cell)
+pub bare : (cell : Cell) → IsBare (contents_of root_alone cell)
 bare cell = by_meta (is_cell cell (meta_cell root)) refl
   where
     by_names : (x : Bool) → is_cell cell (meta_cell root) ≡ false → is_cell cell (names_cell root) ≡ x → IsBare (contents_of root_alone cell)
@@ -46,7 +46,7 @@ bare cell = by_meta (is_cell cell (meta_cell root)) refl
     by_meta true e = rw e (Metadata 493)
     by_meta false e = by_names (is_cell cell (names_cell root)) e refl
 
-no_items : (content : Option Content) → IsBare content → items_of content ≡ []
+pub no_items : (content : Option Content) → IsBare content → items_of content ≡ []
 no_items _ Absent = refl
 no_items _ (Metadata mode) = refl
 no_items _ Empty = refl

@@ -2,4 +2,3 @@ pub mod Bridge
 pub mod Dropping
 pub mod Known
 pub mod Pending
-pub mod Scratch

@@ -37,9 +37,9 @@ pub record BeginsWell (m : State) (t : Task) : Type 0 where
   pub fits : Fits (volumes m) (set_count m) (op_of (change_by t.call t.set t.job))
   pub apart : (w : ℕ) → (m.changes w).verdict ≡ Unsettled → AreApart (op_of (change_by t.call t.set t.job)) (op_of (m.changes w))
 
-abbrev pub ChangesBeginWell : List (List ℕ) → Type 0
-ChangesBeginWell first = (m : State) → IsReached first m → KeepsFiles m → (t : Task) (u : ℕ) → Allowed m (Step.BeginsChange t u) → BeginsWell m t
+-- Every change that a job begins does so, whichever fop asks for it.
+abbrev pub EveryChangeBeginsWell : Type 0
+EveryChangeBeginsWell = (first : List (List ℕ)) (m : State) → IsReached first m → (t : Task) (u : ℕ) → Allowed m (Step.BeginsChange t u) → BeginsWell m t
 
--- Where changes begin well, every state keeps the files.
-abbrev pub StepsKeepFiles : Type 0
-StepsKeepFiles = (first : List (List ℕ)) → ChangesBeginWell first → (m : State) → IsReached first m → KeepsFiles m
+abbrev pub EveryStateKeepsFiles : Type 0
+EveryStateKeepsFiles = EveryState KeepsFiles

@@ -8,9 +8,7 @@
 mod bridge;
 mod known;
 mod pending;
-mod trial;
 
 pub use bridge::{sets_may_be_more, start_is_empty, steps_are_ops};
 pub use known::calls_know_names;
-pub use pending::steps_keep_files;
-pub use trial::scratch;
+pub use pending::{every_change_begins_well, every_state_keeps_files};

@@ -1,2 +1,0 @@
-abbrev pub Nothing : Type 0
-Nothing = Unit {0}
