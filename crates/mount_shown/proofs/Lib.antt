@@ -13,6 +13,7 @@ pub mod Gone
 pub mod Jobs
 pub mod Keeping
 pub mod Knowing
+pub mod Legal
 pub mod Links
 pub mod Listing
 pub mod Moving
