@@ -207,7 +207,7 @@ module _ (first : List (List ℕ)) (m : State) (reached : IsReached first m) (t 
           let within : t.set < t.run.volume.sets = subst (λ (x : Job). IsWithin t.run.volume.sets t.run.handed t.set x) e (job_within m (jobs_asked first m reached) (in_its_graph first m reached) t.call t.run h.under_way.runs t.set t.job t.next h.under_way.asks) in
           let most = sets_within first m reached t.call t.run h.under_way.runs in omega (arith, within, most)
 -- a birth is of a copy
-copying : (f : Fop) (o : StoreOp) → IsBornBy f o → IsCopying o
+pub copying : (f : Fop) (o : StoreOp) → IsBornBy f o → IsCopying o
 copying (fop.Mkdir parent name mode drawn) o is = copy_of drawn o is
 copying (fop.Rename parent name target new_name) o is = copy_of target.gfid o is.0
 copying (fop.Lookup parent name) o is = absurd is

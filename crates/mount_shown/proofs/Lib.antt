@@ -22,6 +22,7 @@ pub mod Objects
 pub mod Owned
 pub mod Parts
 pub mod Planned
+pub mod Quiet
 pub mod Renaming
 pub mod Second
 pub mod Standing
