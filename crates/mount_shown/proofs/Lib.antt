@@ -21,6 +21,7 @@ pub mod Names
 pub mod Objects
 pub mod Owned
 pub mod Parts
+pub mod Past
 pub mod Planned
 pub mod Quiet
 pub mod Renaming
