@@ -25,6 +25,7 @@ pub mod Past
 pub mod Planned
 pub mod Quiet
 pub mod Renaming
+pub mod Replying
 pub mod Second
 pub mod Standing
 pub mod Starting

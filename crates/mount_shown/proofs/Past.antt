@@ -159,7 +159,7 @@ none_before m (Step.AnswersAbove d run answer) h c none = none
 
 -- ---- now
 
-past_now : (first : List (List ℕ)) (m : State) → IsReached first m → (c : ℕ) (run : Run) → Runs m c run → HasNone m c → PastAt m.ops run.fop run.volume.sets run.handed (length m.history)
+pub past_now : (first : List (List ℕ)) (m : State) → IsReached first m → (c : ℕ) (run : Run) → Runs m c run → HasNone m c → PastAt m.ops run.fop run.volume.sets run.handed (length m.history)
 past_now first m reached c run runs none =
     let a = every_files first m reached in
     record {
