@@ -1,5 +1,5 @@
 -- Each change that a call has begun was asked by its fop; and until the fop's first change with an effect it has begun none.
-use Rattle.std.proofs.Common.{◌≡◌, ◌≢◌, ◌⊎◌, inl, inr, ◌∙◌, ℕ, Bool, true, false, refl, sym, ap, subst, List, [], ◌∷◌, ◌++◌, length, Option, Some, None}
+use Rattle.std.proofs.Common.{◌≡◌, ◌≢◌, ◌⊎◌, inl, inr, ◌∙◌, ℕ, true, false, refl, sym, ap, subst, List, [], ◌∷◌, Option, Some, None}
 use Rattle.afr_machine.specs.Changes.{Verdict}
 use Rattle.afr_machine.specs.Changes.Verdict.{Undrawn, Drawn, Unsettled, Adopted, Dropped}
 use Rattle.afr_machine.specs.Replicas.{with_at}
@@ -8,23 +8,20 @@ use Rattle.dht_fops.specs.Handed.{Handed, Event, Always, AnyHold}
 use Rattle.dht_fops.specs.Handed.Event.{Replied, Held}
 use Rattle.dht_fops.specs.Standing.{HaveNoEffect, HasNoEffect}
 use Rattle.dht_laws.proofs.EndingsOfFops.{fops_answer}
-use Rattle.dht_laws.specs.Endings.{Made, GoesOn, EndsWith, last_made, made_by, IsOwnMade, IsInOrder}
+use Rattle.dht_laws.specs.Endings.{Made, GoesOn, EndsWith, last_made, made_by, IsOwnMade}
 use Rattle.fop_types.specs.declared.answers.FopAnswer.{FopAnswer}
-use Rattle.fop_types.specs.declared.cells.Cell.{Cell}
 use Rattle.fop_types.specs.declared.cells.Gfid.{Gfid}
 use Rattle.fop_types.specs.declared.fops.Fop.{Fop}
-use Rattle.fop_types.specs.declared.history.Entry.{Entry}
 use Rattle.fop_types.specs.declared.jobs.Job.{Job}
 use Rattle.fop_types.specs.declared.jobs.Job.TheVariants as job
 use Rattle.fop_types.specs.declared.jobs.SetReply.{SetReply}
-use Rattle.fop_types.specs.declared.store_ops.StoreOp.{StoreOp}
 use Rattle.mount_laws.specs.Guards.{Allowed, IsReached, IsChange, IsSettling}
 use Rattle.mount_laws.specs.Runs.{Run, Stage, first_course, Leads}
 use Rattle.mount_laws.specs.Runs.Stage.{Waiting, Settled, Changing, Bearing, Decided}
 use Rattle.mount_laws.specs.Runs.Leads.{Begun, Answered, Extended}
 use Rattle.mount_laws.specs.States.{State, Change, Runs, has_begun}
-use Rattle.mount_laws.specs.Steps.{Step, Task, after, adopting, change_by, at_stage, number_after, sees}
-use Rattle.mount_laws.proofs.Beside.{each_beside, SameJob, one_job}
+use Rattle.mount_laws.specs.Steps.{Step, after, adopting, change_by, at_stage, number_after, sees}
+use Rattle.mount_laws.proofs.Beside.{each_beside, one_job}
 use Rattle.mount_laws.proofs.Held.{jobs_asked}
 use Rattle.mount_laws.proofs.Leading.{led_always}
 use Rattle.mount_laws.proofs.Tables.{at_case}

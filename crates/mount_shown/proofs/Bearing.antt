@@ -1,34 +1,32 @@
 -- A birth that is sent fits, and is apart from every unsettled change.
-use Rattle.std.proofs.Common.{◌≡◌, ◌≢◌, ◌⊎◌, inl, inr, ◌∙◌, ℕ, ◌<◌, Bool, true, false, List, [], ◌∷◌, Option, Some, None, refl, sym, ap, subst, arith}
+use Rattle.std.proofs.Common.{◌≡◌, ◌≢◌, ◌⊎◌, inl, inr, ◌∙◌, ℕ, ◌<◌, true, false, List, Option, Some, None, refl, sym, ap, subst, arith}
 use Rattle.afr_machine.specs.Changes.Verdict.{Undrawn, Unsettled, Adopted}
 use Rattle.dht_fops.specs.Answers.{AreMade}
 use Rattle.dht_fops.specs.Courses.{Course}
-use Rattle.dht_fops.specs.Standing.{Volumes, IsMade}
-use Rattle.fop_types.specs.Names.{is_link, is_directory}
+use Rattle.dht_fops.specs.Standing.{Volumes}
+use Rattle.fop_types.specs.Names.{is_link}
 use Rattle.fop_types.specs.StoreOps.{born}
 use Rattle.fop_types.specs.declared.cells.Cell.{Cell}
 use Rattle.fop_types.specs.declared.cells.Gfid.{Gfid}
 use Rattle.fop_types.specs.declared.cells.Kind.{Kind}
 use Rattle.fop_types.specs.declared.cells.Kind.TheVariants as kind
-use Rattle.fop_types.specs.declared.contents.Content.{Content}
 use Rattle.fop_types.specs.declared.contents.Item.{Item}
 use Rattle.fop_types.specs.declared.contents.Span.{Span}
 use Rattle.fop_types.specs.declared.fops.Fop.{Fop}
 use Rattle.fop_types.specs.declared.fops.Fop.TheVariants as fop
-use Rattle.fop_types.specs.declared.fops.Object.{Object}
 use Rattle.fop_types.specs.declared.history.Entry.{Entry}
 use Rattle.fop_types.specs.declared.jobs.Job.{Job}
 use Rattle.fop_types.specs.declared.jobs.Job.TheVariants as job
 use Rattle.fop_types.specs.declared.jobs.SetReply.{SetReply}
 use Rattle.fop_types.specs.declared.store_ops.StoreOp.{StoreOp}
 use Rattle.fop_types.specs.declared.store_ops.StoreOp.TheVariants as op
-use Rattle.mount_files.specs.Pairs.{OpOn, AreApart, Bears, BirthsOf, Fits, after as after_on}
-use Rattle.mount_files.specs.Showing.{FitsNow, Stands, IsUnshown, IsPlaced}
-use Rattle.mount_laws.specs.Effects.{IsOwnEffect, IsOfLink, HasEffect, IsJobOf, WasReplied}
+use Rattle.mount_files.specs.Pairs.{AreApart, Bears, BirthsOf}
+use Rattle.mount_files.specs.Showing.{Stands, IsUnshown, IsPlaced}
+use Rattle.mount_laws.specs.Effects.{IsOwnEffect, IsOfLink, IsJobOf, WasReplied}
 use Rattle.mount_laws.specs.Guards.{Allowed, IsReached, IsBirth, DrawsOwn}
 use Rattle.mount_laws.specs.Holding.{IsHeldFor, IsBornBy, IsCopyOf}
 use Rattle.mount_laws.specs.Objects.{volumes}
-use Rattle.mount_laws.specs.States.{State, Change, Runs, set_count}
+use Rattle.mount_laws.specs.States.{State, set_count}
 use Rattle.mount_laws.specs.Steps.{Step, Task, after, sending_births}
 use Rattle.mount_laws.specs.Within.{IsWithin}
 use Rattle.mount_laws.proofs.Beyond.{in_its_graph, job_within}
@@ -206,6 +204,7 @@ module _ (first : List (List ℕ)) (m : State) (reached : IsReached first m) (t 
       low =
           let within : t.set < t.run.volume.sets = subst (λ (x : Job). IsWithin t.run.volume.sets t.run.handed t.set x) e (job_within m (jobs_asked first m reached) (in_its_graph first m reached) t.call t.run h.under_way.runs t.set t.job t.next h.under_way.asks) in
           let most = sets_within first m reached t.call t.run h.under_way.runs in omega (arith, within, most)
+
 -- a birth is of a copy
 pub copying : (f : Fop) (o : StoreOp) → IsBornBy f o → IsCopying o
 copying (fop.Mkdir parent name mode drawn) o is = copy_of drawn o is

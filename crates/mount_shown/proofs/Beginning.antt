@@ -1,7 +1,6 @@
 -- The change that a job begins: where it is, that its cells are present, and that no other unsettled change is of them.
-use Rattle.std.proofs.Common.{◌≡◌, ◌≢◌, ◌⊎◌, inl, inr, ◌∙◌, ℕ, ◌<◌, ◌≤◌, Bool, true, false, ◌&&◌, ◌||◌, not, refl, sym, ap, subst, List, [], ◌∷◌, length, Option, Some, None, arith}
-use Rattle.afr_machine.specs.Changes.Verdict.{Undrawn, Unsettled, Adopted}
-use Rattle.afr_machine.specs.Replicas.{with_at}
+use Rattle.std.proofs.Common.{◌≡◌, ◌≢◌, inl, inr, ◌∙◌, ℕ, ◌<◌, Bool, true, false, ◌&&◌, ◌||◌, not, sym, ap, subst, List, [], ◌∷◌, Option, arith}
+use Rattle.afr_machine.specs.Changes.Verdict.{Undrawn, Unsettled}
 use Rattle.afr_machine.specs.Touching.{is_cell, has_cell}
 use Rattle.afr_machine.specs.Transactions.{cells_of_job}
 use Rattle.afr_machine.proofs.Tables.{at_same, at_other}
@@ -14,12 +13,10 @@ use Rattle.fop_types.specs.declared.jobs.Job.TheVariants as job
 use Rattle.fop_types.specs.declared.store_ops.StoreOp.{StoreOp}
 use Rattle.mount_files.specs.Pairs.{OpOn, AreApart, Needs, Fits}
 use Rattle.mount_laws.specs.Guards.{Allowed, IsReached}
-use Rattle.mount_laws.specs.Holding.{IsHeldFor, IsHeldChange}
+use Rattle.mount_laws.specs.Holding.{IsHeldChange}
 use Rattle.mount_laws.specs.Objects.{volumes}
-use Rattle.mount_laws.specs.Runs.{Run}
-use Rattle.mount_laws.specs.States.{State, Change, Runs, set_count}
+use Rattle.mount_laws.specs.States.{State, Change, set_count}
 use Rattle.mount_laws.specs.Steps.{Step, Task, after, change_by}
-use Rattle.mount_laws.specs.Within.{IsWithin}
 use Rattle.mount_laws.proofs.Beyond.{in_its_graph, job_within}
 use Rattle.mount_laws.proofs.Firm.{are_whole}
 use Rattle.mount_laws.proofs.Held.{holds_cover, jobs_asked}

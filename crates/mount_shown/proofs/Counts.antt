@@ -1,5 +1,5 @@
 -- The same files on more sets, or on fewer where nothing is on the others.
-use Rattle.std.proofs.Common.{◌≡◌, ◌∙◌, ℕ, ◌+◌, ◌<◌, ◌≤◌, zero, suc, Bool, true, false, List, [], ◌∷◌, Option, Some, None, refl, ap, sym, subst, arith}
+use Rattle.std.proofs.Common.{◌≡◌, ◌∙◌, ℕ, ◌+◌, ◌<◌, ◌≤◌, zero, suc, Bool, true, false, List, [], Option, Some, None, refl, ap, sym, arith}
 use Rattle.std.proofs.Common.{nat_lt}
 use Rattle.std.proofs.lemmas.Bool.{ltb-true, ltb-false}
 use Rattle.std.specs.List.{range_with_len}
@@ -13,15 +13,11 @@ use Rattle.fop_types.specs.declared.contents.Content.{Content}
 use Rattle.fop_types.specs.declared.contents.Item.{Item}
 use Rattle.fop_types.specs.declared.flat.FlatObject.{FlatObject}
 use Rattle.dht_fops.specs.Shown.{Homes, directory_of}
-use Rattle.dht_fops.specs.Standing.{Volumes}
-use Rattle.mount_files.proofs.Families.{AreNamesSound, real_none, untaken_by}
-use Rattle.mount_files.proofs.Local.{Column, column, items_in, names_in, shown_as, ShownAt, ShownOf, AllShown, to_local, from_local}
-use Rattle.mount_files.proofs.Merges.{Family, over, over_rises, over_named, real_at, or_else, last_of}
+use Rattle.mount_files.proofs.Families.{real_none, untaken_by}
+use Rattle.mount_files.proofs.Local.{Column, column, items_in, names_in, shown_as, ShownAt, ShownOf, to_local, from_local}
+use Rattle.mount_files.proofs.Merges.{over_rises, over_named, real_at, or_else, last_of}
 use Rattle.mount_files.proofs.Rises.{IsRising, none_rises, same_items}
-use Rattle.mount_files.specs.Showing.{ShownIsFlat}
-use Rattle.mount_laws.specs.Graphs.{FirstSets}
 use Rattle.mount_laws.specs.Objects.{volumes}
-use Rattle.mount_laws.specs.States.{State}
 use Rattle.mount_shown.specs.Bridge.{MoreSetsShow, FirstSetsShow}
 
 -- ---- the last of what sets have
@@ -41,9 +37,9 @@ names_more : (entry : Column) (few many : ℕ) → few ≤ many → ((set : ℕ)
 names_more entry few many h rising free =
     same_items (names_in many entry) (names_in few entry) (over_rises (items_in entry) (range_with_len 0 many) [] rising none_rises) (over_rises (items_in entry) (range_with_len 0 few) [] rising none_rises)
     (λ n.
-      over_named (items_in entry) (range_with_len 0 many) [] n rising
-      ∙ last_more (real_at (items_in entry) n) few many 0 None h (λ set k. real_none (item_named (items_in entry set) n) (free n set (omega (arith, k))))
-      ∙ sym (over_named (items_in entry) (range_with_len 0 few) [] n rising))
+    over_named (items_in entry) (range_with_len 0 many) [] n rising
+    ∙ last_more (real_at (items_in entry) n) few many 0 None h (λ set k. real_none (item_named (items_in entry set) n) (free n set (omega (arith, k))))
+    ∙ sym (over_named (items_in entry) (range_with_len 0 few) [] n rising))
 
 object_more : (few many : ℕ) (k : Option Kind) (body meta first : Option Content) (entry : Column) → names_in many entry ≡ names_in few entry → shown_as few k body meta first entry ≡ shown_as many k body meta first entry
 object_more few many None body meta first entry e = refl

@@ -1,48 +1,36 @@
 -- Own changes that were decided: a file that a fop has moved is where it was moved to, and a file's name that it has dropped is
 -- nowhere, as long as the fop is under way and makes no other change of the name.
-use Rattle.std.proofs.Common.{◌≡◌, ◌≢◌, ◌⊎◌, inl, inr, ◌∙◌, ℕ, ◌<◌, Bool, true, false, ◌||◌, nat_lt, refl, sym, ap, subst, List, [], ◌∷◌, length, Option, Some, None, if◌then◌else◌, is_none, arith}
-use Rattle.std.proofs.lemmas.Bool.{cases_eq}
+use Rattle.std.proofs.Common.{◌≡◌, ◌≢◌, ◌⊎◌, inl, inr, ◌∙◌, ℕ, Bool, true, false, refl, sym, ap, subst, List, ◌∷◌, Option, Some, None, if◌then◌else◌, arith}
 use Rattle.afr_machine.specs.Changes.{Verdict}
 use Rattle.afr_machine.specs.Changes.Verdict.{Undrawn, Unsettled, Adopted, Dropped}
 use Rattle.afr_machine.specs.Replicas.{with_at}
-use Rattle.afr_machine.specs.Touching.{has_cell, share}
-use Rattle.afr_machine.specs.Transactions.{cells_of_job}
-use Rattle.afr_machine.proofs.Tables.{at_same, at_other}
+use Rattle.afr_machine.specs.Touching.{has_cell}
 use Rattle.dht_fops.specs.Answers.{change_of, flat_op}
-use Rattle.dht_fops.specs.Courses.{Course}
-use Rattle.fop_types.specs.Bounds.{Each}
 use Rattle.fop_types.specs.Cells.{names_cell}
-use Rattle.fop_types.specs.Flat.{name_limit}
-use Rattle.fop_types.specs.Names.{item_named, is_link, renamed, without_item, with_item}
+use Rattle.fop_types.specs.Names.{item_named, is_link, renamed}
 use Rattle.std.specs.Ordering.{is_eq}
 use Rattle.fop_types.specs.Orders.{cell_cmp}
-use Rattle.fop_types.specs.StoreOps.{Contents, Edit, after_edits, moved_in, items_of, item_in, is_removed, is_taken, holds_names, needs, edited_if_present, with_content, contents_after, fits}
+use Rattle.fop_types.specs.StoreOps.{Contents, after_edits, moved_in, items_of, item_in, holds_names, needs, edited_if_present, with_content, contents_after, fits}
 use Rattle.fop_types.specs.StoreOps.Edit.{PutItem, DropItem}
 use Rattle.fop_types.specs.declared.cells.Cell.{Cell}
 use Rattle.fop_types.specs.declared.cells.Gfid.{Gfid}
-use Rattle.fop_types.specs.declared.cells.Kind.{Kind}
-use Rattle.fop_types.specs.declared.cells.Kind.TheVariants as kind
 use Rattle.fop_types.specs.declared.contents.Content.{Content}
 use Rattle.fop_types.specs.declared.contents.Content.TheVariants.{Bytes, Meta, Names}
 use Rattle.fop_types.specs.declared.contents.Item.{Item}
-use Rattle.fop_types.specs.declared.flat.FlatOp.{FlatOp}
-use Rattle.fop_types.specs.declared.flat.FlatOp.TheVariants as flat
-use Rattle.fop_types.specs.declared.fops.Fop.{Fop}
 use Rattle.fop_types.specs.declared.history.Entry.{Entry}
 use Rattle.fop_types.specs.declared.jobs.Job.{Job}
 use Rattle.fop_types.specs.declared.jobs.Job.TheVariants as job
-use Rattle.fop_types.specs.declared.jobs.SetReply.{SetReply}
 use Rattle.fop_types.specs.declared.store_ops.StoreOp.{StoreOp}
 use Rattle.fop_types.specs.declared.store_ops.StoreOp.TheVariants as op
-use Rattle.mount_files.proofs.Cells.{number_is, set_here, set_off, content_here, content_off}
-use Rattle.mount_files.proofs.Families.{taken_some, taken_item, untaken_by}
-use Rattle.mount_files.proofs.Keeping.{both_first, both_second}
-use Rattle.mount_files.proofs.Naming.{put_items, drop_items}
+use Rattle.mount_files.proofs.Cells.{set_here, content_here}
+use Rattle.mount_files.proofs.Families.{taken_item}
+use Rattle.mount_files.proofs.Keeping.{both_second}
+use Rattle.mount_files.proofs.Naming.{put_items}
 use Rattle.mount_files.proofs.Ops.{fit_parts, both_present, applied_is}
-use Rattle.mount_files.proofs.Rises.{same, same_self, named_with, named_without}
+use Rattle.mount_files.proofs.Rises.{same_self, named_with}
 use Rattle.mount_files.proofs.Sentences.{name_here}
-use Rattle.mount_files.specs.Pairs.{Touches, TouchesBy, Removes, Needs, Fits}
-use Rattle.mount_files.specs.Showing.{FitsNow, after_op}
+use Rattle.mount_files.specs.Pairs.{Touches, Needs, Fits}
+use Rattle.mount_files.specs.Showing.{FitsNow}
 use Rattle.mount_laws.specs.Effects.{IsOwnEffect, IsOwnEntry, HasEffect}
 use Rattle.mount_laws.specs.Guards.{Allowed, IsReached}
 use Rattle.mount_laws.specs.Objects.{volumes}
@@ -59,9 +47,9 @@ use Rattle.mount_shown.proofs.Beginning.{has_needed}
 use Rattle.mount_shown.proofs.Editing.{real_stays}
 use Rattle.mount_shown.proofs.Founding.{settled_own}
 use Rattle.mount_shown.proofs.Listing.{NamesOfDirs, has_name_made}
-use Rattle.mount_shown.proofs.Moving.{RunStep, IsOf, run_steps}
+use Rattle.mount_shown.proofs.Moving.{RunStep, run_steps}
 use Rattle.mount_shown.proofs.Moving.RunStep.{Stays, Begins, Settles, EndsSettling, BeginsChange, Decides, SendsBirths, ConfirmsBirths, HandsIn, Extends, Releases}
-use Rattle.mount_shown.proofs.Owned.{IsOwned, own_stands}
+use Rattle.mount_shown.proofs.Owned.{own_stands}
 use Rattle.mount_shown.proofs.Parts.{rename_is_last, one_or_two}
 use Rattle.mount_shown.proofs.Watching.{touches_is, births_stay}
 use Rattle.mount_shown.specs.Bridge.{op_of}

@@ -1,20 +1,18 @@
 -- The files and the unsettled changes, after one of these is decided, or another one begins.
-use Rattle.std.proofs.Common.{◌≡◌, ◌≢◌, ◌⊎◌, inl, inr, ◌∙◌, ℕ, ◌≤◌, refl, sym, ap, subst, arith}
-use Rattle.std.proofs.lemmas.Bool.{cases_eq}
+use Rattle.std.proofs.Common.{◌≡◌, ◌≢◌, ℕ, ◌≤◌, refl, sym, subst, arith}
 use Rattle.afr_machine.specs.Changes.{Verdict}
-use Rattle.afr_machine.specs.Changes.Verdict.{Undrawn, Unsettled, Adopted, Dropped}
+use Rattle.afr_machine.specs.Changes.Verdict.{Unsettled, Adopted, Dropped}
 use Rattle.afr_machine.specs.Replicas.{with_at}
-use Rattle.afr_machine.proofs.Tables.{at_same, at_other}
+use Rattle.afr_machine.proofs.Tables.{at_other}
 use Rattle.dht_fops.specs.Standing.{Volumes}
 use Rattle.mount_files.proofs.Later.{two_ops}
 use Rattle.mount_files.proofs.Ops.{one_op}
 use Rattle.mount_files.specs.Pairs.{OpOn, AreApart, Fits, after as after_on}
-use Rattle.mount_files.specs.Showing.{FitsNow}
 use Rattle.mount_laws.specs.States.{Change}
 use Rattle.mount_laws.proofs.Tables.{at_case}
 use Rattle.mount_shown.proofs.Counts.{more_sets}
 use Rattle.mount_shown.specs.Bridge.{op_of}
-use Rattle.mount_shown.specs.Pending.{ArePossible, ArePairsApart, FilesStand}
+use Rattle.mount_shown.specs.Pending.{ArePairsApart, FilesStand}
 
 pub flipped : (a b : OpOn) → AreApart a b → AreApart b a
 flipped a b k = record {

@@ -8,8 +8,8 @@ use Rattle.dht_linkto.specs.declared.found.Found.{Found}
 use Rattle.dht_linkto.specs.declared.found.Found.TheVariants as found
 use Rattle.dht_linkto.specs.declared.names.DirNames.{DirNames}
 use Rattle.dht_layout.specs.Layouts.{even_span}
-use Rattle.dht_fops.specs.Courses.{Course, answers, refuses, on_contents, after_read, contents_in, on_names, after_names, on_number, after_change, number_in, after_any}
-use Rattle.dht_fops.specs.Courses.Course.{Asks, Extends, Ends}
+use Rattle.dht_fops.specs.Courses.{Course, refuses, on_contents, after_read, contents_in, on_names, after_names, on_number, after_change, number_in, after_any}
+use Rattle.dht_fops.specs.Courses.Course.{Asks, Ends}
 use Rattle.dht_fops.specs.Entries.{birth_job, lookup_found, lists_from, births_from, mkdir_found, create_found, drops_link, unlink_found, empties, rmdir_found}
 use Rattle.dht_fops.specs.Fops.{on_name, renames, fop_course}
 use Rattle.dht_fops.specs.Internal.{opens_again, heals, indexes, with_cells, cells_in}
@@ -25,7 +25,6 @@ use Rattle.fop_types.specs.FileBytes.{file_limit}
 use Rattle.fop_types.specs.Limits.{max_item_name}
 use Rattle.fop_types.specs.Names.{attr_named, has_real_name, item_named, is_directory, is_link, is_same_name}
 use Rattle.fop_types.specs.StoreOps.{attrs_of}
-use Rattle.fop_types.specs.declared.answers.Answer.TheVariants as answer
 use Rattle.fop_types.specs.declared.answers.AppError.TheVariants.{Enoent}
 use Rattle.fop_types.specs.declared.answers.FopAnswer.{FopAnswer}
 use Rattle.fop_types.specs.declared.answers.IoError.{IoError}
@@ -41,7 +40,6 @@ use Rattle.fop_types.specs.declared.fops.Object.{Object}
 use Rattle.fop_types.specs.declared.fops.OpenFd.{OpenFd}
 use Rattle.fop_types.specs.declared.jobs.Job.TheVariants as job
 use Rattle.fop_types.specs.declared.jobs.SetReply.{SetReply}
-use Rattle.fop_types.specs.declared.store_ops.StoreOp.{StoreOp}
 use Rattle.fop_types.specs.declared.store_ops.StoreOp.TheVariants as op
 use Rattle.mount_shown.specs.Dropping.{TakesAway, DropsLast}
 

@@ -1,35 +1,32 @@
 -- What an op that fits leaves of a name on a set: an item that it does not name, a file's or directory's name that it does not touch,
 -- and a link that it does not make anew.
-use Rattle.std.proofs.Common.{◌≡◌, ◌≢◌, ◌⊎◌, inl, inr, ◌∙◌, ℕ, Bool, true, false, ◌&&◌, ◌||◌, not, refl, sym, ap, subst, List, [], ◌∷◌, Option, Some, None, if◌then◌else◌, is_none}
+use Rattle.std.proofs.Common.{◌≡◌, ◌≢◌, ◌⊎◌, inl, inr, ◌∙◌, ℕ, Bool, true, false, not, refl, sym, ap, subst, List, [], ◌∷◌, Option, Some, None, if◌then◌else◌}
 use Rattle.std.proofs.lemmas.Bool.{or_parts}
 use Rattle.std.specs.Ordering.{is_eq}
 use Rattle.afr_machine.specs.Replicas.{with_at}
 use Rattle.dht_fops.specs.Standing.{Volumes}
 use Rattle.fop_types.specs.Bounds.{Each}
 use Rattle.fop_types.specs.Cells.{names_cell}
-use Rattle.fop_types.specs.Names.{item_named, with_item, without_item, is_link, is_directory, has_real_name}
+use Rattle.fop_types.specs.Names.{item_named, without_item, is_link, has_real_name}
 use Rattle.fop_types.specs.Orders.{cell_cmp}
-use Rattle.fop_types.specs.StoreOps.{Contents, Edit, items_of, item_in, is_removed, is_taken, is_that_directory, is_unfit, needs, births, edits, after_edits, edited_if_present, moved_in, with_content, contents_after, fits}
+use Rattle.fop_types.specs.StoreOps.{Contents, Edit, items_of, item_in, is_removed, is_taken, is_that_directory, births, edits, after_edits, edited_if_present, moved_in, with_content, contents_after, fits}
 use Rattle.fop_types.specs.StoreOps.Edit.{PutBytes, Resize, PutMode, PutAttr, DropAttr, PutItem, DropItem, MarkRemoved}
 use Rattle.fop_types.specs.declared.cells.Cell.{Cell}
 use Rattle.fop_types.specs.declared.cells.Gfid.{Gfid}
-use Rattle.fop_types.specs.declared.cells.Kind.{Kind}
-use Rattle.fop_types.specs.declared.cells.Kind.TheVariants as kind
 use Rattle.fop_types.specs.declared.contents.Content.{Content}
 use Rattle.fop_types.specs.declared.contents.Content.TheVariants.{Bytes, Meta, Names}
 use Rattle.fop_types.specs.declared.contents.Item.{Item}
-use Rattle.fop_types.specs.declared.contents.Span.{Span}
 use Rattle.fop_types.specs.declared.history.Entry.{Entry}
 use Rattle.fop_types.specs.declared.store_ops.StoreOp.{StoreOp}
 use Rattle.fop_types.specs.declared.store_ops.StoreOp.TheVariants as op
 use Rattle.mount_files.proofs.Cells.{number_is, set_here, set_off}
 use Rattle.mount_files.proofs.Families.{taken_some}
 use Rattle.mount_files.proofs.Local.{gfid_is}
-use Rattle.mount_files.proofs.Ops.{cell_is, fit_parts, applied_is, IsThat, that_directory, not_not}
+use Rattle.mount_files.proofs.Ops.{cell_is, fit_parts, IsThat, that_directory, not_not}
 use Rattle.mount_files.proofs.Rises.{same, same_is, same_self, not_same, named_with}
 use Rattle.mount_files.specs.Pairs.{Touches, TouchesBy}
 use Rattle.mount_files.specs.Showing.{FitsNow, Stands, after_op}
-use Rattle.mount_laws.specs.Settling.{HasNoNames, StaysOrBorn}
+use Rattle.mount_laws.specs.Settling.{StaysOrBorn}
 use Rattle.mount_laws.specs.Steps.{applied}
 use Rattle.mount_laws.proofs.Contents.{births_have_none, births_leave}
 

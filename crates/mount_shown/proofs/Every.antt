@@ -1,21 +1,16 @@
 -- Every state keeps the files: each change begins well, by what its fop knows, and every step keeps what fops know.
-use Rattle.std.proofs.Common.{◌≡◌, ◌≢◌, ◌⊎◌, inl, inr, ◌∙◌, ℕ, Bool, true, false, ◌||◌, refl, sym, ap, subst, List, [], ◌∷◌, Option, Some, None, is_none}
+use Rattle.std.proofs.Common.{◌≡◌, ◌≢◌, ◌⊎◌, inl, inr, ◌∙◌, ℕ, true, false, ◌||◌, refl, sym, ap, subst, List, [], Option, Some, None, is_none}
 use Rattle.std.proofs.lemmas.Bool.{or_parts}
 use Rattle.afr_machine.specs.Changes.{Verdict}
 use Rattle.afr_machine.specs.Changes.Verdict.{Undrawn, Unsettled, Adopted, Dropped}
 use Rattle.afr_machine.specs.Replicas.{with_at}
-use Rattle.dht_fops.specs.Answers.{Accepts, change_of}
 use Rattle.dht_fops.specs.Standing.{HaveNoEffect}
 use Rattle.fop_types.specs.Cells.{names_cell}
-use Rattle.fop_types.specs.Names.{is_link, is_same_name}
+use Rattle.fop_types.specs.Names.{is_same_name}
 use Rattle.fop_types.specs.StoreOps.{items_of, item_in, is_removed, is_directory_item, fits}
 use Rattle.fop_types.specs.declared.cells.Cell.{Cell}
 use Rattle.fop_types.specs.declared.cells.Gfid.{Gfid}
-use Rattle.fop_types.specs.declared.cells.Kind.{Kind}
 use Rattle.fop_types.specs.declared.cells.Kind.TheVariants as kind
-use Rattle.fop_types.specs.declared.contents.Content.{Content}
-use Rattle.fop_types.specs.declared.contents.Item.{Item}
-use Rattle.fop_types.specs.declared.contents.Span.{Span}
 use Rattle.fop_types.specs.declared.history.Entry.{Entry}
 use Rattle.fop_types.specs.declared.jobs.Job.{Job}
 use Rattle.fop_types.specs.declared.jobs.Job.TheVariants as job
@@ -23,13 +18,13 @@ use Rattle.fop_types.specs.declared.store_ops.StoreOp.{StoreOp}
 use Rattle.fop_types.specs.declared.store_ops.StoreOp.TheVariants as op
 use Rattle.mount_files.proofs.Ops.{fit_parts}
 use Rattle.mount_files.specs.Pairs.{AreApart, Fits}
-use Rattle.mount_laws.specs.Effects.{IsOwnJob, IsOfLink}
+use Rattle.mount_laws.specs.Effects.{IsOfLink}
 use Rattle.mount_laws.specs.Guards.{Allowed, IsReached, IsChange}
 use Rattle.mount_laws.specs.Objects.{volumes}
 use Rattle.mount_laws.specs.Runs.{Run}
 use Rattle.mount_laws.specs.Settling.{StaysOrBorn}
 use Rattle.mount_laws.specs.States.{State, Change, Runs, set_count}
-use Rattle.mount_laws.specs.Steps.{Step, Task, after, adopting, change_by}
+use Rattle.mount_laws.specs.Steps.{Step, Task, after, change_by}
 use Rattle.mount_laws.proofs.Entering.{own_job}
 use Rattle.mount_laws.proofs.Tables.{at_case}
 use Rattle.mount_shown.proofs.Beginning.{op_on, BeginsAs, asks}
@@ -45,7 +40,7 @@ use Rattle.mount_shown.proofs.Second.{HadEffect, effect_before, moves_second}
 use Rattle.mount_shown.proofs.Starting.{start_empty, bare, no_items}
 use Rattle.mount_shown.proofs.Watching.{NamesStand, step_names, births_stay}
 use Rattle.mount_shown.specs.Bridge.{op_of}
-use Rattle.mount_shown.specs.Pending.{FilesStand, KeepsFiles, BeginsWell, EveryStateKeepsFiles, EveryChangeBeginsWell}
+use Rattle.mount_shown.specs.Pending.{KeepsFiles, BeginsWell, EveryStateKeepsFiles, EveryChangeBeginsWell}
 
 -- what every state keeps: the files, and what fops under way know of names
 record Stands (m : State) : Type 0 where

@@ -1,24 +1,22 @@
 -- A fop's first change with an effect, where it is of names, begins well.
-use Rattle.std.proofs.Common.{◌≡◌, ◌≢◌, ◌⊎◌, inl, inr, ◌∙◌, ℕ, ◌<◌, ◌≤◌, Bool, true, false, ◌&&◌, ◌||◌, not, refl, sym, ap, subst, List, [], ◌∷◌, length, Option, Some, None, is_some, is_none, arith}
+use Rattle.std.proofs.Common.{◌≡◌, ◌≢◌, ◌⊎◌, inl, inr, ◌∙◌, ℕ, ◌<◌, true, false, not, refl, sym, ap, subst, List, [], ◌∷◌, Option, Some, None, is_some, is_none, arith}
 use Rattle.afr_machine.specs.Changes.Verdict.{Undrawn, Unsettled, Adopted}
 use Rattle.dht_fops.proofs.Bounds.{answers_bounded}
 use Rattle.dht_fops.specs.Answers.{Accepts, added, change_of, flat_op}
-use Rattle.dht_fops.specs.Courses.{Course}
-use Rattle.dht_fops.specs.Founded.{IsFounded, IsWellAsked, SawFile, SawMovable, SawEmptied, IsFree, WasDropped, IsDropOf}
-use Rattle.dht_fops.specs.Handed.{Handed, Event, SawName, SawNone, SawNowhere, SawEmpty}
+use Rattle.dht_fops.specs.Founded.{IsWellAsked, SawEmptied, WasDropped, IsDropOf}
+use Rattle.dht_fops.specs.Handed.{Handed, Event, SawName, SawNowhere}
 use Rattle.dht_fops.specs.Handed.Event.{Replied, Held}
 use Rattle.dht_fops.specs.Standing.{HaveNoEffect, HasNoEffect}
 use Rattle.dht_laws.proofs.EndingsOfFops.{fops_answer}
 use Rattle.dht_laws.proofs.HomesOfFops.{fops_bear, fops_change_on}
 use Rattle.dht_laws.proofs.TracesOfFops.{fops_change_links}
 use Rattle.dht_laws.proofs.Unheeded.{bear_once}
-use Rattle.fop_types.specs.Bounds.{IsItem, IsTarget, IsOp}
+use Rattle.fop_types.specs.Bounds.{IsTarget}
 use Rattle.fop_types.specs.Cells.{root, names_cell}
-use Rattle.fop_types.specs.Files.{Files, object_at, names_at, new_file, new_directory}
+use Rattle.fop_types.specs.Files.{Files, object_at, new_file, new_directory}
 use Rattle.fop_types.specs.Flat.{item_of, with_new}
-use Rattle.fop_types.specs.Jobs.{IsJob}
-use Rattle.fop_types.specs.Names.{item_named, is_link, is_directory, has_real_name, is_same_name}
-use Rattle.fop_types.specs.StoreOps.{items_of, is_removed, is_taken, item_in, is_directory_item, is_that_directory, needs, born}
+use Rattle.fop_types.specs.Names.{item_named, is_link, has_real_name}
+use Rattle.fop_types.specs.StoreOps.{items_of, is_removed, is_taken, item_in, is_that_directory, born}
 use Rattle.fop_types.specs.declared.cells.Aspect.{Aspect}
 use Rattle.fop_types.specs.declared.cells.Cell.{Cell}
 use Rattle.fop_types.specs.declared.cells.Gfid.{Gfid}
@@ -31,26 +29,24 @@ use Rattle.fop_types.specs.declared.flat.FlatOp.TheVariants as flat
 use Rattle.fop_types.specs.declared.fops.Fop.{Fop}
 use Rattle.fop_types.specs.declared.fops.Fop.TheVariants as fop
 use Rattle.fop_types.specs.declared.history.Entry.{Entry}
-use Rattle.fop_types.specs.declared.jobs.Job.{Job}
 use Rattle.fop_types.specs.declared.jobs.Job.TheVariants as job
 use Rattle.fop_types.specs.declared.store_ops.StoreOp.{StoreOp}
 use Rattle.fop_types.specs.declared.store_ops.StoreOp.TheVariants as op
-use Rattle.mount_files.proofs.Accepting.{IsOpen, added_is, dropped_is, removed_is, moved_is, IsMoved}
-use Rattle.mount_files.proofs.Families.{taken_some, taken_item, untaken_by}
-use Rattle.mount_files.proofs.Keeping.{both_first, both_second}
+use Rattle.mount_files.proofs.Accepting.{IsOpen, added_is, dropped_is, removed_is}
+use Rattle.mount_files.proofs.Families.{taken_some}
+use Rattle.mount_files.proofs.Keeping.{both_first}
 use Rattle.mount_files.proofs.Local.{to_local}
 use Rattle.mount_files.proofs.Naming.{IsOpenDirectory, open_directory}
 use Rattle.mount_files.proofs.Sentences.{name_here, name_nowhere}
-use Rattle.mount_files.specs.Pairs.{OpOn, AreApart, Touches, Removes, Bears, BirthsOf, Needs, Fits}
+use Rattle.mount_files.specs.Pairs.{Touches, Removes, BirthsOf, Fits}
 use Rattle.mount_files.specs.Seen.{IsHere, IsNowhere}
-use Rattle.mount_files.specs.Showing.{ShownIsFlat, FitsNow, IsNew, IsNowhereElse}
-use Rattle.mount_laws.specs.Births.{IsBornOf, IsFreeBy, IsMkdir, HasBorn, IsAdding}
+use Rattle.mount_files.specs.Showing.{ShownIsFlat}
+use Rattle.mount_laws.specs.Births.{IsBornOf, IsFreeBy, IsMkdir}
 use Rattle.mount_laws.specs.Effects.{IsOwnPart, part_of}
 use Rattle.mount_laws.specs.Guards.{Allowed, IsReached}
 use Rattle.mount_laws.specs.Homes.{IsChangedOn}
 use Rattle.mount_laws.specs.Objects.{volumes, IsMadeBy}
-use Rattle.mount_laws.specs.Runs.{Run}
-use Rattle.mount_laws.specs.States.{State, Change, Runs, Status, set_count}
+use Rattle.mount_laws.specs.States.{State, Change, Status}
 use Rattle.mount_laws.specs.States.Status.{Running}
 use Rattle.mount_laws.specs.Steps.{Step, Task, after}
 use Rattle.mount_laws.proofs.Bearing.{CourseLaws, unconfirmed_born}
@@ -60,10 +56,10 @@ use Rattle.mount_laws.proofs.Free.{drawn_free, some_or}
 use Rattle.mount_laws.proofs.Homing.{changed_home}
 use Rattle.mount_laws.proofs.Making.{made_by_change}
 use Rattle.mount_shown.proofs.Asked.{none_begun, not_settled}
-use Rattle.mount_shown.proofs.Bearing.{pending_add, IsPendingAdd}
+use Rattle.mount_shown.proofs.Bearing.{pending_add}
 use Rattle.mount_shown.proofs.Beginning.{op_on, BeginsAs, asks, low, low_run, fits_by, cells_apart, here, reached_after}
-use Rattle.mount_shown.proofs.Founding.{NamesAs, flat_run, fits_run, founded, names_are, nobody_on, accepts}
-use Rattle.mount_shown.proofs.Names.{untaken_no, no_directory_untaken, no_real, some_that, either_no, empty_by}
+use Rattle.mount_shown.proofs.Founding.{flat_run, fits_run, founded, names_are, nobody_on, accepts}
+use Rattle.mount_shown.proofs.Names.{untaken_no, no_real, some_that, either_no, empty_by}
 use Rattle.mount_shown.proofs.Planned.{handed_bounded}
 use Rattle.mount_shown.specs.Bridge.{op_of}
 use Rattle.mount_shown.specs.Pending.{KeepsFiles}
@@ -311,10 +307,10 @@ module _ (first : List (List ℕ)) (m : State) (reached : IsReached first m) (a 
       let made = flat_on.sound.named parent name saw.set saw.saw.item item_is saw.saw.is_object in
       let gfid_made : m.kinds gfid ≡ Some kind.Dir = ap (λ (g : Gfid). m.kinds g) (sym saw.saw.gfid_is) ∙ made ∙ ap (λ (k : Kind). Some k) saw.saw.kind_is in
       let zero_here : t.set ≡ 0 =
-          subst (λ (x : Change). IsChangedOn m.kinds m.homes x.set x.op) (here first m reached t u h cells fd o (Some entry) is)
-          (changed_home fops_change_on first (after m (Step.BeginsChange t u)) (reached_after first m reached t u h cells fd o (Some entry) is) u entry
-          (λ e. let clash : Unsettled ≡ Undrawn = sym (ap (λ (x : Change). x.verdict) (here first m reached t u h cells fd o (Some entry) is)) ∙ e in absurd cc)
-          (ap (λ (x : Change). x.effect) (here first m reached t u h cells fd o (Some entry) is))) in
+      subst (λ (x : Change). IsChangedOn m.kinds m.homes x.set x.op) (here first m reached t u h cells fd o (Some entry) is)
+      (changed_home fops_change_on first (after m (Step.BeginsChange t u)) (reached_after first m reached t u h cells fd o (Some entry) is) u entry
+      (λ e. let clash : Unsettled ≡ Undrawn = sym (ap (λ (x : Change). x.verdict) (here first m reached t u h cells fd o (Some entry) is)) ∙ e in absurd cc)
+      (ap (λ (x : Change). x.effect) (here first m reached t u h cells fd o (Some entry) is))) in
       let zero_seen : saw.set ≡ 0 = flat_on.on_first parent name saw.set saw.saw.item item_is saw.saw.kind_is in
       let same : saw.set ≡ t.set = zero_seen ∙ sym zero_here in
       let item_here : item_in (m.adopted t.set) parent name ≡ Some saw.saw.item = subst (λ (s : ℕ). item_in (m.adopted s) parent name ≡ Some saw.saw.item) same item_is in

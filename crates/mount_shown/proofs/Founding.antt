@@ -1,12 +1,12 @@
 -- What a fop knows at its first change with an effect: it has begun none, so what it read is adopted; it answers as the flat file
 -- system; and no other change is unsettled on what it read.
-use Rattle.std.proofs.Common.{◌≡◌, ◌≢◌, ◌⊎◌, inl, inr, ◌∙◌, ℕ, ◌<◌, ◌≤◌, Bool, true, false, ◌&&◌, ◌||◌, not, refl, sym, ap, subst, List, [], ◌∷◌, length, Option, Some, None, Result, Ok, Err, arith}
-use Rattle.afr_machine.specs.Changes.Verdict.{Undrawn, Unsettled, Adopted}
+use Rattle.std.proofs.Common.{◌≡◌, ◌≢◌, ◌⊎◌, inl, inr, ◌∙◌, ℕ, ◌<◌, Bool, true, refl, sym, ap, subst, List, [], ◌∷◌, Option, Some, Result, Ok, arith}
+use Rattle.afr_machine.specs.Changes.Verdict.{Undrawn, Unsettled}
 use Rattle.afr_machine.specs.Touching.{has_cell}
 use Rattle.dht_fops.proofs.AskFops.{asks_well}
 use Rattle.dht_fops.specs.Answers.{AreMade, FitsFlat, AnswersAsFlat, Accepts, change_of}
 use Rattle.dht_fops.specs.Courses.{Course}
-use Rattle.dht_fops.specs.Founded.{NamesSets, IsWellAsked, IsWellHeld, IsWellFound, IsFounded}
+use Rattle.dht_fops.specs.Founded.{NamesSets, IsWellAsked, IsWellHeld, IsWellFound}
 use Rattle.dht_fops.specs.Handed.{Handed, Event, AnyHold, Saw, IsNamesOf}
 use Rattle.dht_fops.specs.Handed.Event.{Replied, Held}
 use Rattle.dht_fops.specs.Shown.{SetContents}
@@ -22,7 +22,6 @@ use Rattle.fop_types.specs.declared.answers.IoError.{IoError}
 use Rattle.fop_types.specs.declared.cells.Cell.{Cell}
 use Rattle.fop_types.specs.declared.cells.Gfid.{Gfid}
 use Rattle.fop_types.specs.declared.contents.Content.{Content}
-use Rattle.fop_types.specs.declared.contents.Item.{Item}
 use Rattle.fop_types.specs.declared.fops.Fop.{Fop}
 use Rattle.fop_types.specs.declared.fops.Fop.TheVariants as fop
 use Rattle.fop_types.specs.declared.fops.Object.{Object}
@@ -32,27 +31,25 @@ use Rattle.fop_types.specs.declared.jobs.Job.TheVariants as job
 use Rattle.fop_types.specs.declared.jobs.SetReply.{SetReply}
 use Rattle.fop_types.specs.declared.jobs.SetReply.TheVariants as reply
 use Rattle.fop_types.specs.declared.store_ops.StoreOp.{StoreOp}
-use Rattle.mount_files.specs.Pairs.{OpOn, Needs, Fits}
-use Rattle.mount_files.specs.Showing.{ShownIsFlat, FitsNow}
+use Rattle.mount_files.specs.Pairs.{Needs, Fits}
+use Rattle.mount_files.specs.Showing.{ShownIsFlat}
 use Rattle.mount_laws.specs.Graphs.{FirstSets}
-use Rattle.mount_laws.specs.Guards.{Allowed, IsReached, IsUnsettledOn, objects_of, IsOfCall}
+use Rattle.mount_laws.specs.Guards.{IsReached, IsUnsettledOn, objects_of, IsOfCall}
 use Rattle.mount_laws.specs.Objects.{volumes}
 use Rattle.mount_laws.specs.Runs.{Run, SettledJob}
 use Rattle.mount_laws.specs.Seeing.{IsListed, WasSettled}
-use Rattle.mount_laws.specs.Settling.{HasNoNames, IsSettledJob}
+use Rattle.mount_laws.specs.Settling.{IsSettledJob}
 use Rattle.mount_laws.specs.States.{State, Change, Runs, Status, is_unanswered, set_count}
-use Rattle.mount_laws.specs.Steps.{Step, Task, after}
-use Rattle.mount_laws.proofs.Beside.{each_beside, each_map}
+use Rattle.mount_laws.proofs.Beside.{each_beside}
 use Rattle.mount_laws.proofs.Beyond.{beyond_old, in_its_graph}
 use Rattle.mount_laws.proofs.Firm.{are_whole}
 use Rattle.mount_laws.proofs.Making.{objects_made}
 use Rattle.mount_laws.proofs.Sharing.{shared_cell}
-use Rattle.mount_shown.proofs.Asked.{IsAtChange, none_begun, not_settled}
-use Rattle.mount_shown.proofs.Beginning.{has_needed, asks}
+use Rattle.mount_shown.proofs.Beginning.{has_needed}
 use Rattle.mount_shown.proofs.Counts.{first_sets}
 use Rattle.mount_shown.proofs.Jobs.{at_job, some_roots, roots_within, names_many, sets_within, sets_are}
-use Rattle.mount_shown.proofs.Planned.{IsSound, run_sound, IsReadListed, AreReadsListed, reads_listed}
-use Rattle.mount_shown.proofs.Standing.{IsTouched, IsSameStill, CellStands, CellsStand, ReplyStands, EventStands, HandedStands, handed_stands, still_shown}
+use Rattle.mount_shown.proofs.Planned.{run_sound, IsReadListed, AreReadsListed, reads_listed}
+use Rattle.mount_shown.proofs.Standing.{IsTouched, IsSameStill, CellsStand, ReplyStands, EventStands, HandedStands, handed_stands, still_shown}
 use Rattle.mount_shown.specs.Bridge.{op_of}
 use Rattle.mount_shown.specs.Pending.{KeepsFiles}
 

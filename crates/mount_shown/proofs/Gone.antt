@@ -1,6 +1,6 @@
 -- A file's name that a fop has dropped is nowhere, nothing else touches it, and its directory stays, as long as the fop is under way
 -- and begins no other change of the name.
-use Rattle.std.proofs.Common.{◌≡◌, ◌≢◌, ◌⊎◌, inl, inr, ◌∙◌, ℕ, ◌<◌, Bool, true, false, ◌||◌, nat_lt, refl, sym, ap, subst, List, [], ◌∷◌, length, Option, Some, None, if◌then◌else◌, arith}
+use Rattle.std.proofs.Common.{◌≡◌, ◌≢◌, ◌⊎◌, inl, inr, ◌∙◌, ℕ, Bool, true, false, nat_lt, refl, sym, ap, subst, List, [], ◌∷◌, length, Option, Some, None, if◌then◌else◌}
 use Rattle.std.proofs.lemmas.Bool.{cases_eq}
 use Rattle.afr_machine.specs.Changes.{Verdict}
 use Rattle.afr_machine.specs.Changes.Verdict.{Undrawn, Unsettled, Adopted, Dropped}
@@ -13,8 +13,8 @@ use Rattle.dht_fops.specs.Standing.{AreOnce}
 use Rattle.fop_types.specs.Bounds.{Each}
 use Rattle.fop_types.specs.Cells.{names_cell}
 use Rattle.fop_types.specs.Flat.{name_limit}
-use Rattle.fop_types.specs.Names.{item_named, is_link, without_item}
-use Rattle.fop_types.specs.StoreOps.{Contents, items_of, item_in, is_removed, is_taken, needs, edited_if_present, contents_after, fits}
+use Rattle.fop_types.specs.Names.{item_named}
+use Rattle.fop_types.specs.StoreOps.{Contents, items_of, item_in, is_removed, is_taken, needs, edited_if_present, contents_after}
 use Rattle.fop_types.specs.StoreOps.Edit.{DropItem}
 use Rattle.fop_types.specs.declared.cells.Cell.{Cell}
 use Rattle.fop_types.specs.declared.cells.Gfid.{Gfid}
@@ -22,7 +22,6 @@ use Rattle.fop_types.specs.declared.cells.Kind.{Kind}
 use Rattle.fop_types.specs.declared.cells.Kind.TheVariants as kind
 use Rattle.fop_types.specs.declared.contents.Content.{Content}
 use Rattle.fop_types.specs.declared.contents.Item.{Item}
-use Rattle.fop_types.specs.declared.flat.FlatOp.{FlatOp}
 use Rattle.fop_types.specs.declared.flat.FlatOp.TheVariants as flat
 use Rattle.fop_types.specs.declared.fops.Fop.{Fop}
 use Rattle.fop_types.specs.declared.history.Entry.{Entry}
@@ -33,7 +32,7 @@ use Rattle.fop_types.specs.declared.store_ops.StoreOp.TheVariants as op
 use Rattle.mount_files.proofs.Accepting.{dropped_is, IsDropped}
 use Rattle.mount_files.proofs.Cells.{number_is, set_here, set_off, content_here}
 use Rattle.mount_files.proofs.Families.{taken_some, taken_item, IsTaken, untaken_by}
-use Rattle.mount_files.proofs.Keeping.{Puts, both_first, both_second, op_untaken, op_mark}
+use Rattle.mount_files.proofs.Keeping.{both_first, both_second, op_untaken, op_mark}
 use Rattle.mount_files.proofs.Later.{puts_touched}
 use Rattle.mount_files.proofs.Local.{to_local}
 use Rattle.mount_files.proofs.Naming.{open_directory, drop_items}
@@ -42,13 +41,13 @@ use Rattle.mount_files.proofs.Rises.{same_self, named_without}
 use Rattle.mount_files.proofs.Sentences.{name_here}
 use Rattle.mount_files.specs.Pairs.{Touches, Removes, Needs, Fits}
 use Rattle.mount_files.specs.Seen.{IsHere}
-use Rattle.mount_files.specs.Showing.{FitsNow, after_op}
+use Rattle.mount_files.specs.Showing.{FitsNow}
 use Rattle.mount_laws.specs.Effects.{IsOwnEntry, IsOwnPart, IsOwnJob, IsOfLink, part_of}
 use Rattle.mount_laws.specs.Guards.{Allowed, IsReached, IsChange}
 use Rattle.mount_laws.specs.Holding.{IsHeldFor}
 use Rattle.mount_laws.specs.Objects.{volumes}
 use Rattle.mount_laws.specs.Runs.{Run, SettledJob}
-use Rattle.mount_laws.specs.Seeing.{IsListed, WasSettled}
+use Rattle.mount_laws.specs.Seeing.{IsListed}
 use Rattle.mount_laws.specs.Settling.{StaysOrBorn}
 use Rattle.mount_laws.specs.States.{State, Change, Runs, set_count}
 use Rattle.mount_laws.specs.Steps.{Step, Task, after, adopting, change_by, applied}
@@ -60,7 +59,6 @@ use Rattle.mount_laws.proofs.Sharing.{shared_cell}
 use Rattle.mount_laws.proofs.Tables.{at_case}
 use Rattle.mount_shown.proofs.Beginning.{has_needed}
 use Rattle.mount_shown.proofs.Decided.{WasRun, HasNone, run_before, own_entry, own_settled, none_adopted, not_adopted, adopted_begun, unsettled_begun}
-use Rattle.mount_shown.proofs.Editing.{real_stays}
 use Rattle.mount_shown.proofs.Listing.{kind_grows}
 use Rattle.mount_shown.proofs.Moving.{run_steps}
 use Rattle.mount_shown.proofs.Parts.{no_rmdir}
@@ -205,12 +203,12 @@ module _ (first : List (List ℕ)) (m : State) (reached : IsReached first m) (a 
     no_other w =
         at_case (λ i (one : Change). one.verdict ≡ Unsettled → Touches one.op one.effect dir name → ⊥) m.changes u (record (m.changes u) { verdict = Adopted }) (λ e t. absurd cc) w
         (λ differ is t.
-          (let on = here_dir.touched (op_of (m.changes w)) (a.alone w is) t in
-          let mine : Needs (needs (m.changes u).op) (names_cell dir) = subst (λ (o : StoreOp). Needs (needs o) (names_cell dir)) (sym k.op_is) (inl refl) in
-          differ
-          (sym (one_unsettled first m reached u w (names_cell dir) was is (sym on.0)
-          (subst (λ (cs : List Cell). has_cell cs (names_cell dir) ≡ true) (sym (are_whole first m reached u (unsettled_begun (m.changes u).verdict was))) (has_needed (needs (m.changes u).op) (names_cell dir) mine))
-          (subst (λ (cs : List Cell). has_cell cs (names_cell dir) ≡ true) (sym (are_whole first m reached w (unsettled_begun (m.changes w).verdict is))) (has_needed (needs (m.changes w).op) (names_cell dir) on.1))))))
+        (let on = here_dir.touched (op_of (m.changes w)) (a.alone w is) t in
+        let mine : Needs (needs (m.changes u).op) (names_cell dir) = subst (λ (o : StoreOp). Needs (needs o) (names_cell dir)) (sym k.op_is) (inl refl) in
+        differ
+        (sym (one_unsettled first m reached u w (names_cell dir) was is (sym on.0)
+        (subst (λ (cs : List Cell). has_cell cs (names_cell dir) ≡ true) (sym (are_whole first m reached u (unsettled_begun (m.changes u).verdict was))) (has_needed (needs (m.changes u).op) (names_cell dir) mine))
+        (subst (λ (cs : List Cell). has_cell cs (names_cell dir) ≡ true) (sym (are_whole first m reached w (unsettled_begun (m.changes w).verdict is))) (has_needed (needs (m.changes w).op) (names_cell dir) on.1))))))
 
     no_remove : (w : ℕ) → (with_at m.changes u (record (m.changes u) { verdict = Adopted }) w).verdict ≡ Unsettled → Removes (with_at m.changes u (record (m.changes u) { verdict = Adopted }) w).op dir → ⊥
     no_remove w =

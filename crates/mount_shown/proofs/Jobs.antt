@@ -1,16 +1,12 @@
 -- What the laws of courses say of a fop under way: at the job that it asks for, and where it ends.
-use Rattle.std.proofs.Common.{◌≡◌, ◌∙◌, ◌⊎◌, inl, inr, ℕ, ◌<◌, ◌≤◌, refl, sym, ap, subst, List, [], ◌∷◌, length, Option, Some, None, Bool, true, arith}
+use Rattle.std.proofs.Common.{◌≡◌, ◌∙◌, inl, inr, ℕ, ◌≤◌, sym, ap, subst, List, [], ◌∷◌, length, Option, Some, None, true, arith}
 use Rattle.afr_machine.specs.Changes.{Verdict}
-use Rattle.afr_machine.specs.Changes.Verdict.{Unsettled, Adopted}
-use Rattle.dht_fops.proofs.AskFops.{asks_well}
+use Rattle.afr_machine.specs.Changes.Verdict.{Adopted}
 use Rattle.dht_fops.specs.Courses.{Course}
-use Rattle.dht_fops.specs.Handed.{Handed, Event, Always, AnyHold, AnyAnswer, HaveBounds}
+use Rattle.dht_fops.specs.Handed.{Handed, Event, Always, AnyHold}
 use Rattle.dht_fops.specs.Handed.Event.{Replied, Held}
 use Rattle.dht_laws.proofs.EndingsOfFops.{fops_answer}
-use Rattle.dht_laws.specs.Endings.{HaveNoFault, fault_in, error_in, IsInOrder, last_made, GoesOn, EndsWith}
-use Rattle.dht_fops.specs.Fops.{fop_course}
-use Rattle.dht_fops.specs.Volumes.{Kept}
-use Rattle.dht_fops.specs.declared.volume.Volume.{Volume}
+use Rattle.dht_laws.specs.Endings.{HaveNoFault, fault_in, GoesOn, EndsWith}
 use Rattle.fop_types.specs.declared.answers.FopAnswer.{FopAnswer}
 use Rattle.fop_types.specs.declared.cells.Gfid.{Gfid}
 use Rattle.fop_types.specs.declared.fops.Fop.{Fop}
@@ -21,7 +17,7 @@ use Rattle.fop_types.specs.declared.jobs.SetReply.{SetReply}
 use Rattle.fop_types.specs.declared.jobs.SetReply.TheVariants as reply
 use Rattle.mount_laws.specs.Effects.{WasReplied, IsReplyTo}
 use Rattle.mount_laws.specs.Guards.{IsReached}
-use Rattle.mount_laws.specs.Runs.{Run, first_course, Leads}
+use Rattle.mount_laws.specs.Runs.{Run, first_course}
 use Rattle.mount_laws.specs.States.{State, Runs, Status, is_unanswered, set_count}
 use Rattle.mount_laws.proofs.Beyond.{in_its_graph}
 use Rattle.mount_laws.proofs.Held.{jobs_asked}

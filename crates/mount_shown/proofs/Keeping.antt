@@ -1,16 +1,13 @@
 -- Every step keeps the files, where the changes that begin fit.
-use Rattle.std.proofs.Common.{◌≡◌, ℕ, List, refl, sym, subst, true, false}
-use Rattle.afr_machine.specs.Replicas.{with_at}
+use Rattle.std.proofs.Common.{ℕ, List, sym, subst, true, false}
 use Rattle.dht_fops.specs.Standing.{Volumes}
-use Rattle.mount_files.specs.Pairs.{after as after_on}
 use Rattle.mount_laws.specs.Guards.{Allowed, IsReached}
 use Rattle.mount_laws.specs.Objects.{volumes}
-use Rattle.mount_laws.specs.States.{State, Change, set_count}
-use Rattle.mount_laws.specs.Steps.{Step, Task, after, adopting, change_by}
+use Rattle.mount_laws.specs.States.{State, set_count}
+use Rattle.mount_laws.specs.Steps.{Step, Task, after, change_by}
 use Rattle.mount_shown.proofs.Deciding.{dropped_stands, adopted_stands, begun_stands, more_stand}
 use Rattle.mount_shown.proofs.Bearing.{births_stand}
 use Rattle.mount_shown.proofs.Stepping.{adopted_is}
-use Rattle.mount_shown.specs.Bridge.{op_of}
 use Rattle.mount_shown.specs.Pending.{FilesStand, KeepsFiles, BeginsWell}
 
 pub step_files : (first : List (List ℕ)) (m : State) (step : Step) → IsReached first m → Allowed m step → ((t : Task) (u : ℕ) → Allowed m (Step.BeginsChange t u) → BeginsWell m t) → KeepsFiles m → KeepsFiles (after m step)

@@ -1,8 +1,7 @@
 -- What a fop knows of names before its first change.
-use Rattle.std.proofs.Common.{◌≡◌, ◌≢◌, ◌⊎◌, inl, inr, ◌∙◌, ℕ, ◌<◌, Bool, true, false, refl, sym, ap, subst, List, [], ◌∷◌, Option, Some, None}
-use Rattle.afr_machine.specs.Changes.Verdict.{Undrawn, Unsettled, Adopted}
-use Rattle.dht_fops.specs.Handed.{Handed, SawName, SawNowhere}
-use Rattle.fop_types.specs.Cells.{names_cell}
+use Rattle.std.proofs.Common.{◌≡◌, ◌⊎◌, inl, inr, ◌∙◌, ℕ, ◌<◌, false, refl, ap, List, Some}
+use Rattle.afr_machine.specs.Changes.Verdict.{Undrawn, Unsettled}
+use Rattle.dht_fops.specs.Handed.{SawName, SawNowhere}
 use Rattle.fop_types.specs.Names.{item_named}
 use Rattle.fop_types.specs.StoreOps.{is_taken, item_in}
 use Rattle.fop_types.specs.declared.cells.Gfid.{Gfid}
@@ -10,18 +9,18 @@ use Rattle.fop_types.specs.declared.cells.Kind.{Kind}
 use Rattle.fop_types.specs.declared.cells.Kind.TheVariants as kind
 use Rattle.fop_types.specs.declared.contents.Item.{Item}
 use Rattle.mount_files.proofs.Sentences.{name_here, name_nowhere}
-use Rattle.mount_files.specs.Pairs.{Touches, Removes, Needs}
-use Rattle.mount_files.specs.Seen.{IsHere, IsNowhere}
+use Rattle.mount_files.specs.Pairs.{Touches, Removes}
+use Rattle.mount_files.specs.Seen.{IsNowhere}
 use Rattle.mount_laws.specs.Guards.{IsReached}
 use Rattle.mount_laws.specs.Objects.{volumes}
 use Rattle.mount_laws.specs.Runs.{Run, Stage}
 use Rattle.mount_laws.specs.Runs.Stage.{Waiting, Settled, Changing, Bearing, Decided}
-use Rattle.mount_laws.specs.States.{State, Runs}
-use Rattle.mount_shown.proofs.Asked.{IsAtChange, HasChanged, none_begun}
-use Rattle.mount_shown.proofs.Founding.{flat_run, fits_run, names_are, nobody_on, saw_names}
+use Rattle.mount_laws.specs.States.{State}
+use Rattle.mount_shown.proofs.Asked.{HasChanged, none_begun}
+use Rattle.mount_shown.proofs.Founding.{flat_run, fits_run, names_are, nobody_on}
 use Rattle.mount_shown.proofs.Names.{untaken_no}
 use Rattle.mount_shown.specs.Bridge.{op_of}
-use Rattle.mount_shown.specs.Known.{HasNotBegun, IsUnchanged, IsKept, IsKnownHere, IsKnownNowhere, CallsKnowHere, CallsKnowNowhere}
+use Rattle.mount_shown.specs.Known.{HasNotBegun, IsUnchanged, IsKnownHere, IsKnownNowhere, CallsKnowHere, CallsKnowNowhere}
 use Rattle.mount_shown.specs.Pending.{KeepsFiles}
 
 not_begun : (stage : Stage) → HasNotBegun stage → HasChanged stage → ⊥

@@ -1,16 +1,13 @@
 -- Each entry of the history is accepted where it stands; and a call whose change was made is answered as the flat file system
 -- answers at its entry.
-use Rattle.std.proofs.Common.{◌≡◌, ◌≢◌, ◌⊎◌, inl, inr, ◌∙◌, ℕ, zero, suc, ◌+◌, ◌<◌, ◌≤◌, Bool, true, false, refl, sym, ap, subst, List, [], ◌∷◌, ◌++◌, length, take, slice_get, Option, Some, None, arith}
+use Rattle.std.proofs.Common.{◌≡◌, ◌⊎◌, inl, inr, ◌∙◌, ℕ, zero, suc, ◌≤◌, true, false, refl, sym, ap, subst, List, [], ◌∷◌, ◌++◌, length, slice_get, Option, Some, None, arith}
 use Rattle.std.proofs.lemmas.List.{take-append-le}
 use Rattle.std.proofs.lemmas.Option.{slice_get_within}
-use Rattle.std.proofs.Math.Seq.{take-length, take-append_seam}
-use Rattle.afr_machine.specs.Changes.Verdict.{Undrawn, Unsettled, Adopted}
-use Rattle.dht_fops.specs.Answers.{IsAccepted, Accepts, change_of, flat_op}
+use Rattle.std.proofs.Math.Seq.{take-length}
+use Rattle.dht_fops.specs.Answers.{IsAccepted, Accepts, change_of}
 use Rattle.dht_laws.proofs.Accepted.{flat_answers}
-use Rattle.dht_laws.proofs.EndingsOfFops.{fops_answer}
-use Rattle.dht_laws.specs.Endings.{IsNoFailure, answer_to, call_answer}
+use Rattle.dht_laws.specs.Endings.{call_answer}
 use Rattle.fop_types.specs.Files.{Files, first_files}
-use Rattle.fop_types.specs.Flat.{flat}
 use Rattle.fop_types.specs.Flat.Outcome.{Changes}
 use Rattle.fop_types.specs.History.{files_after, fs_after}
 use Rattle.fop_types.specs.declared.answers.FopAnswer.{FopAnswer}
@@ -20,22 +17,17 @@ use Rattle.fop_types.specs.declared.flat.FlatOp.{FlatOp}
 use Rattle.fop_types.specs.declared.fops.Fop.{Fop}
 use Rattle.fop_types.specs.declared.history.Entry.{Entry}
 use Rattle.fop_types.specs.declared.store_ops.StoreOp.{StoreOp}
-use Rattle.mount_files.specs.Pairs.{Fits}
 use Rattle.mount_files.specs.Showing.{Stands}
 use Rattle.mount_laws.specs.Answering.{IsAnsweredAs}
-use Rattle.mount_laws.specs.Effects.{IsOwnEntry, IsEntered, HasEffect}
 use Rattle.mount_laws.specs.Guards.{Allowed, IsReached}
 use Rattle.mount_laws.specs.Objects.{volumes}
-use Rattle.mount_laws.specs.Runs.{Run}
-use Rattle.mount_laws.specs.States.{State, Change, set_count}
+use Rattle.mount_laws.specs.States.{State}
 use Rattle.mount_laws.specs.Steps.{Step, after, by_effect, ops_with}
-use Rattle.mount_laws.proofs.Answering.{answered_by_entry}
 use Rattle.mount_laws.proofs.Entering.{parts_in_order, entered_once}
 use Rattle.mount_shown.proofs.Decided.{own_entry, adopted_begun}
 use Rattle.mount_shown.proofs.Every.{every_files}
-use Rattle.mount_shown.specs.Bridge.{op_of}
 use Rattle.mount_shown.specs.Pending.{KeepsFiles}
-use Rattle.mount_shown.specs.Replies.{HistoryIsLegal, EveryHistoryIsLegal, IsEntryAt}
+use Rattle.mount_shown.specs.Replies.{EveryHistoryIsLegal, IsEntryAt}
 
 -- ---- files at a place
 
@@ -108,7 +100,7 @@ entry_answered first m reached c f answer place k =
     let own = own_entry first m reached k.change k.entry begun k.effect in
     let entered = (entered_once first m reached).entered k.index k.entry k.entered in
     let same : entered.change ≡ k.change =
-        (parts_in_order first m reached).once entered.change k.change k.entry (record { begun = adopted_begun (m.changes entered.change).verdict entered.adopted; effect = entered.effect }) (record { begun = begun; effect = k.effect }) in
+    (parts_in_order first m reached).once entered.change k.change k.entry (record { begun = adopted_begun (m.changes entered.change).verdict entered.adopted; effect = entered.effect }) (record { begun = begun; effect = k.effect }) in
     let op_there : slice_get m.ops k.index ≡ Some own.part = entered.op ∙ ap (λ (u : ℕ). change_of (m.changes u).op) same ∙ own.makes in
     let legal = every_legal first m reached k.index own.part op_there in
     let says = flat_answers (fs_after m.ops k.index) legal.after (m.changes k.change).set (m.changes k.change).op own.part legal.answer own.makes legal.accepted in

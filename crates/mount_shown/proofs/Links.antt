@@ -1,17 +1,17 @@
 -- A change of a link begins well: a link is added where a file was moved to on another set, and dropped where it was seen.
-use Rattle.std.proofs.Common.{◌≡◌, ◌≢◌, ◌⊎◌, inl, inr, ◌∙◌, ℕ, zero, suc, ◌<◌, ◌==◌, Bool, true, false, ◌||◌, not, refl, sym, ap, subst, List, [], ◌∷◌, Option, Some, None, is_none, arith}
+use Rattle.std.proofs.Common.{◌≡◌, ◌≢◌, ◌⊎◌, inl, inr, ◌∙◌, ℕ, zero, suc, ◌==◌, Bool, true, false, not, refl, sym, ap, subst, List, [], ◌∷◌, Option, Some, None, is_none, arith}
 use Rattle.std.proofs.lemmas.Bool.{eqb-false}
-use Rattle.afr_machine.specs.Changes.Verdict.{Undrawn, Unsettled, Adopted}
-use Rattle.dht_fops.specs.Answers.{change_of, flat_op, added}
+use Rattle.afr_machine.specs.Changes.Verdict.{Undrawn}
+use Rattle.dht_fops.specs.Answers.{change_of, flat_op}
 use Rattle.dht_fops.specs.Courses.{Course}
 use Rattle.dht_fops.specs.Founded.{IsNoError}
-use Rattle.dht_fops.specs.Handed.{Handed, Event, AnyHold, AnyAnswer}
+use Rattle.dht_fops.specs.Handed.{Handed, AnyHold, AnyAnswer}
 use Rattle.dht_fops.specs.Handed.Event.{Replied, Held}
 use Rattle.dht_laws.proofs.TracesOfFops.{fops_change_links}
-use Rattle.dht_laws.specs.Links.{SawLink, IsMoveTo, IsMoveElsewhere, WasMoved, RestsOnLinks}
+use Rattle.dht_laws.specs.Links.{SawLink, IsMoveTo, WasMoved, RestsOnLinks}
 use Rattle.fop_types.specs.Cells.{names_cell}
-use Rattle.fop_types.specs.Names.{item_named, is_link, is_same_name}
-use Rattle.fop_types.specs.StoreOps.{item_in, is_removed, is_taken, needs, born}
+use Rattle.fop_types.specs.Names.{is_link, is_same_name}
+use Rattle.fop_types.specs.StoreOps.{item_in, is_removed, is_taken, born}
 use Rattle.fop_types.specs.declared.cells.Cell.{Cell}
 use Rattle.fop_types.specs.declared.cells.Gfid.{Gfid}
 use Rattle.fop_types.specs.declared.cells.Kind.{Kind}
@@ -30,33 +30,32 @@ use Rattle.fop_types.specs.declared.jobs.SetReply.TheVariants as reply
 use Rattle.fop_types.specs.declared.store_ops.StoreOp.{StoreOp}
 use Rattle.fop_types.specs.declared.store_ops.StoreOp.TheVariants as op
 use Rattle.mount_files.proofs.Families.{taken_some, untaken_by}
-use Rattle.mount_files.specs.Pairs.{OpOn, AreApart, Bears, BirthsOf, Needs}
+use Rattle.mount_files.specs.Pairs.{BirthsOf}
 use Rattle.mount_files.specs.Showing.{ShownIsFlat}
 use Rattle.mount_laws.specs.Effects.{IsOwnEffect, IsOwnEntry, IsOfLink, DidNotFail, part_of}
 use Rattle.mount_laws.specs.Guards.{Allowed, IsReached}
 use Rattle.mount_laws.specs.Objects.{volumes}
 use Rattle.mount_laws.specs.Runs.{Run, first_course, Leads}
 use Rattle.mount_laws.specs.Runs.Leads.{Begun, Answered, Extended}
-use Rattle.mount_laws.specs.States.{State, Change, Runs, set_count}
-use Rattle.mount_laws.specs.Steps.{Step, Task, after}
+use Rattle.mount_laws.specs.States.{State, Change, Runs}
+use Rattle.mount_laws.specs.Steps.{Step, Task}
 use Rattle.mount_laws.proofs.Answering.{IsMadeChange, AreMade, runs_made}
-use Rattle.mount_laws.proofs.Drawing.{is_make, one_part, added_makes}
+use Rattle.mount_laws.proofs.Drawing.{is_make, added_makes}
 use Rattle.mount_laws.proofs.Entering.{began_is, effect_own}
 use Rattle.mount_laws.proofs.Held.{jobs_asked}
 use Rattle.mount_shown.proofs.Asked.{AllAsked, all_asked}
 use Rattle.mount_shown.proofs.Beginning.{op_on, BeginsAs, asks, low, fits_by, cells_apart}
-use Rattle.mount_shown.proofs.Decided.{IsMoveOf, IsTakenOn, MovedStand, own_entry, adopted_begun}
+use Rattle.mount_shown.proofs.Decided.{IsTakenOn, MovedStand, own_entry, adopted_begun}
 use Rattle.mount_shown.proofs.Dropping.{fops_drop_last}
 use Rattle.mount_shown.proofs.Founding.{flat_run}
 use Rattle.mount_shown.proofs.Jobs.{at_job}
 use Rattle.mount_shown.proofs.Listing.{NamesOfDirs, has_name_made}
 use Rattle.mount_shown.proofs.Names.{either_no}
-use Rattle.mount_shown.proofs.Owned.{IsJobFor, IsAskFor, WasAskedFor, own_stands, asked_before}
-use Rattle.mount_shown.proofs.Parts.{IsPart, IsWholePart, IsFirstPart, fop_part, rename_is_last}
+use Rattle.mount_shown.proofs.Owned.{WasAskedFor, own_stands, asked_before}
+use Rattle.mount_shown.proofs.Parts.{IsWholePart, IsFirstPart, fop_part, rename_is_last}
 use Rattle.mount_shown.proofs.Second.{same_name}
 use Rattle.mount_shown.proofs.Watching.{OwnChange, Relinked, NamesStand}
 use Rattle.mount_shown.proofs.Editing.{Relinks}
-use Rattle.mount_shown.specs.Bridge.{op_of}
 use Rattle.mount_shown.specs.Dropping.{TakesAway, IsEnd, IsLastDrop, IsDropInTurn, DropsLast}
 use Rattle.mount_shown.specs.Pending.{KeepsFiles}
 
@@ -367,7 +366,7 @@ module _ (first : List (List ℕ)) (m : State) (reached : IsReached first m) (a 
         by_none : (o : StoreOp) → (m.changes v).effect ≡ None → (m.changes v).op ≡ o → Relinks o None parent name → ⊥
         by_none (op.AddName dir item mode span) g f r =
             let from = linked_by m.changes m.history t.call t.run.fop t.run.handed (m.changes v).set (m.changes v).cells dir item mode span
-                (all_asked first m reached t.call t.run h.under_way.runs (RestsOnLinks t.run.fop) AnyHold AnyAnswer (fops_change_links t.run.volume t.run.names t.run.kept t.run.fop)) made_handed (asked_as (op.AddName dir item mode span) None f g) in
+            (all_asked first m reached t.call t.run h.under_way.runs (RestsOnLinks t.run.fop) AnyHold AnyAnswer (fops_change_links t.run.volume t.run.names t.run.kept t.run.fop)) made_handed (asked_as (op.AddName dir item mode span) None f g) in
             no_move from.made.change from.made.by (adopted_begun (m.changes from.made.change).verdict from.made.adopted) from.entry from.made.effect from.is_move.parent from.is_move.old dir item.name (from.made.op_is ∙ from.is_move.is_move) r.0 r.1
         by_none (op.DropName dir n) g f r = dropped_no t.run.handed (m.changes v).set (m.changes v).cells dir n none_dropped (asked_as (op.DropName dir n) None f g)
         by_none (op.Move x y z w) g f r = own_link (op.Move x y z w) g f

@@ -1,22 +1,19 @@
 -- Only directories that were made have names; and an op that fits keeps that.
-use Rattle.std.proofs.Common.{◌≡◌, ◌≢◌, ◌⊎◌, inl, inr, ◌∙◌, ℕ, Bool, true, false, ◌||◌, not, refl, sym, ap, subst, List, [], ◌∷◌, Option, Some, None, if◌then◌else◌, is_none}
+use Rattle.std.proofs.Common.{◌≡◌, ◌≢◌, ◌⊎◌, inl, inr, ◌∙◌, ℕ, Bool, true, false, ◌||◌, refl, sym, ap, subst, List, [], ◌∷◌, Option, Some, None, if◌then◌else◌, is_none}
 use Rattle.std.proofs.lemmas.Bool.{or_parts}
 use Rattle.std.specs.Ordering.{is_eq}
 use Rattle.afr_machine.specs.Replicas.{with_at}
-use Rattle.dht_fops.specs.Answers.{Accepts, added, change_of}
 use Rattle.dht_fops.specs.Shown.{SetContents}
 use Rattle.dht_fops.specs.Standing.{Volumes}
 use Rattle.fop_types.specs.Cells.{names_cell}
-use Rattle.fop_types.specs.Files.{Files, object_at}
-use Rattle.fop_types.specs.Names.{item_named, is_link, is_same_name}
+use Rattle.fop_types.specs.Files.{object_at}
+use Rattle.fop_types.specs.Names.{item_named, is_same_name}
 use Rattle.fop_types.specs.Orders.{gfid_cmp}
 use Rattle.fop_types.specs.StoreOps.{Contents, items_of, item_in, is_removed, is_directory_item, fits}
 use Rattle.fop_types.specs.declared.cells.Gfid.{Gfid}
 use Rattle.fop_types.specs.declared.cells.Kind.{Kind}
 use Rattle.fop_types.specs.declared.cells.Kind.TheVariants as kind
-use Rattle.fop_types.specs.declared.contents.Content.{Content}
 use Rattle.fop_types.specs.declared.contents.Item.{Item}
-use Rattle.fop_types.specs.declared.contents.Span.{Span}
 use Rattle.fop_types.specs.declared.history.Entry.{Entry}
 use Rattle.fop_types.specs.declared.store_ops.StoreOp.{StoreOp}
 use Rattle.fop_types.specs.declared.store_ops.StoreOp.TheVariants as op
@@ -25,10 +22,10 @@ use Rattle.mount_files.proofs.Cells.{number_is, set_here, set_off}
 use Rattle.mount_files.proofs.Local.{to_local, gfid_is}
 use Rattle.mount_files.proofs.Naming.{open_directory}
 use Rattle.mount_files.proofs.Ops.{fit_parts}
-use Rattle.mount_files.proofs.Rises.{same, same_self}
+use Rattle.mount_files.proofs.Rises.{same_self}
 use Rattle.mount_files.specs.Pairs.{TouchesBy}
 use Rattle.mount_files.specs.Showing.{ShownIsFlat, FitsNow, Stands, after_op}
-use Rattle.mount_laws.specs.Steps.{applied, with_kind, kinds_after, by_effect}
+use Rattle.mount_laws.specs.Steps.{applied}
 use Rattle.mount_laws.proofs.Releasing.{gfids_are}
 use Rattle.mount_shown.proofs.Editing.{applied_item, that_there}
 use Rattle.mount_shown.proofs.First.{open_add}

@@ -1,6 +1,5 @@
 -- What a step makes of the fops under way, beside the step itself: each stays, begins, or goes on by the step of its call.
 use Rattle.std.proofs.Common.{◌≡◌, ℕ, ◌+◌, Bool, true, false, sym, subst, List, [], ◌∷◌, ◌++◌, length, None}
-use Rattle.std.specs.Prelude.{◌≢◌}
 use Rattle.afr_machine.specs.Replicas.{with_at}
 use Rattle.afr_machine.specs.Transactions.{cells_of_job}
 use Rattle.dht_fops.specs.Courses.{Course}
@@ -14,7 +13,7 @@ use Rattle.fop_types.specs.declared.jobs.SetReply.{SetReply}
 use Rattle.mount_laws.specs.Guards.{Allowed, IsReached, MayBegin, MaySettle, MayEndSettling, MayBeginChange, MayDecide, MaySendBirths, MayConfirmBirths, MayHandIn, MayExtend, MayRelease}
 use Rattle.mount_laws.specs.Runs.{Run, begun, going_on, held_longer, released}
 use Rattle.mount_laws.specs.Runs.Stage.{Settled, Changing, Bearing, Decided}
-use Rattle.mount_laws.specs.States.{State, Call, Runs, start}
+use Rattle.mount_laws.specs.States.{State, Call, Runs}
 use Rattle.mount_laws.specs.States.Status.{Running}
 use Rattle.mount_laws.specs.Steps.{Step, Task, after, volume_of, is_lookup, deciding, adopting, sees, at_stage, number_after, sights_by}
 use Rattle.mount_laws.proofs.Moving.{unwrap, quiet}

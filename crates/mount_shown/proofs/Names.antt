@@ -1,5 +1,5 @@
 -- Items under a name: what is taken, what is a directory's, and what a name on a set says of every other change.
-use Rattle.std.proofs.Common.{◌≡◌, ◌≢◌, ◌⊎◌, inl, inr, ◌∙◌, ℕ, ◌<◌, ◌≤◌, Bool, true, false, ◌&&◌, ◌||◌, not, refl, sym, ap, subst, List, [], ◌∷◌, length, Option, Some, None, if◌then◌else◌, nat_eq, arith}
+use Rattle.std.proofs.Common.{◌≡◌, ◌∙◌, ℕ, Bool, true, false, ◌&&◌, ◌||◌, not, refl, ap, List, [], ◌∷◌, length, Option, Some, None, if◌then◌else◌, nat_eq, arith}
 use Rattle.std.specs.Cmp.Lexicographic.{pointwise}
 use Rattle.std.specs.Ordering.{is_eq}
 use Rattle.dht_linkto.specs.Known.{is_no_object}

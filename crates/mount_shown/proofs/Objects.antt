@@ -1,14 +1,13 @@
 -- A change of one object, a fop's first, begins well.
-use Rattle.std.proofs.Common.{◌≡◌, ◌≢◌, ◌⊎◌, inl, inr, ◌∙◌, ℕ, ◌+◌, ◌<◌, ◌≤◌, Bool, true, false, ◌&&◌, ◌||◌, not, nat_lt, refl, sym, ap, subst, List, [], ◌∷◌, length, Option, Some, None, if◌then◌else◌, is_some, is_none, arith}
-use Rattle.afr_machine.specs.Changes.Verdict.{Undrawn, Unsettled, Adopted}
-use Rattle.dht_fops.specs.Answers.{Accepts, change_of}
+use Rattle.std.proofs.Common.{◌≡◌, inl, inr, ◌∙◌, ℕ, ◌+◌, Bool, true, false, nat_lt, refl, sym, ap, subst, List, length, Option, Some, None, if◌then◌else◌, is_none}
+use Rattle.afr_machine.specs.Changes.Verdict.{Undrawn, Unsettled}
 use Rattle.dht_fops.specs.Standing.{Volumes, HaveNoEffect}
 use Rattle.dht_laws.proofs.HomesOfFops.{fops_change_on}
-use Rattle.fop_types.specs.Cells.{data_cell, meta_cell}
+use Rattle.fop_types.specs.Cells.{meta_cell}
 use Rattle.fop_types.specs.Files.{Files, object_at, object_attrs}
 use Rattle.fop_types.specs.FileBytes.{file_limit}
-use Rattle.fop_types.specs.Flat.{Outcome, write_outcome, truncate_outcome, delattr_outcome, where_attr, write_of, refused, done}
-use Rattle.fop_types.specs.Flat.Outcome.{Answers, Changes}
+use Rattle.fop_types.specs.Flat.{Outcome, write_outcome, truncate_outcome, delattr_outcome, where_attr, refused}
+use Rattle.fop_types.specs.Flat.Outcome.{Changes}
 use Rattle.fop_types.specs.Names.{attr_named}
 use Rattle.fop_types.specs.StoreOps.{attrs_of, needs, is_unfit}
 use Rattle.fop_types.specs.declared.answers.AppError.{AppError}
@@ -17,19 +16,17 @@ use Rattle.fop_types.specs.declared.cells.Gfid.{Gfid}
 use Rattle.fop_types.specs.declared.cells.Kind.{Kind}
 use Rattle.fop_types.specs.declared.cells.Kind.TheVariants as kind
 use Rattle.fop_types.specs.declared.contents.Attr.{Attr}
-use Rattle.fop_types.specs.declared.contents.Content.{Content}
 use Rattle.fop_types.specs.declared.flat.FlatAnswer.{FlatAnswer}
 use Rattle.fop_types.specs.declared.flat.FlatObject.{FlatObject}
 use Rattle.fop_types.specs.declared.flat.FlatObject.TheVariants.{File, Directory}
 use Rattle.fop_types.specs.declared.history.Entry.{Entry}
-use Rattle.fop_types.specs.declared.jobs.Job.{Job}
 use Rattle.fop_types.specs.declared.jobs.Job.TheVariants as job
 use Rattle.fop_types.specs.declared.store_ops.StoreOp.{StoreOp}
 use Rattle.fop_types.specs.declared.store_ops.StoreOp.TheVariants as op
 use Rattle.mount_files.proofs.Local.{ShownOf, to_local}
 use Rattle.mount_files.proofs.Naming.{directory_made}
 use Rattle.mount_files.proofs.Objects.{file_made}
-use Rattle.mount_files.specs.Pairs.{OpOn, AreApart, Touches, Removes, Bears, Needs}
+use Rattle.mount_files.specs.Pairs.{OpOn, AreApart, Needs}
 use Rattle.mount_files.specs.Showing.{IsOn, IsPlaced}
 use Rattle.mount_laws.specs.Guards.{Allowed, IsReached}
 use Rattle.mount_laws.specs.Homes.{IsObjectOn, IsChangedOn}

@@ -1,5 +1,5 @@
 -- Each change that a call has begun is one that its fop asked for, with its set and cells, and its job has settled.
-use Rattle.std.proofs.Common.{◌≡◌, ◌≢◌, ◌⊎◌, inl, inr, ◌∙◌, ℕ, Bool, true, false, refl, sym, ap, subst, List, [], ◌∷◌, ◌++◌, length, Option, Some, None}
+use Rattle.std.proofs.Common.{◌≡◌, ◌≢◌, ◌⊎◌, inl, inr, ◌∙◌, ℕ, true, false, refl, sym, ap, subst, List, [], ◌∷◌, Option}
 use Rattle.afr_machine.specs.Changes.{Verdict}
 use Rattle.afr_machine.specs.Changes.Verdict.{Undrawn, Unsettled, Adopted, Dropped}
 use Rattle.afr_machine.specs.Replicas.{with_at}
@@ -18,7 +18,7 @@ use Rattle.mount_laws.specs.Runs.{Run, Stage, SettledJob}
 use Rattle.mount_laws.specs.Runs.Stage.{Waiting, Settled, Changing, Bearing, Decided}
 use Rattle.mount_laws.specs.Seeing.{IsListed}
 use Rattle.mount_laws.specs.States.{State, Change, Runs, has_begun}
-use Rattle.mount_laws.specs.Steps.{Step, Task, after, adopting, change_by, at_stage, number_after, sees}
+use Rattle.mount_laws.specs.Steps.{Step, after, adopting, change_by, at_stage, number_after, sees}
 use Rattle.mount_laws.proofs.Beside.{each_beside, one_job}
 use Rattle.mount_laws.proofs.Seen.{settled_listed}
 use Rattle.mount_laws.proofs.Tables.{at_case}
@@ -164,8 +164,8 @@ step_owned first m reached a _ allowed _ _ (BeginsChange t u h) = λ w.
       listed = made_listed t.call t.set t.job h.is_change t.run.settled (settled_listed first m reached t.call t.run h.place t.set t.job t.next h.under_way.runs h.settled h.under_way.asks);
     }) w
     (λ differ by drawn.
-      (let k = a t.call t.run h.under_way.runs w by drawn in
-      record { asked = inl (asked_before t.run h.place _ _ _ _ h.settled k); listed = k.listed }))
+    (let k = a t.call t.run h.under_way.runs w by drawn in
+    record { asked = inl (asked_before t.run h.place _ _ _ _ h.settled k); listed = k.listed }))
 step_owned first m reached a _ allowed _ _ (Decides t u h) =
     decided_each m.changes u Adopted t.call (λ set cells o effect. IsOwned (record t.run { stage = Decided (number_after m (m.changes u).effect); saw = sees (adopting m u).adopted (m.changes u) t.run.saw }) set cells o effect) (unsettled_begun _ h.unsettled)
     (λ w by drawn. goes_at t.run (record t.run { stage = Decided (number_after m (m.changes u).effect); saw = sees (adopting m u).adopted (m.changes u) t.run.saw }) (m.changes w).set (m.changes w).cells (m.changes w).op (m.changes w).effect refl refl refl (λ x. tt) (a t.call t.run h.under_way.runs w by drawn))

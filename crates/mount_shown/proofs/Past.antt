@@ -1,27 +1,24 @@
 -- From a fop's latest read on, at each length of the history, there were contents of all sets that show the files there, and that
 -- still show all that the fop has read.
-use Rattle.std.proofs.Common.{◌≡◌, ◌≢◌, ◌⊎◌, inl, inr, ◌∙◌, ℕ, ◌+◌, ◌<◌, ◌≤◌, Bool, true, false, ◌||◌, nat_lt, refl, sym, ap, subst, List, [], ◌∷◌, ◌++◌, length, Option, Some, None, Result, Ok, Err, arith}
-use Rattle.std.proofs.lemmas.Bool.{cases_eq, ltb-true, ltb-false}
+use Rattle.std.proofs.Common.{◌≡◌, ◌≢◌, ◌⊎◌, inl, inr, ◌∙◌, ℕ, ◌+◌, ◌≤◌, Bool, true, false, ◌||◌, nat_lt, refl, sym, ap, subst, List, [], ◌∷◌, ◌++◌, length, Option, Some, None, arith}
+use Rattle.std.proofs.lemmas.Bool.{ltb-true, ltb-false}
 use Rattle.std.proofs.lemmas.List.{length-append}
 use Rattle.afr_machine.specs.Changes.{Verdict}
 use Rattle.afr_machine.specs.Changes.Verdict.{Undrawn, Unsettled, Adopted, Dropped}
 use Rattle.afr_machine.specs.Replicas.{with_at}
 use Rattle.afr_machine.specs.Touching.{is_cell, has_cell}
-use Rattle.afr_machine.specs.Transactions.{cells_of_job}
-use Rattle.dht_fops.specs.Answers.{AreMade, Accepts, change_of}
-use Rattle.dht_fops.specs.Courses.{Course, number_in, contents_in}
+use Rattle.dht_fops.specs.Answers.{AreMade, change_of}
+use Rattle.dht_fops.specs.Courses.{Course}
 use Rattle.dht_fops.specs.Handed.{Handed, Event}
 use Rattle.dht_fops.specs.Handed.Event.{Replied, Held}
 use Rattle.dht_fops.specs.Shown.{SetContents}
 use Rattle.dht_fops.specs.Standing.{Volumes, AreSound, StillShown, StillIs, HaveContents, HasContent}
-use Rattle.dht_laws.specs.Places.{last_place, place_after, place_made, place_read}
-use Rattle.fop_types.specs.Files.{Files, first_files}
-use Rattle.fop_types.specs.History.{files_after, fs_after}
+use Rattle.dht_laws.specs.Places.{last_place, place_after}
+use Rattle.fop_types.specs.History.{fs_after}
 use Rattle.fop_types.specs.Jobs.{may_lack, IsAnsweredBy, IsContentOf, AreContentsOf}
 use Rattle.fop_types.specs.StoreOps.{Contents}
 use Rattle.fop_types.specs.declared.answers.IoError.{IoError}
 use Rattle.fop_types.specs.declared.cells.Cell.{Cell}
-use Rattle.fop_types.specs.declared.cells.Gfid.{Gfid}
 use Rattle.fop_types.specs.declared.contents.Content.{Content}
 use Rattle.fop_types.specs.declared.flat.FlatOp.{FlatOp}
 use Rattle.fop_types.specs.declared.fops.Fop.{Fop}
@@ -31,18 +28,16 @@ use Rattle.fop_types.specs.declared.jobs.Job.TheVariants as job
 use Rattle.fop_types.specs.declared.jobs.SetReply.{SetReply}
 use Rattle.fop_types.specs.declared.jobs.SetReply.TheVariants as reply
 use Rattle.fop_types.specs.declared.store_ops.StoreOp.{StoreOp}
-use Rattle.mount_files.specs.Pairs.{Fits}
-use Rattle.mount_files.specs.Showing.{Stands}
 use Rattle.mount_laws.specs.Guards.{Allowed, IsReached, IsShown, AreShown, IsReply, IsOpen, MayHandIn}
 use Rattle.mount_laws.specs.Guards.IsReply.{Shows, Enters, Fails, Opens}
 use Rattle.mount_laws.specs.Objects.{volumes}
-use Rattle.mount_laws.specs.Runs.{Run, Stage}
-use Rattle.mount_laws.specs.Runs.Stage.{Waiting, Settled, Changing, Bearing, Decided}
+use Rattle.mount_laws.specs.Runs.{Run}
+use Rattle.mount_laws.specs.Runs.Stage.{Waiting, Settled, Decided}
 use Rattle.mount_laws.specs.Seeing.{WasSettled}
 use Rattle.mount_laws.specs.Settling.{TouchedIsFirm}
 use Rattle.mount_laws.specs.States.{State, Change, Runs}
-use Rattle.mount_laws.specs.Steps.{Step, Task, after, adopting, by_effect, ops_with, history_with, change_by}
-use Rattle.mount_laws.proofs.Answering.{IsMadeChange, runs_made}
+use Rattle.mount_laws.specs.Steps.{Step, Task, after, by_effect, ops_with, history_with, change_by}
+use Rattle.mount_laws.proofs.Answering.{runs_made}
 use Rattle.mount_laws.proofs.Entering.{entered_once}
 use Rattle.mount_laws.proofs.Firm.{firm_touched}
 use Rattle.mount_laws.proofs.Seen.{settled_listed}
@@ -56,8 +51,6 @@ use Rattle.mount_shown.proofs.Moving.{RunStep, IsOf, run_steps}
 use Rattle.mount_shown.proofs.Moving.RunStep.{Stays, Begins, Settles, EndsSettling, BeginsChange, Decides, SendsBirths, ConfirmsBirths, HandsIn, Extends, Releases}
 use Rattle.mount_shown.proofs.Planned.{of_call_no_mount, run_sound}
 use Rattle.mount_shown.proofs.Quiet.{adopts_same, births_same}
-use Rattle.mount_shown.specs.Bridge.{op_of}
-use Rattle.mount_shown.specs.Pending.{KeepsFiles}
 
 -- ---- contents at a length of the history
 
@@ -327,13 +320,14 @@ step_past first m reached a step allowed _ _ runs_new (Settles t u adopts h) non
     let old = a t.call t.run h.under_way.runs (none_before m step allowed t.call none) in
     (since_goes first m reached step allowed t.call _ runs_new none old.0, λ p set cells fd dir next e. let clash : Waiting ≡ Settled p = sym h.waiting ∙ e in absurd cc)
 step_past first m reached a step allowed _ _ runs_new (EndsSettling t h) none =
-    let old = a t.call t.run h.under_way.runs (none_before m step allowed t.call none) in
-    (since_goes first m reached step allowed t.call _ runs_new none old.0,
-    λ p set cells fd dir next e asks k low high.
-    (let at : length m.history ≡ p = stage_is (length m.history) p e in
-    let now : k ≡ length m.history = omega (arith, at, low, high) in
-    subst (λ (i : ℕ). PastWith m.adopted m.ops t.run.fop t.run.volume.sets t.run.handed i set cells) (sym now)
-    (record { past = past_now first m reached t.call t.run h.under_way.runs (none_before m step allowed t.call none); same = λ cell has. refl })))
+    let old = a t.call t.run h.under_way.runs (none_before m step allowed t.call none) in (
+      since_goes first m reached step allowed t.call _ runs_new none old.0,
+      λ p set cells fd dir next e asks k low high.
+          (let at : length m.history ≡ p = stage_is (length m.history) p e in
+          let now : k ≡ length m.history = omega (arith, at, low, high) in
+          subst (λ (i : ℕ). PastWith m.adopted m.ops t.run.fop t.run.volume.sets t.run.handed i set cells) (sym now)
+          (record { past = past_now first m reached t.call t.run h.under_way.runs (none_before m step allowed t.call none); same = λ cell has. refl })),
+    )
   where
     stage_is : (x y : ℕ) → Settled x ≡ Settled y → x ≡ y
     stage_is x y f = cc

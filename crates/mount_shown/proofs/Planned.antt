@@ -1,28 +1,21 @@
 -- A fop under way is one that a call asks, with values within their bounds, on sets with names of volumes; so are the replies that
 -- it was handed in; and each of its reads is of a job that has settled.
-use Rattle.std.proofs.Common.{◌≡◌, ◌≢◌, ◌⊎◌, inl, inr, ◌∙◌, ℕ, ◌+◌, refl, sym, ap, subst, Bool, true, false, List, [], ◌∷◌, length, Option, Some, None}
+use Rattle.std.proofs.Common.{◌≡◌, inr, ℕ, ◌+◌, refl, sym, subst, true, false, List, [], ◌∷◌, Option}
 use Rattle.afr_machine.specs.Replicas.{with_at}
 use Rattle.afr_machine.specs.Transactions.{cells_of_job}
-use Rattle.dht_fops.specs.Courses.{Course}
-use Rattle.dht_fops.specs.Handed.{Handed, Event, HaveBounds, IsBounded}
+use Rattle.dht_fops.specs.Handed.{Handed, Event, HaveBounds}
 use Rattle.dht_fops.specs.Handed.Event.{Replied, Held}
 use Rattle.dht_fops.specs.Bounds.{AnswersHaveBounds}
-use Rattle.dht_fops.specs.Founded.{NamesSets}
 use Rattle.fop_types.specs.Bounds.{Each, IsFop, IsVolumeName}
-use Rattle.fop_types.specs.Jobs.{IsSetReply}
-use Rattle.fop_types.specs.declared.cells.Gfid.{Gfid}
-use Rattle.fop_types.specs.declared.cells.Cell.{Cell}
 use Rattle.fop_types.specs.declared.fops.Fop.{Fop}
 use Rattle.fop_types.specs.declared.fops.Fop.TheVariants as fop
-use Rattle.fop_types.specs.declared.fops.Object.{Object}
 use Rattle.fop_types.specs.declared.jobs.Job.{Job}
 use Rattle.fop_types.specs.declared.jobs.Job.TheVariants as job
 use Rattle.fop_types.specs.declared.jobs.SetReply.{SetReply}
 use Rattle.fop_types.specs.declared.jobs.SetReply.TheVariants as reply
-use Rattle.mount_laws.specs.Guards.{Allowed, IsReached, IsOfCall, IsOfMount, MayHandIn, MayExtend, IsReply, IsOpen, objects_of}
+use Rattle.mount_laws.specs.Guards.{Allowed, IsReached, IsOfCall, IsOfMount, MayHandIn, IsReply, IsOpen}
 use Rattle.mount_laws.specs.Guards.IsReply.{Shows, Enters, Fails, Opens}
 use Rattle.mount_laws.specs.Runs.{Run, SettledJob}
-use Rattle.mount_laws.specs.Runs.Stage.{Settled}
 use Rattle.mount_laws.specs.Seeing.{IsListed}
 use Rattle.mount_laws.specs.States.{State, Call, Runs, Status}
 use Rattle.mount_laws.specs.Steps.{Step, Task, after}

@@ -1,20 +1,16 @@
 -- What a fop holds was made; so no other call changes what is adopted on the cells that the fop has settled, not even by a birth.
-use Rattle.std.proofs.Common.{◌≡◌, ◌≢◌, ◌⊎◌, inl, inr, ◌∙◌, ℕ, ◌<◌, ◌≤◌, Bool, true, false, ◌||◌, refl, sym, ap, subst, List, [], ◌∷◌, ◌++◌, length, Option, Some, None, is_some, arith}
-use Rattle.std.proofs.lemmas.Bool.{cases_eq}
+use Rattle.std.proofs.Common.{◌≡◌, ◌≢◌, ◌⊎◌, inl, inr, ◌∙◌, ℕ, Bool, true, false, ◌||◌, refl, sym, ap, subst, List, [], ◌∷◌, ◌++◌, Option, Some, None, is_some}
 use Rattle.afr_machine.specs.Changes.Verdict.{Undrawn, Unsettled, Adopted}
 use Rattle.afr_machine.specs.Replicas.{with_at}
-use Rattle.afr_machine.specs.Touching.{is_cell, has_cell}
+use Rattle.afr_machine.specs.Touching.{has_cell}
 use Rattle.afr_machine.specs.Transactions.{cells_of_job}
 use Rattle.dht_fops.specs.Answers.{AreMade, change_of, flat_op}
 use Rattle.dht_fops.specs.Courses.{Course}
-use Rattle.dht_fops.specs.Handed.{Handed, Event, Always, AnyJob, AnyAnswer}
+use Rattle.dht_fops.specs.Handed.{Handed, Always, AnyJob, AnyAnswer}
 use Rattle.dht_fops.specs.Handed.Event.{Replied, Held}
-use Rattle.dht_fops.specs.Shown.{SetContents}
-use Rattle.dht_fops.specs.Standing.{Volumes}
-use Rattle.dht_laws.proofs.EndingsOfFops.{fops_answer}
 use Rattle.dht_laws.proofs.HomesOfFops.{fops_bear, fops_extend}
 use Rattle.dht_laws.proofs.TracesOfFops.{fops_change_links}
-use Rattle.dht_laws.specs.Endings.{GoesOn, IsNotMade, IsInOrder, Made, last_made, made_of}
+use Rattle.dht_laws.specs.Endings.{GoesOn, IsNotMade, IsInOrder, Made, last_made}
 use Rattle.dht_laws.specs.Holds.{IsOwnHold}
 use Rattle.fop_types.specs.Bounds.{Each}
 use Rattle.fop_types.specs.Cells.{meta_cell, names_cell}
@@ -42,29 +38,28 @@ use Rattle.mount_files.proofs.Keeping.{op_leaves, op_absent}
 use Rattle.mount_files.proofs.Ops.{applied_is}
 use Rattle.mount_files.specs.Pairs.{Needs, Bears, Fits}
 use Rattle.mount_laws.specs.Births.{IsAdding}
-use Rattle.mount_laws.specs.Effects.{HasEffect, IsOwnEntry, WasReplied, IsJobOf, part_of, is_rename}
+use Rattle.mount_laws.specs.Effects.{WasReplied, IsJobOf, part_of}
 use Rattle.mount_laws.specs.Guards.{Allowed, IsReached, IsBirth, DrawsOwn}
-use Rattle.mount_laws.specs.Holding.{IsHeldFor, IsBornBy, AreHeld, drawn_by, own_holds}
+use Rattle.mount_laws.specs.Holding.{IsHeldFor, IsBornBy, AreHeld, drawn_by}
 use Rattle.mount_laws.specs.Holds.{Hold, Holds, holds_of, extensions}
 use Rattle.fop_types.specs.Jobs.{cells_of}
 use Rattle.mount_laws.specs.Objects.{volumes, AreEventsMade}
 use Rattle.mount_laws.specs.Runs.{Run, SettledJob, first_course, Leads}
 use Rattle.mount_laws.specs.Runs.Leads.{Begun, Answered, Extended}
 use Rattle.mount_laws.specs.Seeing.{IsListed, WasSettled}
-use Rattle.mount_laws.specs.States.{State, Change, Runs, set_count}
+use Rattle.mount_laws.specs.States.{State, Runs, set_count}
 use Rattle.mount_laws.specs.Steps.{Step, Task, after, adopting, births_by, applied}
-use Rattle.mount_laws.specs.Within.{SawObject}
 use Rattle.mount_laws.proofs.Answering.{IsLastMade, last_is, runs_made}
 use Rattle.mount_laws.proofs.Drawing.{began_in, one_part}
 use Rattle.mount_laws.proofs.Entering.{began_is, own_of_run}
-use Rattle.mount_laws.proofs.Free.{drawn_free, some_or}
+use Rattle.mount_laws.proofs.Free.{drawn_free}
 use Rattle.mount_laws.proofs.Held.{holds_own, holds_cover, jobs_asked}
 use Rattle.mount_laws.proofs.Leading.{led_always}
 use Rattle.mount_laws.proofs.Making.{objects_made, handed_made, found_made}
 use Rattle.mount_laws.proofs.One.{births_apart}
 use Rattle.mount_laws.proofs.Sharing.{is_cell_refl, each_has}
 use Rattle.mount_shown.proofs.Bearing.{pending_add, copying}
-use Rattle.mount_shown.proofs.Decided.{own_entry, unsettled_begun}
+use Rattle.mount_shown.proofs.Decided.{own_entry}
 use Rattle.mount_shown.proofs.Founding.{settled_own}
 use Rattle.mount_shown.proofs.Jobs.{goes_on, some_roots, roots_within, names_many}
 use Rattle.mount_shown.specs.Bridge.{op_of}

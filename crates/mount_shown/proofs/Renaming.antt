@@ -1,39 +1,35 @@
 -- A move begins well, by what its fop knows of the two names.
-use Rattle.std.proofs.Common.{◌≡◌, ◌≢◌, ◌⊎◌, inl, inr, ◌∙◌, ℕ, zero, suc, ◌<◌, ◌≤◌, Bool, true, false, ◌&&◌, ◌||◌, not, refl, sym, ap, subst, List, [], ◌∷◌, length, Option, Some, None, is_some, is_none, arith}
-use Rattle.afr_machine.specs.Changes.Verdict.{Undrawn, Unsettled, Adopted}
+use Rattle.std.proofs.Common.{◌≡◌, inl, inr, ◌∙◌, ℕ, zero, suc, true, false, ◌||◌, sym, ap, subst, List, Option, Some, is_none, arith}
+use Rattle.afr_machine.specs.Changes.Verdict.{Unsettled}
 use Rattle.dht_fops.specs.Answers.{Accepts, change_of}
-use Rattle.dht_fops.specs.Courses.{Course}
-use Rattle.dht_fops.specs.Founded.{SawFile, SawMovable, IsFree, WasDropped}
-use Rattle.dht_fops.specs.Handed.{Handed, SawName, SawNone, SawNowhere}
+use Rattle.dht_fops.specs.Founded.{SawFile, SawMovable, IsFree}
+use Rattle.dht_fops.specs.Handed.{SawName, SawNowhere}
 use Rattle.dht_fops.specs.Standing.{HaveNoEffect}
 use Rattle.fop_types.specs.Cells.{names_cell}
-use Rattle.fop_types.specs.Names.{item_named, is_link, is_directory, is_same_name}
-use Rattle.fop_types.specs.StoreOps.{items_of, is_removed, is_taken, item_in, is_directory_item, needs, is_unfit}
+use Rattle.fop_types.specs.Names.{is_link, is_directory, is_same_name}
+use Rattle.fop_types.specs.StoreOps.{is_removed, is_taken, item_in, is_directory_item}
 use Rattle.fop_types.specs.declared.cells.Cell.{Cell}
 use Rattle.fop_types.specs.declared.cells.Gfid.{Gfid}
-use Rattle.fop_types.specs.declared.cells.Kind.{Kind}
 use Rattle.fop_types.specs.declared.cells.Kind.TheVariants as kind
 use Rattle.fop_types.specs.declared.contents.Item.{Item}
 use Rattle.fop_types.specs.declared.history.Entry.{Entry}
-use Rattle.fop_types.specs.declared.jobs.Job.{Job}
 use Rattle.fop_types.specs.declared.jobs.Job.TheVariants as job
-use Rattle.fop_types.specs.declared.store_ops.StoreOp.{StoreOp}
 use Rattle.fop_types.specs.declared.store_ops.StoreOp.TheVariants as op
-use Rattle.mount_files.proofs.Accepting.{moved_is, IsMoved}
+use Rattle.mount_files.proofs.Accepting.{moved_is}
 use Rattle.mount_files.proofs.Families.{taken_some, untaken_by}
 use Rattle.mount_files.proofs.Keeping.{both_first, both_second}
 use Rattle.mount_files.proofs.Local.{to_local}
-use Rattle.mount_files.proofs.Naming.{IsOpenDirectory, open_directory}
+use Rattle.mount_files.proofs.Naming.{open_directory}
 use Rattle.mount_files.proofs.Sentences.{name_here}
-use Rattle.mount_files.specs.Pairs.{OpOn, AreApart, Touches, Removes, Needs, Fits}
+use Rattle.mount_files.specs.Pairs.{Touches, Removes, Fits}
 use Rattle.mount_files.specs.Seen.{IsHere}
 use Rattle.mount_files.specs.Showing.{ShownIsFlat, IsNowhereElse}
 use Rattle.mount_laws.specs.Guards.{Allowed, IsReached}
 use Rattle.mount_laws.specs.Objects.{volumes}
-use Rattle.mount_laws.specs.States.{State, Change}
-use Rattle.mount_laws.specs.Steps.{Step, Task, after}
+use Rattle.mount_laws.specs.States.{State}
+use Rattle.mount_laws.specs.Steps.{Step, Task}
 use Rattle.mount_shown.proofs.Beginning.{op_on, BeginsAs, low, low_run, fits_by, cells_apart}
-use Rattle.mount_shown.proofs.First.{nobody, accepted, rests, untaken_at, untouched, named_on, here_at, none_dropped}
+use Rattle.mount_shown.proofs.First.{accepted, rests, untaken_at, untouched, named_on, here_at, none_dropped}
 use Rattle.mount_shown.proofs.Founding.{flat_run, fits_run}
 use Rattle.mount_shown.proofs.Names.{no_directory_untaken, either_no}
 use Rattle.mount_shown.specs.Bridge.{op_of}
@@ -138,8 +134,8 @@ module _ (first : List (List ℕ)) (m : State) (reached : IsReached first m) (a 
         (λ e. differ ((flat_run first m reached a t.call t.run h.under_way.runs).sound.alone target new_name other t.set e (ap is_taken item_is ∙ taken_some there.saw.item there.saw.is_object))))
         (ap is_directory_item item_is ∙ ap is_directory there.saw.kind_is)
         (λ w was k.
-          (let on = at.touched (op_of (m.changes w)) (fits_on w was) k in
-          cells_apart first m reached t u h cells fd (op.Move parent name target new_name) (Some entry) is w was (sym on.0) (names_cell target) (both_second parent target) on.1))
+        (let on = at.touched (op_of (m.changes w)) (fits_on w was) k in
+        cells_apart first m reached t u h cells fd (op.Move parent name target new_name) (Some entry) is w was (sym on.0) (names_cell target) (both_second parent target) on.1))
         (λ w was k. at.stays (op_of (m.changes w)) (fits_on w was) k)
 
     pub moves_first : BeginsAs m (op_on t.set (op.Move parent name target new_name) (Some entry))

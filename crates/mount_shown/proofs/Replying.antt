@@ -1,6 +1,6 @@
 -- A fop that is answered, but by an I/O error: where it has made a change with an effect, as its entry says; else as the flat
 -- file system answers now, and did at each length of the history from the fop's latest read on.
-use Rattle.std.proofs.Common.{◌≡◌, ◌⊎◌, inl, inr, ◌∙◌, ℕ, ◌≤◌, refl, sym, subst, List, [], ◌∷◌, length, Option, Some, None}
+use Rattle.std.proofs.Common.{◌≡◌, ◌⊎◌, inl, inr, ◌∙◌, ℕ, refl, sym, subst, List, [], ◌∷◌, length, Option, Some, None}
 use Rattle.dht_fops.specs.Answers.{FitsFlat, AnswersAsFlat, SaysFlat, flat_op}
 use Rattle.dht_fops.specs.Courses.{Course, number_in}
 use Rattle.dht_fops.specs.Handed.{Handed, Event, AnyJob, AnyHold}
@@ -29,7 +29,7 @@ use Rattle.mount_laws.specs.Runs.{Run}
 use Rattle.mount_laws.specs.States.{State, Change}
 use Rattle.mount_laws.specs.Steps.{Step}
 use Rattle.mount_laws.proofs.Answering.{IsMadeChange, AreMade, answered_by_entry, runs_made}
-use Rattle.mount_shown.proofs.Asked.{IsAtChange, none_begun}
+use Rattle.mount_shown.proofs.Asked.{none_begun}
 use Rattle.mount_shown.proofs.Decided.{HasNone, adopted_begun}
 use Rattle.mount_shown.proofs.Every.{every_files}
 use Rattle.mount_shown.proofs.Founding.{names_within}

@@ -1,25 +1,22 @@
 -- A rename's move begins well after its part 1, the unlink of a file of the new name on another set.
-use Rattle.std.proofs.Common.{◌≡◌, ◌≢◌, ◌⊎◌, inl, inr, ◌∙◌, ℕ, ◌<◌, ◌≤◌, Bool, true, false, ◌&&◌, nat_lt, refl, sym, ap, subst, List, [], ◌∷◌, length, Option, Some, None, IfSome, if◌then◌else◌, Result, Ok, Err, nat_eq, arith}
+use Rattle.std.proofs.Common.{◌≡◌, ◌≢◌, ◌⊎◌, inl, inr, ◌∙◌, ℕ, ◌<◌, ◌≤◌, Bool, true, false, ◌&&◌, nat_lt, refl, sym, ap, subst, List, [], ◌∷◌, length, Option, Some, None, IfSome, if◌then◌else◌, Result, Ok, nat_eq, arith}
 use Rattle.std.proofs.lemmas.Bool.{ltb-true}
 use Rattle.std.specs.Cmp.Lexicographic.{pointwise}
 use Rattle.std.specs.Ordering.{is_eq}
-use Rattle.afr_machine.specs.Changes.Verdict.{Undrawn, Unsettled, Adopted}
+use Rattle.afr_machine.specs.Changes.Verdict.{Undrawn}
 use Rattle.dht_fops.proofs.Bounds.{answers_bounded}
-use Rattle.dht_fops.specs.Answers.{Accepts, change_of, flat_op, added}
-use Rattle.dht_fops.specs.Courses.{Course}
-use Rattle.dht_fops.specs.Founded.{SawFile, SawMovable}
+use Rattle.dht_fops.specs.Answers.{change_of, flat_op, added}
+use Rattle.dht_fops.specs.Founded.{SawMovable}
 use Rattle.dht_fops.specs.Handed.{Handed, Event, AnyHold, AnyAnswer, HaveBounds, IsBounded, Saw, IsNamesOf, SawName}
 use Rattle.dht_fops.specs.Handed.Event.{Replied, Held}
 use Rattle.dht_fops.specs.Standing.{HaveNoEffect}
-use Rattle.dht_linkto.specs.DirNames.{names_job, names_shown, names_in, first_content}
+use Rattle.dht_linkto.specs.DirNames.{names_shown, names_in, first_content}
 use Rattle.dht_linkto.specs.declared.names.DirNames.{DirNames}
 use Rattle.fop_types.specs.Bounds.{Each, IsItem, IsContent}
-use Rattle.fop_types.specs.Cells.{names_cell}
-use Rattle.fop_types.specs.Files.{object_at, names_at}
 use Rattle.fop_types.specs.Flat.{name_limit}
 use Rattle.fop_types.specs.Jobs.{IsSetReply, AreContents}
 use Rattle.fop_types.specs.Limits.{max_item_name}
-use Rattle.fop_types.specs.Names.{item_named, is_link, is_directory, is_same_name}
+use Rattle.fop_types.specs.Names.{item_named, is_directory, is_same_name}
 use Rattle.fop_types.specs.Orders.{gfid_cmp}
 use Rattle.fop_types.specs.StoreOps.{items_of, item_in, is_directory_item}
 use Rattle.fop_types.specs.declared.answers.IoError.{IoError}
@@ -43,15 +40,15 @@ use Rattle.fop_types.specs.declared.store_ops.StoreOp.TheVariants as op
 use Rattle.mount_files.proofs.Later.{open_again, move_again, free_again}
 use Rattle.mount_files.proofs.Local.{to_local}
 use Rattle.mount_files.proofs.Naming.{directory_made}
-use Rattle.mount_files.proofs.Rises.{same, same_is, same_self}
+use Rattle.mount_files.proofs.Rises.{same_is, same_self}
 use Rattle.mount_files.proofs.Sentences.{name_here}
 use Rattle.mount_files.specs.Pairs.{Touches}
-use Rattle.mount_laws.specs.Effects.{IsOwnPart, IsOwnEntry, AreEarlier, IsEarlier, DidNotFail, HasEffect, part_of, is_rename}
+use Rattle.mount_laws.specs.Effects.{IsOwnPart, AreEarlier, HasEffect, part_of, is_rename}
 use Rattle.mount_laws.specs.Guards.{Allowed, IsReached}
 use Rattle.mount_laws.specs.Objects.{volumes}
-use Rattle.mount_laws.specs.Runs.{Run, first_course}
-use Rattle.mount_laws.specs.States.{State, Change, Runs, set_count}
-use Rattle.mount_laws.specs.Steps.{Step, Task, after, change_by}
+use Rattle.mount_laws.specs.Runs.{Run}
+use Rattle.mount_laws.specs.States.{State, Change, Runs}
+use Rattle.mount_laws.specs.Steps.{Step, Task, change_by}
 use Rattle.mount_laws.proofs.Answering.{IsMadeChange, AreMade, runs_made}
 use Rattle.mount_laws.proofs.Beyond.{in_its_graph}
 use Rattle.mount_laws.proofs.Entering.{own_job, is_later, parts_in_order}
@@ -61,13 +58,13 @@ use Rattle.mount_shown.proofs.Asked.{AllAsked, all_asked}
 use Rattle.mount_shown.proofs.Beginning.{op_on, BeginsAs, asks}
 use Rattle.mount_shown.proofs.Decided.{own_entry, entries_are, adopted_begun}
 use Rattle.mount_shown.proofs.Founding.{flat_run, founded}
-use Rattle.mount_shown.proofs.Gone.{IsDropBy, IsOnly, IsGone, GoneStand}
+use Rattle.mount_shown.proofs.Gone.{IsGone, GoneStand}
 use Rattle.mount_shown.proofs.Listing.{NamesOfDirs, has_name_made}
 use Rattle.mount_shown.proofs.Names.{no_directory_untaken}
 use Rattle.mount_shown.proofs.Parts.{IsWholePart, IsFirstPart, IsPart, fop_part, one_or_two}
 use Rattle.mount_shown.proofs.Planned.{handed_bounded}
 use Rattle.mount_shown.proofs.Renaming.{MoveRests, moves}
-use Rattle.mount_shown.proofs.Watching.{OwnChange, Touched, NamesStand}
+use Rattle.mount_shown.proofs.Watching.{OwnChange, NamesStand}
 use Rattle.mount_shown.specs.Pending.{KeepsFiles}
 
 -- ---- names that a read showed are short

@@ -1,26 +1,23 @@
 -- What a fop's reads showed still is adopted, but for cells of the fop's own changes.
-use Rattle.std.proofs.Common.{◌≡◌, ◌≢◌, ◌⊎◌, inl, inr, ◌∙◌, ℕ, Bool, true, false, ◌||◌, refl, sym, ap, subst, List, [], ◌∷◌, ◌++◌, Option, Some, None}
+use Rattle.std.proofs.Common.{◌≡◌, ◌≢◌, ◌⊎◌, inl, inr, ◌∙◌, ℕ, Bool, true, false, ◌||◌, refl, sym, ap, subst, List, [], ◌∷◌, Option, Some, None}
 use Rattle.afr_machine.specs.Changes.{Verdict}
 use Rattle.afr_machine.specs.Changes.Verdict.{Undrawn, Unsettled, Adopted, Dropped}
 use Rattle.afr_machine.specs.Replicas.{with_at}
 use Rattle.afr_machine.specs.Touching.{is_cell, has_cell}
-use Rattle.dht_fops.specs.Courses.{Course}
 use Rattle.dht_fops.specs.Handed.{Handed, Event}
 use Rattle.dht_fops.specs.Handed.Event.{Replied, Held}
 use Rattle.dht_fops.specs.Shown.{SetContents}
-use Rattle.dht_fops.specs.Standing.{StillShown, StillIs, StillReads, HaveContents, HasContent}
+use Rattle.dht_fops.specs.Standing.{StillShown, StillIs, HaveContents, HasContent}
 use Rattle.fop_types.specs.Bounds.{Each}
 use Rattle.fop_types.specs.Jobs.{may_lack, IsAnsweredBy, IsContentOf, AreContentsOf}
-use Rattle.fop_types.specs.StoreOps.{Contents, needs, after_births}
-use Rattle.fop_types.specs.declared.answers.IoError.{IoError}
+use Rattle.fop_types.specs.StoreOps.{Contents, after_births}
 use Rattle.fop_types.specs.declared.cells.Cell.{Cell}
-use Rattle.fop_types.specs.declared.cells.Gfid.{Gfid}
 use Rattle.fop_types.specs.declared.contents.Content.{Content}
 use Rattle.fop_types.specs.declared.jobs.Job.{Job}
 use Rattle.fop_types.specs.declared.jobs.Job.TheVariants as job
 use Rattle.fop_types.specs.declared.jobs.SetReply.{SetReply}
 use Rattle.fop_types.specs.declared.jobs.SetReply.TheVariants as reply
-use Rattle.mount_laws.specs.Guards.{Allowed, IsReached, MayHandIn, MayExtend, IsReply, IsShown, AreShown, IsOpen}
+use Rattle.mount_laws.specs.Guards.{Allowed, IsReached, MayHandIn, IsReply, IsShown, AreShown, IsOpen}
 use Rattle.mount_laws.specs.Guards.IsReply.{Shows, Enters, Fails, Opens}
 use Rattle.mount_laws.specs.Runs.{Run, SettledJob}
 use Rattle.mount_laws.specs.Seeing.{IsListed, WasSettled}

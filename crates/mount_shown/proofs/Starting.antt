@@ -1,5 +1,5 @@
 -- At the start the sets show the root alone.
-use Rattle.std.proofs.Common.{◌≡◌, ◌≢◌, ◌⊎◌, inl, inr, ◌∙◌, ℕ, ◌<◌, ◌≤◌, Bool, true, false, List, [], ◌∷◌, length, Option, Some, None, if◌then◌else◌, refl, ap, sym, subst, arith}
+use Rattle.std.proofs.Common.{◌≡◌, ◌≢◌, ◌⊎◌, inl, inr, ◌∙◌, ℕ, Bool, true, false, List, [], ◌∷◌, length, Option, Some, None, if◌then◌else◌, refl, ap, sym, subst}
 use Rattle.std.specs.List.{range_with_len}
 use Rattle.std.specs.Ordering.{is_eq}
 use Rattle.afr_machine.specs.Copies.{root_alone, contents_of}
@@ -11,7 +11,7 @@ use Rattle.dht_fops.specs.Shown.{directory_of}
 use Rattle.fop_types.specs.declared.flat.FlatObject.TheVariants.{Directory}
 use Rattle.mount_files.proofs.Families.{untaken_by}
 use Rattle.mount_laws.proofs.Releasing.{gfids_are}
-use Rattle.fop_types.specs.Names.{is_link, item_named}
+use Rattle.fop_types.specs.Names.{item_named}
 use Rattle.fop_types.specs.Orders.{gfid_cmp}
 use Rattle.fop_types.specs.StoreOps.{items_of, is_removed, is_taken, holds_meta}
 use Rattle.fop_types.specs.declared.cells.Cell.{Cell}
@@ -22,7 +22,7 @@ use Rattle.fop_types.specs.declared.contents.Content.{Content}
 use Rattle.fop_types.specs.declared.contents.Content.TheVariants.{Bytes, Meta, Names}
 use Rattle.fop_types.specs.declared.contents.Item.{Item}
 use Rattle.mount_files.proofs.Accepting.{object_here, object_off}
-use Rattle.mount_files.proofs.Local.{Column, column, items_in, names_in, shown_as, ShownAt, ShownOf, AllShown, from_local, gfid_is}
+use Rattle.mount_files.proofs.Local.{Column, column, items_in, names_in, shown_as, ShownOf, from_local, gfid_is}
 use Rattle.mount_files.proofs.Merges.{over}
 use Rattle.mount_files.proofs.Rises.{IsRising, none_rises}
 use Rattle.mount_laws.specs.Objects.{volumes}

@@ -1,7 +1,6 @@
 -- What each step makes of the files of all sets.
-use Rattle.std.proofs.Common.{◌≡◌, ◌∙◌, ℕ, Bool, true, false, List, [], ◌∷◌, ◌++◌, Option, Some, None, refl, ap, sym}
+use Rattle.std.proofs.Common.{◌≡◌, ℕ, true, false, List, [], ◌∷◌, ◌++◌, Option, Some, None, refl, ap}
 use Rattle.dht_fops.specs.Answers.{change_of}
-use Rattle.dht_fops.specs.Standing.{Volumes}
 use Rattle.fop_types.specs.Files.{Files, first_files}
 use Rattle.fop_types.specs.Flat.{flat_after}
 use Rattle.fop_types.specs.History.{files_after}
@@ -10,15 +9,14 @@ use Rattle.fop_types.specs.declared.flat.FlatOp.{FlatOp}
 use Rattle.fop_types.specs.declared.history.Entry.{Entry}
 use Rattle.fop_types.specs.declared.jobs.Job.{Job}
 use Rattle.fop_types.specs.declared.jobs.Job.TheVariants as job
-use Rattle.fop_types.specs.declared.store_ops.StoreOp.{StoreOp}
 use Rattle.fop_types.specs.declared.store_ops.StoreOp.TheVariants as op
 use Rattle.afr_machine.specs.Replicas.{with_at}
 use Rattle.mount_files.specs.Pairs.{after as after_on}
 use Rattle.mount_files.specs.Showing.{files_with}
 use Rattle.mount_laws.specs.Objects.{volumes}
-use Rattle.mount_laws.specs.States.{State, Change}
-use Rattle.mount_laws.specs.Steps.{Step, Task, after, adopting, sending_births, by_effect, ops_with, applied, kinds_after, homes_after, births_by}
-use Rattle.mount_shown.specs.Bridge.{op_of, birth_on, AreAfterBirths, IsAfter, StepsAreOps}
+use Rattle.mount_laws.specs.States.{State}
+use Rattle.mount_laws.specs.Steps.{Step, Task, adopting, sending_births, by_effect, ops_with, applied, kinds_after, homes_after, births_by}
+use Rattle.mount_shown.specs.Bridge.{op_of, AreAfterBirths, StepsAreOps}
 
 files_push : (files : Files) (ops : List FlatOp) (o : FlatOp) → files_after files (ops ++ o ∷ []) ≡ flat_after (files_after files ops) o
 files_push files [] o = refl

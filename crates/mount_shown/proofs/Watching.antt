@@ -1,11 +1,11 @@
 -- A name that a fop saw on a set still is there, whatever it has changed since, but for the names that it changed itself: a file's
 -- or a directory's until a change of its own touches the name, a link until it makes one of the name anew or drops it.
-use Rattle.std.proofs.Common.{◌≡◌, ◌≢◌, ◌⊎◌, inl, inr, ◌∙◌, ℕ, Bool, true, false, refl, sym, ap, subst, List, [], ◌∷◌, Option, Some, None, Result, Ok, Err}
+use Rattle.std.proofs.Common.{◌≡◌, ◌≢◌, ◌⊎◌, inl, inr, ◌∙◌, ℕ, Bool, true, false, refl, sym, ap, subst, List, [], ◌∷◌, Option, Some, None, Result, Ok}
 use Rattle.afr_machine.specs.Changes.{Verdict}
 use Rattle.afr_machine.specs.Changes.Verdict.{Undrawn, Unsettled, Adopted, Dropped}
 use Rattle.afr_machine.specs.Replicas.{with_at}
 use Rattle.dht_fops.specs.Courses.{Course}
-use Rattle.dht_fops.specs.Handed.{Handed, Event, Saw, IsNamesOf}
+use Rattle.dht_fops.specs.Handed.{Handed, Saw, IsNamesOf}
 use Rattle.dht_fops.specs.Handed.Event.{Replied, Held}
 use Rattle.dht_fops.specs.Shown.{SetContents}
 use Rattle.dht_linkto.specs.DirNames.{names_job, names_shown, names_in, first_content}
@@ -29,7 +29,7 @@ use Rattle.fop_types.specs.declared.store_ops.StoreOp.TheVariants as op
 use Rattle.mount_files.proofs.Cells.{number_is}
 use Rattle.mount_files.proofs.Keeping.{both_second}
 use Rattle.mount_files.proofs.Sentences.{name_here}
-use Rattle.mount_files.specs.Pairs.{OpOn, Touches, Needs, Fits}
+use Rattle.mount_files.specs.Pairs.{Touches, Needs, Fits}
 use Rattle.mount_laws.specs.Guards.{Allowed, IsReached, MayHandIn, MayExtend, IsReply, IsShown, AreShown, IsOpen}
 use Rattle.mount_laws.specs.Guards.IsReply.{Shows, Enters, Fails, Opens}
 use Rattle.mount_laws.specs.Objects.{volumes}

@@ -1,6 +1,5 @@
 -- The files of all sets in a state of the mount, and what a step makes of them: an op of a set, or nothing. Ours.
-use Rattle.std.specs.Prelude.{◌≡◌, ℕ, ◌≤◌, Bool, true, false, List, length, Option, None}
-use Rattle.afr_machine.specs.Changes.Verdict.{Unsettled}
+use Rattle.std.specs.Prelude.{◌≡◌, ℕ, ◌≤◌, true, false, List, length, None}
 use Rattle.dht_fops.specs.Standing.{Volumes}
 use Rattle.fop_types.specs.declared.jobs.Job.{Job}
 use Rattle.fop_types.specs.declared.jobs.Job.TheVariants as job
@@ -10,7 +9,7 @@ use Rattle.mount_files.specs.Pairs.{OpOn, after as after_on}
 use Rattle.mount_files.specs.Showing.{ShownIsFlat}
 use Rattle.mount_laws.specs.Graphs.{FirstSets}
 use Rattle.mount_laws.specs.Objects.{volumes}
-use Rattle.mount_laws.specs.States.{State, Change, start, set_count}
+use Rattle.mount_laws.specs.States.{State, Change, start}
 use Rattle.mount_laws.specs.Steps.{Step, after}
 
 -- a change as an op on its set

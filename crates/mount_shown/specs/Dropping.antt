@@ -1,13 +1,10 @@
 -- A change of a link that drops it is an unlink's or a rename's, of the name that the fop takes away, and is the fop's last job. Ours.
-use Rattle.std.specs.Prelude.{◌≡◌, ℕ, List, Option, Some, None}
+use Rattle.std.specs.Prelude.{◌≡◌, ℕ, List, Some, None}
 use Rattle.dht_fops.specs.Courses.{Course}
 use Rattle.dht_fops.specs.Courses.Course.{Asks, Extends, Ends}
-use Rattle.fop_types.specs.declared.answers.FopAnswer.{FopAnswer}
-use Rattle.fop_types.specs.declared.cells.Cell.{Cell}
 use Rattle.fop_types.specs.declared.cells.Gfid.{Gfid}
 use Rattle.fop_types.specs.declared.fops.Fop.{Fop}
 use Rattle.fop_types.specs.declared.fops.Fop.TheVariants as fop
-use Rattle.fop_types.specs.declared.history.Entry.{Entry}
 use Rattle.fop_types.specs.declared.jobs.Job.{Job}
 use Rattle.fop_types.specs.declared.jobs.Job.TheVariants as job
 use Rattle.fop_types.specs.declared.jobs.SetReply.{SetReply}

@@ -1,21 +1,17 @@
 -- What a fop knows of names before its first change, by what it was handed in: a name that it saw is in the flat file system, and
 -- no other change touches it; a name that it saw on no set is not there, and nothing else touches a name of the directory. Ours.
-use Rattle.std.specs.Prelude.{◌≡◌, ◌⊎◌, ℕ, ◌<◌, false, List, Option, Some, None}
+use Rattle.std.specs.Prelude.{◌≡◌, ℕ, false, List, Some, None}
 use Rattle.afr_machine.specs.Changes.Verdict.{Unsettled}
-use Rattle.dht_fops.specs.Courses.{Course}
-use Rattle.dht_fops.specs.Handed.{Handed, SawName, SawNowhere}
+use Rattle.dht_fops.specs.Handed.{SawName, SawNowhere}
 use Rattle.dht_fops.specs.Standing.{HaveNoEffect}
 use Rattle.fop_types.specs.Cells.{names_cell}
 use Rattle.fop_types.specs.Files.{names_at}
-use Rattle.fop_types.specs.Names.{item_named, is_link}
+use Rattle.fop_types.specs.Names.{item_named}
 use Rattle.fop_types.specs.StoreOps.{is_removed}
-use Rattle.fop_types.specs.declared.answers.FopAnswer.{FopAnswer}
 use Rattle.fop_types.specs.declared.cells.Gfid.{Gfid}
 use Rattle.fop_types.specs.declared.cells.Kind.{Kind}
 use Rattle.fop_types.specs.declared.cells.Kind.TheVariants as kind
 use Rattle.fop_types.specs.declared.contents.Item.{Item}
-use Rattle.fop_types.specs.declared.jobs.Job.{Job}
-use Rattle.fop_types.specs.declared.jobs.SetReply.{SetReply}
 use Rattle.mount_files.specs.Pairs.{Touches, Removes}
 use Rattle.mount_laws.specs.Guards.{IsReached}
 use Rattle.mount_laws.specs.Objects.{volumes}

@@ -1,5 +1,5 @@
 -- The history as the flat file system reads it, and how calls are answered by it. Ours.
-use Rattle.std.specs.Prelude.{◌≡◌, ◌⊎◌, ℕ, ◌+◌, ◌≤◌, List, length, slice_get, Option, Some, None}
+use Rattle.std.specs.Prelude.{◌≡◌, ◌⊎◌, ℕ, ◌+◌, ◌≤◌, List, length, slice_get, Option, Some}
 use Rattle.dht_fops.specs.Answers.{IsAccepted, SaysFlat, flat_op}
 use Rattle.dht_laws.specs.Endings.{IsNoFailure, call_answer}
 use Rattle.fop_types.specs.Files.{Files}
