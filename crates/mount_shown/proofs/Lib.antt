@@ -10,6 +10,7 @@ pub mod Every
 pub mod First
 pub mod Founding
 pub mod Gone
+pub mod Growing
 pub mod Jobs
 pub mod Keeping
 pub mod Knowing

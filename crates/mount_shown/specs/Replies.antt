@@ -1,5 +1,7 @@
 -- The history as the flat file system reads it, and how calls are answered by it. Ours.
-use Rattle.std.specs.Prelude.{◌≡◌, ◌⊎◌, ℕ, ◌+◌, ◌≤◌, List, length, slice_get, Option, Some}
+use Rattle.std.specs.Prelude.{◌≡◌, ◌≢◌, ◌⊎◌, ℕ, ◌+◌, ◌≤◌, List, length, slice_get, Option, Some}
+use Rattle.afr_machine.specs.Changes.{Verdict}
+use Rattle.afr_machine.specs.Changes.Verdict.{Undrawn, Drawn, Unsettled, Adopted, Dropped}
 use Rattle.dht_fops.specs.Answers.{IsAccepted, SaysFlat, flat_op}
 use Rattle.dht_laws.specs.Endings.{IsNoFailure, call_answer}
 use Rattle.fop_types.specs.Files.{Files}
@@ -11,11 +13,12 @@ use Rattle.fop_types.specs.declared.flat.FlatAnswer.TheVariants as flat_answer
 use Rattle.fop_types.specs.declared.flat.FlatOp.{FlatOp}
 use Rattle.fop_types.specs.declared.fops.Fop.{Fop}
 use Rattle.fop_types.specs.declared.history.Entry.{Entry}
+use Rattle.mount_laws.specs.Effects.{HasEffect, HasEntry}
 use Rattle.mount_laws.specs.Guards.{Allowed, IsReached}
 use Rattle.mount_laws.specs.Laws.{EveryState}
 use Rattle.mount_laws.specs.Runs.{Run}
 use Rattle.mount_laws.specs.States.{State}
-use Rattle.mount_laws.specs.Steps.{Step}
+use Rattle.mount_laws.specs.Steps.{Step, after}
 
 -- ---- the history
 
@@ -51,3 +54,31 @@ pub record IsEntryAt (m : State) (c : ℕ) (f : Fop) (answer : FopAnswer) (place
 abbrev pub EveryAnswerIsFlat : Type 0
 EveryAnswerIsFlat = (first : List (List ℕ)) (m : State) → IsReached first m → (c : ℕ) (run : Run) (answer : FopAnswer) (place : Option ℕ) → Allowed m (Step.Answers c run answer place) → IsNoFailure answer
     → IsReadAt m run.fop answer place ⊎ IsEntryAt m c run.fop answer place
+
+-- ---- changes that failed
+
+-- decided, so that no step changes it
+abbrev pub IsDecided : Verdict → Type 0
+IsDecided Undrawn = ⊥
+IsDecided Drawn = ⊥
+IsDecided Unsettled = ⊥
+IsDecided Adopted = Unit {0}
+IsDecided Dropped = Unit {0}
+
+-- a step leaves the entries with their operations, and adds at most one at their end; and what was decided of a change stays
+pub record GoesOn (m : State) (step : Step) : Type 0 where
+  pub entries : (index : ℕ) (entry : Entry) → slice_get m.history index ≡ Some entry → slice_get (after m step).history index ≡ Some entry
+  pub ops : (index : ℕ) (o : FlatOp) → slice_get m.ops index ≡ Some o → slice_get (after m step).ops index ≡ Some o
+  pub most : length (after m step).history ≤ length m.history + 1
+  pub decided : (u : ℕ) → IsDecided (m.changes u).verdict → (after m step).changes u ≡ m.changes u
+
+abbrev pub HistoryGoesOn : Type 0
+HistoryGoesOn = (first : List (List ℕ)) (m : State) → IsReached first m → (step : Step) → Allowed m step → GoesOn m step
+
+-- the entry of a change that was begun and is not adopted is not in the history; and each entry is there once
+pub record IsEnteredLater (m : State) : Type 0 where
+  pub later : (u : ℕ) (entry : Entry) → HasEffect (m.changes u) entry → (m.changes u).verdict ≢ Adopted → HasEntry m.history entry → ⊥
+  pub once : (i j : ℕ) (entry : Entry) → slice_get m.history i ≡ Some entry → slice_get m.history j ≡ Some entry → i ≡ j
+
+abbrev pub EveryFailedIsEnteredLater : Type 0
+EveryFailedIsEnteredLater = EveryState IsEnteredLater

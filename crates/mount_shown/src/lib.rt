@@ -13,4 +13,4 @@ mod replies;
 pub use bridge::{sets_may_be_more, start_is_empty, steps_are_ops};
 pub use known::calls_know_names;
 pub use pending::{every_change_begins_well, every_state_keeps_files};
-pub use replies::{every_answer_is_flat, every_history_is_legal};
+pub use replies::{every_answer_is_flat, every_history_is_legal, failed_changes_come_later};
