@@ -1,7 +1,7 @@
 //! The files of all sets are one flat file system, over every list of steps of the mount over atomic stores.
 //!
 //! What `mount_files` says of the contents of all sets is put to the states of `mount_laws`: which step is which op, which
-//! unsettled changes fit, and what a fop knows by what it was handed in. The crate has definitions and laws alone: each
+//! unsettled changes fit, what a fop knows by what it was handed in, and how it is answered. The crate has definitions and laws alone: each
 //! public function does nothing, or cites laws of the crates below, and its contract is a law.
 #![tactic(auto)]
 
