@@ -53,7 +53,7 @@ use Rattle.mount_files.specs.Showing.{ShownIsFlat, FitsNow, IsOn, IsNew, IsThere
 -- ---- what the first op leaves
 
 -- a name that an op puts is one that it touches
-puts_touched : (s : Volumes) (set : ℕ) (o : StoreOp) (e : Option Entry) (dir : Gfid) (name : List ℕ) → Stands s set o e → Puts o dir name → Touches o e dir name
+pub puts_touched : (s : Volumes) (set : ℕ) (o : StoreOp) (e : Option Entry) (dir : Gfid) (name : List ℕ) → Stands s set o e → Puts o dir name → Touches o e dir name
 puts_touched s set (op.Write g offset bytes) e dir name st p = absurd p
 puts_touched s set (op.Truncate g size) e dir name st p = absurd p
 puts_touched s set (op.SetMode g mode) e dir name st p = absurd p
@@ -108,7 +108,7 @@ entry_free object name o = ap (λ (x : Option FlatObject). entry_error x name) o
 changes_to : (files : Files) (f : FlatOp) (a : FlatAnswer) (new : Files) → flat files f ≡ Changes a new → IsAccepted files f
 changes_to files f a new e = record { answer = a; after = new; accepted = e }
 
-open_again : (s : Volumes) (count : ℕ) (d : Gfid) (name : List ℕ) → IsDirectory s count d → is_removed (s.contents 0 (names_cell d)) ≡ false → nat_lt name_limit (length name) ≡ false → IsOpen (object_at s.files d) name
+pub open_again : (s : Volumes) (count : ℕ) (d : Gfid) (name : List ℕ) → IsDirectory s count d → is_removed (s.contents 0 (names_cell d)) ≡ false → nat_lt name_limit (length name) ≡ false → IsOpen (object_at s.files d) name
 open_again s count d name dir kept short = record {
   names = names_in count (column s.contents (names_cell d));
   mode = dir.meta.mode;
@@ -152,7 +152,7 @@ remove_again files parent name item o named dir none =
     ∙ ap (λ (k : Kind). rmdir_kind k (if is_empty (names_at files item.gfid) then done (with_removed (without_name files parent name) item.gfid) else Answers (flat_answer.Call (answer.App Enotempty)))) dir
     ∙ ap (λ (l : List Item). if is_empty l then done (with_removed (without_name files parent name) item.gfid) else Answers (flat_answer.Call (answer.App Enotempty))) none)
 
-move_again : (files : Files) (parent : Gfid) (name : List ℕ) (target : Gfid) (new_name : List ℕ) (item : Item) → IsOpen (object_at files parent) name → item_named (names_at files parent) name ≡ Some item → is_directory item.kind ≡ false
+pub move_again : (files : Files) (parent : Gfid) (name : List ℕ) (target : Gfid) (new_name : List ℕ) (item : Item) → IsOpen (object_at files parent) name → item_named (names_at files parent) name ≡ Some item → is_directory item.kind ≡ false
     → IsOpen (object_at files target) new_name → is_directory_item (item_named (names_at files target) new_name) ≡ false → is_same_name parent name target new_name ≡ false → IsAccepted files (flat_op.Rename parent name target new_name)
 move_again files parent name target new_name item o named file to free other =
     changes_to files (flat_op.Rename parent name target new_name) (flat_answer.Call answer.Done) (with_name (without_name files parent name) target (renamed item new_name))

@@ -1,0 +1,5 @@
+use Rattle.mount_shown.proofs.Legal.{every_legal}
+use Rattle.mount_shown.proofs.replies.every_history_is_legal.Goals as goal
+
+pub returns : goal.returns
+returns c = every_legal

@@ -1,0 +1,41 @@
+-- A change of a link that drops it is an unlink's or a rename's, of the name that the fop takes away, and is the fop's last job. Ours.
+use Rattle.std.specs.Prelude.{◌≡◌, ℕ, List, Some, None}
+use Rattle.dht_fops.specs.Courses.{Course}
+use Rattle.dht_fops.specs.Courses.Course.{Asks, Extends, Ends}
+use Rattle.fop_types.specs.declared.cells.Gfid.{Gfid}
+use Rattle.fop_types.specs.declared.fops.Fop.{Fop}
+use Rattle.fop_types.specs.declared.fops.Fop.TheVariants as fop
+use Rattle.fop_types.specs.declared.jobs.Job.{Job}
+use Rattle.fop_types.specs.declared.jobs.Job.TheVariants as job
+use Rattle.fop_types.specs.declared.jobs.SetReply.{SetReply}
+use Rattle.fop_types.specs.declared.store_ops.StoreOp.{StoreOp}
+use Rattle.fop_types.specs.declared.store_ops.StoreOp.TheVariants as op
+
+-- the fop takes this name away
+abbrev pub TakesAway : Fop → Gfid → List ℕ → Type 0
+TakesAway (fop.Unlink parent own) dir name = (parent.gfid ≡ dir) × (own ≡ name)
+TakesAway (fop.Rename parent own target new_name) dir name = (parent.gfid ≡ dir) × (own ≡ name)
+TakesAway other dir name = ⊥
+
+abbrev pub IsEnd : Course → Type 0
+IsEnd (Asks set asked next) = ⊥
+IsEnd (Extends dir next) = ⊥
+IsEnd (Ends answer place) = Unit {0}
+
+abbrev pub IsLastDrop : Fop → StoreOp → (SetReply → Course) → Type 0
+IsLastDrop f (op.DropName dir name) next = TakesAway f dir name × ((reply : SetReply) → IsEnd (next reply))
+IsLastDrop f other next = Unit {0}
+
+abbrev pub IsDropInTurn : Fop → Job → (SetReply → Course) → Type 0
+IsDropInTurn f (job.Change cells fd o None) next = IsLastDrop f o next
+IsDropInTurn f (job.Change cells fd o (Some entry)) next = Unit {0}
+IsDropInTurn f (job.Read cells fd dir) next = Unit {0}
+IsDropInTurn f (job.Birth cells o) next = Unit {0}
+IsDropInTurn f (job.Open fd gfid) next = Unit {0}
+IsDropInTurn f job.Index next = Unit {0}
+IsDropInTurn f (job.Heal cell) next = Unit {0}
+
+abbrev pub DropsLast : Fop → Course → Type 0
+DropsLast f (Asks set asked next) = IsDropInTurn f asked next × ((reply : SetReply) → DropsLast f (next reply))
+DropsLast f (Extends dir next) = DropsLast f next
+DropsLast f (Ends answer place) = Unit {0}
