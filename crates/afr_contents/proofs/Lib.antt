@@ -7,6 +7,7 @@ pub mod OfAdopted
 pub mod Settled
 pub mod AsBorn
 pub mod OpsGood
+pub mod Served
 pub mod Keeping
 pub mod Found
 pub mod Naming

@@ -6,7 +6,7 @@ use Rattle.fop_types.specs.declared.cells.Cell.{Cell}
 use Rattle.fop_types.specs.declared.store_ops.StoreOp.{StoreOp}
 use Rattle.afr_machine.specs.Replicas.{Size, IsSize, nobody}
 use Rattle.afr_machine.specs.Touching.{has_cell}
-use Rattle.afr_machine.specs.Copies.{Fetched}
+use Rattle.afr_machine.specs.Copies.{Store, Fetched}
 use Rattle.afr_machine.specs.Requests.{Ask}
 use Rattle.afr_machine.specs.Requests.Ask.{Op, Replace}
 use Rattle.afr_machine.specs.Changes.{is_unsettled}
@@ -21,15 +21,18 @@ use Rattle.afr_contents.specs.Lasting.{IsAccusedApart}
 
 -- ---- requests in a line
 
--- the change is unsettled, and the replica's copies of the cells that the op needs have exactly the adopted changes
-abbrev pub FindsSettled : State → ℕ → ℕ → StoreOp → Type 0
-FindsSettled m i u op = (cell : Cell) → has_cell (needs op) cell ≡ true → (is_unsettled (m.changes u).verdict ≡ true) × IsSettledCopy m cell ((m.bricks i).store cell).copy
+-- the change is unsettled, and the store's copies of the cells that the op needs have exactly the adopted changes
+abbrev pub FindsSettled : State → Store → ℕ → StoreOp → Type 0
+FindsSettled m store u op = (cell : Cell) → has_cell (needs op) cell ≡ true → (is_unsettled (m.changes u).verdict ≡ true) × IsSettledCopy m cell (store cell).copy
 
--- what the request brings is right, or the replica is accused on each cell that it changes
+-- what the request brings to the replica's store is right, or the replica is accused on each cell that it changes
+abbrev pub IsRightIn : Size → State → ℕ → Store → Ask → Type 0
+IsRightIn size m i store (Op u op) = FindsSettled m store u op ⊎ ((cell : Cell) → has_cell (needs op) cell ≡ true → IsAccusedApart size m cell i nobody)
+IsRightIn size m i store (Replace at found) = IsGood m at (Some found.copy) ⊎ IsAccusedApart size m at i nobody
+IsRightIn size m i store other = Unit {0}
+
 abbrev pub IsRightAt : Size → State → ℕ → Ask → Type 0
-IsRightAt size m i (Op u op) = FindsSettled m i u op ⊎ ((cell : Cell) → has_cell (needs op) cell ≡ true → IsAccusedApart size m cell i nobody)
-IsRightAt size m i (Replace at found) = IsGood m at (Some found.copy) ⊎ IsAccusedApart size m at i nobody
-IsRightAt size m i other = Unit {0}
+IsRightAt size m i ask = IsRightIn size m i (m.bricks i).store ask
 
 -- ---- what a transaction knows
 
