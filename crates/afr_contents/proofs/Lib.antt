@@ -27,6 +27,7 @@ pub mod LinesGood
 pub mod SourcesGood
 pub mod LeftGood
 pub mod Coming
+pub mod Walked
 pub mod Laws
 pub mod ShownMoves
 pub mod ReadAsks

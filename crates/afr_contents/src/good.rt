@@ -1,6 +1,6 @@
 ghost use Rattle.afr_contents.specs.Adopted.{EveryAdoptedIsAsBorn, EveryChangeIsOfAdopted};
 ghost use Rattle.afr_contents.specs.Good.{EveryCopyIsGood};
-ghost use Rattle.afr_contents.specs.Coming.{EveryStateComesGood};
+ghost use Rattle.afr_contents.specs.Coming.{EveryCopyStaysGood, EveryStateComesGood};
 ghost use Rattle.afr_contents.specs.Found.{FreeIsGood};
 ghost use Rattle.afr_contents.specs.Verdicts.{EveryGoodCopyHasVerdicts};
 ghost use Rattle.afr_contents.specs.Guarded.{EverySetIsGuarded};
@@ -24,7 +24,13 @@ pub fn every_copy_is_good()
     ensures { EveryCopyIsGood }
 {}
 
-/// The law of what copies will be, of the same states. Whoever has no good copy is accused for good: by a quorum to which no clear is
+/// The law of copies to come, of the same states. As the line of a brick is served from the front, whichever of its requests are served
+/// and whichever are not, each copy there stays good, or a quorum accuses the replica on the cell and goes on doing so.
+pub fn every_copy_stays_good()
+    ensures { EveryCopyStaysGood }
+{}
+
+/// The law of what keeps that, of the same states. Whoever has no good copy is accused for good: by a quorum to which no clear is
 /// on its way, or may still be sent, that takes it back. So it is with what is on its way. The op of a change in a line belongs to
 /// an unsettled change and finds exactly the adopted changes in each copy that it alters, or its replica is accused for good on
 /// each of these cells; a replacement carries a good copy, or its replica is accused for good. While a transaction may copy a cell, each
