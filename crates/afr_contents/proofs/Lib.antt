@@ -29,6 +29,7 @@ pub mod LeftGood
 pub mod Coming
 pub mod Walked
 pub mod Laws
+pub mod Durable
 pub mod ShownMoves
 pub mod ReadAsks
 pub mod ReadShows

@@ -10,6 +10,7 @@ pub mod Lasting
 pub mod Coming
 pub mod Reading
 pub mod Verdicts
+pub mod Durable
 pub mod Guarded
 pub mod Present
 pub mod Split

@@ -3,6 +3,7 @@ ghost use Rattle.afr_contents.specs.Good.{EveryCopyIsGood};
 ghost use Rattle.afr_contents.specs.Coming.{EveryCopyStaysGood, EveryStateComesGood};
 ghost use Rattle.afr_contents.specs.Found.{FreeIsGood};
 ghost use Rattle.afr_contents.specs.Verdicts.{EveryGoodCopyHasVerdicts};
+ghost use Rattle.afr_contents.specs.Durable.{EveryStateKeepsGoodCopies};
 ghost use Rattle.afr_contents.specs.Guarded.{EverySetIsGuarded};
 
 /// The law of births that are adopted, of every state that allowed steps lead to: a cell without adopted changes has the
@@ -44,6 +45,12 @@ pub fn every_state_comes_good()
 /// quorum is good on it.
 pub fn free_is_good()
     ensures { FreeIsGood }
+{}
+
+/// The law of good copies that are there, of the same states. On each cell of which some replica has a copy one replica is free and its copy
+/// good, and so is one on all cells of an unsettled change together: what is adopted can be read from it.
+pub fn every_state_keeps_good_copies()
+    ensures { EveryStateKeepsGoodCopies }
 {}
 
 /// The law of verdicts and copies, from each of these states on. A change that was adopted is in each good copy of a cell that it
