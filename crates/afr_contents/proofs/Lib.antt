@@ -30,6 +30,7 @@ pub mod Coming
 pub mod Walked
 pub mod Laws
 pub mod Durable
+pub mod Fitting
 pub mod ShownMoves
 pub mod ReadAsks
 pub mod ReadShows

@@ -11,6 +11,7 @@ pub mod Coming
 pub mod Reading
 pub mod Verdicts
 pub mod Durable
+pub mod Fitting
 pub mod Guarded
 pub mod Present
 pub mod Split

@@ -4,6 +4,7 @@ ghost use Rattle.afr_contents.specs.Coming.{EveryCopyStaysGood, EveryStateComesG
 ghost use Rattle.afr_contents.specs.Found.{FreeIsGood};
 ghost use Rattle.afr_contents.specs.Verdicts.{EveryGoodCopyHasVerdicts};
 ghost use Rattle.afr_contents.specs.Durable.{EveryStateKeepsGoodCopies};
+ghost use Rattle.afr_contents.specs.Fitting.{EveryAdoptionFits};
 ghost use Rattle.afr_contents.specs.Guarded.{EverySetIsGuarded};
 
 /// The law of births that are adopted, of every state that allowed steps lead to: a cell without adopted changes has the
@@ -51,6 +52,13 @@ pub fn free_is_good()
 /// good, and so is one on all cells of an unsettled change together: what is adopted can be read from it.
 pub fn every_state_keeps_good_copies()
     ensures { EveryStateKeepsGoodCopies }
+{}
+
+/// The law of ops that fit, of the same states. Where a good copy has an unsettled change, and where a change is to be adopted now, the
+/// change's op fits the contents that are adopted so far. Each op in a brick's line fits the brick's copies exactly if it fits these,
+/// or a quorum accuses the replica on each cell that the op needs.
+pub fn every_adoption_fits()
+    ensures { EveryAdoptionFits }
 {}
 
 /// The law of verdicts and copies, from each of these states on. A change that was adopted is in each good copy of a cell that it

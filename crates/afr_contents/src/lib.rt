@@ -25,7 +25,7 @@ pub use copies::{
 };
 pub use decisions::{accusations_stay, every_decision_is_spread};
 pub use good::{
-    every_adopted_is_as_born, every_change_is_of_adopted, every_copy_is_good,
+    every_adopted_is_as_born, every_adoption_fits, every_change_is_of_adopted, every_copy_is_good,
     every_copy_stays_good, every_good_copy_has_verdicts, every_set_is_guarded,
     every_state_comes_good, free_is_good,
 };
