@@ -37,4 +37,8 @@ pub mod ReadShows
 pub mod Verdicts
 pub mod Agreeing
 pub mod Present
+pub mod BearMoves
+pub mod FirmMoves
+pub mod Born
+pub mod Firm
 pub mod Split

@@ -14,4 +14,5 @@ pub mod Durable
 pub mod Fitting
 pub mod Guarded
 pub mod Present
+pub mod Firm
 pub mod Split

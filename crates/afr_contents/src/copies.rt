@@ -1,3 +1,4 @@
+ghost use Rattle.afr_contents.specs.Firm.{EveryFirmIsPresent};
 ghost use Rattle.afr_contents.specs.Found.{AppliersHaveAdopted, SourcesAreGood};
 ghost use Rattle.afr_contents.specs.Present.{EveryChangeIsPresent};
 ghost use Rattle.afr_contents.specs.Split.{SeenAllHasSound, SeenAllHasOne};
@@ -26,6 +27,12 @@ pub fn every_confirmed_equals_source()
 /// from then on; so a quorum has a copy of each cell of a change, from the change's mark on.
 pub fn every_change_is_present()
     ensures { EveryChangeIsPresent }
+{}
+
+/// The law of cells that count as present, of every state that allowed steps lead to, for one, three and five replicas: those whose birth
+/// a quorum confirmed, and those of changes. A content of each is adopted, and a quorum has a copy of it, from then on.
+pub fn every_firm_is_present()
+    ensures { EveryFirmIsPresent }
 {}
 
 /// The law of cells that are not split, of every state that allowed steps lead to, for one, three and five replicas. A lock
