@@ -13,7 +13,8 @@ use Rattle.afr_machine.specs.Steps.{Step, Allowed, MayUnsettle, after, IsReached
 use Rattle.afr_laws.proofs.Counts.{count_within}
 use Rattle.afr_soundness.proofs.Unsettled.{becomes_own}
 use Rattle.afr_contents.specs.Present.{having}
-use Rattle.afr_contents.specs.Firm.{FirmIsPresent, EveryFirmIsPresent}
+use Rattle.afr_contents.specs.Firm.{EveryFirmIsPresent}
+use Rattle.afr_contents.proofs.Aspects.{holds_own, adopted_of_aspect}
 use Rattle.afr_contents.proofs.Born.{born_have_copies}
 use Rattle.afr_contents.proofs.FirmMoves.{FirmMove, firm_move}
 use Rattle.afr_contents.proofs.OfAdopted.{adopted_stays}
@@ -36,10 +37,15 @@ content_there : (copy : Option Copy) → is_some copy ≡ true → is_some (cont
 content_there (Some copy) h = refl
 content_there None h = absurd (let no : false ≡ true = h in cc)
 
-firm_at_start : (size : Size) → IsSize size → FirmIsPresent size start
-firm_at_start size is = record {
-  adopted = λ cell firm. content_there (root_alone cell).copy (root_there cell firm);
-  copies = λ cell firm.
+-- a content is adopted, and a quorum has a copy
+record IsThere (size : Size) (m : State) (cell : Cell) : Type 0 where
+  adopted : is_some (m.adopted cell) ≡ true
+  copies : size.quorum ≤ count size.replicas (having m cell)
+
+firm_at_start : (size : Size) → IsSize size → (cell : Cell) → start.firm cell ≡ true → IsThere size start cell
+firm_at_start size is cell firm = record {
+  adopted = content_there (root_alone cell).copy (root_there cell firm);
+  copies =
       let odd = is.odd in
       let all = count_all size.replicas (having start cell) (λ k. root_there cell firm) in
       omega (arith, odd, all);
@@ -47,32 +53,36 @@ firm_at_start size is = record {
 
 -- ---- one step
 
-module _ (size : Size) (m : State) (r : IsReached size m) (was : FirmIsPresent size m) (step : Step) (allowed : Allowed size m step) where
+module _ (size : Size) (m : State) (r : IsReached size m) (was : (cell : Cell) → m.firm cell ≡ true → IsThere size m cell) (step : Step) (allowed : Allowed size m step) (cell : Cell) where
   abbrev new : State
   new = after size m step
-
-  adopted_now : (cell : Cell) → FirmMove size m step cell → is_some (m.adopted cell) ≡ true
-  adopted_now cell (FirmMove.Was firm) = was.adopted cell firm
-  adopted_now cell (FirmMove.Confirms t step_is may has) = (born_have_copies size m r).adopted t may.turn cell has
-  adopted_now cell (FirmMove.Unsettles t step_is may has) = may.present cell has
 
   drawn : (t : ℕ) (may : MayUnsettle size m t) → (m.changes may.change).verdict ≡ Verdict.Undrawn → ⊥
   drawn t may e = absurd (let no : Verdict.Undrawn ≡ Verdict.Drawn = sym e ∙ (becomes_own size m r step allowed t may).1.1 in cc)
 
-  copies_now : (cell : Cell) → FirmMove size m step cell → size.quorum ≤ count size.replicas (having m cell)
-  copies_now cell (FirmMove.Was firm) = was.copies cell firm
-  copies_now cell (FirmMove.Confirms t step_is may has) =
-      let more = count_within size.replicas (m.txns t).confirmed (having m cell) (λ k low confirmed. (born_have_copies size m r).confirmed t k may.turn confirmed cell has) in
-      let many = may.many in
-      omega (arith, more, many)
-  copies_now cell (FirmMove.Unsettles t step_is may has) = (keeps_present size m r).changes may.change cell (drawn t may) has
-
-  firm_after : FirmIsPresent size new
-  firm_after = record {
-    adopted = λ cell firm. adopted_stays size m step allowed cell (adopted_now cell (firm_move size m step allowed cell firm));
-    copies = λ cell firm. many_stay size m r step allowed cell (copies_now cell (firm_move size m step allowed cell firm));
+  there : FirmMove size m step cell → IsThere size m cell
+  there (FirmMove.Was firm) = was cell firm
+  there (FirmMove.Confirms t step_is may has) = record {
+    adopted = (born_have_copies size m r).adopted t may.turn cell has;
+    copies =
+        let more = count_within size.replicas (m.txns t).confirmed (having m cell) (λ k low confirmed. (born_have_copies size m r).confirmed t k may.turn confirmed cell has) in
+        let many = may.many in
+        omega (arith, more, many);
   }
+  there (FirmMove.Unsettles t step_is may has) = record { adopted = may.present cell has; copies = (keeps_present size m r).changes may.change cell (drawn t may) has }
+
+  there_after : IsThere size m cell → IsThere size new cell
+  there_after h = record { adopted = adopted_stays size m step allowed cell h.adopted; copies = many_stay size m r step allowed cell h.copies }
+
+-- ---- every list of steps
+
+firm_there : (size : Size) (m : State) → IsSize size → IsReached size m → (cell : Cell) → m.firm cell ≡ true → IsThere size m cell
+firm_there size m is IsReached.Start cell firm = firm_at_start size is cell firm
+firm_there size m is (IsReached.Further old step reached allowed) cell firm =
+    there_after size old reached (firm_there size old is reached) step allowed cell (there size old reached (firm_there size old is reached) step allowed cell (firm_move size old step allowed cell firm))
 
 pub firm_is_present : EveryFirmIsPresent
-firm_is_present size m is IsReached.Start = firm_at_start size is
-firm_is_present size m is (IsReached.Further old step reached allowed) = firm_after size old reached (firm_is_present size old is reached) step allowed
+firm_is_present size m is r = record {
+  adopted = λ cell firm. holds_own cell (m.adopted cell) (adopted_of_aspect size m r cell) (firm_there size m is r cell firm).adopted;
+  copies = λ cell firm. (firm_there size m is r cell firm).copies;
+}

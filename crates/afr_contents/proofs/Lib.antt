@@ -37,6 +37,7 @@ pub mod ReadShows
 pub mod Verdicts
 pub mod Agreeing
 pub mod Present
+pub mod Aspects
 pub mod BearMoves
 pub mod FirmMoves
 pub mod Born

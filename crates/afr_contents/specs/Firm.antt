@@ -1,6 +1,6 @@
--- Cells that count as present: a content of each is adopted, and a quorum has a copy of it. Ours.
+-- Cells that count as present: a content of each is adopted, of its aspect, and a quorum has a copy of it. Ours.
 use Rattle.std.specs.Prelude.{◌≡◌, ◌≤◌, ℕ, true, is_some}
-use Rattle.fop_types.specs.StoreOps.{births}
+use Rattle.fop_types.specs.StoreOps.{births, holds}
 use Rattle.fop_types.specs.Jobs.{cells_of}
 use Rattle.fop_types.specs.declared.cells.Cell.{Cell}
 use Rattle.afr_machine.specs.Replicas.{Size, IsSize, count}
@@ -32,7 +32,7 @@ abbrev pub EveryBornHasCopies : Type 0
 EveryBornHasCopies = (size : Size) (m : State) → IsReached size m → BornHaveCopies m
 
 pub record FirmIsPresent (size : Size) (m : State) : Type 0 where
-  pub adopted : (cell : Cell) → m.firm cell ≡ true → is_some (m.adopted cell) ≡ true
+  pub adopted : (cell : Cell) → m.firm cell ≡ true → holds cell.aspect (m.adopted cell) ≡ true
   pub copies : (cell : Cell) → m.firm cell ≡ true → size.quorum ≤ count size.replicas (having m cell)
 
 abbrev pub EveryFirmIsPresent : Type 0

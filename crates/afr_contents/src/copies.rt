@@ -30,7 +30,7 @@ pub fn every_change_is_present()
 {}
 
 /// The law of cells that count as present, of every state that allowed steps lead to, for one, three and five replicas: those whose birth
-/// a quorum confirmed, and those of changes. A content of each is adopted, and a quorum has a copy of it, from then on.
+/// a quorum confirmed, and those of changes. A content of each is adopted, of the cell's aspect, and a quorum has a copy of it.
 pub fn every_firm_is_present()
     ensures { EveryFirmIsPresent }
 {}
