@@ -6,7 +6,6 @@ use Rattle.afr_machine.specs.Replicas.{Size, IsSize, nobody}
 use Rattle.afr_machine.specs.Touching.{is_cell, has_cell}
 use Rattle.afr_machine.specs.Copies.{Copy, changes_of, has_change}
 use Rattle.afr_machine.specs.Requests.{Sender, Ask, Input, Output}
-use Rattle.afr_machine.specs.Requests.Ask.{Op, Replace}
 use Rattle.afr_machine.specs.Requests.Input.{Asked}
 use Rattle.afr_machine.specs.Requests.Output.{Answered}
 use Rattle.afr_machine.specs.Bricks.{stored_by}
@@ -15,23 +14,23 @@ use Rattle.afr_machine.specs.Sending.{is_replaced}
 use Rattle.afr_machine.specs.Steps.{Step, Allowed, after, IsReached}
 use Rattle.afr_laws.specs.Senders.{EachInput}
 use Rattle.afr_laws.specs.Numbers.{applied}
-use Rattle.afr_laws.proofs.Bools.{apart_bools, both_left, both_right, is_or_not, or_right}
+use Rattle.afr_laws.proofs.Bools.{apart_bools, both_left, both_right, is_or_not}
 use Rattle.afr_laws.proofs.Sharing.{cells_are}
 use Rattle.afr_soundness.specs.Copied.{is_copying, IsReplacedAt}
-use Rattle.afr_soundness.proofs.Copied.Stores.{recopies, stored_puts}
+use Rattle.afr_soundness.proofs.Copied.Stores.{recopies}
 use Rattle.afr_soundness.proofs.Copied.Steps.{copies_stand}
 use Rattle.afr_contents.specs.Good.{IsGood, IsGoodAt}
 use Rattle.afr_contents.specs.Naming.{is_copied_to, held_by}
 use Rattle.afr_contents.specs.Lasting.{IsAccusedApart}
 use Rattle.afr_contents.specs.Coming.{IsRightAt, IsUsed, ComesGood}
-use Rattle.afr_contents.proofs.OpsGood.{op_makes}
 use Rattle.afr_contents.proofs.Keeping.{DecidesOn}
 use Rattle.afr_contents.proofs.Naming.{ConfirmsNow}
 use Rattle.afr_contents.proofs.Using.{held_granted}
 use Rattle.afr_contents.proofs.Confirming.{now_used}
 use Rattle.afr_contents.proofs.Lasting.{next_reached}
 use Rattle.afr_contents.proofs.Decided.{new_is, left_out_now, decided_accused}
-use Rattle.afr_contents.proofs.Values.{same_or_not, accused_of, found_copy, value_goes, accused_on, stored_good, moved}
+use Rattle.afr_contents.proofs.Values.{same_or_not, accused_of, front_carries, front_born, value_goes, accused_on, front_good, moved}
+use Rattle.afr_contents.proofs.Served.{found_copy, stored_right}
 use Rattle.afr_contents.proofs.FetchedGood.{IsCopiedTo, copied_run, fetched_after}
 
 -- whose answer is handed in
@@ -103,23 +102,14 @@ module _ (size : Size) (m : State) (is_size : IsSize size) (r : IsReached size m
       front_right : (by : Sender) (ask : Ask) (rest : List Input) → (m.bricks i).line ≡ Asked by ask ∷ rest → IsRightAt size m i ask
       front_right by ask rest front = (subst (EachInput (λ b a. IsRightAt size m i a)) front (was.lines i few)).0
 
-      changing : (by : Sender) (ask : Ask) (rest : List Input) → (m.bricks i).line ≡ Asked by ask ∷ rest → recopies ask cell ≡ true → IsRightAt size m i ask → Value (stored_by ask (m.bricks i).store cell).copy
-      changing by (Op u op) rest front has (inl finds) = inl (op_makes size m r i u op by rest front cell finds has good)
-      changing by (Op u op) rest front has (inr accused) = inr (accused cell has)
-      changing by (Replace at found) rest front has (inl right) =
-          inl (subst (IsGood m cell) (sym (found_copy (stored_by (Replace at found) (m.bricks i).store cell).copy _ found (stored_puts (m.bricks i).store at cell found has)))
-          (subst (λ c. IsGood m c (Some found.copy)) (sym (cells_are cell at (sym (or_right (is_cell cell at)) ∙ has))) right))
-      changing by (Replace at found) rest front has (inr accused) = inr (subst (λ c. IsAccusedApart size m c i nobody) (sym (cells_are cell at (sym (or_right (is_cell cell at)) ∙ has))) accused)
-      changing by other rest front has right = absurd (let no : false ≡ true = has in cc)
-
       served : (by : Sender) (ask : Ask) (rest : List Input) → (m.bricks i).line ≡ Asked by ask ∷ rest → Value (stored_by ask (m.bricks i).store cell).copy
       served by ask rest front = by_case (is_or_not (recopies ask cell)) where
         by_case : (recopies ask cell ≡ true) ⊎ (recopies ask cell ≡ false) → Value (stored_by ask (m.bricks i).store cell).copy
-        by_case (inl has) = changing by ask rest front has (front_right by ask rest front)
-        by_case (inr none) = inl (stored_good size m is_size r step allowed i cell good by ask rest front none)
+        by_case (inl has) = stored_right size m r (m.bricks i).store cell good i ask (front_carries size m r i by ask rest front) (front_born size m r i by ask rest front) has (front_right by ask rest front)
+        by_case (inr none) = inl (front_good size m is_size r step allowed i cell good by ask rest front none)
 
     value : IsGoodAt m i cell ⊎ IsAccusedApart size m cell i nobody → Value ((new.bricks i).store cell).copy
-    value (inl good) = moved size m is_size r step allowed i cell good Value (inl good) (served good)
+    value (inl good) = moved size m is_size r step allowed i cell Value (inl good) (served good)
     value (inr accused) = inr accused
 
     -- ---- a decision

@@ -116,7 +116,7 @@ module _ (size : Size) (m : State) (is_size : IsSize size) (r : IsReached size m
     }
 
     -- whoever is not is accused
-    left_out : (p : ℕ) (adopts : Bool) (d : IsDecidedBy size m p u adopts) → (IsAsDecided m u adopts i → ⊥) → (m.phases p).accused i ≡ true
+    pub left_out : (p : ℕ) (adopts : Bool) (d : IsDecidedBy size m p u adopts) → (IsAsDecided m u adopts i → ⊥) → (m.phases p).accused i ≡ true
     left_out p adopts d not_so = by_case (is_or_not (spared_by m.changes (m.phases p).decides i)) where
       reported : IsReported size m.changes (m.phases p) (some_one size is_size m r p u adopts d).member (m.phases p).decides
       reported = ((keeps_confirmed size m r).phases p (some_one size is_size m r p u adopts d).member d.one d.low (some_one size is_size m r p u adopts d).is).reported

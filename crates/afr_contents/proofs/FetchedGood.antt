@@ -44,7 +44,8 @@ use Rattle.afr_contents.proofs.Confirming.{now_used}
 use Rattle.afr_contents.proofs.Lasting.{next_reached}
 use Rattle.afr_contents.proofs.Copying.{CameBefore, held_without, held_unconfirmed, copying_before}
 use Rattle.afr_contents.proofs.Decided.{by_quorum, phase, left_out_now, decided_accused}
-use Rattle.afr_contents.proofs.Values.{found_copy, value_goes, accused_on}
+use Rattle.afr_contents.proofs.Served.{found_copy}
+use Rattle.afr_contents.proofs.Values.{value_goes, accused_on}
 
 -- a sink that may be named is one of a copy
 pub record IsCopiedTo (stage : Stage) (cell : Cell) (i : ℕ) : Type 0 where

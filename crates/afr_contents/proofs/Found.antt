@@ -6,7 +6,7 @@ use Rattle.std.proofs.lemmas.Bool.{cases_eq, eq-eqb}
 use Rattle.fop_types.specs.declared.cells.Cell.{Cell}
 use Rattle.afr_machine.specs.Replicas.{Size, IsSize, Replicas, outside}
 use Rattle.afr_machine.specs.Touching.{has_cell, share}
-use Rattle.afr_machine.specs.Copies.{Copy, Fetched, fetched_of, changes_of, has_change}
+use Rattle.afr_machine.specs.Copies.{Copy, changes_of, has_change}
 use Rattle.afr_machine.specs.Phases.{Deciding, IsSoundIn, IsReadyIn}
 use Rattle.afr_machine.specs.Phases.Deciding.{NoChange, ByPosts, BySettles}
 use Rattle.afr_machine.specs.Transactions.{CopyRun, Stage, Work, cells_of_job}
@@ -40,7 +40,7 @@ use Rattle.afr_contents.specs.Staying.{pardons_coming, accusers_staying, IsAccus
 use Rattle.afr_contents.specs.Adopted.{adopted_on}
 use Rattle.afr_contents.specs.Good.{IsGood, IsGoodAt, IsGoodOrAccused, CopiesGoodOrAccused, IsSettledCopy}
 use Rattle.afr_contents.specs.Good.IsGood.{Absent, Settled, Ahead}
-use Rattle.afr_contents.specs.Found.{IsSettledFor, GoodIsSettled, IsApplying, CopiesAreGood}
+use Rattle.afr_contents.specs.Found.{IsSettledFor, GoodIsSettled, IsApplying}
 use Rattle.afr_contents.proofs.Ops.{first_has}
 
 -- who goes on accusing accuses
@@ -185,7 +185,7 @@ module _ (size : Size) (m : State) (is : IsSize size) (r : IsReached size m) (go
     copying_behind : is_behind (m.txns t).stage ≡ true
     copying_behind = ap is_behind copies
 
-    source_good : (i : ℕ) → run.sources i ≡ true → IsGoodAt m i cell
+    pub source_good : (i : ℕ) → run.sources i ≡ true → IsGoodAt m i cell
     source_good i in_it = free_is_good size m good i cell known.replica (ready_is_free size m is r (m.txns t).phase cell (known_one copying_behind) low phase_covers i (inl (source_sound run.group known.source)) (last_spares m (m.txns t).phase i cell last unaccused)) where
       known : IsSourceOf size (phase_of m t) run i
       known = (runs_are_known size m r t run copies).sources_are i in_it
@@ -201,18 +201,6 @@ module _ (size : Size) (m : State) (is : IsSize size) (r : IsReached size m) (go
       unaccused = let d = decides_exactly size m r in
           spares (m.txns t).work run.group (phase_of m t).decides (phase_of m t).accused i (subst (λ s. DecidesIn size m.changes (m.txns t).work s (phase_of m t)) copies (d.transactions t).decides)
           (d.accused (m.txns t).phase (known_one copying_behind) low) known.source
-
-    copy_of : (copy : Option Copy) (number : ℕ) (found : Fetched) → fetched_of copy number ≡ Some found → copy ≡ Some found.copy
-    copy_of None number found h = absurd (let no : None ≡ Some found = h in cc)
-    copy_of (Some held) number found h = unwrapped (record { copy = held; last = number }) found h where
-      unwrapped : (a b : Fetched) → Some a ≡ Some b → Some a.copy ≡ Some b.copy
-      unwrapped a b e = let same : a ≡ b = cc in ap (λ (f : Fetched). Some f.copy) same
-
-    pub copies_good : CopiesAreGood size m t run cell
-    copies_good = record {
-      sources = source_good;
-      fetched = λ found f uses. subst (IsGood m cell) (copy_of ((m.bricks f.source).store cell).copy ((m.bricks f.source).store cell).last found (f.stands uses)) (source_good f.source f.is_source);
-    }
 
 -- ---- who applies a change
 

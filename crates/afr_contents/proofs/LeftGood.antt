@@ -32,7 +32,7 @@ use Rattle.afr_soundness.proofs.Copied.Lines.{recopied_by_own}
 use Rattle.afr_soundness.proofs.Copied.Stores.{recopies}
 use Rattle.afr_soundness.proofs.Unsettled.{UnsettledFrom, unsettled_from, drawn_from, becomes_own}
 use Rattle.afr_decisions.proofs.Left.{BeginsNow, left_from, left_are_without}
-use Rattle.afr_contents.specs.Staying.{accusers_staying}
+use Rattle.afr_contents.specs.Staying.{accusers_staying, IsAccusedByMany}
 use Rattle.afr_contents.specs.Good.{IsGoodAt, IsGoodOrAccused, CopiesGoodOrAccused, IsSettledCopy}
 use Rattle.afr_contents.specs.Found.{IsSettledFor}
 use Rattle.afr_contents.specs.Lasting.{IsAccusedApart}
@@ -45,14 +45,17 @@ use Rattle.afr_contents.proofs.Values.{settled_goes, copy_kept}
 use Rattle.afr_contents.proofs.FetchedGood.{used_before}
 
 -- whoever is accused for good is accused
+pub many_of : (size : Size) (m : State) (i : ℕ) (cell : Cell) → IsAccusedApart size m cell i nobody → IsAccusedByMany size m cell i
+many_of size m i cell a =
+    let more = count_within size.replicas a.by (accusers_staying m cell i) (λ k few h. (a.each k few h).stays) in
+    let enough = a.many in
+    omega (arith, more, enough)
+
 pub copies_of : (size : Size) (m : State) → ((i : ℕ) (cell : Cell) → i < size.replicas → IsGoodAt m i cell ⊎ IsAccusedApart size m cell i nobody) → CopiesGoodOrAccused size m
 copies_of size m was i cell low = by_case (was i cell low) where
   by_case : IsGoodAt m i cell ⊎ IsAccusedApart size m cell i nobody → IsGoodOrAccused size m i cell
   by_case (inl good) = inl good
-  by_case (inr a) =
-      let more = count_within size.replicas a.by (accusers_staying m cell i) (λ k few h. (a.each k few h).stays) in
-      let enough = a.many in
-      inr (omega (arith, more, enough))
+  by_case (inr a) = inr (many_of size m i cell a)
 
 -- ---- at a brick that it uses, the front changes a copy only as the stage asks
 

@@ -7,6 +7,7 @@ pub mod OfAdopted
 pub mod Settled
 pub mod AsBorn
 pub mod OpsGood
+pub mod Served
 pub mod Keeping
 pub mod Found
 pub mod Naming
@@ -26,11 +27,19 @@ pub mod LinesGood
 pub mod SourcesGood
 pub mod LeftGood
 pub mod Coming
+pub mod Walked
 pub mod Laws
+pub mod Durable
+pub mod Fitting
 pub mod ShownMoves
 pub mod ReadAsks
 pub mod ReadShows
 pub mod Verdicts
 pub mod Agreeing
 pub mod Present
+pub mod Aspects
+pub mod BearMoves
+pub mod FirmMoves
+pub mod Born
+pub mod Firm
 pub mod Split

@@ -65,7 +65,7 @@ module _ (size : Size) (m : State) (is_size : IsSize size) (r : IsReached size m
 
   -- ---- what is sent
 
-  sent_op : (t u : ℕ) (op : StoreOp) → MayAsk size m t i (Op u op) → FindsSettled m i u op
+  sent_op : (t u : ℕ) (op : StoreOp) → MayAsk size m t i (Op u op) → FindsSettled m (m.bricks i).store u op
   sent_op t u op (inl may) cell has = (may.unsettled, was.left t u i cell few may.turn may.unsettled may.next.is_left (used_of size m t i may.next.member) touches) where
     touches : has_cell (m.changes u).cells cell ≡ true
     touches = ap (λ cs. has_cell cs cell) ((changes_are_own size m r).fit.needs_are u ∙ ap needs (sym may.op_is)) ∙ has
@@ -185,7 +185,7 @@ module _ (size : Size) (m : State) (is_size : IsSize size) (r : IsReached size m
     accused_stays : (cell : Cell) → has_cell (needs op) cell ≡ true → IsAccusedApart size m cell i nobody → IsAccusedApart size new cell i nobody
     accused_stays cell has a = accused_on size m is_size r step allowed i few cell nobody nobody (λ k h. h) (λ t k low apart held c. not_named cell has t c) a
 
-    module _ (h : FindsSettled m i u op) where
+    module _ (h : FindsSettled m (m.bricks i).store u op) where
       touched : (cell : Cell) → has_cell (needs op) cell ≡ true → has_cell (m.changes u).cells cell ≡ true
       touched cell has = by_case known.carries where
         by_case : IsOpOf new.changes u op → has_cell (m.changes u).cells cell ≡ true
@@ -195,7 +195,7 @@ module _ (size : Size) (m : State) (is_size : IsSize size) (r : IsReached size m
             ∙ ap (λ cs. has_cell cs cell) ((changes_are_own size (after size m step) (next_reached size m r step allowed)).fit.needs_are u ∙ ap needs (sym sent.1)) ∙ has
 
       -- the change stays unsettled
-      stays : is_unsettled (new.changes u).verdict ≡ true → FindsSettled new i u op
+      stays : is_unsettled (new.changes u).verdict ≡ true → FindsSettled new (new.bricks i).store u op
       stays now cell has = (now, settled_goes size m is_size r step allowed cell none ((new.bricks i).store cell).copy (record { held = s.held; is = known.keeps cell has s.held s.is; changes = s.changes; content = s.content })) where
         s : IsSettledCopy m cell ((m.bricks i).store cell).copy
         s = (h cell has).1
@@ -220,7 +220,7 @@ module _ (size : Size) (m : State) (is_size : IsSize size) (r : IsReached size m
 
     op_goes : IsRightAt size new i (Op u op)
     op_goes = by_case known.right where
-      by_verdict : FindsSettled m i u op → (is_unsettled (new.changes u).verdict ≡ true) ⊎ (is_unsettled (new.changes u).verdict ≡ false) → IsRightAt size new i (Op u op)
+      by_verdict : FindsSettled m (m.bricks i).store u op → (is_unsettled (new.changes u).verdict ≡ true) ⊎ (is_unsettled (new.changes u).verdict ≡ false) → IsRightAt size new i (Op u op)
       by_verdict h (inl now) = inl (stays h now)
       by_verdict h (inr gone) = inr (lost h gone)
 

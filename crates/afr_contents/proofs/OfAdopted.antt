@@ -16,7 +16,7 @@ use Rattle.afr_contents.proofs.Ops.{after_births_on, contents_on, unborn}
 use Rattle.afr_contents.proofs.Contents.{ContentsMove, contents_move}
 
 -- births leave a content that is there
-births_leave : (cell : Cell) (bs : List (Cell × Content)) (x : Option Content) → is_some x ≡ true → is_some (born_on cell x bs) ≡ true
+pub births_leave : (cell : Cell) (bs : List (Cell × Content)) (x : Option Content) → is_some x ≡ true → is_some (born_on cell x bs) ≡ true
 births_leave cell bs (Some content) h = ap is_some (unborn cell bs content)
 births_leave cell bs None h = absurd (let no : false ≡ true = h in cc)
 

@@ -1,44 +1,33 @@
 -- An op that finds settled copies of the cells that it needs makes good copies.
 use Rattle.std.proofs.Common.{◌≡◌, ◌∙◌, ℕ, Bool, true, false, refl, sym, ap, subst, Option, Some, None, inl, inr}
-use Rattle.std.specs.Prelude.{List, [], ◌∷◌, is_some, if◌then◌else◌}
+use Rattle.std.specs.Prelude.{[], ◌∷◌, is_some, if◌then◌else◌}
 use Rattle.fop_types.specs.StoreOps.{needs, births, fits, born_on, content_after}
 use Rattle.fop_types.specs.declared.cells.Cell.{Cell}
 use Rattle.fop_types.specs.declared.contents.Content.{Content}
 use Rattle.fop_types.specs.declared.store_ops.StoreOp.{StoreOp}
 use Rattle.afr_machine.specs.Replicas.{Size}
 use Rattle.afr_machine.specs.Touching.{has_cell}
-use Rattle.afr_machine.specs.Copies.{Copy, content_of, contents_of, changes_after, copy_with, op_of}
-use Rattle.afr_machine.specs.Requests.{Sender, Input}
+use Rattle.afr_machine.specs.Copies.{Copy, Store, content_of, contents_of, changes_after, copy_with, op_of}
 use Rattle.afr_machine.specs.Requests.Ask.{Op}
-use Rattle.afr_machine.specs.Requests.Input.{Asked}
 use Rattle.afr_machine.specs.Bricks.{stored_by}
 use Rattle.afr_machine.specs.States.{State}
 use Rattle.afr_machine.specs.Steps.{IsReached}
-use Rattle.afr_laws.specs.Senders.{EachInput}
-use Rattle.afr_laws.specs.Copies.{IsOpOf, Carries}
-use Rattle.afr_laws.specs.OneBirth.{AreBorn, BearsAsBorn}
+use Rattle.afr_laws.specs.Copies.{IsOpOf}
+use Rattle.afr_laws.specs.OneBirth.{AreBorn}
 use Rattle.afr_laws.proofs.Bools.{apart_bools}
-use Rattle.afr_laws.proofs.Births.Steps.{every_cell_is_born_once}
 use Rattle.afr_laws.proofs.Copies.Contents.{content_stays}
-use Rattle.afr_laws.proofs.Copies.Steps.{copies_are_of_changes}
 use Rattle.afr_laws.proofs.OwnChanges.Steps.{changes_are_own}
 use Rattle.afr_contents.specs.Adopted.{first_of, settled}
-use Rattle.afr_contents.specs.Good.{IsGood, IsGoodAt, IsSettledCopy}
+use Rattle.afr_contents.specs.Good.{IsGood, IsSettledCopy}
 use Rattle.afr_contents.specs.Coming.{FindsSettled}
 use Rattle.afr_contents.specs.Good.IsGood.{Absent, Settled, Ahead}
 use Rattle.afr_contents.proofs.Ops.{some_of, fits_same, content_same, left_alone, born_settled, unborn}
 use Rattle.afr_contents.proofs.AsBorn.{adopted_as_born}
 
-module _ (size : Size) (m : State) (r : IsReached size m) (i u : ℕ) (op : StoreOp) (by : Sender) (rest : List Input) (front : (m.bricks i).line ≡ Asked by (Op u op) ∷ rest) where
-  of_change : IsOpOf m.changes u op
-  of_change = (subst (EachInput (λ by ask. Carries m.changes ask)) front ((copies_are_of_changes size m r).bricks i).line).0
-
-  born_as : AreBorn m.born (births op)
-  born_as = (subst (EachInput (λ by ask. BearsAsBorn m.born ask)) front ((every_cell_is_born_once size m r).one.bricks i).line).0
-
+module _ (size : Size) (m : State) (r : IsReached size m) (store : Store) (u : ℕ) (op : StoreOp) (of_change : IsOpOf m.changes u op) (born_as : AreBorn m.born (births op)) where
   module _ (cell : Cell) where
     abbrev Served : Bool → Type 0
-    Served altered = IsGood m cell (copy_with (changes_after altered u ((m.bricks i).store cell).copy) (content_after (contents_of (m.bricks i).store) op cell))
+    Served altered = IsGood m cell (copy_with (changes_after altered u (store cell).copy) (content_after (contents_of store) op cell))
 
     -- a cell that it does not need
     kept : (copy : Option Copy) (content : Option Content) → content ≡ born_on cell (content_of copy) (births op) → IsGood m cell copy → IsGood m cell (copy_with (changes_after false u copy) content)
@@ -55,8 +44,8 @@ module _ (size : Size) (m : State) (r : IsReached size m) (i u : ℕ) (op : Stor
     kept None (Some content) is (Ahead held v e a) = absurd (let no : None ≡ Some held = e in cc)
 
     -- one that it needs, where it finds settled copies
-    module _ (n : FindsSettled m i u op) (has : has_cell (needs op) cell ≡ true) where
-      agrees : (d : Cell) → has_cell (needs op) d ≡ true → contents_of (m.bricks i).store d ≡ settled m d
+    module _ (n : FindsSettled m store u op) (has : has_cell (needs op) cell ≡ true) where
+      agrees : (d : Cell) → has_cell (needs op) d ≡ true → contents_of store d ≡ settled m d
       agrees d there = ap content_of (n d there).1.is ∙ sym (n d there).1.content
 
       op_is : op ≡ (m.changes u).op
@@ -68,37 +57,37 @@ module _ (size : Size) (m : State) (r : IsReached size m) (i u : ℕ) (op : Stor
       touched : has_cell (m.changes u).cells cell ≡ true
       touched = ap (λ cs. has_cell cs cell) ((changes_are_own size m r).fit.needs_are u ∙ ap needs (sym op_is)) ∙ has
 
-      some_content : is_some (content_after (contents_of (m.bricks i).store) op cell) ≡ true
-      some_content = content_stays (contents_of (m.bricks i).store) op cell (ap (λ c. is_some (content_of c)) (n cell has).1.is)
+      some_content : is_some (content_after (contents_of store) op cell) ≡ true
+      some_content = content_stays (contents_of store) op cell (ap (λ c. is_some (content_of c)) (n cell has).1.is)
 
-      altered : fits (contents_of (m.bricks i).store) op ≡ true → Served true
-      altered fit = some_of (content_after (contents_of (m.bricks i).store) op cell) some_content ahead where
-        f : IsSettledCopy m cell ((m.bricks i).store cell).copy
+      altered : fits (contents_of store) op ≡ true → Served true
+      altered fit = some_of (content_after (contents_of store) op cell) some_content ahead where
+        f : IsSettledCopy m cell (store cell).copy
         f = (n cell has).1
 
-        ahead : (content : Content) → content_after (contents_of (m.bricks i).store) op cell ≡ Some content → Served true
+        ahead : (content : Content) → content_after (contents_of store) op cell ≡ Some content → Served true
         ahead content is =
             Ahead (record { changes = u ∷ f.held.changes; content = content }) u
-            (ap (λ c. copy_with (changes_after true u c) (content_after (contents_of (m.bricks i).store) op cell)) f.is ∙ ap (copy_with (u ∷ f.held.changes)) is)
+            (ap (λ c. copy_with (changes_after true u c) (content_after (contents_of store) op cell)) f.is ∙ ap (copy_with (u ∷ f.held.changes)) is)
             (record {
               unsettled = (n cell has).0;
               touches = touched;
-              fitting = ap (fits (settled m)) (sym op_is) ∙ sym (fits_same (contents_of (m.bricks i).store) (settled m) op agrees) ∙ fit;
+              fitting = ap (fits (settled m)) (sym op_is) ∙ sym (fits_same (contents_of store) (settled m) op agrees) ∙ fit;
               changes = ap (λ l. u ∷ l) f.changes;
-              content = ap (λ o. content_after (settled m) o cell) (sym op_is) ∙ sym (content_same (contents_of (m.bricks i).store) (settled m) op agrees cell (agrees cell has)) ∙ is;
+              content = ap (λ o. content_after (settled m) o cell) (sym op_is) ∙ sym (content_same (contents_of store) (settled m) op agrees cell (agrees cell has)) ∙ is;
             })
 
     abbrev After : Bool → Type 0
-    After b = IsGood m cell (if b then op_of (contents_of (m.bricks i).store) u op cell ((m.bricks i).store cell) else (m.bricks i).store cell).copy
+    After b = IsGood m cell (if b then op_of (contents_of store) u op cell (store cell) else store cell).copy
 
-    pub op_leaves : has_cell (needs op) cell ≡ false → IsGoodAt m i cell → IsGood m cell (stored_by (Op u op) (m.bricks i).store cell).copy
-    op_leaves other good = by_fit (fits (contents_of (m.bricks i).store) op) where
+    pub op_leaves : has_cell (needs op) cell ≡ false → IsGood m cell (store cell).copy → IsGood m cell (stored_by (Op u op) store cell).copy
+    op_leaves other good = by_fit (fits (contents_of store) op) where
       by_fit : (b : Bool) → After b
       by_fit false = good
-      by_fit true = subst Served (sym other) (kept ((m.bricks i).store cell).copy (content_after (contents_of (m.bricks i).store) op cell) (left_alone (contents_of (m.bricks i).store) op cell other) good)
+      by_fit true = subst Served (sym other) (kept (store cell).copy (content_after (contents_of store) op cell) (left_alone (contents_of store) op cell other) good)
 
-    pub op_makes : FindsSettled m i u op → has_cell (needs op) cell ≡ true → IsGoodAt m i cell → IsGood m cell (stored_by (Op u op) (m.bricks i).store cell).copy
-    op_makes n has good = by_fit (fits (contents_of (m.bricks i).store) op) refl where
-      by_fit : (b : Bool) → fits (contents_of (m.bricks i).store) op ≡ b → After b
+    pub op_makes : FindsSettled m store u op → has_cell (needs op) cell ≡ true → IsGood m cell (store cell).copy → IsGood m cell (stored_by (Op u op) store cell).copy
+    op_makes n has good = by_fit (fits (contents_of store) op) refl where
+      by_fit : (b : Bool) → fits (contents_of store) op ≡ b → After b
       by_fit false fit = good
       by_fit true fit = subst Served (sym has) (altered n has fit)

@@ -43,7 +43,7 @@ module _ (size : Size) (m : State) (r : IsReached size m) (step : Step) (allowed
   copy_stays : (k : ℕ) (cell : Cell) → HasCopy m k cell → HasCopy new k cell
   copy_stays k cell h = move_present (IsTaken m step k) (m.bricks k) (new.bricks k) cell (bricks_move size m step allowed k) h
 
-  many_stay : (cell : Cell) → size.quorum ≤ count size.replicas (having m cell) → size.quorum ≤ count size.replicas (having new cell)
+  pub many_stay : (cell : Cell) → size.quorum ≤ count size.replicas (having m cell) → size.quorum ≤ count size.replicas (having new cell)
   many_stay cell h =
       let more = count_within size.replicas (having m cell) (having (after size m step) cell) (λ k low there. copy_stays k cell there) in
       omega (arith, more, h)

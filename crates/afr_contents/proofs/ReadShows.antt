@@ -52,7 +52,7 @@ use Rattle.afr_contents.specs.Found.{IsSettledFor}
 use Rattle.afr_contents.specs.Coming.{IsUsed}
 use Rattle.afr_contents.specs.Reading.{IsAdoptedContent, IsAdoptedCopy, IsShown, ReadsShowAdopted, EveryReadShowsAdopted}
 use Rattle.afr_contents.proofs.Keeping.{DecidesOn, list_stays, content_stays}
-use Rattle.afr_contents.proofs.Values.{found_copy}
+use Rattle.afr_contents.proofs.Served.{found_copy}
 use Rattle.afr_contents.proofs.FetchedGood.{used_before}
 use Rattle.afr_contents.proofs.Laws.{ready_adopted}
 use Rattle.afr_contents.proofs.ShownMoves.{ShowsNow, shown_from}

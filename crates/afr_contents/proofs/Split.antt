@@ -1,15 +1,15 @@
 -- A lock phase that reached every replica finds a sound one.
 use Rattle.std.proofs.Common.{◌≡◌, ◌∙◌, ℕ, zero, suc, ◌+◌, ◌-◌, ◌≤◌, ◌<◌, true, false, sym, ap, arith, Some}
-use Rattle.std.specs.Prelude.{List, [], ◌∷◌, ◌==◌, not, slice_index}
+use Rattle.std.specs.Prelude.{List, [], ◌==◌, not, slice_index}
 use Rattle.fop_types.specs.declared.cells.Cell.{Cell}
 use Rattle.fop_types.specs.declared.contents.Row.{Row}
 use Rattle.afr_changelog.specs.Soundness.{accuses}
 use Rattle.afr_machine.specs.Replicas.{Size, IsSize, Replicas, one_if, count}
 use Rattle.afr_machine.specs.Copies.{rows_of}
-use Rattle.afr_machine.specs.Phases.{HasSound}
+use Rattle.afr_machine.specs.Phases.{IsSoundIn}
 use Rattle.afr_machine.specs.States.{State}
 use Rattle.afr_machine.specs.Steps.{IsReached}
-use Rattle.afr_laws.specs.Rows.{accuses_at, accusing_in, IsSoundByCount}
+use Rattle.afr_laws.specs.Rows.{accuses_at, accusing_in}
 use Rattle.afr_laws.specs.Seen.{SeenStands}
 use Rattle.afr_laws.specs.Sound.{comes, accusers_coming}
 use Rattle.afr_laws.proofs.Bools.{both_right, neither_left, or_left}
@@ -17,9 +17,9 @@ use Rattle.afr_laws.proofs.Accusers.{rows_show_accusers}
 use Rattle.afr_laws.proofs.Counts.{count_within}
 use Rattle.afr_laws.proofs.Seen.Steps.{keeps_seen}
 use Rattle.afr_laws.proofs.Sound.{soundness_is_counted}
-use Rattle.afr_soundness.specs.Guarded.{OneIsFreeOn}
+use Rattle.afr_soundness.specs.Clears.{IsFree}
 use Rattle.afr_soundness.proofs.Guarded.{leaves_one_free}
-use Rattle.afr_contents.specs.Split.{SawAll, SeenAllHasSound}
+use Rattle.afr_contents.specs.Split.{SawAll, SeenAllHasSound, SeenAllHasOne}
 use Rattle.afr_contents.proofs.Ops.{first_has}
 
 count_all : (n : ℕ) (a : Replicas) → ((k : ℕ) → k < n → a k ≡ true) → n ≤ count n a
@@ -39,32 +39,36 @@ module _ (size : Size) (m : State) (is : IsSize size) (r : IsReached size m) (p 
     same : (shown now : Row) → now.pending ≡ shown.pending → accuses i (Some shown) ≡ accuses i (Some now)
     same shown now e = ap (λ (l : List ℕ). not (slice_index l i == 0)) (sym e)
 
-  sound_one : OneIsFreeOn size m (cell ∷ []) → HasSound size (m.phases p) cell
-  sound_one f = record { member = i; sound = (soundness_is_counted size (m.phases p) cell i).1 by_count } where
-    i : ℕ
-    i = f.replica
+  -- so whoever is free is sound
+  module _ (i : ℕ) (low : i < size.replicas) (free : IsFree size m cell i) where
+    coming_false : accuses_at (m.bricks i).store cell i ≡ false
+    coming_false = neither_left (accuses_at (m.bricks i).store cell i) (comes (m.bricks i).line cell i) free.itself
 
-    coming_false : accuses_at (m.bricks f.replica).store cell f.replica ≡ false
-    coming_false = neither_left (accuses_at (m.bricks f.replica).store cell f.replica) (comes (m.bricks f.replica).line cell f.replica) (f.free cell (first_has cell [])).itself
-
-    few_count : count size.replicas (accusing_in (m.phases p) cell f.replica) + (size.replicas - size.quorum) < count size.replicas (m.phases p).reached
+    few_count : count size.replicas (accusing_in (m.phases p) cell i) + (size.replicas - size.quorum) < count size.replicas (m.phases p).reached
     few_count =
-        let less = count_within size.replicas (accusing_in (m.phases p) cell f.replica) (accusers_coming m cell f.replica)
-        (λ k low h. or_left (accuses_at (m.bricks k).store cell f.replica) (comes (m.bricks k).line cell f.replica)
-        (sym (accuses_same k f.replica low f.low) ∙ both_right ((m.phases p).reached k) (accuses f.replica (Some ((m.phases p).rows k cell))) h)) in
+        let less = count_within size.replicas (accusing_in (m.phases p) cell i) (accusers_coming m cell i)
+        (λ k few h. or_left (accuses_at (m.bricks k).store cell i) (comes (m.bricks k).line cell i)
+        (sym (accuses_same k i few low) ∙ both_right ((m.phases p).reached k) (accuses i (Some ((m.phases p).rows k cell))) h)) in
         let every = count_all size.replicas (m.phases p).reached s.all in
-        let few = (f.free cell (first_has cell [])).few in
+        let few = free.few in
         let odd = is.odd in
         omega (arith, less, every, few, odd)
 
-    by_count : IsSoundByCount size (m.phases p) cell i
-    by_count = record {
-      replica = f.low;
-      reached = s.all f.replica f.low;
-      present = s.shown f.replica f.low (f.free cell (first_has cell [])).present;
-      trusts_itself = accuses_same f.replica f.replica f.low f.low ∙ coming_false;
+    free_sound : IsSoundIn size (m.phases p) cell i
+    free_sound = (soundness_is_counted size (m.phases p) cell i).1 (record {
+      replica = low;
+      reached = s.all i low;
+      present = s.shown i low free.present;
+      trusts_itself = accuses_same i i low low ∙ coming_false;
       few = few_count;
-    }
+    })
 
 pub seen_all_has_sound : SeenAllHasSound
-seen_all_has_sound size m is r p k cell s low has = sound_one size m is r p cell s ((leaves_one_free size m is r).present k cell low has)
+seen_all_has_sound size m is r p k cell s low has =
+    let f = (leaves_one_free size m is r).present k cell low has in
+    record { member = f.replica; sound = free_sound size m is r p cell s f.replica f.low (f.free cell (first_has cell [])) }
+
+pub seen_all_has_one : SeenAllHasOne
+seen_all_has_one size m is r p u unsettled saw =
+    let f = (leaves_one_free size m is r).unsettled u unsettled in
+    record { member = f.replica; low = f.low; sound = λ cell has. free_sound size m is r p cell (saw cell has) f.replica f.low (f.free cell has) }

@@ -1,12 +1,10 @@
 -- What a step makes of a copy that is good, or whose brick is accused.
-use Rattle.std.proofs.Common.{◌≡◌, ◌∙◌, ℕ, ◌<◌, Bool, true, false, refl, sym, ap, subst, ◌⊎◌, inl, inr, Option, Some, None}
-use Rattle.std.specs.Prelude.{List, ◌∷◌, if◌then◌else◌}
+use Rattle.std.proofs.Common.{◌≡◌, ◌∙◌, ℕ, ◌<◌, Bool, true, false, refl, sym, subst, ◌⊎◌, inl, inr, Option, Some}
+use Rattle.std.specs.Prelude.{List, ◌∷◌}
 use Rattle.fop_types.specs.declared.cells.Cell.{Cell}
 use Rattle.afr_machine.specs.Replicas.{Replicas, Size, IsSize, nobody}
-use Rattle.afr_machine.specs.Touching.{is_cell, has_cell}
-use Rattle.afr_machine.specs.Copies.{Copy, Kept, Store, Fetched, fetched_of, changes_of, has_change, on_cells, mark_of, post_of, settle_of, clear_of}
+use Rattle.afr_machine.specs.Copies.{Copy, Store, changes_of, has_change}
 use Rattle.afr_machine.specs.Requests.{Sender, Ask, Input}
-use Rattle.afr_machine.specs.Requests.Ask.{Mark, Op, Post, Replace, Clear, Settle}
 use Rattle.afr_machine.specs.Requests.Input.{Asked}
 use Rattle.afr_machine.specs.Bricks.{Brick, stored_by}
 use Rattle.afr_machine.specs.States.{State}
@@ -14,17 +12,21 @@ use Rattle.afr_machine.specs.Steps.{Step, Allowed, after, IsReached}
 use Rattle.afr_machine.specs.Moves.{BrickMove, IsTaken}
 use Rattle.afr_machine.specs.Moves.BrickMove.{Stays, Takes, Hands, Serves, Refuses, GivesUp, Steers}
 use Rattle.afr_machine.proofs.BrickMoves.{bricks_move}
-use Rattle.afr_laws.proofs.Bools.{or_right}
+use Rattle.afr_laws.specs.Senders.{EachInput}
+use Rattle.afr_laws.specs.Copies.{Carries}
+use Rattle.afr_laws.specs.OneBirth.{BearsAsBorn}
+use Rattle.afr_laws.proofs.Births.Steps.{every_cell_is_born_once}
+use Rattle.afr_laws.proofs.Copies.Steps.{copies_are_of_changes}
 use Rattle.afr_laws.proofs.Copies.Served.{served_store, steered_store}
-use Rattle.afr_soundness.proofs.Copied.Stores.{recopies, move_copy, stored_keeps}
+use Rattle.afr_soundness.proofs.Copied.Stores.{recopies}
 use Rattle.afr_contents.specs.Good.{IsGood, IsGoodAt, IsSettledCopy}
 use Rattle.afr_contents.specs.Naming.{held_by}
 use Rattle.afr_contents.specs.Lasting.{IsAccusedApart}
 use Rattle.afr_contents.proofs.OfAdopted.{changes_of_adopted}
-use Rattle.afr_contents.proofs.OpsGood.{op_leaves}
 use Rattle.afr_contents.proofs.Keeping.{DecidesOn, IsDeciding, is_deciding, list_stays, content_stays, good_stays, good_decided}
 use Rattle.afr_contents.proofs.Naming.{ConfirmsNow}
 use Rattle.afr_contents.proofs.Lasting.{accused_goes}
+use Rattle.afr_contents.proofs.Served.{stored_same, stored_good}
 
 pub same_or_not : (a b : Bool) → (a ≡ b) ⊎ (a ≡ b → ⊥)
 same_or_not true true = inl refl
@@ -35,14 +37,14 @@ same_or_not false true = inr (λ e. absurd (let no : false ≡ true = e in cc))
 pub accused_of : (size : Size) (m : State) (cell : Cell) (i : ℕ) (these : Replicas) → IsAccusedApart size m cell i these → IsAccusedApart size m cell i nobody
 accused_of size m cell i these a = record { by = a.by; many = a.many; each = a.each; apart = λ k low h. refl }
 
-copy_found : (copy : Option Copy) (held : Copy) (last : ℕ) → copy ≡ Some held → fetched_of copy last ≡ Some (record { copy = held; last = last })
-copy_found copy held last is = ap (λ c. fetched_of c last) is
+-- ---- the request at the front of a line
 
-pub found_copy : (copy : Option Copy) (number : ℕ) (found : Fetched) → fetched_of copy number ≡ Some found → copy ≡ Some found.copy
-found_copy None number found h = absurd (let no : None ≡ Some found = h in cc)
-found_copy (Some held) number found h = unwrapped (record { copy = held; last = number }) found h where
-  unwrapped : (a b : Fetched) → Some a ≡ Some b → Some a.copy ≡ Some b.copy
-  unwrapped a b e = let same : a ≡ b = cc in ap (λ (f : Fetched). Some f.copy) same
+module _ (size : Size) (m : State) (r : IsReached size m) (i : ℕ) (by : Sender) (ask : Ask) (rest : List Input) (front : (m.bricks i).line ≡ Asked by ask ∷ rest) where
+  pub front_carries : Carries m.changes ask
+  front_carries = (subst (EachInput (λ by ask. Carries m.changes ask)) front ((copies_are_of_changes size m r).bricks i).line).0
+
+  pub front_born : BearsAsBorn m.born ask
+  front_born = (subst (EachInput (λ by ask. BearsAsBorn m.born ask)) front ((every_cell_is_born_once size m r).one.bricks i).line).0
 
 module _ (size : Size) (m : State) (is_size : IsSize size) (r : IsReached size m) (step : Step) (allowed : Allowed size m step) where
   abbrev new : State
@@ -76,6 +78,22 @@ module _ (size : Size) (m : State) (is_size : IsSize size) (r : IsReached size m
     content = content_stays size m r step allowed cell none s.held.content s.content;
   }
 
+  -- ---- the brick after the step
+
+  module _ (i : ℕ) (cell : Cell) (P : Option Copy → Type 0) (here : P ((m.bricks i).store cell).copy) (served : (by : Sender) (ask : Ask) (rest : List Input) → (m.bricks i).line ≡ Asked by ask ∷ rest → P (stored_by ask (m.bricks i).store cell).copy) where
+    by_move : BrickMove (IsTaken m step i) (m.bricks i) (new.bricks i) → P ((new.bricks i).store cell).copy
+    by_move (Serves by ask rest front would is) =
+        subst (λ (b : Brick). P (b.store cell).copy) (sym is) (subst (λ (st : Store). P (st cell).copy) (sym (served_store (m.bricks i).power by ask (record (m.bricks i) { line = rest }))) (served by ask rest front))
+    by_move (Stays is) = subst (λ (b : Brick). P (b.store cell).copy) (sym is) here
+    by_move (Takes inputs its is) = subst (λ (b : Brick). P (b.store cell).copy) (sym is) here
+    by_move (Hands first rest front is) = subst (λ (b : Brick). P (b.store cell).copy) (sym is) here
+    by_move (Refuses by ask answer rest front may_be refusal is) = subst (λ (b : Brick). P (b.store cell).copy) (sym is) here
+    by_move (GivesUp by ask rest front would is) = subst (λ (b : Brick). P (b.store cell).copy) (sym is) here
+    by_move (Steers control rest front is) = subst (λ (b : Brick). P (b.store cell).copy) (sym is) (subst (λ (st : Store). P (st cell).copy) (sym (steered_store control (record (m.bricks i) { line = rest }))) here)
+
+    pub moved : P ((new.bricks i).store cell).copy
+    moved = by_move (bricks_move size m step allowed i)
+
   -- ---- a brick whose front does not change the copy
 
   abbrev pub FrontKeeps : ℕ → Cell → Type 0
@@ -83,45 +101,12 @@ module _ (size : Size) (m : State) (is_size : IsSize size) (r : IsReached size m
 
   module _ (i : ℕ) (cell : Cell) (keeps : FrontKeeps i cell) where
     pub copy_kept : (held : Copy) → ((m.bricks i).store cell).copy ≡ Some held → ((new.bricks i).store cell).copy ≡ Some held
-    copy_kept held is =
-        found_copy ((new.bricks i).store cell).copy ((new.bricks i).store cell).last (record { copy = held; last = ((m.bricks i).store cell).last })
-        (move_copy (IsTaken m step i) (m.bricks i) (new.bricks i) cell (record { copy = held; last = ((m.bricks i).store cell).last })
-        (λ by ask rest front. stored_keeps (m.bricks i).store cell (record { copy = held; last = ((m.bricks i).store cell).last }) ask (keeps by ask rest front) (copy_found ((m.bricks i).store cell).copy held ((m.bricks i).store cell).last is))
-        (copy_found ((m.bricks i).store cell).copy held ((m.bricks i).store cell).last is) (bricks_move size m step allowed i))
+    copy_kept held is = moved i cell (λ c. c ≡ Some held) is (λ by ask rest front. stored_same (m.bricks i).store cell ask (keeps by ask rest front) held is)
 
   module _ (i : ℕ) (cell : Cell) (good : IsGoodAt m i cell) where
-    on_same : (cells : List Cell) (f : Kept → Kept) → ((kept : Kept) → (f kept).copy ≡ kept.copy) → IsGood m cell (on_cells cells f (m.bricks i).store cell).copy
-    on_same cells f keeps = by_case (has_cell cells cell) where
-      by_case : (b : Bool) → IsGood m cell (if b then f ((m.bricks i).store cell) else (m.bricks i).store cell).copy
-      by_case true = subst (IsGood m cell) (sym (keeps ((m.bricks i).store cell))) good
-      by_case false = good
-
     -- a request that does not change the copy
-    pub stored_good : (by : Sender) (ask : Ask) (rest : List Input) → (m.bricks i).line ≡ Asked by ask ∷ rest → recopies ask cell ≡ false → IsGood m cell (stored_by ask (m.bricks i).store cell).copy
-    stored_good by (Mark u cells) rest front none = on_same cells mark_of (λ kept. refl)
-    stored_good by (Op u op) rest front none = op_leaves size m r i u op by rest front cell none good
-    stored_good by (Post u cells accused) rest front none = on_same cells (post_of accused) (λ kept. refl)
-    stored_good by (Replace at found) rest front none =
-        subst (λ b. IsGood m cell (if b then record ((m.bricks i).store cell) { copy = Some found.copy; last = found.last } else (m.bricks i).store cell).copy) (sym (sym (or_right (is_cell cell at)) ∙ none)) good
-    stored_good by (Clear cells who) rest front none = on_same cells (clear_of who) (λ kept. refl)
-    stored_good by (Settle u cells accused) rest front none = on_same cells (settle_of accused) (λ kept. refl)
-    stored_good by other rest front none = good
-
-    -- ---- the brick after the step
-
-    module _ (P : Option Copy → Type 0) (here : P ((m.bricks i).store cell).copy) (served : (by : Sender) (ask : Ask) (rest : List Input) → (m.bricks i).line ≡ Asked by ask ∷ rest → P (stored_by ask (m.bricks i).store cell).copy) where
-      by_move : BrickMove (IsTaken m step i) (m.bricks i) (new.bricks i) → P ((new.bricks i).store cell).copy
-      by_move (Serves by ask rest front would is) =
-          subst (λ (b : Brick). P (b.store cell).copy) (sym is) (subst (λ (st : Store). P (st cell).copy) (sym (served_store (m.bricks i).power by ask (record (m.bricks i) { line = rest }))) (served by ask rest front))
-      by_move (Stays is) = subst (λ (b : Brick). P (b.store cell).copy) (sym is) here
-      by_move (Takes inputs its is) = subst (λ (b : Brick). P (b.store cell).copy) (sym is) here
-      by_move (Hands first rest front is) = subst (λ (b : Brick). P (b.store cell).copy) (sym is) here
-      by_move (Refuses by ask answer rest front may_be refusal is) = subst (λ (b : Brick). P (b.store cell).copy) (sym is) here
-      by_move (GivesUp by ask rest front would is) = subst (λ (b : Brick). P (b.store cell).copy) (sym is) here
-      by_move (Steers control rest front is) = subst (λ (b : Brick). P (b.store cell).copy) (sym is) (subst (λ (st : Store). P (st cell).copy) (sym (steered_store control (record (m.bricks i) { line = rest }))) here)
-
-      pub moved : P ((new.bricks i).store cell).copy
-      moved = by_move (bricks_move size m step allowed i)
+    pub front_good : (by : Sender) (ask : Ask) (rest : List Input) → (m.bricks i).line ≡ Asked by ask ∷ rest → recopies ask cell ≡ false → IsGood m cell (stored_by ask (m.bricks i).store cell).copy
+    front_good by ask rest front none = stored_good size m r (m.bricks i).store cell good ask (front_carries size m r i by ask rest front) (front_born size m r i by ask rest front) none
 
     pub kept_good : FrontKeeps i cell → IsGood m cell ((new.bricks i).store cell).copy
-    kept_good keeps = moved (IsGood m cell) good (λ by ask rest front. stored_good by ask rest front (keeps by ask rest front))
+    kept_good keeps = moved i cell (IsGood m cell) good (λ by ask rest front. front_good by ask rest front (keeps by ask rest front))

@@ -1,35 +1,57 @@
 -- What copies will be: what each op and replacement in a line brings is right, or its brick is accused; so is what transactions
 -- copy. Ours.
-use Rattle.std.specs.Prelude.{◌≡◌, ◌<◌, ◌⊎◌, ℕ, true, false, Some}
+use Rattle.std.specs.Prelude.{◌≡◌, ◌<◌, ◌⊎◌, ℕ, true, false, List, [], ◌∷◌, Some}
 use Rattle.fop_types.specs.StoreOps.{needs}
 use Rattle.fop_types.specs.declared.cells.Cell.{Cell}
 use Rattle.fop_types.specs.declared.store_ops.StoreOp.{StoreOp}
 use Rattle.afr_machine.specs.Replicas.{Size, IsSize, nobody}
 use Rattle.afr_machine.specs.Touching.{has_cell}
-use Rattle.afr_machine.specs.Copies.{Fetched}
-use Rattle.afr_machine.specs.Requests.{Ask}
+use Rattle.afr_machine.specs.Copies.{Store, Fetched}
+use Rattle.afr_machine.specs.Requests.{Ask, Input}
 use Rattle.afr_machine.specs.Requests.Ask.{Op, Replace}
+use Rattle.afr_machine.specs.Requests.Input.{Asked, Steered}
+use Rattle.afr_machine.specs.Bricks.{stored_by}
 use Rattle.afr_machine.specs.Changes.{is_unsettled}
 use Rattle.afr_machine.specs.Transactions.{CopyRun}
 use Rattle.afr_machine.specs.Transactions.Stage.{Applying, Copying}
 use Rattle.afr_machine.specs.States.{State, phase_of}
 use Rattle.afr_machine.specs.Steps.{IsReached}
 use Rattle.afr_laws.specs.Senders.{EachInput}
+use Rattle.afr_contents.specs.Staying.{IsAccusedByMany}
 use Rattle.afr_contents.specs.Good.{IsGood, IsGoodAt, IsSettledCopy}
 use Rattle.afr_contents.specs.Naming.{IsSourceFor, held_by}
 use Rattle.afr_contents.specs.Lasting.{IsAccusedApart}
 
 -- ---- requests in a line
 
--- the change is unsettled, and the replica's copies of the cells that the op needs have exactly the adopted changes
-abbrev pub FindsSettled : State → ℕ → ℕ → StoreOp → Type 0
-FindsSettled m i u op = (cell : Cell) → has_cell (needs op) cell ≡ true → (is_unsettled (m.changes u).verdict ≡ true) × IsSettledCopy m cell ((m.bricks i).store cell).copy
+-- the change is unsettled, and the store's copies of the cells that the op needs have exactly the adopted changes
+abbrev pub FindsSettled : State → Store → ℕ → StoreOp → Type 0
+FindsSettled m store u op = (cell : Cell) → has_cell (needs op) cell ≡ true → (is_unsettled (m.changes u).verdict ≡ true) × IsSettledCopy m cell (store cell).copy
 
--- what the request brings is right, or the replica is accused on each cell that it changes
+-- what the request brings to the replica's store is right, or the replica is accused on each cell that it changes
+abbrev pub IsRightIn : Size → State → ℕ → Store → Ask → Type 0
+IsRightIn size m i store (Op u op) = FindsSettled m store u op ⊎ ((cell : Cell) → has_cell (needs op) cell ≡ true → IsAccusedApart size m cell i nobody)
+IsRightIn size m i store (Replace at found) = IsGood m at (Some found.copy) ⊎ IsAccusedApart size m at i nobody
+IsRightIn size m i store other = Unit {0}
+
 abbrev pub IsRightAt : Size → State → ℕ → Ask → Type 0
-IsRightAt size m i (Op u op) = FindsSettled m i u op ⊎ ((cell : Cell) → has_cell (needs op) cell ≡ true → IsAccusedApart size m cell i nobody)
-IsRightAt size m i (Replace at found) = IsGood m at (Some found.copy) ⊎ IsAccusedApart size m at i nobody
-IsRightAt size m i other = Unit {0}
+IsRightAt size m i ask = IsRightIn size m i (m.bricks i).store ask
+
+-- ---- the line, walked from the front
+
+-- at each store to which the requests of the line lead, whichever of them are served and whichever not
+abbrev pub AtEachStore : (Store → Type 0) → List Input → Store → Type 0
+AtEachStore P [] store = P store
+AtEachStore P (Asked by ask ∷ is) store = P store × (AtEachStore P is store × AtEachStore P is (stored_by ask store))
+AtEachStore P (Steered control ∷ is) store = AtEachStore P is store
+
+-- a replica's copy is good now and as its line is served, or the replica is accused
+abbrev pub CopiesStayGood : Size → State → Type 0
+CopiesStayGood size m =
+    (i : ℕ) → i < size.replicas → AtEachStore (λ store. (cell : Cell) → IsGood m cell (store cell).copy ⊎ IsAccusedByMany size m cell i) (m.bricks i).line (m.bricks i).store
+
+abbrev pub EveryCopyStaysGood : Type 0
+EveryCopyStaysGood = (size : Size) (m : State) → IsSize size → IsReached size m → CopiesStayGood size m
 
 -- ---- what a transaction knows
 

@@ -4,7 +4,7 @@ use Rattle.std.specs.Prelude.{◌≡◌, ◌<◌, ◌≤◌, ℕ, true, false, S
 use Rattle.fop_types.specs.declared.cells.Cell.{Cell}
 use Rattle.afr_machine.specs.Replicas.{Size, IsSize}
 use Rattle.afr_machine.specs.Touching.{has_cell}
-use Rattle.afr_machine.specs.Copies.{Copy, Fetched, has_change}
+use Rattle.afr_machine.specs.Copies.{Copy, has_change}
 use Rattle.afr_machine.specs.Changes.{is_unsettled}
 use Rattle.afr_machine.specs.Phases.{IsReadyIn}
 use Rattle.afr_machine.specs.Transactions.{CopyRun, cells_of_job, settles_first, is_over}
@@ -17,7 +17,6 @@ use Rattle.afr_laws.specs.Numbers.{applied}
 use Rattle.afr_laws.specs.Seen.{IsSuperseded}
 use Rattle.afr_laws.specs.Sound.{IsSpared}
 use Rattle.afr_soundness.specs.Clears.{IsFree}
-use Rattle.afr_soundness.specs.Copied.{Uses, IsFetched}
 use Rattle.afr_soundness.specs.Later.{is_before}
 use Rattle.afr_contents.specs.Good.{IsGood, IsGoodAt, IsSettledCopy}
 
@@ -60,12 +59,8 @@ AppliersHaveAdopted =
 
 -- ---- copies
 
--- while no later lock phase over the cell wrote, each source of a copy is good, and what was fetched from one that is in use
-pub record CopiesAreGood (size : Size) (m : State) (t : ℕ) (run : CopyRun) (cell : Cell) : Type 0 where
-  pub sources : (i : ℕ) → run.sources i ≡ true → IsGoodAt m i cell
-  pub fetched : (found : Fetched) (f : IsFetched m t run cell found) → Uses m t f.source → IsGood m cell (Some found.copy)
-
+-- while no later lock phase over the cell wrote, each source of a copy is good
 abbrev pub SourcesAreGood : Type 0
 SourcesAreGood =
-    (size : Size) (m : State) → IsSize size → IsReached size m → (t : ℕ) (run : CopyRun) (cell : Cell) → (m.txns t).stage ≡ Copying run → has_cell run.cells cell ≡ true →
-    (IsSuperseded m.phases m.ended (m.txns t).phase cell → ⊥) → CopiesAreGood size m t run cell
+    (size : Size) (m : State) → IsSize size → IsReached size m → (t i : ℕ) (run : CopyRun) (cell : Cell) → (m.txns t).stage ≡ Copying run → has_cell run.cells cell ≡ true →
+    (IsSuperseded m.phases m.ended (m.txns t).phase cell → ⊥) → run.sources i ≡ true → IsGoodAt m i cell

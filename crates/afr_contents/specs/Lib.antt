@@ -10,6 +10,9 @@ pub mod Lasting
 pub mod Coming
 pub mod Reading
 pub mod Verdicts
+pub mod Durable
+pub mod Fitting
 pub mod Guarded
 pub mod Present
+pub mod Firm
 pub mod Split

@@ -1,9 +1,10 @@
 -- A lock phase that reached every replica splits no cell. Ours.
-use Rattle.std.specs.Prelude.{◌≡◌, ◌<◌, ◌≤◌, ℕ, true, false}
+use Rattle.std.specs.Prelude.{◌≡◌, ◌<◌, ◌≤◌, ℕ, true, false, List}
 use Rattle.fop_types.specs.declared.cells.Cell.{Cell}
 use Rattle.afr_machine.specs.Replicas.{Size, IsSize}
 use Rattle.afr_machine.specs.Touching.{has_cell}
-use Rattle.afr_machine.specs.Phases.{HasSound}
+use Rattle.afr_machine.specs.Changes.{is_unsettled}
+use Rattle.afr_machine.specs.Phases.{Phase, HasSound, IsSoundOn}
 use Rattle.afr_machine.specs.States.{State}
 use Rattle.afr_machine.specs.Steps.{IsReached}
 use Rattle.afr_laws.specs.Seen.{IsSuperseded}
@@ -23,3 +24,15 @@ pub record SawAll (size : Size) (m : State) (p : ℕ) (cell : Cell) : Type 0 whe
 -- finds a sound replica on each cell of which some replica has a copy
 abbrev pub SeenAllHasSound : Type 0
 SeenAllHasSound = (size : Size) (m : State) → IsSize size → IsReached size m → (p k : ℕ) (cell : Cell) → SawAll size m p cell → k < size.replicas → HasCopy m k cell → HasSound size (m.phases p) cell
+
+-- one replica is sound on each of the cells
+pub record HasSoundOnAll (size : Size) (phase : Phase) (cells : List Cell) : Type 0 where
+  pub member : ℕ
+  pub low : member < size.replicas
+  pub sound : IsSoundOn size phase cells member
+
+-- so is one on all cells together of an unsettled change, whose settling goes by whoever is
+abbrev pub SeenAllHasOne : Type 0
+SeenAllHasOne =
+    (size : Size) (m : State) → IsSize size → IsReached size m → (p u : ℕ) → is_unsettled (m.changes u).verdict ≡ true → ((cell : Cell) → has_cell (m.changes u).cells cell ≡ true → SawAll size m p cell) →
+    HasSoundOnAll size (m.phases p) (m.changes u).cells

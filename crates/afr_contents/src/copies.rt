@@ -1,6 +1,7 @@
+ghost use Rattle.afr_contents.specs.Firm.{EveryFirmIsPresent};
 ghost use Rattle.afr_contents.specs.Found.{AppliersHaveAdopted, SourcesAreGood};
 ghost use Rattle.afr_contents.specs.Present.{EveryChangeIsPresent};
-ghost use Rattle.afr_contents.specs.Split.{SeenAllHasSound};
+ghost use Rattle.afr_contents.specs.Split.{SeenAllHasSound, SeenAllHasOne};
 ghost use Rattle.afr_contents.specs.Verdicts.{EveryConfirmedEqualsSource};
 
 /// The law of ops, of every state that allowed steps lead to, for one, three and five replicas. While an unsettled change is applied, a
@@ -11,7 +12,7 @@ pub fn appliers_have_adopted()
 {}
 
 /// The law of sources, of the same states. While no later lock phase over a cell wrote, each source of a copy under way is
-/// good on the cell, and so is what was fetched from one that the transaction uses still.
+/// good on the cell. Of what was fetched `every_state_comes_good` says more, whatever came later.
 pub fn sources_are_good()
     ensures { SourcesAreGood }
 {}
@@ -28,10 +29,22 @@ pub fn every_change_is_present()
     ensures { EveryChangeIsPresent }
 {}
 
+/// The law of cells that count as present, of every state that allowed steps lead to, for one, three and five replicas: those whose birth
+/// a quorum confirmed, and those of changes. A content of each is adopted, of the cell's aspect, and a quorum has a copy of it.
+pub fn every_firm_is_present()
+    ensures { EveryFirmIsPresent }
+{}
+
 /// The law of cells that are not split, of every state that allowed steps lead to, for one, three and five replicas. A lock
 /// phase that reached every replica finds a sound one on each of its cells of which some replica has a copy, before it or a
 /// later one over the cell writes, where its rows show each copy that is there. That they do, as no cell is born while its
 /// locks are held, is open yet.
 pub fn seen_all_has_sound()
     ensures { SeenAllHasSound }
+{}
+
+/// The law of settlings that are not split, of the same states. A lock phase that reached every replica finds one that is sound on all
+/// cells of an unsettled change together, while it is as in `seen_all_has_sound` on each of them.
+pub fn seen_all_has_one()
+    ensures { SeenAllHasOne }
 {}

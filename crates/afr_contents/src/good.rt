@@ -1,8 +1,10 @@
 ghost use Rattle.afr_contents.specs.Adopted.{EveryAdoptedIsAsBorn, EveryChangeIsOfAdopted};
 ghost use Rattle.afr_contents.specs.Good.{EveryCopyIsGood};
-ghost use Rattle.afr_contents.specs.Coming.{EveryStateComesGood};
+ghost use Rattle.afr_contents.specs.Coming.{EveryCopyStaysGood, EveryStateComesGood};
 ghost use Rattle.afr_contents.specs.Found.{FreeIsGood};
 ghost use Rattle.afr_contents.specs.Verdicts.{EveryGoodCopyHasVerdicts};
+ghost use Rattle.afr_contents.specs.Durable.{EveryStateKeepsGoodCopies};
+ghost use Rattle.afr_contents.specs.Fitting.{EveryAdoptionFits};
 ghost use Rattle.afr_contents.specs.Guarded.{EverySetIsGuarded};
 
 /// The law of births that are adopted, of every state that allowed steps lead to: a cell without adopted changes has the
@@ -24,7 +26,13 @@ pub fn every_copy_is_good()
     ensures { EveryCopyIsGood }
 {}
 
-/// The law of what copies will be, of the same states. Whoever has no good copy is accused for good: by a quorum to which no clear is
+/// The law of copies to come, of the same states. As the line of a brick is served from the front, whichever of its requests are served
+/// and whichever are not, each copy there stays good, or a quorum accuses the replica on the cell and goes on doing so.
+pub fn every_copy_stays_good()
+    ensures { EveryCopyStaysGood }
+{}
+
+/// The law of what keeps that, of the same states. Whoever has no good copy is accused for good: by a quorum to which no clear is
 /// on its way, or may still be sent, that takes it back. So it is with what is on its way. The op of a change in a line belongs to
 /// an unsettled change and finds exactly the adopted changes in each copy that it alters, or its replica is accused for good on
 /// each of these cells; a replacement carries a good copy, or its replica is accused for good. While a transaction may copy a cell, each
@@ -38,6 +46,19 @@ pub fn every_state_comes_good()
 /// quorum is good on it.
 pub fn free_is_good()
     ensures { FreeIsGood }
+{}
+
+/// The law of good copies that are there, of the same states. On each cell of which some replica has a copy one replica is free and its copy
+/// good, and so is one on all cells of an unsettled change together: what is adopted can be read from it.
+pub fn every_state_keeps_good_copies()
+    ensures { EveryStateKeepsGoodCopies }
+{}
+
+/// The law of ops that fit, of the same states. Where a good copy has an unsettled change, and where a change is to be adopted now, the
+/// change's op fits the contents that are adopted so far. Each op in a brick's line fits the brick's copies exactly if it fits these,
+/// or a quorum accuses the replica on each cell that the op needs.
+pub fn every_adoption_fits()
+    ensures { EveryAdoptionFits }
 {}
 
 /// The law of verdicts and copies, from each of these states on. A change that was adopted is in each good copy of a cell that it

@@ -21,11 +21,12 @@ mod reads;
 
 pub use copies::{
     appliers_have_adopted, every_change_is_present, every_confirmed_equals_source,
-    seen_all_has_sound, sources_are_good,
+    every_firm_is_present, seen_all_has_one, seen_all_has_sound, sources_are_good,
 };
 pub use decisions::{accusations_stay, every_decision_is_spread};
 pub use good::{
-    every_adopted_is_as_born, every_change_is_of_adopted, every_copy_is_good,
-    every_good_copy_has_verdicts, every_set_is_guarded, every_state_comes_good, free_is_good,
+    every_adopted_is_as_born, every_adoption_fits, every_change_is_of_adopted, every_copy_is_good,
+    every_copy_stays_good, every_good_copy_has_verdicts, every_set_is_guarded,
+    every_state_comes_good, free_is_good,
 };
 pub use reads::{every_read_shows_adopted, good_is_settled, ready_have_adopted};
