@@ -8,12 +8,11 @@ use Rattle.fop_types.specs.declared.messages.Output.{Output}
 use Rattle.wire_xdr.specs.WireText.{output_text}
 use Rattle.wire_messages.specs.Messages.{input_in}
 use Rattle.brick_machine.specs.State.{start, named}
-use Rattle.brick_machine.specs.Locking.{Served}
 use Rattle.brick_machine.specs.Machine.{served, with_taken, state_from, outputs_from, state_of, outputs_of, texts_of}
 use Rattle.wire_messages.specs.declared.messages.Message.{Message}
 use Rattle.brick_machine.specs.code.Outs.{Outgoing, put_out}
 use Rattle.brick_machine.specs.declared.state.State.{State}
-use Rattle.brick_machine.proofs.Names.{with_names, served_named}
+use Rattle.brick_machine.proofs.Names.{served_named}
 
 pub state_from_append : (s : State) (xs ys : List (List ℕ)) → state_from s (xs ++ ys) ≡ state_from (state_from s xs) ys
 state_from_append s [] ys = refl
@@ -66,11 +65,12 @@ served_whole old came all made more texts input slice s after m n first last spe
     let is : s ≡ named s.store.names (state_of old) = MatchBool-at_false (Unit {0}) (s ≡ named s.store.names (state_of old)) sound was.1 in
     let whole : m ≡ input_in input = read ∙ ap input_in sliced in
     let joined : all ≡ old ++ input ∷ [] = put ∙ ap (λ (l : List (List ℕ)). l ++ input ∷ []) same in
-    let by_both : served s m ≡ with_names s.store.names (served (state_of old) m) = ap (λ (t : State). served t m) is ∙ served_named s.store.names (state_of old) m in
-    let outs_now : (served s m).outs ≡ (served (state_of old) m).outs = ap (λ (b : Served). b.outs) by_both in
-    let now : after ≡ named s.store.names (served (state_of old) m).state = changed ∙ ap (λ (b : Served). b.state) by_both in
-    let state_now : after ≡ named s.store.names (state_of all)
-    = now ∙ ap (λ (x : Message Input). named s.store.names (served (state_of old) x).state) whole ∙ ap (named s.store.names) (sym (state_of_push old input) ∙ ap state_of (sym joined)) in
+    let outs_now : (served s m).outs ≡ (served (state_of old) m).outs = ap (λ (t : State). (served t m).outs) is ∙ (served_named s.store.names (state_of old) m).outs in
+    let now : (served s m).state ≡ named s.store.names (served (state_of old) m).state = ap (λ (t : State). (served t m).state) is ∙ (served_named s.store.names (state_of old) m).state in
+    let read_now : named s.store.names (served (state_of old) m).state ≡ named s.store.names (served (state_of old) (input_in input)).state
+    = ap (λ (x : Message Input). named s.store.names (served (state_of old) x).state) whole in
+    let one_more : (served (state_of old) (input_in input)).state ≡ state_of all = sym (state_of_push old input) ∙ ap state_of (sym joined) in
+    let state_now : after ≡ named s.store.names (state_of all) = changed ∙ now ∙ read_now ∙ ap (λ (t : State). named s.store.names t) one_more in
     let kept : after.store.names ≡ s.store.names = ap (λ (t : State). t.store.names) state_now in
     let made_now : texts ≡ map output_text (with_taken (n + 1) (served s m).outs)
     = taken_out ∙ ap (λ (o : Outgoing). o.texts) (put_last ∙ ap (λ (o : Outgoing). put_out o (served s m).outs) begun) in (

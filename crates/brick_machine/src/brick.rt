@@ -116,7 +116,6 @@ impl Brick {
 
     /// What the brick keeps of its cells, with the names of the replicas. Of a brick that is spent nothing is said
     /// here.
-    #[tactic(auto, using(crate::proofs::Names::store_is))]
     pub fn store(&self) -> &Store
         ensures { self.now.spent ≡ false → result.now ≡ record { cells = (state_of self.now.journal).store.cells; names = self.now.names } }
     {
