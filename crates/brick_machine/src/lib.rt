@@ -10,9 +10,9 @@
 //! ```
 //!
 //! A brick is a function of its journal: by its type its outputs and its state are `outputs_of` and `state_of` the
-//! journal, but for the names of replicas in its store, which only `dump` shows. So what a brick answers is known from what was sent to it, and its first outputs don't change as more
-//! inputs come. Bytes that are no input change nothing, and are answered `Malformed` with the place at which they
-//! stop being one.
+//! journal, but for the names of replicas in its store, which only `dump` shows. So what a brick answers is known from
+//! what was sent to it, and its first outputs don't change as more inputs come. Bytes that are no input change
+//! nothing, and are answered `Malformed` with the place at which they stop being one.
 //!
 //! ```text
 //!   Brick      journal, outputs, spent
