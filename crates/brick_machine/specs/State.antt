@@ -1,6 +1,6 @@
 -- What a brick keeps: its store with the cells of its set, the locks that are held or wait, the connected graphs with
 -- their open descriptors, whether it is down, and the requests that are to fail.
-use Rattle.std.specs.Prelude.{ℕ, ◌+◌, min, Bool, List, [], ◌∷◌, None, get_or, slice_set, replicate}
+use Rattle.std.specs.Prelude.{ℕ, ◌+◌, min, Bool, List, [], None, get_or, slice_set, replicate}
 use Rattle.std.specs.declared.cmp.Ordering.{Ordering}
 use Rattle.std.specs.Ordering.{nat_cmp, ordering_then}
 use Rattle.std.specs.List.{list_any}

@@ -2,7 +2,7 @@
 -- attribute that is not zero, and one for each link. After `getfattr` of a brick's files in GlusterFS.
 use Rattle.std.specs.Prelude.{ℕ, ◌+◌, ◌/◌, ◌%◌, ◌==◌, ◌&&◌, Bool, false, List, [], ◌∷◌, ◌++◌, Option, Some, None, codes, flat_map, slice_get, slice_index, if◌then◌else◌}
 use Rattle.std.specs.Fmt.{digit_glyph}
-use Rattle.std.specs.Int.{w32, w64, to_be_bytes}
+use Rattle.std.specs.Int.{w64, to_be_bytes}
 use Rattle.fop_types.specs.Cells.{data_cell, meta_cell, names_cell}
 use Rattle.fop_types.specs.Names.{is_link}
 use Rattle.fop_types.specs.declared.cells.Gfid.{Gfid}

@@ -1,7 +1,5 @@
-ghost use Rattle.std.specs.Prelude.{◌≡◌, ◌≤◌, true, Some, None, is_some, IsOk, IfOk, IfSome, OnOk, OnErr};
+ghost use Rattle.std.specs.Prelude.{◌≡◌, true, Some, None, is_some, IsOk, IfOk, IfSome, OnOk, OnErr};
 ghost use Rattle.std.specs.Option.{option_map, option_copied};
-ghost use Rattle.fop_types.specs.Bounds.{Each};
-ghost use Rattle.afr_changelog.specs.Counters.{full_count};
 ghost use Rattle.contents.specs.Edits.{Fits, is_sure};
 ghost use Rattle.cell_store.specs.Cells.{nothing_kept, root_alone, kept_at, copy_of, row_of, contents_of, replaced, present_in, IsCountedRow};
 ghost use Rattle.cell_store.specs.code.Steps.{with_step, with_earlier, with_edit};
