@@ -46,7 +46,7 @@ use Rattle.mount_laws.proofs.Held.{jobs_asked}
 use Rattle.mount_shown.proofs.Asked.{AllAsked, all_asked}
 use Rattle.mount_shown.proofs.Beginning.{op_on, BeginsAs, asks, low, fits_by, cells_apart}
 use Rattle.mount_shown.proofs.Decided.{IsTakenOn, MovedStand, own_entry, adopted_begun}
-use Rattle.mount_shown.proofs.Dropping.{fops_drop_last}
+use Rattle.mount_shown.proofs.Dropping.{fops_drop_in_turn}
 use Rattle.mount_shown.proofs.Founding.{flat_run}
 use Rattle.mount_shown.proofs.Jobs.{at_job}
 use Rattle.mount_shown.proofs.Listing.{NamesOfDirs, has_name_made}
@@ -56,7 +56,7 @@ use Rattle.mount_shown.proofs.Parts.{IsWholePart, IsFirstPart, fop_part, rename_
 use Rattle.mount_shown.proofs.Second.{same_name}
 use Rattle.mount_shown.proofs.Watching.{OwnChange, Relinked, NamesStand}
 use Rattle.mount_shown.proofs.Editing.{Relinks}
-use Rattle.mount_shown.specs.Dropping.{TakesAway, IsEnd, IsLastDrop, IsDropInTurn, DropsLast}
+use Rattle.mount_shown.specs.Dropping.{TakesAway, IsEnd, IsLastDrop, IsDropInTurn, DropsInTurn}
 use Rattle.mount_shown.specs.Pending.{KeepsFiles}
 
 -- no move of a name to itself was begun
@@ -104,7 +104,7 @@ drop_job f (job.Open fd gfid) next said k = inl tt
 drop_job f job.Index next said k = inl tt
 drop_job f (job.Heal cell) next said k = inl tt
 
-drops_led : (f : Fop) (first : Course) (handed : Handed) (course : Course) → Leads first handed course → DropsLast f first → DropsLast f course × (NoDrops handed ⊎ IsEnd course)
+drops_led : (f : Fop) (first : Course) (handed : Handed) (course : Course) → Leads first handed course → DropsInTurn f first → DropsInTurn f course × (NoDrops handed ⊎ IsEnd course)
 drops_led f first _ _ Begun d = (d, inl tt)
 drops_led f first _ _ (Answered handed set asked next said l) d =
     let k = drops_led f first handed (Course.Asks set asked next) l d in
@@ -324,11 +324,11 @@ module _ (first : List (List ℕ)) (m : State) (reached : IsReached first m) (a 
   -- ---- it is dropped
 
   module _ (parent : Gfid) (name : List ℕ) (is : t.job ≡ job.Change cells fd (op.DropName parent name) None) where
-    drops : DropsLast t.run.fop t.run.course × (NoDrops t.run.handed ⊎ IsEnd t.run.course)
-    drops = drops_led t.run.fop (first_course t.run) t.run.handed t.run.course (jobs_asked first m reached t.call t.run h.under_way.runs) (fops_drop_last t.run.volume t.run.names t.run.kept t.run.fop)
+    drops : DropsInTurn t.run.fop t.run.course × (NoDrops t.run.handed ⊎ IsEnd t.run.course)
+    drops = drops_led t.run.fop (first_course t.run) t.run.handed t.run.course (jobs_asked first m reached t.call t.run h.under_way.runs) (fops_drop_in_turn t.run.volume t.run.names t.run.kept t.run.fop)
 
     takes : TakesAway t.run.fop parent name
-    takes = (subst (λ (course : Course). DropsLast t.run.fop course) (asks first m reached t u h cells fd (op.DropName parent name) None is) drops.0).0.0
+    takes = (subst (λ (course : Course). DropsInTurn t.run.fop course) (asks first m reached t u h cells fd (op.DropName parent name) None is) drops.0).0.0
 
     none_dropped : NoDrops t.run.handed
     none_dropped = by_case (subst (λ (course : Course). NoDrops t.run.handed ⊎ IsEnd course) (asks first m reached t u h cells fd (op.DropName parent name) None is) drops.1)
