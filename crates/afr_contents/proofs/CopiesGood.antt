@@ -43,7 +43,7 @@ abbrev pub handed_txn : State → Step → ℕ
 handed_txn m (Step.HandsIn k) = sender_in (m.bricks k).outputs
 handed_txn m other = 0
 
-each_replaced : (replaced : Cell → Bool) (cells : List Cell) (cell : Cell) → is_replaced replaced cells ≡ true → has_cell cells cell ≡ true → replaced cell ≡ true
+pub each_replaced : (replaced : Cell → Bool) (cells : List Cell) (cell : Cell) → is_replaced replaced cells ≡ true → has_cell cells cell ≡ true → replaced cell ≡ true
 each_replaced replaced [] cell all has = absurd (let no : false ≡ true = has in cc)
 each_replaced replaced (c ∷ cs) cell all has = by_case (is_cell cell c) refl (each_replaced replaced cs cell (both_right (replaced c) (is_replaced replaced cs) all)) has where
   by_case : (b : Bool) → is_cell cell c ≡ b → (has_cell cs cell ≡ true → replaced cell ≡ true) → has_cell (c ∷ cs) cell ≡ true → replaced cell ≡ true

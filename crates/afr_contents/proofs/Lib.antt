@@ -38,8 +38,13 @@ pub mod Verdicts
 pub mod Agreeing
 pub mod Present
 pub mod Aspects
+pub mod ShownBack
+pub mod Learned
+pub mod Earlier
 pub mod BearMoves
 pub mod FirmMoves
 pub mod Born
 pub mod Firm
 pub mod Split
+pub mod MarkWrote
+pub mod OneOnAll

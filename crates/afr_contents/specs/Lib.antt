@@ -15,4 +15,5 @@ pub mod Fitting
 pub mod Guarded
 pub mod Present
 pub mod Firm
+pub mod Earlier
 pub mod Split

@@ -8,10 +8,8 @@ use Rattle.afr_machine.specs.Phases.{Phase, HasSound, IsSoundOn}
 use Rattle.afr_machine.specs.States.{State}
 use Rattle.afr_machine.specs.Steps.{IsReached}
 use Rattle.afr_laws.specs.Seen.{IsSuperseded}
-use Rattle.afr_soundness.specs.Replaced.{HasCopy}
 
--- a lock phase that ended and reached every replica, before it or a later one over the cell writes; its rows show each copy of the
--- cell that is there, so the cell was not born since
+-- a lock phase that ended and reached every replica, before it or a later one over the cell writes
 pub record SawAll (size : Size) (m : State) (p : ℕ) (cell : Cell) : Type 0 where
   pub one : 1 ≤ p
   pub low : p ≤ m.ended
@@ -19,11 +17,12 @@ pub record SawAll (size : Size) (m : State) (p : ℕ) (cell : Cell) : Type 0 whe
   pub unwritten : (m.phases p).wrote ≡ false
   pub last : IsSuperseded m.phases m.ended p cell → ⊥
   pub all : (k : ℕ) → k < size.replicas → (m.phases p).reached k ≡ true
-  pub shown : (k : ℕ) → k < size.replicas → HasCopy m k cell → ((m.phases p).rows k cell).present ≡ true
 
--- finds a sound replica on each cell of which some replica has a copy
+-- Finds a sound replica on each cell of which its rows show a copy. A cell of which they show none may be there by now: its op was on
+-- its way, and needs no lock.
 abbrev pub SeenAllHasSound : Type 0
-SeenAllHasSound = (size : Size) (m : State) → IsSize size → IsReached size m → (p k : ℕ) (cell : Cell) → SawAll size m p cell → k < size.replicas → HasCopy m k cell → HasSound size (m.phases p) cell
+SeenAllHasSound =
+    (size : Size) (m : State) → IsSize size → IsReached size m → (p k : ℕ) (cell : Cell) → SawAll size m p cell → k < size.replicas → ((m.phases p).rows k cell).present ≡ true → HasSound size (m.phases p) cell
 
 -- one replica is sound on each of the cells
 pub record HasSoundOnAll (size : Size) (phase : Phase) (cells : List Cell) : Type 0 where

@@ -1,3 +1,4 @@
+ghost use Rattle.afr_contents.specs.Earlier.{EveryKnownIsShown};
 ghost use Rattle.afr_contents.specs.Firm.{EveryFirmIsPresent};
 ghost use Rattle.afr_contents.specs.Found.{AppliersHaveAdopted, SourcesAreGood};
 ghost use Rattle.afr_contents.specs.Present.{EveryChangeIsPresent};
@@ -35,16 +36,21 @@ pub fn every_firm_is_present()
     ensures { EveryFirmIsPresent }
 {}
 
+/// The law of rows that come later, of every state that allowed steps lead to. Where a lock phase that wrote, or may, saw a copy or made
+/// one, the rows of each later lock phase over the cell that reached the replica show it.
+pub fn every_known_is_shown()
+    ensures { EveryKnownIsShown }
+{}
+
 /// The law of cells that are not split, of every state that allowed steps lead to, for one, three and five replicas. A lock
-/// phase that reached every replica finds a sound one on each of its cells of which some replica has a copy, before it or a
-/// later one over the cell writes, where its rows show each copy that is there. That they do, as no cell is born while its
-/// locks are held, is open yet.
+/// phase that reached every replica finds a sound one on each of its cells of which its rows show a copy, before it or a
+/// later one over the cell writes. A cell that its rows do not show may be there by now, as a birth needs no lock.
 pub fn seen_all_has_sound()
     ensures { SeenAllHasSound }
 {}
 
 /// The law of settlings that are not split, of the same states. A lock phase that reached every replica finds one that is sound on all
-/// cells of an unsettled change together, while it is as in `seen_all_has_sound` on each of them.
+/// cells of an unsettled change together, before it or a later one over the cells writes, whatever its rows show.
 pub fn seen_all_has_one()
     ensures { SeenAllHasOne }
 {}

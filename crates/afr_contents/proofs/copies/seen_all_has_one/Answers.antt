@@ -1,4 +1,4 @@
-use Rattle.afr_contents.proofs.Split.{seen_all_has_one}
+use Rattle.afr_contents.proofs.OneOnAll.{seen_all_has_one}
 use Rattle.afr_contents.proofs.copies.seen_all_has_one.Goals as goal
 
 pub returns : goal.returns
