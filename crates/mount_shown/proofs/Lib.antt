@@ -24,6 +24,7 @@ pub mod Owned
 pub mod Parts
 pub mod Past
 pub mod Planned
+pub mod Possible
 pub mod Quiet
 pub mod Renaming
 pub mod Replying
