@@ -1,6 +1,7 @@
 pub mod Asked
 pub mod Bearing
 pub mod Beginning
+pub mod Chances
 pub mod Counts
 pub mod Decided
 pub mod Deciding

@@ -1,6 +1,6 @@
 -- A fop's own operation is possible where its first change begins: of a rename that drops a file of its new name first, so is the
 -- move.
-use Rattle.std.proofs.Common.{◌≡◌, ◌≢◌, ◌⊎◌, inl, inr, ◌∙◌, ℕ, false, refl, sym, ap, subst, List, ◌∷◌, Option, Some, None, arith}
+use Rattle.std.proofs.Common.{◌≡◌, ◌≢◌, ◌⊎◌, inl, inr, ◌∙◌, ℕ, false, sym, ap, subst, List, ◌∷◌, Option, Some, None, arith}
 use Rattle.dht_fops.proofs.AskFops.{asks_well}
 use Rattle.dht_fops.proofs.Bounds.{answers_bounded}
 use Rattle.dht_fops.specs.Answers.{IsAccepted, Accepts, change_of, flat_op}
@@ -14,7 +14,6 @@ use Rattle.fop_types.specs.Names.{is_directory, is_same_name}
 use Rattle.fop_types.specs.StoreOps.{is_directory_item}
 use Rattle.fop_types.specs.declared.cells.Cell.{Cell}
 use Rattle.fop_types.specs.declared.cells.Gfid.{Gfid}
-use Rattle.fop_types.specs.declared.cells.Kind.{Kind}
 use Rattle.fop_types.specs.declared.cells.Kind.TheVariants as kind
 use Rattle.fop_types.specs.declared.flat.FlatOp.{FlatOp}
 use Rattle.fop_types.specs.declared.flat.FlatOp.TheVariants as flat
@@ -32,7 +31,6 @@ use Rattle.mount_files.proofs.Accepting.{dropped_is}
 use Rattle.mount_files.proofs.Later.{open_again, move_again}
 use Rattle.mount_files.proofs.Local.{to_local}
 use Rattle.mount_files.proofs.Naming.{directory_made}
-use Rattle.mount_files.specs.Pairs.{Fits}
 use Rattle.mount_files.specs.Showing.{Stands}
 use Rattle.mount_laws.specs.Effects.{IsOwnPart}
 use Rattle.mount_laws.specs.Guards.{Allowed, IsReached}
@@ -160,9 +158,9 @@ module _ (first : List (List ℕ)) (m : State) (reached : IsReached first m) (a 
       let turn : DropsInTurn t.run.fop t.run.course = (drops_led t.run.fop (first_course t.run) t.run.handed t.run.course (jobs_asked first m reached t.call t.run h.under_way.runs) (fops_drop_in_turn t.run.volume t.run.names t.run.kept t.run.fop)).0 in
       let then : IsRenameThen t.run.fop t.next = (subst (λ (course : Course). DropsInTurn t.run.fop course) drop turn).0 in
       let well : AsksWell t.run.volume.sets t.run.handed t.run.course =
-          led_always (IsWellAsked t.run.volume.sets) IsWellHeld (IsWellFound t.run.volume.sets) (first_course t.run) t.run.handed t.run.course (jobs_asked first m reached t.call t.run h.under_way.runs)
-          (asks_well t.run.volume t.run.names t.run.kept t.run.fop (some_roots first m reached t.call t.run h.under_way.runs) (roots_within first m reached t.call t.run h.under_way.runs) (names_many first m reached t.call t.run h.under_way.runs)
-          (run_sound first m reached t.call t.run h.under_way.runs).named (names_within first m reached a t.call t.run h.under_way.runs) (run_sound first m reached t.call t.run h.under_way.runs).within) in
+      led_always (IsWellAsked t.run.volume.sets) IsWellHeld (IsWellFound t.run.volume.sets) (first_course t.run) t.run.handed t.run.course (jobs_asked first m reached t.call t.run h.under_way.runs)
+      (asks_well t.run.volume t.run.names t.run.kept t.run.fop (some_roots first m reached t.call t.run h.under_way.runs) (roots_within first m reached t.call t.run h.under_way.runs) (names_many first m reached t.call t.run h.under_way.runs)
+      (run_sound first m reached t.call t.run h.under_way.runs).named (names_within first m reached a t.call t.run h.under_way.runs) (run_sound first m reached t.call t.run h.under_way.runs).within) in
       subst (λ (g : Gfid). SawSource t.run.handed g name) r.from_is
       (at_drop t.run.volume.sets r.from name r.to new_name t.run.handed t.set cells fd (op.DropName target new_name) entry t.next (subst (λ (f : Fop). IsRenameThen f t.next) r.fop_is then)
       (subst (λ (course : Course). AsksWell t.run.volume.sets t.run.handed course) drop well))
