@@ -43,7 +43,7 @@ use Rattle.mount_shown.specs.Bridge.{op_of}
 use Rattle.mount_shown.specs.Pending.{KeepsFiles, BeginsWell, EveryStateKeepsFiles, EveryChangeBeginsWell}
 
 -- what every state keeps: the files, and what fops under way know of names
-record Stands (m : State) : Type 0 where
+pub record Stands (m : State) : Type 0 where
   pub files : KeepsFiles m
   pub dirs : NamesOfDirs m.kinds m.adopted
   pub names : (c : ℕ) (run : Run) → Runs m c run → NamesStand m.adopted m.changes c run.handed
@@ -176,7 +176,7 @@ step_differ m (Step.AnswersAbove c run answer) h well a = a
 
 -- ---- all
 
-every_stands : (first : List (List ℕ)) (m : State) → IsReached first m → Stands m
+pub every_stands : (first : List (List ℕ)) (m : State) → IsReached first m → Stands m
 every_stands first _ (IsReached.Start planned) = record {
   files = record { shown = start_empty first planned.enough; alone = λ u e. absurd cc; apart = λ u w differ e. absurd cc };
   dirs = λ g set. inl (no_items _ (bare (names_cell g)));

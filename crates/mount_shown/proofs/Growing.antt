@@ -10,14 +10,13 @@ use Rattle.afr_machine.proofs.Tables.{at_other}
 use Rattle.dht_fops.specs.Answers.{change_of}
 use Rattle.fop_types.specs.declared.flat.FlatOp.{FlatOp}
 use Rattle.fop_types.specs.declared.history.Entry.{Entry}
-use Rattle.fop_types.specs.declared.store_ops.StoreOp.{StoreOp}
 use Rattle.mount_laws.specs.Effects.{HasEffect, HasEntry}
-use Rattle.mount_laws.specs.Guards.{Allowed, IsReached}
+use Rattle.mount_laws.specs.Guards.{Allowed}
 use Rattle.mount_laws.specs.States.{State, Change}
 use Rattle.mount_laws.specs.Steps.{Step, after, by_effect, ops_with, history_with, change_by}
 use Rattle.mount_laws.proofs.Entering.{entered_once, parts_in_order, get_front}
 use Rattle.mount_shown.proofs.Decided.{adopted_begun}
-use Rattle.mount_shown.specs.Replies.{IsDecided, GoesOn, HistoryGoesOn, IsEnteredLater, EveryFailedIsEnteredLater}
+use Rattle.mount_shown.specs.Replies.{IsDecided, GoesOn, HistoryGoesOn, EveryFailedIsEnteredLater}
 
 -- ---- lists that grow at their end
 

@@ -1,6 +1,7 @@
 pub mod Asked
 pub mod Bearing
 pub mod Beginning
+pub mod Chances
 pub mod Counts
 pub mod Decided
 pub mod Deciding
@@ -24,6 +25,7 @@ pub mod Owned
 pub mod Parts
 pub mod Past
 pub mod Planned
+pub mod Possible
 pub mod Quiet
 pub mod Renaming
 pub mod Replying

@@ -104,7 +104,7 @@ drop_job f (job.Open fd gfid) next said k = inl tt
 drop_job f job.Index next said k = inl tt
 drop_job f (job.Heal cell) next said k = inl tt
 
-drops_led : (f : Fop) (first : Course) (handed : Handed) (course : Course) → Leads first handed course → DropsInTurn f first → DropsInTurn f course × (NoDrops handed ⊎ IsEnd course)
+pub drops_led : (f : Fop) (first : Course) (handed : Handed) (course : Course) → Leads first handed course → DropsInTurn f first → DropsInTurn f course × (NoDrops handed ⊎ IsEnd course)
 drops_led f first _ _ Begun d = (d, inl tt)
 drops_led f first _ _ (Answered handed set asked next said l) d =
     let k = drops_led f first handed (Course.Asks set asked next) l d in

@@ -94,7 +94,7 @@ adopted_grown m o (Some entry) many = record { front = λ k h. by_op (change_of 
     by_op None k h = refl
     by_op (Some one) k h = files_before m.ops one k (omega (arith, h, many))
 
-step_grown : (first : List (List ℕ)) (m : State) (step : Step) → IsReached first m → Grown m.ops (after m step).ops (length m.history) (length (after m step).history)
+pub step_grown : (first : List (List ℕ)) (m : State) (step : Step) → IsReached first m → Grown m.ops (after m step).ops (length m.history) (length (after m step).history)
 step_grown first m (Step.Settles t u true) reached = adopted_grown m (m.changes u).op (m.changes u).effect (entered_once first m reached).as_many
 step_grown first m (Step.Decides t u) reached = adopted_grown m (m.changes u).op (m.changes u).effect (entered_once first m reached).as_many
 step_grown first m (Step.Settles t u false) reached = same_grown m.ops (length m.history)

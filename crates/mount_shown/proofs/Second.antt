@@ -267,7 +267,7 @@ module _ (first : List (List ℕ)) (m : State) (reached : IsReached first m) (a 
       own_part_of.earlier (runs_made first m reached t.call t.run h.under_way.runs).handed
 
   module _ (had : HadEffect m.changes m.history t.call t.run.fop entry.part) where
-    parts_are : (had.entry.part ≡ 1) × (entry.part ≡ 2)
+    pub parts_are : (had.entry.part ≡ 1) × (entry.part ≡ 2)
     parts_are = by_parts (one_or_two (flat_op t.run.fop) had.entry.part had.p had.part_is) (one_or_two (flat_op t.run.fop) entry.part own_part_of.part own_part_of.part_is)
       where
         by_parts : (had.entry.part ≡ 1) ⊎ (had.entry.part ≡ 2) → (entry.part ≡ 1) ⊎ (entry.part ≡ 2) → (had.entry.part ≡ 1) × (entry.part ≡ 2)

@@ -2,7 +2,7 @@
 use Rattle.std.specs.Prelude.{◌≡◌, ◌≢◌, ◌⊎◌, ℕ, ◌+◌, ◌≤◌, List, length, slice_get, Option, Some}
 use Rattle.afr_machine.specs.Changes.{Verdict}
 use Rattle.afr_machine.specs.Changes.Verdict.{Undrawn, Drawn, Unsettled, Adopted, Dropped}
-use Rattle.dht_fops.specs.Answers.{IsAccepted, SaysFlat, flat_op}
+use Rattle.dht_fops.specs.Answers.{IsAccepted, Accepts, SaysFlat, flat_op}
 use Rattle.dht_laws.specs.Endings.{IsNoFailure, call_answer}
 use Rattle.fop_types.specs.Files.{Files}
 use Rattle.fop_types.specs.Flat.{flat}
@@ -28,6 +28,22 @@ HistoryIsLegal m = (index : ℕ) (o : FlatOp) → slice_get m.ops index ≡ Some
 
 abbrev pub EveryHistoryIsLegal : Type 0
 EveryHistoryIsLegal = EveryState HistoryIsLegal
+
+-- The call's own operation was possible at a length of the history that is no less than at its submission, and no more than
+-- before the entry: of a rename's unlink of a file of the new name, this says that there was a file to be renamed.
+pub record WasPossible (m : State) (index : ℕ) (entry : Entry) : Type 0 where
+  pub fop : Fop
+  pub began_is : m.began entry.call ≡ Some fop
+  pub seen : ℕ
+  pub after_submission : m.since entry.call ≤ seen
+  pub not_later : seen ≤ index
+  pub possible : Accepts (fs_after m.ops seen) (flat_op fop)
+
+abbrev pub EntriesWerePossible : State → Type 0
+EntriesWerePossible m = (index : ℕ) (entry : Entry) → slice_get m.history index ≡ Some entry → WasPossible m index entry
+
+abbrev pub EveryEntryWasPossible : Type 0
+EveryEntryWasPossible = EveryState EntriesWerePossible
 
 -- ---- answers
 

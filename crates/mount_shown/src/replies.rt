@@ -1,9 +1,11 @@
-ghost use Rattle.mount_shown.specs.Replies.{EveryAnswerIsFlat, EveryFailedIsEnteredLater, EveryHistoryIsLegal, HistoryGoesOn};
+ghost use Rattle.mount_shown.specs.Replies.{EveryAnswerIsFlat, EveryEntryWasPossible, EveryFailedIsEnteredLater, EveryHistoryIsLegal, HistoryGoesOn};
 
 /// The law of the history, of every state that allowed steps lead to. The operation of each entry is one that the flat file system
-/// accepts, on the files that the entries before it leave. The call does nothing: its contract exports this.
+/// accepts, on the files that the entries before it leave; and the own operation of the entry's call was one at some length of the
+/// history from the call's submission up to the entry. The call does nothing: its contract exports this.
 pub fn every_history_is_legal()
-    ensures { EveryHistoryIsLegal }
+    ensures legal { EveryHistoryIsLegal }
+    ensures possible { EveryEntryWasPossible }
 {}
 
 /// The law of answers, of every state that allowed steps lead to. A fop is answered by an I/O error; or as the flat file system
