@@ -34,6 +34,7 @@ use Rattle.mount_shown.proofs.Growing.{every_failed_later}
 use Rattle.mount_shown.proofs.Legal.{files_now}
 use Rattle.mount_shown.proofs.Past.{step_grown}
 use Rattle.mount_shown.proofs.Possible.{whole_possible}
+use Rattle.mount_shown.specs.Pending.{IsPossibleFor, EveryFopIsPossible}
 use Rattle.mount_shown.specs.Replies.{EveryEntryWasPossible}
 
 -- ---- a change that was begun
@@ -188,6 +189,20 @@ module _ (first : List (List ℕ)) (m : State) (reached : IsReached first m) (t 
       by_job (job.Open fd gfid) is k e = absurd k
       by_job job.Index is k e = absurd k
       by_job (job.Heal cell) is k e = absurd k
+
+pub every_fop_possible : EveryFopIsPossible
+every_fop_possible first m reached t u h = by_job t.job refl
+  where
+    by_job : (asked : Job) → t.job ≡ asked → IsPossibleFor m t.run.fop asked
+    by_job (job.Change cells fd o (Some entry)) is =
+        let s = every_stands first m reached in
+        whole_possible first m reached s.files s.dirs s.names s.gone t u h cells fd o entry is (every_change first m reached t u h)
+    by_job (job.Change cells fd o None) is = tt
+    by_job (job.Read cells fd dir) is = tt
+    by_job (job.Birth cells o) is = tt
+    by_job (job.Open fd gfid) is = tt
+    by_job job.Index is = tt
+    by_job (job.Heal cell) is = tt
 
 -- ---- each step
 

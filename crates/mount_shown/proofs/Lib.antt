@@ -3,9 +3,9 @@ pub mod Bearing
 pub mod Beginning
 pub mod Chances
 pub mod Counts
+pub mod Courses
 pub mod Decided
 pub mod Deciding
-pub mod Dropping
 pub mod Editing
 pub mod Every
 pub mod First

@@ -46,7 +46,7 @@ use Rattle.mount_laws.proofs.Held.{jobs_asked}
 use Rattle.mount_shown.proofs.Asked.{AllAsked, all_asked}
 use Rattle.mount_shown.proofs.Beginning.{op_on, BeginsAs, asks, low, fits_by, cells_apart}
 use Rattle.mount_shown.proofs.Decided.{IsTakenOn, MovedStand, own_entry, adopted_begun}
-use Rattle.mount_shown.proofs.Dropping.{fops_drop_in_turn}
+use Rattle.mount_shown.proofs.Courses.{fops_drop_in_turn}
 use Rattle.mount_shown.proofs.Founding.{flat_run}
 use Rattle.mount_shown.proofs.Jobs.{at_job}
 use Rattle.mount_shown.proofs.Listing.{NamesOfDirs, has_name_made}

@@ -41,7 +41,7 @@ use Rattle.mount_laws.specs.Steps.{Step, Task, change_by}
 use Rattle.mount_laws.proofs.Held.{jobs_asked}
 use Rattle.mount_laws.proofs.Leading.{led_always}
 use Rattle.mount_shown.proofs.Beginning.{asks}
-use Rattle.mount_shown.proofs.Dropping.{fops_drop_in_turn}
+use Rattle.mount_shown.proofs.Courses.{fops_drop_in_turn}
 use Rattle.mount_shown.proofs.First.{flat_on, accepted, named_on, here_at}
 use Rattle.mount_shown.proofs.Founding.{names_within}
 use Rattle.mount_shown.proofs.Gone.{GoneStand}

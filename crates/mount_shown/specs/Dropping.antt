@@ -3,6 +3,9 @@
 use Rattle.std.specs.Prelude.{◌≡◌, ℕ, List, Some, None}
 use Rattle.dht_fops.specs.Courses.{Course}
 use Rattle.dht_fops.specs.Courses.Course.{Asks, Extends, Ends}
+use Rattle.dht_fops.specs.Fops.{fop_course}
+use Rattle.dht_fops.specs.Volumes.{Kept}
+use Rattle.dht_fops.specs.declared.volume.Volume.{Volume}
 use Rattle.fop_types.specs.declared.cells.Gfid.{Gfid}
 use Rattle.fop_types.specs.declared.fops.Fop.{Fop}
 use Rattle.fop_types.specs.declared.fops.Fop.TheVariants as fop
@@ -59,3 +62,7 @@ abbrev pub DropsInTurn : Fop → Course → Type 0
 DropsInTurn f (Asks set asked next) = IsDropInTurn f asked next × ((said : SetReply) → DropsInTurn f (next said))
 DropsInTurn f (Extends dir next) = DropsInTurn f next
 DropsInTurn f (Ends answer place) = Unit {0}
+
+-- Each fop does so, whatever the volume, the replies and the fop's values are.
+abbrev pub FopsDropInTurn : Type 0
+FopsDropInTurn = (v : Volume) (names : List (List ℕ)) (kept : Kept) (f : Fop) → DropsInTurn f (fop_course v names kept f)

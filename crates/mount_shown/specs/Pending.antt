@@ -1,8 +1,12 @@
 -- What every state of the mount keeps of the files of all sets: they are the flat file system after the history, each unsettled
 -- change fits, and any two of them are apart; so they fit in any order. Ours.
-use Rattle.std.specs.Prelude.{◌≡◌, ◌≢◌, ℕ, List}
+use Rattle.std.specs.Prelude.{◌≡◌, ◌≢◌, ℕ, List, Some, None}
 use Rattle.afr_machine.specs.Changes.Verdict.{Unsettled}
+use Rattle.dht_fops.specs.Answers.{Accepts, flat_op}
 use Rattle.dht_fops.specs.Standing.{Volumes}
+use Rattle.fop_types.specs.declared.fops.Fop.{Fop}
+use Rattle.fop_types.specs.declared.jobs.Job.{Job}
+use Rattle.fop_types.specs.declared.jobs.Job.TheVariants as job
 use Rattle.mount_files.specs.Pairs.{AreApart, Fits}
 use Rattle.mount_files.specs.Showing.{ShownIsFlat}
 use Rattle.mount_laws.specs.Guards.{Allowed, IsReached}
@@ -40,6 +44,19 @@ pub record BeginsWell (m : State) (t : Task) : Type 0 where
 -- Every change that a job begins does so, whichever fop asks for it.
 abbrev pub EveryChangeBeginsWell : Type 0
 EveryChangeBeginsWell = (first : List (List ℕ)) (m : State) → IsReached first m → (t : Task) (u : ℕ) → Allowed m (Step.BeginsChange t u) → BeginsWell m t
+
+-- where a change with an effect begins, the flat file system accepts the fop's own operation, of which the change may be a part
+abbrev pub IsPossibleFor : State → Fop → Job → Type 0
+IsPossibleFor m f (job.Change cells fd o (Some entry)) = Accepts (volumes m).files (flat_op f)
+IsPossibleFor m f (job.Change cells fd o None) = Unit {0}
+IsPossibleFor m f (job.Read cells fd dir) = Unit {0}
+IsPossibleFor m f (job.Birth cells o) = Unit {0}
+IsPossibleFor m f (job.Open fd gfid) = Unit {0}
+IsPossibleFor m f job.Index = Unit {0}
+IsPossibleFor m f (job.Heal cell) = Unit {0}
+
+abbrev pub EveryFopIsPossible : Type 0
+EveryFopIsPossible = (first : List (List ℕ)) (m : State) → IsReached first m → (t : Task) (u : ℕ) → Allowed m (Step.BeginsChange t u) → IsPossibleFor m t.run.fop t.job
 
 abbrev pub EveryStateKeepsFiles : Type 0
 EveryStateKeepsFiles = EveryState KeepsFiles

@@ -11,7 +11,7 @@ use Rattle.dht_layout.specs.Layouts.{even_span}
 use Rattle.dht_fops.specs.Courses.{Course, refuses, on_contents, after_read, contents_in, on_names, after_names, on_number, after_change, number_in, after_any}
 use Rattle.dht_fops.specs.Courses.Course.{Asks, Ends}
 use Rattle.dht_fops.specs.Entries.{birth_job, lookup_found, lists_from, births_from, mkdir_found, create_found, drops_link, unlink_found, empties, rmdir_found}
-use Rattle.dht_fops.specs.Fops.{on_name, renames, fop_course}
+use Rattle.dht_fops.specs.Fops.{on_name, renames}
 use Rattle.dht_fops.specs.Internal.{opens_again, heals, indexes, with_cells, cells_in}
 use Rattle.dht_fops.specs.Looks.{Ending, where_named, where_kept, by_item, looks_along, looks_on, looks_in, finds, reads_spans, span_of, seen_on, unseen}
 use Rattle.dht_fops.specs.Merges.{merged, real_items}
@@ -41,7 +41,7 @@ use Rattle.fop_types.specs.declared.fops.OpenFd.{OpenFd}
 use Rattle.fop_types.specs.declared.jobs.Job.TheVariants as job
 use Rattle.fop_types.specs.declared.jobs.SetReply.{SetReply}
 use Rattle.fop_types.specs.declared.store_ops.StoreOp.TheVariants as op
-use Rattle.mount_shown.specs.Dropping.{TakesAway, IsRenameThen, DropsInTurn}
+use Rattle.mount_shown.specs.Dropping.{TakesAway, IsRenameThen, DropsInTurn, FopsDropInTurn}
 
 module _ (f : Fop) where
   -- ---- one job
@@ -304,7 +304,7 @@ module _ (f : Fop) where
 
 -- ---- all
 
-pub fops_drop_in_turn : (v : Volume) (names : List (List ℕ)) (kept : Kept) (f : Fop) → DropsInTurn f (fop_course v names kept f)
+pub fops_drop_in_turn : FopsDropInTurn
 fops_drop_in_turn v names kept (fop.Lookup parent name) = on_name_keeps (fop.Lookup parent name) v names kept parent name _ (λ hashed. lookup_keeps (fop.Lookup parent name))
 fops_drop_in_turn v names kept (fop.Mkdir parent name mode drawn) = on_name_keeps (fop.Mkdir parent name mode drawn) v names kept parent name _ (λ hashed. mkdir_keeps (fop.Mkdir parent name mode drawn) v parent.gfid name mode drawn)
 fops_drop_in_turn v names kept (fop.Rmdir parent name) = on_name_keeps (fop.Rmdir parent name) v names kept parent name _ (λ hashed. rmdir_keeps (fop.Rmdir parent name) v parent.gfid name)
