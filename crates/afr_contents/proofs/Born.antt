@@ -43,7 +43,7 @@ born_there : (content : Content) (x : Option Content) → is_some (born_if_absen
 born_there content (Some there) = refl
 born_there content None = refl
 
-births_have : (cell : Cell) (bs : List (Cell × Content)) (x : Option Content) → has_cell (cells_of bs) cell ≡ true → is_some (born_on cell x bs) ≡ true
+pub births_have : (cell : Cell) (bs : List (Cell × Content)) (x : Option Content) → has_cell (cells_of bs) cell ≡ true → is_some (born_on cell x bs) ≡ true
 births_have cell [] x has = absurd (let no : false ≡ true = has in cc)
 births_have cell (b ∷ bs) x has = by_case (λ y more. births_have cell bs y more) (is_cell cell b.0) refl where
   by_case : ((y : Option Content) → has_cell (cells_of bs) cell ≡ true → is_some (born_on cell y bs) ≡ true) → (c : Bool) → is_cell cell b.0 ≡ c → is_some (born_on cell (if c then born_if_absent b.1 x else x) bs) ≡ true
@@ -58,10 +58,13 @@ fits_done : (b : Bool) → answer_of_op b ≡ Done → b ≡ true
 fits_done true h = refl
 fits_done false h = absurd (let no : Unfit ≡ Done = h in cc)
 
-op_born : (u : ℕ) (op : StoreOp) (store : Store) → answer_of (Op u op) store ≡ Done → ShowsBorn (stored_by (Op u op) store) (Op u op)
-op_born u op store done cell has =
-    ap (λ b. (row_of (if b then op_of (contents_of store) u op cell (store cell) else store cell)).present) (fits_done (fits (contents_of store) op) done)
+pub fits_born : (u : ℕ) (op : StoreOp) (store : Store) → fits (contents_of store) op ≡ true → ShowsBorn (stored_by (Op u op) store) (Op u op)
+fits_born u op store fitting cell has =
+    ap (λ b. (row_of (if b then op_of (contents_of store) u op cell (store cell) else store cell)).present) fitting
     ∙ copy_there _ (content_after (contents_of store) op cell) (births_have cell (births op) (edited_on cell (contents_of store cell) (edits (contents_of store) op)) has)
+
+op_born : (u : ℕ) (op : StoreOp) (store : Store) → answer_of (Op u op) store ≡ Done → ShowsBorn (stored_by (Op u op) store) (Op u op)
+op_born u op store done = fits_born u op store (fits_done (fits (contents_of store) op) done)
 
 -- ---- the op of a birth
 

@@ -48,7 +48,7 @@ pub staying_coming : (m : State) (cell : Cell) (i k : ℕ) → accusers_staying 
 staying_coming m cell i k h =
     or_left (accuses_at (m.bricks k).store cell i) (comes (m.bricks k).line cell i) (both_left (accuses_at (m.bricks k).store cell i) (not (pardons_coming (m.bricks k).line cell i)) h)
 
-not_accused : (size : Size) (m : State) (cell : Cell) (i : ℕ) → IsFree size m cell i → IsAccusedByMany size m cell i → ⊥
+pub not_accused : (size : Size) (m : State) (cell : Cell) (i : ℕ) → IsFree size m cell i → IsAccusedByMany size m cell i → ⊥
 not_accused size m cell i free many =
     let more = count_within size.replicas (accusers_staying m cell i) (accusers_coming m cell i) (λ k low h. staying_coming m cell i k h) in
     let few = free.few in

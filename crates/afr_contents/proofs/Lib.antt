@@ -45,6 +45,7 @@ pub mod BearMoves
 pub mod FirmMoves
 pub mod Born
 pub mod Firm
+pub mod Bearers
 pub mod Split
 pub mod MarkWrote
 pub mod OneOnAll

@@ -1,5 +1,5 @@
 ghost use Rattle.afr_contents.specs.Earlier.{EveryKnownIsShown};
-ghost use Rattle.afr_contents.specs.Firm.{EveryFirmIsPresent};
+ghost use Rattle.afr_contents.specs.Firm.{EveryAdoptedBears, EveryFirmIsPresent};
 ghost use Rattle.afr_contents.specs.Found.{AppliersHaveAdopted, SourcesAreGood};
 ghost use Rattle.afr_contents.specs.Present.{EveryChangeIsPresent};
 ghost use Rattle.afr_contents.specs.Split.{SeenAllHasSound, SeenAllHasOne};
@@ -34,6 +34,12 @@ pub fn every_change_is_present()
 /// a quorum confirmed, and those of changes. A content of each is adopted, of the cell's aspect, and a quorum has a copy of it.
 pub fn every_firm_is_present()
     ensures { EveryFirmIsPresent }
+{}
+
+/// The law of births by changes, of the same states. A content of each cell to which an adopted change gave birth is adopted, of the
+/// cell's aspect, and some replica has a copy; no more, as a settling adopts what one replica has.
+pub fn every_adopted_bears()
+    ensures { EveryAdoptedBears }
 {}
 
 /// The law of rows that come later, of every state that allowed steps lead to. Where a lock phase that wrote, or may, saw a copy or made

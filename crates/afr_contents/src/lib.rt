@@ -20,9 +20,9 @@ mod good;
 mod reads;
 
 pub use copies::{
-    appliers_have_adopted, every_change_is_present, every_confirmed_equals_source,
-    every_firm_is_present, every_known_is_shown, seen_all_has_one, seen_all_has_sound,
-    sources_are_good,
+    appliers_have_adopted, every_adopted_bears, every_change_is_present,
+    every_confirmed_equals_source, every_firm_is_present, every_known_is_shown, seen_all_has_one,
+    seen_all_has_sound, sources_are_good,
 };
 pub use decisions::{accusations_stay, every_decision_is_spread};
 pub use good::{
