@@ -1,10 +1,10 @@
 -- Each cell that counts as present has an adopted content and a copy at a quorum, over every list of steps.
-use Rattle.std.proofs.Common.{◌≡◌, ◌∙◌, ℕ, zero, suc, ◌≤◌, Bool, true, false, refl, sym, ap, Option, Some, None, arith}
+use Rattle.std.proofs.Common.{◌≡◌, ◌∙◌, ℕ, ◌≤◌, Bool, true, false, refl, sym, Option, Some, None, arith}
 use Rattle.std.specs.Prelude.{[], ◌∷◌, ◌||◌, is_some, if◌then◌else◌}
 use Rattle.fop_types.specs.Cells.{root, meta_cell, names_cell}
 use Rattle.fop_types.specs.declared.cells.Cell.{Cell}
 use Rattle.fop_types.specs.declared.contents.Content.TheVariants.{Meta, Names}
-use Rattle.afr_machine.specs.Replicas.{Replicas, Size, IsSize, count, one_if}
+use Rattle.afr_machine.specs.Replicas.{Size, IsSize, count}
 use Rattle.afr_machine.specs.Touching.{is_cell, has_cell}
 use Rattle.afr_machine.specs.Changes.{Verdict}
 use Rattle.afr_machine.specs.Copies.{Copy, content_of, root_alone, born_as, nothing_kept}
@@ -19,12 +19,9 @@ use Rattle.afr_contents.proofs.Born.{born_have_copies}
 use Rattle.afr_contents.proofs.FirmMoves.{FirmMove, firm_move}
 use Rattle.afr_contents.proofs.OfAdopted.{adopted_stays}
 use Rattle.afr_contents.proofs.Present.{keeps_present, many_stay}
+use Rattle.afr_contents.proofs.Split.{count_all}
 
 -- ---- the start
-
-count_all : (n : ℕ) (these : Replicas) → ((k : ℕ) → these k ≡ true) → n ≤ count n these
-count_all zero these all = omega arith
-count_all (suc n) these all = omega (arith, count_all n these all, ap one_if (all n))
 
 root_there : (cell : Cell) → has_cell (meta_cell root ∷ names_cell root ∷ []) cell ≡ true → is_some (root_alone cell).copy ≡ true
 root_there cell h = by_case (is_cell cell (meta_cell root)) (is_cell cell (names_cell root)) h where
@@ -47,7 +44,7 @@ firm_at_start size is cell firm = record {
   adopted = content_there (root_alone cell).copy (root_there cell firm);
   copies =
       let odd = is.odd in
-      let all = count_all size.replicas (having start cell) (λ k. root_there cell firm) in
+      let all = count_all size.replicas (having start cell) (λ k low. root_there cell firm) in
       omega (arith, odd, all);
 }
 

@@ -34,7 +34,7 @@ use Rattle.afr_contents.specs.Earlier.{MayWrite, KnowsCopy}
 use Rattle.afr_contents.specs.Split.{SawAll, SeenAllHasSound}
 use Rattle.afr_contents.proofs.Earlier.{known_is_shown}
 
-count_all : (n : ℕ) (a : Replicas) → ((k : ℕ) → k < n → a k ≡ true) → n ≤ count n a
+pub count_all : (n : ℕ) (a : Replicas) → ((k : ℕ) → k < n → a k ≡ true) → n ≤ count n a
 count_all zero a h = omega arith
 count_all (suc n) a h =
     let rest = count_all n a (λ k low. h k (omega (arith, low))) in
