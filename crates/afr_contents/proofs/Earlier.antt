@@ -48,7 +48,7 @@ use Rattle.afr_contents.specs.Earlier.KnowsCopy.{Saw, Copied, Cleared}
 use Rattle.afr_contents.proofs.Learned.{KnowsFrom, learned_alone, knows_from}
 use Rattle.afr_contents.proofs.Learned.KnowsFrom.{Knew, Learns}
 use Rattle.afr_contents.proofs.Present.{keeps_present}
-use Rattle.afr_contents.proofs.ShownBack.{shown_back}
+use Rattle.afr_laws.proofs.Standing.Steps.{shown_back}
 
 -- the copy is there
 knows_has : (size : Size) (m : State) → IsReached size m → (q k : ℕ) (cell : Cell) → Knows m q k cell → HasCopy m k cell

@@ -38,7 +38,6 @@ pub mod Verdicts
 pub mod Agreeing
 pub mod Present
 pub mod Aspects
-pub mod ShownBack
 pub mod Learned
 pub mod Earlier
 pub mod BearMoves
