@@ -2,11 +2,11 @@
 -- served, its reply or the Gone of a bailed wind is handed in, it is given up unserved; a connection is opened or ended,
 -- by the hub or at the brick; a change becomes unsettled, is decided. Beside them stand the turns of transactions and the
 -- drawing of numbers for other sets, which move no message. Ours.
-use Rattle.std.specs.Prelude.{◌≡◌, ◌≢◌, ℕ, ◌+◌, ◌==◌, ◌<◌, ◌≤◌, ◌⊎◌, Bool, true, false, List, [], ◌∷◌, Option, Some, None}
+use Rattle.std.specs.Prelude.{◌≡◌, ◌≢◌, ℕ, ◌+◌, ◌==◌, ◌<◌, ◌≤◌, ◌⊎◌, Bool, true, false, List, [], ◌∷◌, Option, Some, None, is_some}
 use Rattle.fop_types.specs.StoreOps.{births, contents_after}
 use Rattle.fop_types.specs.declared.cells.Cell.{Cell}
 use Rattle.afr_machine.specs.Replicas.{Size, count, with_at}
-use Rattle.afr_machine.specs.Touching.{share}
+use Rattle.afr_machine.specs.Touching.{has_cell, share}
 use Rattle.afr_machine.specs.Requests.{Sender, Ask, Control, Input, Answer, Output}
 use Rattle.afr_machine.specs.Requests.Input.{Asked, Steered}
 use Rattle.afr_machine.specs.Requests.Answer.{Done, Rows, Content, Gone, Fault, Unfit, BadFd}
@@ -121,8 +121,8 @@ KeepsApart m t cells =
     share cells (cells_of_job (m.txns other).job) ≡ false
 
 -- A change becomes unsettled once a quorum confirmed its mark: no other unsettled change touches its cells, no other read
--- or change that has settled rests on them, and its births are as all births of their cells. The last two are kept by
--- whoever runs the transactions.
+-- or change that has settled rests on them, each of its cells has an adopted content, and its births are as all births of their
+-- cells. The last three are kept by whoever runs the transactions.
 pub record MayUnsettle (size : Size) (m : State) (t : ℕ) : Type 0 where
   pub change : ℕ
   pub turn : (m.txns t).stage ≡ Marking change
@@ -130,6 +130,7 @@ pub record MayUnsettle (size : Size) (m : State) (t : ℕ) : Type 0 where
   pub many : size.quorum ≤ count size.replicas (m.txns t).confirmed
   pub alone : any_touches m.changes m.drawn (m.changes change).cells ≡ false
   pub apart : KeepsApart m t (m.changes change).cells
+  pub present : (cell : Cell) → has_cell (m.changes change).cells cell ≡ true → is_some (m.adopted cell) ≡ true
   pub as_first : AreAsFirst m.born (births (m.changes change).op)
 
 pub record MayDecide (size : Size) (m : State) (t : ℕ) : Type 0 where

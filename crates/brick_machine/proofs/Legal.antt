@@ -39,7 +39,7 @@ use Rattle.brick_machine.proofs.Replies.{IsWaiter, each_both, with_legal, left_l
 
 -- a state of which each answer has an encoding
 record IsLegal (s : State) : Type 0 where
-  cells : AreKept s.cells
+  cells : AreKept s.store.cells
   waiters : Each IsWaiter s.waiters
 
 record IsFine (by : Served) : Type 0 where
@@ -71,7 +71,7 @@ reply_fine : (s : State) (wind : ℕ) (rep : BrickRep) → IsLegal s → IsHyper
 reply_fine s wind rep legal w r = record { state = legal; outs = ((w, r), tt) }
 
 changed_fine : (s : State) (wind : ℕ) (r : BrickReq) → IsLegal s → IsHyper wind → IsReq true r → IsFine (changed s wind r)
-changed_fine s wind r legal w q = record { state = record { cells = cells_legal s.cells r q legal.cells; waiters = legal.waiters }; outs = ((w, change_legal (is_fit s.cells r)), tt) }
+changed_fine s wind r legal w q = record { state = record { cells = cells_legal s.store.cells r q legal.cells; waiters = legal.waiters }; outs = ((w, change_legal (is_fit s.store.cells r)), tt) }
 
 chosen : (b : Bool) (x y : Served) → IsFine x → IsFine y → IsFine (if b then x else y)
 chosen true x y f g = f
@@ -85,26 +85,26 @@ now_fine s wind graph (req.Lock call shared those) legal w q =
     chosen (is_known (record { graph = graph; call = call }) s.locks) _ _ (reply_fine s wind _ legal w tt)
     (chosen (is_kept_by s.locks (request (record { graph = graph; call = call }) those shared)) _ _
     (record { state = record { cells = legal.cells; waiters = with_legal (record { graph = graph; call = call }) (record { wind = wind; cells = those }) s.waiters legal.waiters (w, q.1) }; outs = tt })
-    (record { state = record { cells = legal.cells; waiters = legal.waiters }; outs = ((w, grant_legal s.cells those legal.cells q.1), tt) }))
+    (record { state = record { cells = legal.cells; waiters = legal.waiters }; outs = ((w, grant_legal s.store.cells those legal.cells q.1), tt) }))
 now_fine s wind graph (req.Unlock call) legal w q =
     let freed : List Owner = freed_by (record { graph = graph; call = call }) s.locks in
     record {
       state = record { cells = legal.cells; waiters = left_legal freed s.waiters legal.waiters };
-      outs = ((w, tt), answered_legal (λ v. granted s.cells v.cells) (λ v few. grant_legal s.cells v.cells legal.cells few) freed s.waiters legal.waiters);
+      outs = ((w, tt), answered_legal (λ v. granted s.store.cells v.cells) (λ v few. grant_legal s.store.cells v.cells legal.cells few) freed s.waiters legal.waiters);
     }
 now_fine s wind graph (req.Mark change those) legal w q = changed_fine s wind (req.Mark change those) legal w q
 now_fine s wind graph (req.Op change fd op) legal w q =
     chosen (is_good s.graphs graph fd) _ _ (changed_fine s wind (req.Op change fd op) legal w q) (reply_fine s wind _ legal w tt)
 now_fine s wind graph (req.Post change those mask) legal w q = changed_fine s wind (req.Post change those mask) legal w q
 now_fine s wind graph (req.Fetch fd cell) legal w q =
-    let one = kept_there s.cells cell legal.cells in
+    let one = kept_there s.store.cells cell legal.cells in
     chosen (is_good s.graphs graph fd) _ _
-    (reply_fine s wind (fetched (copy_of (kept_at s.cells cell))) legal w (fetched_legal (kept_at s.cells cell).content (kept_at s.cells cell).last one.content one.last))
+    (reply_fine s wind (fetched (copy_of (kept_at s.store.cells cell))) legal w (fetched_legal (kept_at s.store.cells cell).content (kept_at s.store.cells cell).last one.content one.last))
     (reply_fine s wind _ legal w tt)
 now_fine s wind graph (req.Replace cell last content) legal w q = changed_fine s wind (req.Replace cell last content) legal w q
 now_fine s wind graph (req.Clear those mask) legal w q = changed_fine s wind (req.Clear those mask) legal w q
 now_fine s wind graph (req.Settle those mask) legal w q = changed_fine s wind (req.Settle those mask) legal w q
-now_fine s wind graph req.Index legal w q = reply_fine s wind (indexed (present_in s.cells)) legal w (indexed_legal s.cells legal.cells)
+now_fine s wind graph req.Index legal w q = reply_fine s wind (indexed (present_in s.store.cells)) legal w (indexed_legal s.store.cells legal.cells)
 now_fine s wind graph (req.Open fd gfid) legal w q = record { state = record { cells = legal.cells; waiters = legal.waiters }; outs = ((w, tt), tt) }
 now_fine s wind graph (req.Release fd) legal w q =
     chosen (is_good s.graphs graph fd) _ _ (record { state = record { cells = legal.cells; waiters = legal.waiters }; outs = ((w, tt), tt) }) (reply_fine s wind _ legal w tt)
@@ -113,7 +113,7 @@ counted_legal : (s : State) (r : BrickReq) → IsLegal s → IsLegal (counted s 
 counted_legal s r legal = record { cells = legal.cells; waiters = legal.waiters }
 
 late_fine : (s : State) (wind : ℕ) (r : BrickReq) → IsLegal s → IsHyper wind → IsReq true r → IsFine (served_late s wind r)
-late_fine s wind r legal w q = record { state = record { cells = cells_legal s.cells r q legal.cells; waiters = legal.waiters }; outs = ((w, tt), tt) }
+late_fine s wind r legal w q = record { state = record { cells = cells_legal s.store.cells r q legal.cells; waiters = legal.waiters }; outs = ((w, tt), tt) }
 
 request_fine : (s : State) (wind graph : ℕ) (r : BrickReq) → IsLegal s → IsHyper wind → IsReq true r → IsFine (request_served s wind graph r)
 request_fine s wind graph r legal w q =
@@ -135,7 +135,7 @@ dropped_fine s graph legal =
     record {
       state = record { cells = legal.cells; waiters = left_legal (freed_owners s graph) (left_waiting s.waiters (gone_owners s graph)) left };
       outs = each_both (IsOutKind true) _ _ (answered_legal (λ v. Gone) gone_is_legal (gone_owners s graph) s.waiters legal.waiters)
-          (answered_legal (λ v. granted s.cells v.cells) (λ v few. grant_legal s.cells v.cells legal.cells few) (freed_owners s graph) (left_waiting s.waiters (gone_owners s graph)) left);
+          (answered_legal (λ v. granted s.store.cells v.cells) (λ v few. grant_legal s.store.cells v.cells legal.cells few) (freed_owners s graph) (left_waiting s.waiters (gone_owners s graph)) left);
     }
 
 input_fine : (s : State) (x : Input) → IsLegal s → IsInput x → IsFine (input_served s x)

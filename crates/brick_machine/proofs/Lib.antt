@@ -3,6 +3,7 @@ pub mod Kept
 pub mod Leaving
 pub mod Legal
 pub mod Lockings
+pub mod Names
 pub mod Once
 pub mod Orderly
 pub mod Owners
@@ -13,3 +14,4 @@ pub mod Runs
 pub mod Sorted
 pub mod Stored
 pub mod Taken
+pub mod Taking

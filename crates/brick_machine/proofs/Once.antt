@@ -98,7 +98,7 @@ module _ (weight : Option ℕ → ℕ) where
   now_paid : (s : State) (on graph : ℕ) (r : BrickReq) → IsOrderly s → IsPaid (weight (Some on)) 0 s (served_now s on graph r)
   now_paid s on graph (req.Lock call shared those) fine =
       when (IsPaid (weight (Some on)) 0 s) (is_known (owner_of graph call) s.locks) _ _ (λ h. omega arith) (λ h. asked_paid s on (owner_of graph call) shared those h fine)
-  now_paid s on graph (req.Unlock call) fine = omega (arith, all_waiters (λ v. granted s.cells v.cells) (freed_by (owner_of graph call) s.locks) s.waiters)
+  now_paid s on graph (req.Unlock call) fine = omega (arith, all_waiters (λ v. granted s.store.cells v.cells) (freed_by (owner_of graph call) s.locks) s.waiters)
   now_paid s on graph (req.Mark change those) fine = omega arith
   now_paid s on graph (req.Op change fd op) fine = when (IsPaid (weight (Some on)) 0 s) (is_good s.graphs graph fd) _ _ (λ h. omega arith) (λ h. omega arith)
   now_paid s on graph (req.Post change those mask) fine = omega arith
@@ -123,9 +123,9 @@ module _ (weight : Option ℕ → ℕ) where
   dropped_paid s graph =
       omega (
         arith,
-        said_both (answered (λ v. Gone) s.waiters (gone_owners s graph)) (answered (λ v. granted s.cells v.cells) (left_waiting s.waiters (gone_owners s graph)) (freed_owners s graph)),
+        said_both (answered (λ v. Gone) s.waiters (gone_owners s graph)) (answered (λ v. granted s.store.cells v.cells) (left_waiting s.waiters (gone_owners s graph)) (freed_owners s graph)),
         all_waiters (λ v. Gone) (gone_owners s graph) s.waiters,
-        all_waiters (λ v. granted s.cells v.cells) (freed_owners s graph) (left_waiting s.waiters (gone_owners s graph)),
+        all_waiters (λ v. granted s.store.cells v.cells) (freed_owners s graph) (left_waiting s.waiters (gone_owners s graph)),
       )
 
   -- what a message leaves over

@@ -43,4 +43,4 @@ OutputsAreEncoded = (journal : List (List ℕ)) → Each (λ o. IsOutKind true o
 
 -- and so has what is kept of each cell
 abbrev pub CellsAreKept : Type 0
-CellsAreKept = (journal : List (List ℕ)) → AreKept (state_of journal).cells
+CellsAreKept = (journal : List (List ℕ)) → AreKept (state_of journal).store.cells

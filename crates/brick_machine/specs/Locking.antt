@@ -60,7 +60,7 @@ abbrev pub asked : State → ℕ → Owner → Bool → List Cell → Served
 asked s wind owner shared those =
     if is_kept_by s.locks (request owner those shared)
     then record { state = record s { locks = s.locks ++ request owner those shared ∷ []; waiters = with_waiter s.waiters owner (record { wind = wind; cells = those }) }; outs = [] }
-    else record { state = record s { locks = s.locks ++ request owner those shared ∷ [] }; outs = Reply wind (granted s.cells those) ∷ [] }
+    else record { state = record s { locks = s.locks ++ request owner those shared ∷ [] }; outs = Reply wind (granted s.store.cells those) ∷ [] }
 
 -- a lock of an owner that holds or waits is unfit
 abbrev pub locked : State → ℕ → Owner → Bool → List Cell → Served
@@ -71,7 +71,7 @@ locked s wind owner shared those =
 abbrev pub unlocked : State → ℕ → Owner → Served
 unlocked s wind owner = record {
   state = record s { locks = released owner s.locks; waiters = left_waiting s.waiters (freed_by owner s.locks) };
-  outs = Reply wind (Done Nothing) ∷ grant_replies s.cells s.waiters (freed_by owner s.locks);
+  outs = Reply wind (Done Nothing) ∷ grant_replies s.store.cells s.waiters (freed_by owner s.locks);
 }
 
 -- the locks of a graph are dropped: its locks that wait are answered Gone, and then the locks of other graphs that
@@ -88,5 +88,5 @@ graph_dropped s graph = record {
     locks = filter (other_graph graph) s.locks;
     waiters = left_waiting (left_waiting s.waiters (gone_owners s graph)) (freed_owners s graph);
   };
-  outs = gone_replies s.waiters (gone_owners s graph) ++ grant_replies s.cells (left_waiting s.waiters (gone_owners s graph)) (freed_owners s graph);
+  outs = gone_replies s.waiters (gone_owners s graph) ++ grant_replies s.store.cells (left_waiting s.waiters (gone_owners s graph)) (freed_owners s graph);
 }

@@ -52,7 +52,7 @@ pub record IsCalm (graph : ℕ) (cells : Cells) (s : State) : Type 0 where
   pub up : s.down ≡ None
   pub there : fds_of s.graphs graph ≡ Some []
   pub trusted : s.faults.failing ≡ []
-  pub cells_are : s.cells ≡ cells
+  pub cells_are : s.store.cells ≡ cells
 
 pub record IsServedPlainly (graph wind : ℕ) (cells : Cells) (p : Plain) (s : State) : Type 0 where
   pub outs : (request_served s wind graph (request_of p)).outs ≡ Reply wind (plain_answer cells p) ∷ []

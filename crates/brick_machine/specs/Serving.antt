@@ -90,10 +90,10 @@ abbrev pub where_good : State → ℕ → ℕ → ℕ → Served → Served
 where_good s wind graph fd served = if is_good s.graphs graph fd then served else replied s wind BadFd
 
 abbrev pub with_cells : State → BrickReq → State
-with_cells s r = record s { cells = cells_after s.cells r }
+with_cells s r = record s { store = record (s.store) { cells = cells_after s.store.cells r } }
 
 abbrev pub changed : State → ℕ → BrickReq → Served
-changed s wind r = replied (with_cells s r) wind (change_answer (is_fit s.cells r))
+changed s wind r = replied (with_cells s r) wind (change_answer (is_fit s.store.cells r))
 
 -- a request of a connected graph on a brick that is not down
 abbrev pub served_now : State → ℕ → ℕ → BrickReq → Served
@@ -102,11 +102,11 @@ served_now s wind graph (Unlock call) = unlocked s wind (owner_of graph call)
 served_now s wind graph (Mark change those) = changed s wind (Mark change those)
 served_now s wind graph (Op change fd op) = where_good s wind graph fd (changed s wind (Op change fd op))
 served_now s wind graph (Post change those mask) = changed s wind (Post change those mask)
-served_now s wind graph (Fetch fd cell) = where_good s wind graph fd (replied s wind (fetched (copy_of (kept_at s.cells cell))))
+served_now s wind graph (Fetch fd cell) = where_good s wind graph fd (replied s wind (fetched (copy_of (kept_at s.store.cells cell))))
 served_now s wind graph (Replace cell last content) = changed s wind (Replace cell last content)
 served_now s wind graph (Clear those mask) = changed s wind (Clear those mask)
 served_now s wind graph (Settle those mask) = changed s wind (Settle those mask)
-served_now s wind graph Index = replied s wind (indexed (present_in s.cells))
+served_now s wind graph Index = replied s wind (indexed (present_in s.store.cells))
 served_now s wind graph (Open fd gfid) = replied (record s { graphs = with_fd s.graphs graph fd }) wind (Done done.Nothing)
 served_now s wind graph (Release fd) =
     where_good s wind graph fd (replied (record s { graphs = without_fd s.graphs graph fd }) wind (Done done.Nothing))

@@ -1,6 +1,6 @@
--- What a brick keeps: the cells of its set, the locks that are held or wait, the connected graphs with their open
--- descriptors, whether it is down, and the requests that are to fail.
-use Rattle.std.specs.Prelude.{ℕ, ◌+◌, min, Bool, [], ◌∷◌, None, get_or, slice_set, replicate}
+-- What a brick keeps: its store with the cells of its set, the locks that are held or wait, the connected graphs with
+-- their open descriptors, whether it is down, and the requests that are to fail.
+use Rattle.std.specs.Prelude.{ℕ, ◌+◌, min, Bool, List, [], None, get_or, slice_set, replicate}
 use Rattle.std.specs.declared.cmp.Ordering.{Ordering}
 use Rattle.std.specs.Ordering.{nat_cmp, ordering_then}
 use Rattle.std.specs.List.{list_any}
@@ -77,6 +77,10 @@ with_fault faults p number = record faults { failing = insert_key failing_cmp fa
 
 -- ---- the whole
 
--- a new brick: the root alone, no connection, not down
+-- a new brick: the root alone, no names of replicas, no connection, not down
 abbrev pub start : State
-start = record { cells = root_alone; locks = []; waiters = []; graphs = []; down = None; faults = no_faults }
+start = record { store = record { cells = root_alone; names = [] }; locks = []; waiters = []; graphs = []; down = None; faults = no_faults }
+
+-- the same state under other names of replicas; they are bound and not sent, and no request depends on them
+abbrev pub named : List (List ℕ) → State → State
+named names s = record s { store = record (s.store) { names = names } }

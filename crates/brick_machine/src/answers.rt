@@ -26,13 +26,13 @@ impl Outs {
     pub(crate) fn fetch(
         &mut self,
         alloc: Global,
-        cells: &Store,
+        store: &Store,
         wind: u64,
         cell: &Cell,
     ) -> Result<(), AllocError>
-        ensures { OnOk result (self.new ≡ put_out self.old (Reply wind (fetched (copy_of (kept_at cells.now cell.now))) ∷ [])) }
+        ensures { OnOk result (self.new ≡ put_out self.old (Reply wind (fetched (copy_of (kept_at store.now.cells cell.now))) ∷ [])) }
     {
-        match cells.copy(cell) {
+        match store.copy(cell) {
             Some((content, last)) => {
                 if is_sendable(content) {
                     self.copy(alloc, wind, content, last)
@@ -48,12 +48,12 @@ impl Outs {
     pub(crate) fn index(
         &mut self,
         alloc: Global,
-        cells: &Store,
+        store: &Store,
         wind: u64,
     ) -> Result<(), AllocError>
-        ensures { OnOk result (self.new ≡ put_out self.old (Reply wind (indexed (present_in cells.now)) ∷ [])) }
+        ensures { OnOk result (self.new ≡ put_out self.old (Reply wind (indexed (present_in store.now.cells)) ∷ [])) }
     {
-        let present = cells.cells(alloc)?;
+        let present = store.cells(alloc)?;
         if present.len() <= 1048576 {
             let present = Seq::from_vec(present);
             return self.reply(alloc, wind, BrickRep::Done(DoneArm::Cells(present)));

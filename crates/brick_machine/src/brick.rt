@@ -1,6 +1,7 @@
 ghost use Rattle.std.specs.Prelude.{◌≡◌, true, false, [], ◌∷◌, ◌++◌, IfOk, OnOk, OnErr};
 ghost use Rattle.wire_xdr.specs.WireText.{input_text, IsInputOf};
 ghost use Rattle.wire_messages.specs.Messages.{input_in, IsSaid};
+ghost use Rattle.cell_store.specs.Dump.{dumped};
 ghost use Rattle.brick_machine.specs.Machine.{state_of, texts_of};
 
 use crate::outs::Outs;
@@ -14,8 +15,9 @@ use wire_messages::input_of;
 
 /// A brick: what it keeps, its inputs, and the outputs that they caused, both in bytes.
 ///
-/// Contracts see it as its journal, the list of its inputs, and whether it is spent: a brick that ran out of memory
-/// answers so from then on, and its journal ends with the last input that it served.
+/// Contracts see it as its journal, the list of its inputs; the names under which it shows the replicas of its set; and
+/// whether it is spent: a brick that ran out of memory answers so from then on, and its journal ends with the last
+/// input that it served.
 #[derive(Drop)]
 pub struct Brick {
     state: State,
@@ -27,22 +29,23 @@ pub struct Brick {
 impl Model for Brick {
     ghost use Rattle.std.specs.Prelude.{◌≡◌, MatchBool};
     ghost use Rattle.brick_machine.specs.Journal.{Journal};
+    ghost use Rattle.brick_machine.specs.State.{named};
     ghost use Rattle.brick_machine.specs.Machine.{state_of, texts_of};
 
     ghost Value = { Journal };
 
-    ghost view = { λ b. record { journal = b.inputs.items; spent = b.is_spent } };
+    ghost view = { λ b. record { journal = b.inputs.items; names = b.state.store.names; spent = b.is_spent } };
 
-    ghost invariant = { λ b. (b.made.items ≡ texts_of b.inputs.items) × MatchBool b.is_spent (Unit {0}) (b.state ≡ state_of b.inputs.items) };
+    ghost invariant = { λ b. (b.made.items ≡ texts_of b.inputs.items) × MatchBool b.is_spent (Unit {0}) (b.state ≡ named b.state.store.names (state_of b.inputs.items)) };
 }
 
 impl Brick {
-    /// A brick without inputs: its store has only the root, and no graph is connected.
+    /// A brick without inputs: its store has only the root, no graph is connected, and no replica has a name.
     ///
     /// # Errors
     /// Out of memory.
     pub fn new(alloc: Global) -> Result<Brick, AllocError>
-        ensures { IfOk result (λ brick. brick ≡ record { journal = []; spent = false }) }
+        ensures { IfOk result (λ brick. brick ≡ record { journal = []; names = []; spent = false }) }
     {
         let state = State::new(alloc)?;
         Ok(Brick {
@@ -53,13 +56,13 @@ impl Brick {
         })
     }
 
-    /// Binds the names under which the store's `dump` shows the replicas. The journal must be empty. It needs no
-    /// memory.
+    /// Binds the names under which `dump` shows the replicas: those of the client volumes, in replica order. The
+    /// journal must be empty. It needs no memory.
     pub fn bind_names(&mut self, names: Seq<Seq<u8>>)
         requires { self.old.journal ≡ [] }
-        ensures { self.new ≡ self.old }
+        ensures { self.new ≡ record self.old { names = names } }
     {
-        self.state.cells.bind_names(names);
+        self.state.store.bind_names(names);
     }
 
     /// Serves an input: appends it to the journal, and what it causes to the outputs. Bytes that are no input cause a
@@ -70,9 +73,9 @@ impl Brick {
     /// Out of memory, now or in an earlier call. Journal and outputs are unchanged, and the brick is spent: it answers
     /// the same from then on.
     pub fn serve(&mut self, alloc: Global, input: Bytes) -> Result<(), AllocError>
-        ensures ok { OnOk result ((self.old.spent ≡ false) × (self.new ≡ record { journal = self.old.journal ++ input ∷ []; spent = false })) }
+        ensures ok { OnOk result ((self.old.spent ≡ false) × (self.new ≡ record { journal = self.old.journal ++ input ∷ []; names = self.old.names; spent = false })) }
         ensures said { OnOk result (IsSaid IsInputOf input_text input (input_in input)) }
-        ensures err { OnErr result (self.new ≡ record { journal = self.old.journal; spent = true }) }
+        ensures err { OnErr result (self.new ≡ record { journal = self.old.journal; names = self.old.names; spent = true }) }
     {
         if self.is_spent {
             return Err(AllocError);
@@ -111,11 +114,24 @@ impl Brick {
         self.is_spent
     }
 
-    /// What the brick keeps of its cells. Of a brick that is spent nothing is said here.
+    /// What the brick keeps of its cells, with the names of the replicas. Of a brick that is spent nothing is said
+    /// here.
     pub fn store(&self) -> &Store
-        ensures { self.now.spent ≡ false → result.now ≡ (state_of self.now.journal).cells }
+        ensures { self.now.spent ≡ false → result.now ≡ record { cells = (state_of self.now.journal).store.cells; names = self.now.names } }
     {
         let _journal = &self.inputs;
-        &self.state.cells
+        &self.state.store
+    }
+
+    /// What replicate and distribute keep on the brick's objects, as text: the store's `dump`, under the names of
+    /// `bind_names`. Of a brick that is spent nothing is said here.
+    ///
+    /// # Errors
+    /// Out of memory.
+    pub fn dump(&self, alloc: Global) -> Result<Vec<u8>, AllocError>
+        ensures { IfOk result (λ text. self.now.spent ≡ false → text.items ≡ dumped self.now.names (state_of self.now.journal).store.cells) }
+    {
+        let text = self.store().dump(alloc)?;
+        Ok(text)
     }
 }

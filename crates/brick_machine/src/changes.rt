@@ -10,26 +10,28 @@ use std::alloc::{AllocError, Global};
 ///
 /// # Errors
 /// Out of memory.
+#[tactic(auto, using(crate::proofs::Taking::taken))]
 pub(crate) fn change_cells(
-    cells: &mut Store,
+    store: &mut Store,
     alloc: Global,
     req: BrickReq,
 ) -> Result<bool, AllocError>
-    ensures cells { OnOk result (cells.new ≡ cells_after cells.old req) }
-    ensures fits { IfOk result (λ fits. fits ≡ is_fit cells.old req) }
+    ensures cells { OnOk result (store.new ≡ record store.old { cells = cells_after store.old.cells req }) }
+    ensures fits { IfOk result (λ fits. fits ≡ is_fit store.old.cells req) }
+    ensures names { store.new.names ≡ store.old.names }
 {
     match req {
         BrickReq::Mark { cells: those, .. } => {
-            cells.mark(those.as_slice())?;
+            store.mark(those.as_slice())?;
             Ok(true)
         }
-        BrickReq::Op { change, op, .. } => cells.take(alloc, change, op),
+        BrickReq::Op { change, op, .. } => store.take(alloc, change, op),
         BrickReq::Post {
             cells: those,
             mask,
             ..
         } => {
-            cells.post(those.as_slice(), mask)?;
+            store.post(those.as_slice(), mask)?;
             Ok(true)
         }
         BrickReq::Replace {
@@ -37,15 +39,15 @@ pub(crate) fn change_cells(
             last,
             content,
         } => {
-            cells.replace(&cell, content, last)?;
+            store.replace(&cell, content, last)?;
             Ok(true)
         }
         BrickReq::Clear { cells: those, mask } => {
-            cells.clear(those.as_slice(), mask);
+            store.clear(those.as_slice(), mask);
             Ok(true)
         }
         BrickReq::Settle { cells: those, mask } => {
-            cells.settle(those.as_slice(), mask)?;
+            store.settle(those.as_slice(), mask)?;
             Ok(true)
         }
         BrickReq::Lock { .. } => Ok(true),

@@ -23,6 +23,7 @@ impl State {
     ) -> Result<(), AllocError>
         ensures state { OnOk result (self.new ≡ (connected self.old graph version).state) }
         ensures outs { OnOk result (outs.new ≡ put_out outs.old (connected self.old graph version).outs) }
+        ensures names { self.new.store.names ≡ self.old.store.names }
     {
         if self.down.is_some() {
             return Ok(());
@@ -41,6 +42,7 @@ impl State {
     ) -> Result<(), AllocError>
         ensures state { OnOk result (self.new ≡ (disconnected self.old graph).state) }
         ensures outs { OnOk result (outs.new ≡ put_out outs.old (disconnected self.old graph).outs) }
+        ensures names { self.new.store.names ≡ self.old.store.names }
     {
         self.drop_graph(alloc, outs, graph)?;
         self.graphs.disconnect(graph);
@@ -75,6 +77,7 @@ impl State {
     ) -> Result<(), AllocError>
         ensures state { OnOk result (self.new ≡ (gone_down self.old serve).state) }
         ensures outs { OnOk result (outs.new ≡ put_out outs.old (gone_down self.old serve).outs) }
+        ensures names { self.new.store.names ≡ self.old.store.names }
     {
         outs.put(alloc, OutKind::Closed)?;
         self.drop_locks(alloc, outs)?;
@@ -86,6 +89,7 @@ impl State {
     pub(crate) fn come_up(&mut self, alloc: Global, outs: &mut Outs) -> Result<(), AllocError>
         ensures state { OnOk result (self.new ≡ (opened_again self.old).state) }
         ensures outs { OnOk result (outs.new ≡ put_out outs.old (opened_again self.old).outs) }
+        ensures names { self.new.store.names ≡ self.old.store.names }
     {
         self.down = None;
         outs.put(alloc, OutKind::Opened)
@@ -93,7 +97,8 @@ impl State {
 
     /// Names a request that is to fail.
     pub(crate) fn fault_at(&mut self, proc: Proc, number: u32) -> Result<(), AllocError>
-        ensures { OnOk result (self.new ≡ (faulted self.old proc number).state) }
+        ensures state { OnOk result (self.new ≡ (faulted self.old proc number).state) }
+        ensures names { self.new.store.names ≡ self.old.store.names }
     {
         self.faults.fail_at(proc, number)
     }

@@ -10,14 +10,14 @@
 //! ```
 //!
 //! A brick is a function of its journal: by its type its outputs and its state are `outputs_of` and `state_of` the
-//! journal. So what a brick answers is known from what was sent to it, and its first outputs don't change as more
-//! inputs come. Bytes that are no input change nothing, and are answered `Malformed` with the place at which they
-//! stop being one.
+//! journal, but for the names of replicas in its store, which only `dump` shows. So what a brick answers is known from
+//! what was sent to it, and its first outputs don't change as more inputs come. Bytes that are no input change
+//! nothing, and are answered `Malformed` with the place at which they stop being one.
 //!
 //! ```text
 //!   Brick      journal, outputs, spent
 //!     State    served input by input
-//!       Store      cells with rows              (cell_store)
+//!       Store      cells with rows, names       (cell_store)
 //!       BrickLocks held and waiting locks       (brick_locks)
 //!       Waiters    the wind of each lock that waits
 //!       Graphs     connected graphs with their open descriptors

@@ -15,12 +15,12 @@ use cell_store::Store;
 use fop_types::{BrickRep, Cell, DoneArm, Row, Seq};
 use std::alloc::{AllocError, Global};
 
-fn rows_of(alloc: Global, cells: &Store, those: &[Cell]) -> Result<Seq<Row>, AllocError>
-    ensures { IfOk result (λ rows. rows ≡ rows_in cells.now those.now) }
+fn rows_of(alloc: Global, store: &Store, those: &[Cell]) -> Result<Seq<Row>, AllocError>
+    ensures { IfOk result (λ rows. rows ≡ rows_in store.now.cells those.now) }
 {
     let mut rows = Vec::with_capacity(alloc, those.len())?;
     for cell in those {
-        rows.push(cells.row(cell))?;
+        rows.push(store.row(cell))?;
     }
     Ok(Seq::from_vec(rows))
 }
@@ -30,13 +30,13 @@ impl Outs {
     fn grant(
         &mut self,
         alloc: Global,
-        cells: &Store,
+        store: &Store,
         wind: u64,
         those: &[Cell],
     ) -> Result<(), AllocError>
-        ensures { OnOk result (self.new ≡ put_out self.old (Reply wind (granted cells.now those.now) ∷ [])) }
+        ensures { OnOk result (self.new ≡ put_out self.old (Reply wind (granted store.now.cells those.now) ∷ [])) }
     {
-        let rows = rows_of(alloc, cells, those)?;
+        let rows = rows_of(alloc, store, those)?;
         self.reply(alloc, wind, BrickRep::Done(DoneArm::Rows(rows)))
     }
 }
@@ -59,15 +59,15 @@ impl Waiters {
     fn grant(
         &mut self,
         alloc: Global,
-        cells: &Store,
+        store: &Store,
         outs: &mut Outs,
         owner: Owner,
     ) -> Result<(), AllocError>
         ensures waiters { OnOk result (self.new ≡ without_waiter self.old owner) }
-        ensures outs { OnOk result (outs.new ≡ put_out outs.old (to_waiter (λ w. granted cells.now w.cells) (waiter_of self.old owner))) }
+        ensures outs { OnOk result (outs.new ≡ put_out outs.old (to_waiter (λ w. granted store.now.cells w.cells) (waiter_of self.old owner))) }
     {
         match self.remove(owner) {
-            Some(waiter) => outs.grant(alloc, cells, waiter.wind, waiter.cells.as_slice()),
+            Some(waiter) => outs.grant(alloc, store, waiter.wind, waiter.cells.as_slice()),
             None => Ok(()),
         }
     }
@@ -90,15 +90,15 @@ impl Waiters {
     fn grant_each(
         &mut self,
         alloc: Global,
-        cells: &Store,
+        store: &Store,
         outs: &mut Outs,
         owners: &[Owner],
     ) -> Result<(), AllocError>
         ensures waiters { OnOk result (self.new ≡ left_waiting self.old owners.now) }
-        ensures outs { OnOk result (outs.new ≡ put_out outs.old (grant_replies cells.now self.old owners.now)) }
+        ensures outs { OnOk result (outs.new ≡ put_out outs.old (grant_replies store.now.cells self.old owners.now)) }
     {
         for owner in owners {
-            self.grant(alloc, cells, outs, *owner)?;
+            self.grant(alloc, store, outs, *owner)?;
         }
         Ok(())
     }
@@ -118,6 +118,7 @@ impl State {
     ) -> Result<(), AllocError>
         ensures state { OnOk result (self.new ≡ (locked self.old wind owner shared cells).state) }
         ensures outs { OnOk result (outs.new ≡ put_out outs.old (locked self.old wind owner shared cells).outs) }
+        ensures names { self.new.store.names ≡ self.old.store.names }
     {
         if self.locks.knows(owner) {
             return outs.reply(alloc, wind, BrickRep::Unfit);
@@ -137,10 +138,11 @@ impl State {
         requires { is_known owner self.old.locks ≡ false }
         ensures state { OnOk result (self.new ≡ (asked self.old wind owner shared cells).state) }
         ensures outs { OnOk result (outs.new ≡ put_out outs.old (asked self.old wind owner shared cells).outs) }
+        ensures names { self.new.store.names ≡ self.old.store.names }
     {
         match self.locks.ask(alloc, owner, cells.as_slice(), shared)? {
             Asked::Queued => self.waiters.insert(owner, Waiter { wind, cells }),
-            Asked::Granted => outs.grant(alloc, &self.cells, wind, cells.as_slice()),
+            Asked::Granted => outs.grant(alloc, &self.store, wind, cells.as_slice()),
         }
     }
 
@@ -154,11 +156,12 @@ impl State {
     ) -> Result<(), AllocError>
         ensures state { OnOk result (self.new ≡ (unlocked self.old wind owner).state) }
         ensures outs { OnOk result (outs.new ≡ put_out outs.old (unlocked self.old wind owner).outs) }
+        ensures names { self.new.store.names ≡ self.old.store.names }
     {
         outs.done(alloc, wind)?;
         let freed = self.locks.release(alloc, owner)?;
         self.waiters
-            .grant_each(alloc, &self.cells, outs, freed.as_slice())
+            .grant_each(alloc, &self.store, outs, freed.as_slice())
     }
 
     /// Drops the locks of a graph: those that wait are answered Gone, and then those of other graphs that wait no
@@ -171,18 +174,20 @@ impl State {
     ) -> Result<(), AllocError>
         ensures state { OnOk result (self.new ≡ (graph_dropped self.old graph).state) }
         ensures outs { OnOk result (outs.new ≡ put_out outs.old (graph_dropped self.old graph).outs) }
+        ensures names { self.new.store.names ≡ self.old.store.names }
     {
         let dropped = self.locks.drop_graph(alloc, graph)?;
         self.waiters
             .say_gone_each(alloc, outs, dropped.gone.as_slice())?;
         self.waiters
-            .grant_each(alloc, &self.cells, outs, dropped.granted.as_slice())
+            .grant_each(alloc, &self.store, outs, dropped.granted.as_slice())
     }
 
     /// Drops all locks: those that wait are answered Gone.
     pub(crate) fn drop_locks(&mut self, alloc: Global, outs: &mut Outs) -> Result<(), AllocError>
         ensures state { OnOk result (self.new ≡ record self.old { locks = []; waiters = [] }) }
         ensures outs { OnOk result (outs.new ≡ put_out outs.old (gone_replies self.old.waiters (owners (waiting self.old.locks)))) }
+        ensures names { self.new.store.names ≡ self.old.store.names }
     {
         let dropped = self.locks.drop_all(alloc)?;
         self.waiters

@@ -13,6 +13,7 @@ impl State {
     fn input(&mut self, alloc: Global, outs: &mut Outs, input: Input) -> Result<(), AllocError>
         ensures state { OnOk result (self.new ≡ (input_served self.old input).state) }
         ensures outs { OnOk result (outs.new ≡ put_out outs.old (input_served self.old input).outs) }
+        ensures names { self.new.store.names ≡ self.old.store.names }
     {
         match input {
             Input::Request { wind, graph, req } => self.request(alloc, outs, wind, graph, req),
@@ -36,6 +37,7 @@ impl State {
     ) -> Result<(), AllocError>
         ensures state { OnOk result (self.new ≡ (served self.old message).state) }
         ensures outs { OnOk result (outs.new ≡ put_out outs.old (served self.old message).outs) }
+        ensures names { self.new.store.names ≡ self.old.store.names }
     {
         match message {
             Message::Whole(input) => self.input(alloc, outs, input),

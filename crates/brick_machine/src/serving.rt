@@ -63,8 +63,9 @@ impl State {
     ) -> Result<(), AllocError>
         ensures state { OnOk result (self.new ≡ (changed self.old wind req).state) }
         ensures outs { OnOk result (outs.new ≡ put_out outs.old (changed self.old wind req).outs) }
+        ensures names { self.new.store.names ≡ self.old.store.names }
     {
-        let fits = change_cells(&mut self.cells, alloc, req)?;
+        let fits = change_cells(&mut self.store, alloc, req)?;
         outs.changed(alloc, wind, fits)
     }
 
@@ -78,6 +79,7 @@ impl State {
     ) -> Result<(), AllocError>
         ensures state { OnOk result (self.new ≡ record self.old { graphs = with_fd self.old.graphs graph fd }) }
         ensures outs { OnOk result (outs.new ≡ put_out outs.old (Reply wind (Done done.Nothing) ∷ [])) }
+        ensures names { self.new.store.names ≡ self.old.store.names }
     {
         self.graphs.open(graph, fd)?;
         outs.done(alloc, wind)
@@ -93,6 +95,7 @@ impl State {
     ) -> Result<(), AllocError>
         ensures state { OnOk result (self.new ≡ (served_now self.old wind graph req).state) }
         ensures outs { OnOk result (outs.new ≡ put_out outs.old (served_now self.old wind graph req).outs) }
+        ensures names { self.new.store.names ≡ self.old.store.names }
     {
         match req {
             BrickReq::Lock {
@@ -128,7 +131,7 @@ impl State {
                 if !self.graphs.is_good(graph, fd) {
                     return outs.reply(alloc, wind, BrickRep::BadFd);
                 }
-                outs.fetch(alloc, &self.cells, wind, &cell)
+                outs.fetch(alloc, &self.store, wind, &cell)
             }
             BrickReq::Replace {
                 cell,
@@ -150,7 +153,7 @@ impl State {
             BrickReq::Settle { cells, mask } => {
                 self.change(alloc, outs, wind, BrickReq::Settle { cells, mask })
             }
-            BrickReq::Index => outs.index(alloc, &self.cells, wind),
+            BrickReq::Index => outs.index(alloc, &self.store, wind),
             BrickReq::Open { fd, .. } => self.open(alloc, outs, wind, graph, fd),
             BrickReq::Release { fd } => {
                 if !self.graphs.is_good(graph, fd) {
@@ -171,8 +174,9 @@ impl State {
     ) -> Result<(), AllocError>
         ensures state { OnOk result (self.new ≡ (served_late self.old wind req).state) }
         ensures outs { OnOk result (outs.new ≡ put_out outs.old (served_late self.old wind req).outs) }
+        ensures names { self.new.store.names ≡ self.old.store.names }
     {
-        let _fits = change_cells(&mut self.cells, alloc, req)?;
+        let _fits = change_cells(&mut self.store, alloc, req)?;
         outs.reply(alloc, wind, BrickRep::Gone)
     }
 
@@ -186,6 +190,7 @@ impl State {
     ) -> Result<(), AllocError>
         ensures state { OnOk result (self.new ≡ (request_while_down self.old wind graph req).state) }
         ensures outs { OnOk result (outs.new ≡ put_out outs.old (request_while_down self.old wind graph req).outs) }
+        ensures names { self.new.store.names ≡ self.old.store.names }
     {
         if !self.is_late(graph) {
             return outs.reply(alloc, wind, BrickRep::Gone);
@@ -207,6 +212,7 @@ impl State {
     ) -> Result<(), AllocError>
         ensures state { OnOk result (self.new ≡ (request_while_up self.old wind graph req).state) }
         ensures outs { OnOk result (outs.new ≡ put_out outs.old (request_while_up self.old wind graph req).outs) }
+        ensures names { self.new.store.names ≡ self.old.store.names }
     {
         if !self.graphs.is_connected(graph) {
             return outs.reply(alloc, wind, BrickRep::Gone);
@@ -228,6 +234,7 @@ impl State {
     ) -> Result<(), AllocError>
         ensures state { OnOk result (self.new ≡ (request_served self.old wind graph req).state) }
         ensures outs { OnOk result (outs.new ≡ put_out outs.old (request_served self.old wind graph req).outs) }
+        ensures names { self.new.store.names ≡ self.old.store.names }
     {
         if self.down.is_some() {
             return self.request_down(alloc, outs, wind, graph, req);

@@ -12,7 +12,7 @@ use std::alloc::{AllocError, Global};
 /// What a brick keeps between two inputs.
 #[derive(Drop)]
 pub struct State {
-    pub cells: Store,
+    pub store: Store,
     pub locks: BrickLocks,
     pub waiters: Waiters,
     pub graphs: Graphs,
@@ -21,16 +21,16 @@ pub struct State {
 }
 
 impl State {
-    /// A new brick: the root alone, no connection, not down.
+    /// A new brick: the root alone, no names of replicas, no connection, not down.
     ///
     /// # Errors
     /// Out of memory.
     pub(crate) fn new(alloc: Global) -> Result<State, AllocError>
         ensures { IfOk result (λ s. s ≡ start) }
     {
-        let cells = Store::new(alloc)?;
+        let store = Store::new(alloc)?;
         Ok(State {
-            cells,
+            store,
             locks: BrickLocks::new(alloc),
             waiters: Waiters::new(alloc),
             graphs: Graphs::new(alloc),

@@ -39,7 +39,7 @@ fn attributes_and_links_are_shown(rt: HostRuntime) -> Result<(), Fail> {
     for input in &INPUTS {
         serve(alloc, &mut brick, input)?;
     }
-    let shown = brick.store().dump(alloc)?;
+    let shown = brick.dump(alloc)?;
     assert!(rt; shown.as_slice() == SHOWN);
     Ok(())
 }

@@ -1,8 +1,8 @@
 -- The text in which a brick shows what replicate and distribute keep on its objects: by rising gfid, a line for each
 -- attribute that is not zero, and one for each link. After `getfattr` of a brick's files in GlusterFS.
-use Rattle.std.specs.Prelude.{◌≡◌, ℕ, ◌+◌, ◌/◌, ◌%◌, ◌==◌, ◌&&◌, Bool, false, List, [], ◌∷◌, ◌++◌, Option, Some, None, codes, flat_map, slice_get, slice_index, if◌then◌else◌}
+use Rattle.std.specs.Prelude.{ℕ, ◌+◌, ◌/◌, ◌%◌, ◌==◌, ◌&&◌, Bool, false, List, [], ◌∷◌, ◌++◌, Option, Some, None, codes, flat_map, slice_get, slice_index, if◌then◌else◌}
 use Rattle.std.specs.Fmt.{digit_glyph}
-use Rattle.std.specs.Int.{w32, w64, to_be_bytes}
+use Rattle.std.specs.Int.{w64, to_be_bytes}
 use Rattle.fop_types.specs.Cells.{data_cell, meta_cell, names_cell}
 use Rattle.fop_types.specs.Names.{is_link}
 use Rattle.fop_types.specs.declared.cells.Gfid.{Gfid}
@@ -91,10 +91,6 @@ lines_from names cells last [] = []
 lines_from names cells last (e ∷ es) =
     if is_shown last e.0.gfid then lines_from names cells last es else object_lines names cells e.0.gfid ++ lines_from names cells (Some e.0.gfid) es
 
+-- the whole text, under the names of the replicas in their order
 abbrev pub dumped : List (List ℕ) → Cells → List ℕ
 dumped names cells = lines_from names cells None cells
-
--- shown under some names of replicas
-pub record IsDumpOf (cells : Cells) (text : List ℕ) : Type 0 where
-  pub names : List (List ℕ)
-  pub is : text ≡ dumped names cells

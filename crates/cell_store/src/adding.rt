@@ -6,14 +6,14 @@ ghost use Rattle.fop_types.specs.StoreOps.Edit.{PutItem};
 ghost use Rattle.cell_store.specs.Cells.{contents_of, with_births, with_edits, IsCountedRow};
 ghost use Rattle.cell_store.specs.code.Steps.{with_earlier};
 
+use crate::cell_map::CellMap;
 use crate::lookups::{data_cell, meta_cell, names_cell};
 use crate::steps::Step;
-use crate::store::Store;
 use contents::Edit;
 use fop_types::{Cell, Content, Gfid, Item, Kind, Row, Seq, Span};
 use std::alloc::{AllocError, Global};
 
-impl Store {
+impl CellMap {
     // Gives birth to two cells, and gives the rows before it.
     fn give_both(
         &mut self,

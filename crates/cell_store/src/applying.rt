@@ -9,13 +9,13 @@ ghost use Rattle.contents.specs.Edits.{Fits, is_sure};
 ghost use Rattle.cell_store.specs.Cells.{contents_of, with_edits, with_op, applied};
 ghost use Rattle.cell_store.specs.code.Steps.{with_edit};
 
+use crate::cell_map::CellMap;
 use crate::lookups::{data_cell, meta_cell, names_cell};
-use crate::store::Store;
 use contents::Edit;
 use fop_types::{Cell, Gfid, Item, Seq, StoreOp};
 use std::alloc::{AllocError, Global};
 
-impl Store {
+impl CellMap {
     // An edit that needs no memory.
     fn edit_surely(&mut self, alloc: Global, cell: &Cell, change: u64, by: Edit)
         requires present { is_some (contents_of self.old cell.now) ≡ true }
@@ -147,7 +147,12 @@ impl Store {
     ///
     /// # Errors
     /// Out of memory, with nothing changed.
-    pub fn take(&mut self, alloc: Global, change: u64, op: StoreOp) -> Result<bool, AllocError>
+    pub(crate) fn take(
+        &mut self,
+        alloc: Global,
+        change: u64,
+        op: StoreOp,
+    ) -> Result<bool, AllocError>
         ensures fits { IfOk result (λ fits. MatchBool fits (applied self.old change op ≡ Some self.new) ((applied self.old change op ≡ None) × (self.new ≡ self.old))) }
         ensures err { OnErr result (self.new ≡ self.old) }
     {
@@ -162,7 +167,12 @@ impl Store {
     ///
     /// # Errors
     /// Out of memory, with nothing changed.
-    pub fn apply(&mut self, alloc: Global, change: u64, op: &StoreOp) -> Result<bool, AllocError>
+    pub(crate) fn apply(
+        &mut self,
+        alloc: Global,
+        change: u64,
+        op: &StoreOp,
+    ) -> Result<bool, AllocError>
         ensures fits { IfOk result (λ fits. MatchBool fits (applied self.old change op.now ≡ Some self.new) ((applied self.old change op.now ≡ None) × (self.new ≡ self.old))) }
         ensures err { OnErr result (self.new ≡ self.old) }
     {

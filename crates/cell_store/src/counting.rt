@@ -5,17 +5,17 @@ ghost use Rattle.fop_types.specs.Orders.{cell_cmp};
 ghost use Rattle.cell_store.specs.Cells.{kept_at, clear_of, marked, posted, settled, cleared, changed_at};
 ghost use Rattle.cell_store.specs.code.Steps.{counted};
 
+use crate::cell_map::CellMap;
 use crate::steps::{Count, Step};
-use crate::store::Store;
 use fop_types::{Cell, Mask};
 use std::alloc::AllocError;
 
-impl Store {
+impl CellMap {
     /// Raises the count of marks of each cell by one. A count at 2,147,483,647 stays there.
     ///
     /// # Errors
     /// Out of memory, with nothing changed.
-    pub fn mark(&mut self, cells: &[Cell]) -> Result<(), AllocError>
+    pub(crate) fn mark(&mut self, cells: &[Cell]) -> Result<(), AllocError>
         ensures ok { OnOk result (self.new ≡ marked cells.now self.old) }
         ensures err { OnErr result (self.new ≡ self.old) }
     {
@@ -27,7 +27,7 @@ impl Store {
     ///
     /// # Errors
     /// Out of memory, with nothing changed.
-    pub fn post(&mut self, cells: &[Cell], accuse: Mask) -> Result<(), AllocError>
+    pub(crate) fn post(&mut self, cells: &[Cell], accuse: Mask) -> Result<(), AllocError>
         ensures ok { OnOk result (self.new ≡ posted cells.now accuse self.old) }
         ensures err { OnErr result (self.new ≡ self.old) }
     {
@@ -38,7 +38,7 @@ impl Store {
     ///
     /// # Errors
     /// Out of memory, with nothing changed.
-    pub fn settle(&mut self, cells: &[Cell], accuse: Mask) -> Result<(), AllocError>
+    pub(crate) fn settle(&mut self, cells: &[Cell], accuse: Mask) -> Result<(), AllocError>
         ensures ok { OnOk result (self.new ≡ settled cells.now accuse self.old) }
         ensures err { OnErr result (self.new ≡ self.old) }
     {
@@ -46,7 +46,7 @@ impl Store {
     }
 
     /// Takes all accusations of a mask's replicas on each cell back.
-    pub fn clear(&mut self, cells: &[Cell], who: Mask)
+    pub(crate) fn clear(&mut self, cells: &[Cell], who: Mask)
         ensures { self.new ≡ cleared cells.now who self.old }
     {
         for cell in cells {

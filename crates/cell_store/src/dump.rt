@@ -1,10 +1,10 @@
 //! What a brick shows of its cells as text, for people and for tests.
 ghost use Rattle.std.specs.Prelude.{◌≡◌, ◌++◌, None, OnOk, IfOk};
 ghost use Rattle.cell_store.specs.Cells.{contents_of};
-ghost use Rattle.cell_store.specs.Dump.{content_lines, object_lines, is_shown as is_shown_last, dumped, IsDumpOf};
+ghost use Rattle.cell_store.specs.Dump.{content_lines, object_lines, is_shown as is_shown_last, dumped};
 
+use crate::cell_map::CellMap;
 use crate::lookups::{data_cell, meta_cell, names_cell};
-use crate::store::Store;
 use crate::text::Text;
 use fop_types::{Cell, Gfid, Seq};
 use std::alloc::{AllocError, Global};
@@ -18,14 +18,7 @@ fn is_shown(last: Option<Gfid>, gfid: Gfid) -> bool
     }
 }
 
-impl Store {
-    /// Binds the names under which `dump` shows the replicas: those of the client volumes, in replica order.
-    pub fn bind_names(&mut self, names: Seq<Seq<u8>>)
-        ensures { self.new ≡ self.old }
-    {
-        self.names = names;
-    }
-
+impl CellMap {
     fn put_content(&self, text: &mut Text, gfid: Gfid, cell: &Cell) -> Result<(), AllocError>
         ensures { OnOk result (text.new ≡ text.old ++ content_lines gfid (contents_of self.now cell.now)) }
     {
@@ -60,21 +53,15 @@ impl Store {
         Ok(())
     }
 
-    /// The attributes that replicate and distribute keep on the store's objects, as text: by rising gfid, a line
-    /// each with the gfid, the attribute's name and its value in hexadecimal.
-    ///
-    /// `trusted.afr.dirty` and `trusted.afr.NAME` for each replica have the counters of data, metadata and
-    /// entries, and stand where one is not zero; NAME is that of `bind_names`, or the replica's number.
-    /// `trusted.glusterfs.dht` has the range of a directory's copy. A link is a line with its directory's gfid, its
-    /// name, mode 01000 and `trusted.glusterfs.dht.linkto` with the name of the set that it points to.
+    /// The text of `Store::dump`, by the names of the replicas in their order.
     ///
     /// # Errors
     /// Out of memory.
-    pub fn dump(&self, alloc: Global) -> Result<Vec<u8>, AllocError>
-        ensures { IfOk result (λ text. IsDumpOf self.now text.items) }
+    pub(crate) fn dump(&self, alloc: Global, names: &[Seq<u8>]) -> Result<Vec<u8>, AllocError>
+        ensures { IfOk result (λ text. text.items ≡ dumped names.now self.now) }
     {
         let mut text = Text::new(alloc);
-        self.put_objects(&mut text, self.names.as_slice())?;
+        self.put_objects(&mut text, names)?;
         Ok(text.into_bytes())
     }
 }

@@ -7,8 +7,8 @@ ghost use Rattle.fop_types.specs.Names.{is_directory as is_directory_of_kind, is
 ghost use Rattle.fop_types.specs.Cells.{data_cell as data_of, names_cell as names_of};
 ghost use Rattle.cell_store.specs.Cells.{contents_of};
 
+use crate::cell_map::CellMap;
 use crate::lookups::{data_cell, is_real, meta_cell, names_cell};
-use crate::store::Store;
 use fop_types::{Gfid, Item, Kind, Seq, StoreOp};
 
 const FILE_LIMIT: usize = 65536;
@@ -62,7 +62,7 @@ fn is_same_name(parent: Gfid, name: &[u8], target: Gfid, new_name: &[u8]) -> boo
     parent.cmp(&target).is_eq() && name == new_name
 }
 
-impl Store {
+impl CellMap {
     fn fits_write(&self, gfid: Gfid, offset: u32, bytes: &[u8]) -> bool
         ensures { result ≡ are_present (contents_of self.now) (data_of gfid ∷ []) && not (nat_lt file_limit (offset + length bytes.now)) }
     {

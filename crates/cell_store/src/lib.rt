@@ -1,5 +1,5 @@
 //! A brick's store: what one brick keeps of the cells of its set, as one map from cell to its copy, its
-//! counters and the number of its last change.
+//! counters and the number of its last change; and the names under which it shows the replicas of the set.
 //!
 //! ```text
 //!   cell                 copy                        dirty   accuses   last
@@ -16,6 +16,11 @@
 //! that it came through and which replicas missed it; a settle decides a change that stopped on its way, and
 //! a copy from another brick ends with a clear. Where memory runs out the store is as it was before the call.
 //!
+//! ```text
+//!   Store       cells and names: what callers see
+//!     CellMap   the cells alone: requests change these
+//! ```
+//!
 //! The brick machine calls this for each request that it serves, and owns the one store of its brick.
 //! `specs/Cells.antt` says what each call makes of the cells; `specs/code/` has the steps of the code.
 #![tactic(auto)]
@@ -23,6 +28,7 @@
 mod adding;
 mod applying;
 mod cell_laws;
+mod cell_map;
 mod counters;
 mod counting;
 mod dump;

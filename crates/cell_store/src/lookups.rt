@@ -6,7 +6,7 @@ ghost use Rattle.fop_types.specs.Names.{attr_named, is_link, has_real_name as ho
 ghost use Rattle.fop_types.specs.StoreOps.{holds, item_in, items_of, attrs_of, is_removed as is_removed_copy, are_present, both_names};
 ghost use Rattle.cell_store.specs.Cells.{contents_of};
 
-use crate::store::Store;
+use crate::cell_map::CellMap;
 use fop_types::{Aspect, Cell, Content, Gfid, Item, Kind};
 
 /// The cell of a file's bytes.
@@ -81,7 +81,7 @@ fn has_real_name(items: &[Item]) -> bool
     false
 }
 
-impl Store {
+impl CellMap {
     /// Whether a cell is present, with a content of its aspect.
     pub(crate) fn holds(&self, cell: Cell) -> bool
         ensures { result ≡ holds cell.aspect (contents_of self.now cell) }

@@ -1,116 +1,59 @@
-ghost use Rattle.std.specs.Prelude.{◌≡◌, ◌≤◌, true, Some, None, is_some, IsOk, IfOk, IfSome, OnOk, OnErr};
-ghost use Rattle.std.specs.Option.{option_map, option_copied};
-ghost use Rattle.fop_types.specs.Bounds.{Each};
-ghost use Rattle.afr_changelog.specs.Counters.{full_count};
-ghost use Rattle.contents.specs.Edits.{Fits, is_sure};
-ghost use Rattle.cell_store.specs.Cells.{nothing_kept, root_alone, kept_at, copy_of, row_of, contents_of, replaced, present_in, IsCountedRow};
-ghost use Rattle.cell_store.specs.code.Steps.{with_step, with_earlier, with_edit};
+ghost use Rattle.std.specs.Prelude.{◌≡◌, [], Some, None, MatchBool, IfOk, OnOk, OnErr};
+ghost use Rattle.std.specs.Option.{option_map};
+ghost use Rattle.cell_store.specs.Cells.{root_alone, kept_at, copy_of, row_of, present_in, replaced, marked, posted, settled, cleared, applied};
+ghost use Rattle.cell_store.specs.Dump.{dumped};
 
-use crate::kept::Kept;
-use crate::steps::Step;
-use contents::{Edit, OrderedContent};
-use fop_types::{Aspect, Cell, Content, Gfid, Row, Seq};
+use crate::cell_map::CellMap;
+use fop_types::{Cell, Content, Mask, Row, Seq, StoreOp};
 use std::alloc::{AllocError, Global};
-use std::collections::BTreeMap;
 use std::marker::Model;
 
-/// What one brick keeps of its set's cells.
+/// What one brick keeps of its set's cells, and the names under which it shows the replicas of the set.
 ///
-/// Contracts see it as the list of its entries by rising cell.
+/// Contracts see it as its cells, the list of their entries by rising cell, and its names. `bind_names` alone changes
+/// the names.
 #[derive(Drop)]
 pub struct Store {
-    pub(crate) cells: BTreeMap<Cell, Kept>,
-    pub(crate) names: Seq<Seq<u8>>,
+    cells: CellMap,
+    names: Seq<Seq<u8>>,
 }
 
 impl Model for Store {
-    ghost use Rattle.std.specs.List.{All};
-    ghost use Rattle.std.specs.Map.{values_of};
-    ghost use Rattle.cell_store.specs.Cells.{Cells, IsCounted};
+    ghost use Rattle.cell_store.specs.StoreState.{StoreState};
 
-    ghost Value = { Cells };
+    ghost Value = { StoreState };
 
-    ghost view = { λ s. s.cells.entries };
-
-    ghost invariant = { λ s. All IsCounted (values_of s.cells.entries) };
-}
-
-// A cell that is present with no mark, no accusation and no change.
-fn present(content: Content) -> Kept
-    ensures { result ≡ record nothing_kept { content = Some content } }
-{
-    Kept {
-        content: Some(OrderedContent::new(content)),
-        dirty: 0,
-        pending: [0; 5],
-        last: 0,
-    }
+    ghost view = { λ s. record { cells = s.cells; names = s.names } };
 }
 
 impl Store {
-    /// The store of a new brick: the root's metadata, mode 755 octal, and its empty names.
+    /// The store of a new brick: the root's metadata, mode 755 octal, and its empty names. No replica has a name.
     ///
     /// # Errors
     /// Out of memory.
     pub fn new(alloc: Global) -> Result<Store, AllocError>
-        ensures { IfOk result (λ s. s ≡ root_alone) }
+        ensures { IfOk result (λ s. s ≡ record { cells = root_alone; names = [] }) }
     {
-        let gfid = Gfid { hi: 0, lo: 1 };
-        let mut cells = BTreeMap::new(alloc);
-        let meta = Content::Meta {
-            mode: 0o755,
-            attrs: Seq::new(alloc),
-            span: None,
-        };
-        let aspect = Aspect::Meta;
-        cells.insert(Cell { gfid, aspect }, present(meta))?;
-        let names = Content::Names {
-            removed: false,
-            items: Seq::new(alloc),
-        };
-        let aspect = Aspect::Entry;
-        cells.insert(Cell { gfid, aspect }, present(names))?;
-        let names = Seq::new(alloc);
-        Ok(Store { cells, names })
+        let cells = CellMap::new(alloc)?;
+        Ok(Store {
+            cells,
+            names: Seq::new(alloc),
+        })
     }
 
-    /// The content of a cell, `None` exactly where it is not present.
-    pub(crate) fn content(&self, cell: &Cell) -> Option<&Content>
-        ensures { option_copied result ≡ contents_of self.now cell.now }
+    /// Binds the names under which `dump` shows the replicas: those of the client volumes, in replica order. It needs
+    /// no memory.
+    pub fn bind_names(&mut self, names: Seq<Seq<u8>>)
+        ensures { self.new ≡ record self.old { names = names } }
     {
-        match self.cells.get(cell) {
-            Some(kept) => match &kept.content {
-                Some(content) => Some(content.content()),
-                None => None,
-            },
-            None => None,
-        }
-    }
-
-    /// The same, to find names in it.
-    pub(crate) fn ordered(&self, cell: &Cell) -> Option<&OrderedContent>
-        ensures { option_copied result ≡ contents_of self.now cell.now }
-    {
-        match self.cells.get(cell) {
-            Some(kept) => match &kept.content {
-                Some(content) => Some(content),
-                None => None,
-            },
-            None => None,
-        }
+        self.names = names;
     }
 
     /// The copy of a cell with the number of its last change, `None` exactly where the cell is not present.
     pub fn copy(&self, cell: &Cell) -> Option<(&Content, u64)>
-        ensures { option_map (λ copy. (copy.0.now, copy.1)) result ≡ copy_of (kept_at self.now cell.now) }
+        ensures { option_map (λ copy. (copy.0.now, copy.1)) result ≡ copy_of (kept_at self.now.cells cell.now) }
     {
-        match self.cells.get(cell) {
-            Some(kept) => match &kept.content {
-                Some(content) => Some((content.content(), kept.last)),
-                None => None,
-            },
-            None => None,
-        }
+        self.cells.copy(cell)
     }
 
     /// A copy of a cell with the number of its last change, `None` exactly where the cell is not present.
@@ -118,28 +61,16 @@ impl Store {
     /// # Errors
     /// Out of memory.
     pub fn fetch(&self, alloc: Global, cell: &Cell) -> Result<Option<(Content, u64)>, AllocError>
-        ensures { IfOk result (λ copy. copy ≡ copy_of (kept_at self.now cell.now)) }
+        ensures { IfOk result (λ copy. copy ≡ copy_of (kept_at self.now.cells cell.now)) }
     {
-        match self.cells.get(cell) {
-            Some(kept) => match &kept.content {
-                Some(content) => {
-                    let content = content.content().copy(alloc)?;
-                    Ok(Some((content, kept.last)))
-                }
-                None => Ok(None),
-            },
-            None => Ok(None),
-        }
+        self.cells.fetch(alloc, cell)
     }
 
     /// The row of a cell. Of a cell of which nothing is kept the row is not present, and all zero.
     pub fn row(&self, cell: &Cell) -> Row
-        ensures { result ≡ row_of (kept_at self.now cell.now) }
+        ensures { result ≡ row_of (kept_at self.now.cells cell.now) }
     {
-        match self.cells.get(cell) {
-            Some(kept) => kept.row(),
-            None => Kept::nothing().row(),
-        }
+        self.cells.row(cell)
     }
 
     /// The cells that are present, by gfid and then aspect.
@@ -147,15 +78,25 @@ impl Store {
     /// # Errors
     /// Out of memory.
     pub fn cells(&self, alloc: Global) -> Result<Vec<Cell>, AllocError>
-        ensures { IfOk result (λ cells. cells.items ≡ present_in self.now) }
+        ensures { IfOk result (λ cells. cells.items ≡ present_in self.now.cells) }
     {
-        let mut present = Vec::new(alloc);
-        for (cell, kept) in self.cells.iter() {
-            if kept.content.is_some() {
-                present.push(*cell)?;
-            }
-        }
-        Ok(present)
+        self.cells.cells(alloc)
+    }
+
+    /// The attributes that replicate and distribute keep on the store's objects, as text: by rising gfid, a line
+    /// each with the gfid, the attribute's name and its value in hexadecimal.
+    ///
+    /// `trusted.afr.dirty` and `trusted.afr.NAME` for each replica have the counters of data, metadata and
+    /// entries, and stand where one is not zero; NAME is that of `bind_names`, or the replica's number.
+    /// `trusted.glusterfs.dht` has the range of a directory's copy. A link is a line with its directory's gfid, its
+    /// name, mode 01000 and `trusted.glusterfs.dht.linkto` with the name of the set that it points to.
+    ///
+    /// # Errors
+    /// Out of memory.
+    pub fn dump(&self, alloc: Global) -> Result<Vec<u8>, AllocError>
+        ensures { IfOk result (λ text. text.items ≡ dumped self.now.names self.now.cells) }
+    {
+        self.cells.dump(alloc, self.names.as_slice())
     }
 
     /// Puts another brick's copy of a cell in, with its last change. The counters of the cell stay.
@@ -163,95 +104,76 @@ impl Store {
     /// # Errors
     /// Out of memory, with nothing changed.
     pub fn replace(&mut self, cell: &Cell, content: Content, last: u64) -> Result<(), AllocError>
-        ensures ok { OnOk result (self.new ≡ replaced self.old cell.now content last) }
+        ensures ok { OnOk result (self.new ≡ record self.old { cells = replaced self.old.cells cell.now content last }) }
         ensures err { OnErr result (self.new ≡ self.old) }
     {
-        match self.cells.get_mut(cell) {
-            Some(kept) => {
-                kept.replace(content, last);
-                Ok(())
-            }
-            None => {
-                let mut kept = Kept::nothing();
-                kept.replace(content, last);
-                self.cells.insert(*cell, kept)?;
-                Ok(())
-            }
-        }
+        self.cells.replace(cell, content, last)
     }
 
-    /// Takes one step on a cell, and gives the row before it, where there was one.
+    /// Raises the count of marks of each cell by one. A count at 2,147,483,647 stays there.
     ///
     /// # Errors
     /// Out of memory, with nothing changed.
-    pub(crate) fn step(&mut self, cell: &Cell, step: Step) -> Result<Option<Row>, AllocError>
-        ensures ok { OnOk result (self.new ≡ with_step self.old cell.now step) }
-        ensures back { IfOk result (λ row. with_earlier self.new cell.now row ≡ self.old) }
-        ensures counted { IfOk result (λ row. IfSome row IsCountedRow) }
+    pub fn mark(&mut self, cells: &[Cell]) -> Result<(), AllocError>
+        ensures ok { OnOk result (self.new ≡ record self.old { cells = marked cells.now self.old.cells }) }
         ensures err { OnErr result (self.new ≡ self.old) }
     {
-        match self.cells.get_mut(cell) {
-            Some(kept) => {
-                let row = kept.row();
-                kept.step(step);
-                Ok(Some(row))
-            }
-            None => {
-                let mut kept = Kept::nothing();
-                kept.step(step);
-                self.cells.insert(*cell, kept)?;
-                Ok(None)
-            }
-        }
+        self.cells.mark(cells)
     }
 
-    /// Takes back the last step on a cell, by the row before it.
-    pub(crate) fn take_back(&mut self, cell: &Cell, row: Option<Row>)
-        requires { IfSome row IsCountedRow }
-        ensures { self.new ≡ with_earlier self.old cell.now row }
-    {
-        match row {
-            Some(row) => self.put_row_back(cell, row),
-            None => self.forget(cell),
-        }
-    }
-
-    fn put_row_back(&mut self, cell: &Cell, row: Row)
-        requires { IsCountedRow row }
-        ensures { self.new ≡ with_earlier self.old cell.now (Some row) }
-    {
-        match self.cells.get_mut(cell) {
-            Some(kept) => kept.put_back(row),
-            None => {}
-        }
-    }
-
-    fn forget(&mut self, cell: &Cell)
-        ensures { self.new ≡ with_earlier self.old cell.now None }
-    {
-        let _kept = self.cells.remove(cell);
-    }
-
-    /// Edits the copy of a cell that is present.
+    /// Lowers the count of marks of each cell by one, down to 0, and accuses each replica of a mask once more. A
+    /// count at 2,147,483,647 stays there.
     ///
     /// # Errors
     /// Out of memory, with nothing changed.
-    pub(crate) fn edit(
-        &mut self,
-        alloc: Global,
-        cell: &Cell,
-        change: u64,
-        by: Edit,
-    ) -> Result<(), AllocError>
-        requires present { is_some (contents_of self.old cell.now) ≡ true }
-        requires fits { Fits by }
-        ensures ok { OnOk result (self.new ≡ with_edit self.old cell.now by change) }
+    pub fn post(&mut self, cells: &[Cell], accuse: Mask) -> Result<(), AllocError>
+        ensures ok { OnOk result (self.new ≡ record self.old { cells = posted cells.now accuse self.old.cells }) }
         ensures err { OnErr result (self.new ≡ self.old) }
-        ensures sure { is_sure by ≡ true → IsOk result }
     {
-        match self.cells.get_mut(cell) {
-            Some(kept) => kept.edit(alloc, change, by),
-            None => unreachable!(),
-        }
+        self.cells.post(cells, accuse)
+    }
+
+    /// Sets the count of marks of each cell to 0, and accuses each replica of a mask once more.
+    ///
+    /// # Errors
+    /// Out of memory, with nothing changed.
+    pub fn settle(&mut self, cells: &[Cell], accuse: Mask) -> Result<(), AllocError>
+        ensures ok { OnOk result (self.new ≡ record self.old { cells = settled cells.now accuse self.old.cells }) }
+        ensures err { OnErr result (self.new ≡ self.old) }
+    {
+        self.cells.settle(cells, accuse)
+    }
+
+    /// Takes all accusations of a mask's replicas on each cell back.
+    pub fn clear(&mut self, cells: &[Cell], who: Mask)
+        ensures { self.new ≡ record self.old { cells = cleared cells.now who self.old.cells } }
+    {
+        self.cells.clear(cells, who);
+    }
+
+    /// Applies an op under a change number, and takes its bytes and names into the store: true where it fits,
+    /// and false, with nothing changed, exactly where it does not. It costs a search for each cell that the op
+    /// alters or bears, a search among the names or attributes of these, and one move of what comes after.
+    ///
+    /// # Errors
+    /// Out of memory, with nothing changed.
+    pub fn take(&mut self, alloc: Global, change: u64, op: StoreOp) -> Result<bool, AllocError>
+        ensures fits { IfOk result (λ fits. MatchBool fits (applied self.old.cells change op ≡ Some self.new.cells) ((applied self.old.cells change op ≡ None) × (self.new ≡ self.old))) }
+        ensures names { self.new.names ≡ self.old.names }
+        ensures err { OnErr result (self.new ≡ self.old) }
+    {
+        self.cells.take(alloc, change, op)
+    }
+
+    /// Applies an op under a change number, as `take` does, from a copy of its bytes and names.
+    ///
+    /// # Errors
+    /// Out of memory, with nothing changed.
+    pub fn apply(&mut self, alloc: Global, change: u64, op: &StoreOp) -> Result<bool, AllocError>
+        ensures fits { IfOk result (λ fits. MatchBool fits (applied self.old.cells change op.now ≡ Some self.new.cells) ((applied self.old.cells change op.now ≡ None) × (self.new ≡ self.old))) }
+        ensures names { self.new.names ≡ self.old.names }
+        ensures err { OnErr result (self.new ≡ self.old) }
+    {
+        self.cells.apply(alloc, change, op)
     }
 }

@@ -11,7 +11,7 @@ use Rattle.dht_laws.specs.Costs.{AsksAtMost}
 use Rattle.dht_fops.specs.Courses.{Course, refuses, on_contents, after_read, contents_in, on_names, after_names, on_number, after_change, number_in}
 use Rattle.dht_fops.specs.Courses.Course.{Asks, Extends, Ends}
 use Rattle.dht_fops.specs.Looks.{Ending, where_kept, by_item, looks_along, looks_on, looks, looks_in, finds, reads_spans, span_of, seen_on, unseen}
-use Rattle.dht_fops.specs.declared.look.Seen.{Seen}
+use Rattle.dht_laws.proofs.Arguments.{Seen}
 use Rattle.fop_types.specs.Names.{item_named, is_link}
 use Rattle.fop_types.specs.declared.answers.AppError.TheVariants.{Enoent}
 use Rattle.fop_types.specs.declared.answers.IoError.{IoError}

@@ -19,8 +19,7 @@ use Rattle.dht_fops.specs.Merges.{merged, real_items}
 use Rattle.dht_fops.specs.Objects.{opens, stats, gets_attr, attr_value, reads_bytes, truncates, dels_attr, drops_attr, writes, writes_some}
 use Rattle.dht_fops.specs.Renames.{drops_old_link, adds_link, moves, bears, replaces, changes_names, other_set, target_found, target_ending, looks_for_target, source_at, source_found, second_set}
 use Rattle.dht_fops.specs.Volumes.{Kept, known_set, sets_from}
-use Rattle.dht_fops.specs.declared.rename.Renaming.{Renaming}
-use Rattle.dht_fops.specs.declared.rename.Source.{Source}
+use Rattle.dht_laws.proofs.Arguments.{Renaming, Source}
 use Rattle.dht_fops.specs.declared.volume.Volume.{Volume}
 use Rattle.fop_types.specs.FileBytes.{file_limit}
 use Rattle.fop_types.specs.Limits.{max_item_name}

@@ -19,7 +19,7 @@ use Rattle.dht_fops.specs.Handed.Event.{Replied, Held}
 use Rattle.dht_fops.specs.Looks.{Ending, where_named, where_kept, by_item, looks_along, looks_on, looks_in, finds, reads_spans, span_of, seen_on, unseen}
 use Rattle.dht_laws.specs.Places.{place_made}
 use Rattle.dht_fops.specs.Volumes.{Kept, known_set}
-use Rattle.dht_fops.specs.declared.look.Seen.{Seen}
+use Rattle.dht_laws.proofs.Arguments.{Seen}
 use Rattle.dht_fops.specs.declared.volume.Volume.{Volume}
 use Rattle.fop_types.specs.Limits.{max_item_name}
 use Rattle.fop_types.specs.Names.{item_named, is_link, is_directory}

@@ -20,8 +20,7 @@ use Rattle.dht_fops.specs.Merges.{merged, real_items}
 use Rattle.dht_fops.specs.Objects.{home, opened, opens, stats, dir_stat, file_stat, attr_read, attr_seen, bytes_read, attr_value, gets_attr, drops_attr, dels_attr, reads_bytes, changes_cell, truncates, writes_some, writes}
 use Rattle.dht_fops.specs.Renames.{adds_link, moves, bears, replaces, changes_names, other_set, target_found, target_ending, looks_for_target, source_at, source_found, second_set}
 use Rattle.dht_fops.specs.Volumes.{Kept, known_set, sets_from}
-use Rattle.dht_fops.specs.declared.rename.Renaming.{Renaming}
-use Rattle.dht_fops.specs.declared.rename.Source.{Source}
+use Rattle.dht_laws.proofs.Arguments.{Renaming, Source}
 use Rattle.dht_fops.specs.declared.volume.Volume.{Volume}
 use Rattle.fop_types.specs.Cells.{data_cell, meta_cell}
 use Rattle.fop_types.specs.FileBytes.{file_limit}

@@ -8,8 +8,7 @@ use Rattle.dht_fops.specs.Answers.{AnswersAsFlat, AreMade, IsAccepted}
 use Rattle.dht_fops.specs.Handed.{Handed, SawName, SawNowhere}
 use Rattle.dht_fops.specs.Renames.{moves, bears, replaces, changes_names, source_at}
 use Rattle.dht_fops.specs.Standing.{Volumes, AreSound, IsMade, StillShown}
-use Rattle.dht_fops.specs.declared.rename.Renaming.{Renaming}
-use Rattle.dht_fops.specs.declared.rename.Source.{Source}
+use Rattle.dht_laws.proofs.Arguments.{Renaming, Source}
 use Rattle.dht_fops.specs.declared.volume.Volume.{Volume}
 use Rattle.fop_types.specs.Cells.{names_cell}
 use Rattle.fop_types.specs.Files.{Files, object_at, names_at}

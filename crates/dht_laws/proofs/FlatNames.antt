@@ -12,7 +12,7 @@ use Rattle.dht_fops.specs.Entries.{lookup_found, births_from, mkdir_found, creat
 use Rattle.dht_fops.specs.Handed.{Handed, SawName, SawNowhere, AnyHold}
 use Rattle.dht_fops.specs.Standing.{Volumes, AreSound, StillShown}
 use Rattle.dht_fops.specs.Volumes.{sets_from}
-use Rattle.dht_fops.specs.declared.look.Seen.{Seen}
+use Rattle.dht_laws.proofs.Arguments.{Seen}
 use Rattle.dht_fops.specs.declared.volume.Volume.{Volume}
 use Rattle.fop_types.specs.Cells.{names_cell}
 use Rattle.fop_types.specs.Files.{Files, names_at, new_directory, new_file}

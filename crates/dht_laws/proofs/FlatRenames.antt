@@ -22,8 +22,7 @@ use Rattle.dht_fops.specs.Fops.{renames}
 use Rattle.dht_fops.specs.Handed.{Handed, AnyHold}
 use Rattle.dht_fops.specs.Renames.{other_set, target_found, target_ending, renames_file, source_found, second_set}
 use Rattle.dht_fops.specs.Volumes.{Kept, known_set}
-use Rattle.dht_fops.specs.declared.look.Seen.{Seen}
-use Rattle.dht_fops.specs.declared.rename.Renaming.{Renaming}
+use Rattle.dht_laws.proofs.Arguments.{Renaming, Seen}
 use Rattle.dht_fops.specs.declared.volume.Volume.{Volume}
 use Rattle.fop_types.proofs.MapLemmas.{gfid_exact}
 use Rattle.fop_types.specs.Cells.{names_cell}

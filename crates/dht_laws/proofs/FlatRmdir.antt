@@ -22,7 +22,7 @@ use Rattle.dht_fops.specs.Handed.Event.{Held}
 use Rattle.dht_fops.specs.Merges.{real_items, with_first, merged}
 use Rattle.dht_fops.specs.Shown.{SetContents, names_over}
 use Rattle.dht_fops.specs.Standing.{Volumes, AreSound, IsMade, StillShown}
-use Rattle.dht_fops.specs.declared.look.Seen.{Seen}
+use Rattle.dht_laws.proofs.Arguments.{Seen}
 use Rattle.dht_fops.specs.declared.volume.Volume.{Volume}
 use Rattle.fop_types.specs.Cells.{names_cell}
 use Rattle.fop_types.specs.Files.{Files, names_at, with_removed}

@@ -26,7 +26,7 @@ use Rattle.dht_laws.specs.Homes.{IsNamedBy, IsHome, IsOwnDir, IsDirectoryOf, IsI
 use Rattle.dht_fops.specs.Looks.{Ending, where_named, where_kept, looks_in, finds}
 use Rattle.dht_fops.specs.Objects.{home}
 use Rattle.dht_fops.specs.Volumes.{Kept, known_set}
-use Rattle.dht_fops.specs.declared.look.Seen.{Seen}
+use Rattle.dht_laws.proofs.Arguments.{Seen}
 use Rattle.dht_fops.specs.declared.volume.Volume.{Volume}
 use Rattle.fop_types.specs.Limits.{max_item_name}
 use Rattle.fop_types.specs.Names.{is_directory}

@@ -1,4 +1,5 @@
 pub mod Accepted
+pub mod Arguments
 pub mod Asking
 pub mod Costs
 pub mod CostsOfFops

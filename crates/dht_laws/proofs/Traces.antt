@@ -23,7 +23,7 @@ use Rattle.dht_fops.specs.declared.volume.Volume.{Volume}
 use Rattle.dht_fops.specs.Handed.Event.{Replied}
 use Rattle.dht_fops.specs.Looks.{Ending, where_kept, span_job, by_item, looks_along, looks_on, looks_in, finds, reads_spans, span_of, seen_on, unseen}
 use Rattle.dht_laws.specs.Places.{last_place, place_read, place_made, IsPlaced}
-use Rattle.dht_fops.specs.declared.look.Seen.{Seen}
+use Rattle.dht_laws.proofs.Arguments.{Seen}
 use Rattle.fop_types.specs.Names.{item_named, is_link}
 use Rattle.fop_types.specs.declared.answers.IoError.{IoError}
 use Rattle.fop_types.specs.declared.cells.Cell.{Cell}

@@ -27,9 +27,7 @@ use Rattle.dht_laws.specs.Links.{SawLink, SawCopy, WasMoved, IsMadeBy, IsIntoCop
 use Rattle.dht_laws.specs.Places.{last_place, IsPlaced, FopsPlaceAnswers}
 use Rattle.dht_fops.specs.Renames.{adds_link, moves, bears, replaces, changes_names, other_set, target_found, target_ending, looks_for_target, source_at, source_found, second_set}
 use Rattle.dht_fops.specs.Volumes.{Kept, kept_spans, set_in, known_set, sets_from}
-use Rattle.dht_fops.specs.declared.look.Seen.{Seen}
-use Rattle.dht_fops.specs.declared.rename.Renaming.{Renaming}
-use Rattle.dht_fops.specs.declared.rename.Source.{Source}
+use Rattle.dht_laws.proofs.Arguments.{Renaming, Seen, Source}
 use Rattle.dht_fops.specs.declared.volume.Volume.{Volume}
 use Rattle.fop_types.specs.Cells.{root}
 use Rattle.fop_types.specs.FileBytes.{file_limit}

@@ -21,9 +21,7 @@ use Rattle.dht_fops.specs.Merges.{merged, real_items}
 use Rattle.dht_fops.specs.Objects.{opens, stats, attr_value, gets_attr, drops_attr, dels_attr, reads_bytes, truncates, writes_some, writes}
 use Rattle.dht_fops.specs.Renames.{link_of, drops_old_link, adds_link, moves, bears, replaces, changes_names, other_set, target_found, target_ending, looks_for_target, source_at, source_found, second_set}
 use Rattle.dht_fops.specs.Volumes.{Kept, known_set, sets_from}
-use Rattle.dht_fops.specs.declared.look.Seen.{Seen}
-use Rattle.dht_fops.specs.declared.rename.Renaming.{Renaming}
-use Rattle.dht_fops.specs.declared.rename.Source.{Source}
+use Rattle.dht_laws.proofs.Arguments.{Renaming, Seen, Source}
 use Rattle.dht_fops.specs.declared.volume.Volume.{Volume}
 use Rattle.fop_types.specs.Cells.{names_cell}
 use Rattle.fop_types.specs.FileBytes.{file_limit}

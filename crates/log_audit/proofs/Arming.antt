@@ -20,9 +20,6 @@ armable bytes (Wrong place) said none = absurd none
 pub armed_none : (sent : List SentLine) (from : ℕ) (armed : ArmedLines) → armed.stop ≡ 0 → AreArmedFrom sent from armed
 armed_none sent from armed none = record { each = λ k line le lt is. absurd (omega (arith, lt, none)) }
 
-pub armed_begins : (sent : List SentLine) (from event brick : ℕ) → AreArmedFrom sent from (record { stop = from; event = event; brick = brick })
-armed_begins sent from event brick = record { each = λ k line le lt is. absurd (omega (arith, le, lt)) }
-
 pub armed_next : (sent : List SentLine) (from stop event brick : ℕ) (line : SentLine) → stop < length sent → line ≡ get_or sent stop line → IsArmedLine event brick line
     → AreArmedFrom sent from (record { stop = stop; event = event; brick = brick }) → AreArmedFrom sent from (record { stop = stop + 1; event = event; brick = brick })
 armed_next sent from stop event brick line lt is own armed = record {

@@ -3,13 +3,15 @@ ghost use Rattle.script_lang.specs.Accepted.{IsAccepted};
 
 use brick_machine::Brick;
 use log_audit::{
-    arrivals_are_honest, connects_are_caused, is_finished, submits_are_in_order, winds_are_balanced,
+    arrivals_are_honest, connects_are_caused, is_finished, submits_are_in_order,
+    winds_are_balanced, winds_are_once,
 };
 use mount_log::Log;
 use script_lang::Script;
 use std::alloc::{AllocError, Global};
 
-/// The letters of the audits that answer false: `w` of the winds, `a` of the arrivals, `s` of the submissions, `c` of the
+/// The letters of the audits that answer false: `w` of the winds, `o` of winds that
+/// may be open still, `a` of the arrivals, `s` of the submissions, `c` of the
 /// connects, and `f` of what is finished.
 pub(crate) fn refusals(
     alloc: Global,
@@ -24,6 +26,11 @@ pub(crate) fn refusals(
         &mut letters,
         winds_are_balanced(alloc, log.winds.as_slice())?,
         b'w',
+    )?;
+    note(
+        &mut letters,
+        winds_are_once(alloc, log.winds.as_slice())?,
+        b'o',
     )?;
     note(&mut letters, arrivals_are_honest(alloc, log, bricks)?, b'a')?;
     note(

@@ -62,11 +62,11 @@ const CASES: [(Of, usize, &[u32], &[u8]); 29] = [
     (Of::Winds, NOTHING, &[], b""),
     // A wind that does not end, one that ends in another graph or for another call, ends twice, or comes again.
     (Of::Winds, 5, &[], b"w"),
-    (Of::Winds, 1, &[2, 1, 0, 0, 0], b"w"),
-    (Of::Winds, 1, &[1, 2, 0, 0, 0], b"w"),
-    (Of::Winds, 5, &[2, 2, 0, 1, 0], b"w"),
-    (Of::Winds, 0, &[], b"w"),
-    (Of::Winds, 2, &[2, 2, 0, 0, 1], b"w"),
+    (Of::Winds, 1, &[2, 1, 0, 0, 0], b"wo"),
+    (Of::Winds, 1, &[1, 2, 0, 0, 0], b"wo"),
+    (Of::Winds, 5, &[2, 2, 0, 1, 0], b"wo"),
+    (Of::Winds, 0, &[], b"wo"),
+    (Of::Winds, 2, &[2, 2, 0, 0, 1], b"wo"),
     // An arrival that the brick did not put out, one of no brick, and one before its input.
     (Of::Events, 1, &[1, 0, 0, 1, 3, 2, 1], b"a"),
     (Of::Events, 12, &[1, 1, 0, 5, 3, 1, 1], b"a"),

@@ -138,7 +138,7 @@ module _ (m : State) (asked : JobAsked m) (g : InItsGraph m) (c : ℕ) (run : Ru
       ((courses_within run.volume run.names run.kept run.fop (let r = p.roots in let s = g.some in omega arith) (let r = p.roots in let s = p.sets in let k = known.0 in omega arith)
       (let many : length run.names ≡ length (m.calls c).names = ap (λ (n : List (List ℕ)). length n) p.names_are in many ∙ sym p.sets) (subst (λ (n : ℕ). Each (λ (object : Object). object.set < n) (objects_of run.fop)) (sym p.sets) p.objects)).at [])
 
-  job_within : (set : ℕ) (wanted : Job) (next : SetReply → Course) → run.course ≡ Course.Asks set wanted next → IsWithin run.volume.sets run.handed set wanted
+  pub job_within : (set : ℕ) (wanted : Job) (next : SetReply → Course) → run.course ≡ Course.Asks set wanted next → IsWithin run.volume.sets run.handed set wanted
   job_within set wanted next e = (subst (λ (course : Course). Always (IsWithin run.volume.sets) AnyHold (AnswersWithin run.volume.sets) run.handed course) e always_within).0
 
   pub answer_within : (answer : FopAnswer) (place : Option ℕ) → run.course ≡ Course.Ends answer place → AnswersWithin run.volume.sets run.handed answer place

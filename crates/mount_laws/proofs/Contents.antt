@@ -71,7 +71,7 @@ edits_are_of contents (op.Move parent name target new_name) = (both_first parent
     moved (Some item) = (both_second parent target, tt)
 edits_are_of contents (op.MakeCopy gfid span) = tt
 
-edits_leave : (cells : List Cell) (cell : Cell) → has_cell cells cell ≡ false → (es : List (Cell × Edit)) (contents : Contents) → AreOf cells es → after_edits contents es cell ≡ contents cell
+pub edits_leave : (cells : List Cell) (cell : Cell) → has_cell cells cell ≡ false → (es : List (Cell × Edit)) (contents : Contents) → AreOf cells es → after_edits contents es cell ≡ contents cell
 edits_leave cells cell none [] contents of = refl
 edits_leave cells cell none (e ∷ es) contents of =
     edits_leave cells cell none es (with_content contents e.0 (edited_if_present e.1 (contents e.0))) of.1 ∙ by_case (is_cell cell e.0) refl

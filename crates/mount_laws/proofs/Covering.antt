@@ -30,7 +30,7 @@ use Rattle.fop_types.specs.Limits.{max_item_name}
 use Rattle.fop_types.specs.Names.{is_link, is_directory, is_same_name, attr_named, has_real_name}
 use Rattle.fop_types.specs.Orders.{gfid_cmp}
 use Rattle.fop_types.specs.StoreOps.{needs, both_names, attrs_of}
-use Rattle.fop_types.specs.declared.answers.AppError.TheVariants.{Enotempty}
+use Rattle.fop_types.specs.declared.answers.AppError.TheVariants.{Enotempty, Enotdir, Enametoolong}
 use Rattle.fop_types.specs.declared.answers.Answer.TheVariants as answer
 use Rattle.fop_types.specs.declared.answers.FopAnswer.{FopAnswer}
 use Rattle.fop_types.specs.declared.answers.FopAnswer.TheVariants as answers
@@ -50,7 +50,7 @@ use Rattle.fop_types.specs.declared.history.Entry.{Entry}
 use Rattle.fop_types.specs.declared.jobs.Job.TheVariants as job
 use Rattle.fop_types.specs.declared.store_ops.StoreOp.{StoreOp}
 use Rattle.fop_types.specs.declared.store_ops.StoreOp.TheVariants as op
-use Rattle.mount_laws.specs.Holding.{drawn_by, own_holds, AreHeld, AreHeldExclusively, IsCovered}
+use Rattle.mount_laws.specs.Holding.{drawn_by, own_holds, AreHeld, AreHeldExclusively, IsBornBy, IsCovered}
 use Rattle.mount_laws.specs.Holds.{Hold, Holds, HoldsExclusively, holds_of, extensions}
 use Rattle.mount_laws.specs.Steps.{is_lookup}
 use Rattle.mount_laws.proofs.Arguments.{Seen, Source, Renaming, renaming}
@@ -138,11 +138,11 @@ born_held : (f : Fop) (handed : Handed) (gfid : Gfid) → HoldsExclusively (hold
 born_held f handed gfid (inl alone) = inl (alone_front (holds_of f) (extensions handed) gfid alone)
 born_held f handed gfid (inr drawn) = inr drawn
 
-birth_goes : (f : Fop) (set : ℕ) (gfid : Gfid) (span : Option Span) (next : Option ℕ → Course) → HoldsExclusively (holds_of f) gfid ⊎ (drawn_by f ≡ Some gfid) → ((number : Option ℕ) → Goes f (next number))
+birth_goes : (f : Fop) (set : ℕ) (gfid : Gfid) (span : Option Span) (next : Option ℕ → Course) → HoldsExclusively (holds_of f) gfid ⊎ (drawn_by f ≡ Some gfid) → IsBornBy f (op.MakeCopy gfid span) → ((number : Option ℕ) → Goes f (next number))
     → Goes f (Asks set (birth_job gfid span) (after_change next))
-birth_goes f set gfid span next h k = record {
+birth_goes f set gfid span next h b k = record {
   at = λ handed. (
-    ((born_held f handed gfid h, (born_held f handed gfid h, tt)), refl),
+    ((born_held f handed gfid h, (born_held f handed gfid h, tt)), (refl, b)),
     λ reply. number_leads f (Replied set (birth_job gfid span) reply ∷ handed) next (number_in reply) (λ number. (k number).at (Replied set (birth_job gfid span) reply ∷ handed)),
   );
 }
@@ -200,6 +200,13 @@ finds_go f count dir None next after h k l = spans_go f dir (range_with_len 0 co
 named_goes : (f : Fop) (parent : Object) (name : List ℕ) (place : Option ℕ) (next : Course) → Goes f next → Goes f (where_named parent name place next)
 named_goes f parent name place next k = if_goes f _ _ (is_directory parent.kind) (if_goes f _ _ (nat_lt max_item_name (length name)) (ends_goes f _ _) k) (ends_goes f _ _)
 
+named_dir : (f : Fop) (parent : Object) (name : List ℕ) (place : Option ℕ) (next : Course) → (is_directory parent.kind ≡ true → Goes f next) → Goes f (where_named parent name place next)
+named_dir f parent name place next k = by_kind (is_directory parent.kind) k
+  where
+    by_kind : (b : Bool) → (b ≡ true → Goes f next) → Goes f (if b then (if nat_lt max_item_name (length name) then refuses Enametoolong place else next) else refuses Enotdir place)
+    by_kind true k = if_goes f _ _ (nat_lt max_item_name (length name)) (ends_goes f _ _) (k refl)
+    by_kind false k = ends_goes f _ _
+
 on_name_goes : (f : Fop) (v : Volume) (names : List (List ℕ)) (kept : Kept) (parent : Object) (name : List ℕ) (ending : ℕ → Ending) → Holds (holds_of f) parent.gfid → ((hashed : ℕ) → EndsWell f (ending hashed)) → Goes f (on_name v names kept parent name ending)
 on_name_goes f v names kept parent name ending h ends =
     named_goes f parent name None _
@@ -217,15 +224,15 @@ lists_go : (f : Fop) (dir : Gfid) (sets : List ℕ) (names : List Item) (place :
 lists_go f dir [] names place h = ends_goes f _ _
 lists_go f dir (set ∷ sets) names place h = names_go f set dir _ h (λ shown. kept_goes f shown _ (lists_go f dir sets (merged names (real_items shown.items)) (Some shown.place) h))
 
-births_go : (f : Fop) (v : Volume) (parent : Gfid) (name : List ℕ) (mode : ℕ) (drawn : Gfid) (sets : List ℕ) → is_lookup f ≡ false → HoldsExclusively (holds_of f) parent → drawn_by f ≡ Some drawn → Goes f (births_from v parent name mode drawn sets)
-births_go f v parent name mode drawn [] w h d =
+births_go : (f : Fop) (v : Volume) (parent : Gfid) (name : List ℕ) (mode : ℕ) (drawn : Gfid) (sets : List ℕ) → is_lookup f ≡ false → HoldsExclusively (holds_of f) parent → drawn_by f ≡ Some drawn → ((span : Option Span) → IsBornBy f (op.MakeCopy drawn span)) → Goes f (births_from v parent name mode drawn sets)
+births_go f v parent name mode drawn [] w h d b =
     change_goes f 0 (names_cell parent ∷ []) 0 (op.AddName parent (item_of name drawn kind.Dir) mode (Some (even_span v.sets 0))) (Some (entry v 1)) (Ends (answers.Call answer.Done)) w (one_alone f (names_cell parent) h) refl (λ number. ends_goes f (answers.Call answer.Done) number)
-births_go f v parent name mode drawn (set ∷ sets) w h d = birth_goes f set drawn _ _ (inr d) (λ number. births_go f v parent name mode drawn sets w h d)
+births_go f v parent name mode drawn (set ∷ sets) w h d b = birth_goes f set drawn _ _ (inr d) (b _) (λ number. births_go f v parent name mode drawn sets w h d b)
 
-mkdir_ends : (f : Fop) (v : Volume) (parent : Gfid) (name : List ℕ) (mode : ℕ) (drawn : Gfid) → is_lookup f ≡ false → HoldsExclusively (holds_of f) parent → drawn_by f ≡ Some drawn → EndsWell f (mkdir_found v parent name mode drawn)
-mkdir_ends f v parent name mode drawn w h d (found.Item set gfid k) seen = ends_goes f _ _
-mkdir_ends f v parent name mode drawn w h d found.Absent seen = births_go f v parent name mode drawn (sets_from v 1) w h d
-mkdir_ends f v parent name mode drawn w h d (found.Io error) seen = ends_goes f _ _
+mkdir_ends : (f : Fop) (v : Volume) (parent : Gfid) (name : List ℕ) (mode : ℕ) (drawn : Gfid) → is_lookup f ≡ false → HoldsExclusively (holds_of f) parent → drawn_by f ≡ Some drawn → ((span : Option Span) → IsBornBy f (op.MakeCopy drawn span)) → EndsWell f (mkdir_found v parent name mode drawn)
+mkdir_ends f v parent name mode drawn w h d b (found.Item set gfid k) seen = ends_goes f _ _
+mkdir_ends f v parent name mode drawn w h d b found.Absent seen = births_go f v parent name mode drawn (sets_from v 1) w h d b
+mkdir_ends f v parent name mode drawn w h d b (found.Io error) seen = ends_goes f _ _
 
 create_ends : (f : Fop) (v : Volume) (parent : Gfid) (name : List ℕ) (mode : ℕ) (drawn : Gfid) (hashed : ℕ) → is_lookup f ≡ false → HoldsExclusively (holds_of f) parent → EndsWell f (create_found v parent name mode drawn hashed)
 create_ends f v parent name mode drawn hashed w h (found.Item set gfid k) seen = ends_goes f _ _
@@ -281,36 +288,36 @@ module _ (f : Fop) (w : is_lookup f ≡ false) (v : Volume) where
       (λ handed. both_alone (own_holds f handed) r.source.parent r.target (alone_front (holds_of f) (extensions handed) r.source.parent h) (alone_front (holds_of f) (extensions handed) r.target t))
       refl (λ number. adds_goes r number h t)
 
-  bears_go : (r : Renaming) (copy : Bool) → HoldsExclusively (holds_of f) r.source.parent → HoldsExclusively (holds_of f) r.target → Goes f (bears v r copy)
-  bears_go r true h t = moves_go r h t
-  bears_go r false h t = birth_goes f r.source.set r.target None _ (inl t) (λ number. moves_go r h t)
+  bears_go : (r : Renaming) (copy : Bool) → HoldsExclusively (holds_of f) r.source.parent → HoldsExclusively (holds_of f) r.target → IsBornBy f (op.MakeCopy r.target None) → Goes f (bears v r copy)
+  bears_go r true h t b = moves_go r h t
+  bears_go r false h t b = birth_goes f r.source.set r.target None _ (inl t) b (λ number. moves_go r h t)
 
-  replaces_go : (r : Renaming) (replaced : Option ℕ) (copy : Bool) → HoldsExclusively (holds_of f) r.source.parent → HoldsExclusively (holds_of f) r.target → Goes f (replaces v r replaced copy)
-  replaces_go r None copy h t = bears_go r copy h t
-  replaces_go r (Some set) copy h t = change_goes f set (names_cell r.target ∷ []) 0 (op.DropName r.target r.new_name) (Some (entry v 1)) (λ number. bears v r copy) w (one_alone f (names_cell r.target) t) refl (λ number. bears_go r copy h t)
+  replaces_go : (r : Renaming) (replaced : Option ℕ) (copy : Bool) → HoldsExclusively (holds_of f) r.source.parent → HoldsExclusively (holds_of f) r.target → IsBornBy f (op.MakeCopy r.target None) → Goes f (replaces v r replaced copy)
+  replaces_go r None copy h t b = bears_go r copy h t b
+  replaces_go r (Some set) copy h t b = change_goes f set (names_cell r.target ∷ []) 0 (op.DropName r.target r.new_name) (Some (entry v 1)) (λ number. bears v r copy) w (one_alone f (names_cell r.target) t) refl (λ number. bears_go r copy h t b)
 
-  names_change : (r : Renaming) (replaced : Option ℕ) (copy : Option Bool) → HoldsExclusively (holds_of f) r.source.parent → HoldsExclusively (holds_of f) r.target → Goes f (changes_names v r replaced copy)
-  names_change r replaced (Some copy) h t = replaces_go r replaced copy h t
-  names_change r replaced None h t = names_go f r.source.set r.target _ (alone_holds (holds_of f) r.target t) (λ shown. replaces_go r replaced shown.has_copy h t)
+  names_change : (r : Renaming) (replaced : Option ℕ) (copy : Option Bool) → HoldsExclusively (holds_of f) r.source.parent → HoldsExclusively (holds_of f) r.target → IsBornBy f (op.MakeCopy r.target None) → Goes f (changes_names v r replaced copy)
+  names_change r replaced (Some copy) h t b = replaces_go r replaced copy h t b
+  names_change r replaced None h t b = names_go f r.source.set r.target _ (alone_holds (holds_of f) r.target t) (λ shown. replaces_go r replaced shown.has_copy h t b)
 
-  target_ends : (r : Renaming) → HoldsExclusively (holds_of f) r.source.parent → HoldsExclusively (holds_of f) r.target → EndsWell f (target_found v r)
-  target_ends r h t (found.Item set gfid k) seen = if_goes f _ _ (is_directory k) (ends_goes f _ _) (names_change r (other_set set r.source.set) seen.copy h t)
-  target_ends r h t found.Absent seen = names_change r None seen.copy h t
-  target_ends r h t (found.Io error) seen = ends_goes f _ _
+  target_ends : (r : Renaming) → HoldsExclusively (holds_of f) r.source.parent → HoldsExclusively (holds_of f) r.target → IsBornBy f (op.MakeCopy r.target None) → EndsWell f (target_found v r)
+  target_ends r h t b (found.Item set gfid k) seen = if_goes f _ _ (is_directory k) (ends_goes f _ _) (names_change r (other_set set r.source.set) seen.copy h t b)
+  target_ends r h t b found.Absent seen = names_change r None seen.copy h t b
+  target_ends r h t b (found.Io error) seen = ends_goes f _ _
 
-  target_goes : (source : Source) (target : Gfid) (new_name : List ℕ) (names : List (List ℕ)) (second : Option ℕ) → HoldsExclusively (holds_of f) source.parent → HoldsExclusively (holds_of f) target → Goes f (looks_for_target v source target new_name names second)
-  target_goes source target new_name names second h t =
+  target_goes : (source : Source) (target : Gfid) (new_name : List ℕ) (names : List (List ℕ)) (second : Option ℕ) → HoldsExclusively (holds_of f) source.parent → HoldsExclusively (holds_of f) target → IsBornBy f (op.MakeCopy target None) → Goes f (looks_for_target v source target new_name names second)
+  target_goes source target new_name names second h t b =
       finds_go f (length names) target second (looks_in target new_name names source.set (target_ending v source target new_name names))
       (λ spans. looks_in target new_name names source.set (target_ending v source target new_name names) (hashed_set spans new_name)) (alone_holds (holds_of f) target t)
-      (λ set. look_goes f target new_name names source.set (target_ending v source target new_name names) set (alone_holds (holds_of f) target t) (target_ends (renaming source target new_name names set) h t))
-      (λ spans. look_goes f target new_name names source.set (target_ending v source target new_name names) (hashed_set spans new_name) (alone_holds (holds_of f) target t) (target_ends (renaming source target new_name names (hashed_set spans new_name)) h t))
+      (λ set. look_goes f target new_name names source.set (target_ending v source target new_name names) set (alone_holds (holds_of f) target t) (target_ends (renaming source target new_name names set) h t b))
+      (λ spans. look_goes f target new_name names source.set (target_ending v source target new_name names) (hashed_set spans new_name) (alone_holds (holds_of f) target t) (target_ends (renaming source target new_name names (hashed_set spans new_name)) h t b))
 
-  source_ends : (parent : Gfid) (name : List ℕ) (names : List (List ℕ)) (target : Object) (new_name : List ℕ) (second : Option ℕ) (hashed : ℕ) → HoldsExclusively (holds_of f) parent → HoldsExclusively (holds_of f) target.gfid
+  source_ends : (parent : Gfid) (name : List ℕ) (names : List (List ℕ)) (target : Object) (new_name : List ℕ) (second : Option ℕ) (hashed : ℕ) → HoldsExclusively (holds_of f) parent → HoldsExclusively (holds_of f) target.gfid → (is_directory target.kind ≡ true → IsBornBy f (op.MakeCopy target.gfid None))
       → EndsWell f (source_found v parent name names target new_name second hashed)
-  source_ends parent name names target new_name second hashed h t (found.Item set gfid k) seen =
-      if_goes f _ _ (is_directory k) (ends_goes f _ _) (named_goes f target new_name (Some seen.place) _ (if_goes f _ _ (is_same_name parent name target.gfid new_name) (ends_goes f _ _) (target_goes (source_at parent name hashed seen.has_link set gfid) target.gfid new_name names second h t)))
-  source_ends parent name names target new_name second hashed h t found.Absent seen = ends_goes f _ _
-  source_ends parent name names target new_name second hashed h t (found.Io error) seen = ends_goes f _ _
+  source_ends parent name names target new_name second hashed h t b (found.Item set gfid k) seen =
+      if_goes f _ _ (is_directory k) (ends_goes f _ _) (named_dir f target new_name (Some seen.place) _ (λ dir. if_goes f _ _ (is_same_name parent name target.gfid new_name) (ends_goes f _ _) (target_goes (source_at parent name hashed seen.has_link set gfid) target.gfid new_name names second h t (b dir))))
+  source_ends parent name names target new_name second hashed h t b found.Absent seen = ends_goes f _ _
+  source_ends parent name names target new_name second hashed h t b (found.Io error) seen = ends_goes f _ _
 
 -- ---- objects, and fops of the mount itself
 
@@ -333,7 +340,7 @@ indexes_go f count (set ∷ sets) cells = record { at = λ handed. (tt, λ reply
 
 pub courses_covered : (v : Volume) (names : List (List ℕ)) (kept : Kept) (f : Fop) → Goes f (fop_course v names kept f)
 courses_covered v names kept (fop.Lookup parent name) = let f = fop.Lookup parent name in on_name_goes f v names kept parent name (λ hashed. lookup_found) (inl refl) (λ hashed. lookup_ends f)
-courses_covered v names kept (fop.Mkdir parent name mode drawn) = let f = fop.Mkdir parent name mode drawn in on_name_goes f v names kept parent name (λ hashed. mkdir_found v parent.gfid name mode drawn) (inl refl) (λ hashed. mkdir_ends f v parent.gfid name mode drawn refl (inl (refl, refl)) refl)
+courses_covered v names kept (fop.Mkdir parent name mode drawn) = let f = fop.Mkdir parent name mode drawn in on_name_goes f v names kept parent name (λ hashed. mkdir_found v parent.gfid name mode drawn) (inl refl) (λ hashed. mkdir_ends f v parent.gfid name mode drawn refl (inl (refl, refl)) refl (λ span. refl))
 courses_covered v names kept (fop.Rmdir parent name) = let f = fop.Rmdir parent name in on_name_goes f v names kept parent name (λ hashed. rmdir_found v parent.gfid name) (inl refl) (λ hashed. rmdir_ends f v parent.gfid name refl (inl (refl, refl)))
 courses_covered v names kept (fop.Create fd parent name mode drawn) = let f = fop.Create fd parent name mode drawn in on_name_goes f v names kept parent name (create_found v parent.gfid name mode drawn) (inl refl) (λ hashed. create_ends f v parent.gfid name mode drawn hashed refl (inl (refl, refl)))
 courses_covered v names kept (fop.Unlink parent name) = let f = fop.Unlink parent name in on_name_goes f v names kept parent name (unlink_found v parent.gfid name) (inl refl) (λ hashed. unlink_ends f v parent.gfid name hashed refl (inl (refl, refl)))
@@ -344,9 +351,9 @@ courses_covered v names kept (fop.Rename parent name target new_name) =
     named_goes f parent name None _
     (finds_go f (length names) parent.gfid (known_set v kept parent.gfid name) (looks_in parent.gfid name names 0 (source_found v parent.gfid name names target new_name known))
     (λ spans. looks_in parent.gfid name names 0 (by_layout spans) (hashed_set spans name)) (inl refl)
-    (λ set. look_goes f parent.gfid name names 0 (source_found v parent.gfid name names target new_name known) set (inl refl) (source_ends f refl v parent.gfid name names target new_name known set (inl (refl, refl)) (inr (inl (refl, refl)))))
+    (λ set. look_goes f parent.gfid name names 0 (source_found v parent.gfid name names target new_name known) set (inl refl) (source_ends f refl v parent.gfid name names target new_name known set (inl (refl, refl)) (inr (inl (refl, refl))) (λ dir. (refl, dir))))
     (λ spans. look_goes f parent.gfid name names 0 (by_layout spans) (hashed_set spans name) (inl refl)
-    (source_ends f refl v parent.gfid name names target new_name (second_set parent.gfid target.gfid new_name known spans) (hashed_set spans name) (inl (refl, refl)) (inr (inl (refl, refl))))))
+    (source_ends f refl v parent.gfid name names target new_name (second_set parent.gfid target.gfid new_name known spans) (hashed_set spans name) (inl (refl, refl)) (inr (inl (refl, refl))) (λ dir. (refl, dir)))))
 courses_covered v names kept (fop.Open fd object) =
     let f = fop.Open fd object in
     if_goes f _ _ (is_directory object.kind) (ends_goes f _ _) (record { at = λ handed. (tt, λ reply. number_leads f (Replied object.set (job.Open fd object.gfid) reply ∷ handed) opened (number_in reply) (λ number. tt)) })

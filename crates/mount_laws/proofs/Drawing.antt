@@ -32,18 +32,18 @@ use Rattle.mount_laws.proofs.Tables.{at_case, at_both}
 
 -- ---- numbers of gfids
 
-record IsDrawn (draws : ℕ) (gfid : Gfid) : Type 0 where
+pub record IsDrawn (draws : ℕ) (gfid : Gfid) : Type 0 where
   pub number : ℕ
   pub some : 1 ≤ number
   pub most : number ≤ draws
   pub is : gfid ≡ nth_gfid number
 
-record DrawnIn (calls : ℕ → Call) (draws : ℕ) : Type 0 where
+pub record DrawnIn (calls : ℕ → Call) (draws : ℕ) : Type 0 where
   pub drawn : (c : ℕ) (gfid : Gfid) → (calls c).drawn ≡ Some gfid → IsDrawn draws gfid
   pub apart : (a b : ℕ) (gfid : Gfid) → (calls a).drawn ≡ Some gfid → (calls b).drawn ≡ Some gfid → a ≡ b
 
 -- a call's status changes
-status_drawn : (calls : ℕ → Call) (c : ℕ) (status : Status) (i : ℕ) → (with_at calls c (record (calls c) { status = status }) i).drawn ≡ (calls i).drawn
+pub status_drawn : (calls : ℕ → Call) (c : ℕ) (status : Status) (i : ℕ) → (with_at calls c (record (calls c) { status = status }) i).drawn ≡ (calls i).drawn
 status_drawn calls c status i = at_case (λ j (one : Call). one.drawn ≡ (calls j).drawn) calls c (record (calls c) { status = status }) refl i (λ differ. refl)
 
 kept_drawn : (calls : ℕ → Call) (draws c : ℕ) (status : Status) → DrawnIn calls draws → DrawnIn (with_at calls c (record (calls c) { status = status })) draws
@@ -52,7 +52,7 @@ kept_drawn calls draws c status a = record {
   apart = λ i j gfid e f. a.apart i j gfid (sym (status_drawn calls c status i) ∙ e) (sym (status_drawn calls c status j) ∙ f);
 }
 
-numbers_are : (a b : ℕ) → nth_gfid a ≡ nth_gfid b → a ≡ b
+pub numbers_are : (a b : ℕ) → nth_gfid a ≡ nth_gfid b → a ≡ b
 numbers_are a b e = let low : 1 + a ≡ 1 + b = ap (λ (g : Gfid). g.lo) e in omega (arith, low)
 
 unwrap : {A : Type 0} (a b : A) → ◌≡◌ {A = Option A} (Some a) (Some b) → a ≡ b
@@ -108,7 +108,7 @@ step_drawn m (Step.Learns c run dir spans) h a = a
 step_drawn m (Step.Answers c run answer place) h a = kept_drawn m.calls m.draws c _ a
 step_drawn m (Step.AnswersAbove c run answer) h a = kept_drawn m.calls m.draws c _ a
 
-drawn_in : (first : List (List ℕ)) (m : State) → IsReached first m → DrawnIn m.calls m.draws
+pub drawn_in : (first : List (List ℕ)) (m : State) → IsReached first m → DrawnIn m.calls m.draws
 drawn_in first _ (IsReached.Start planned) = record { drawn = λ c gfid e. absurd cc; apart = λ a b gfid e. absurd cc }
 drawn_in first _ (IsReached.Further old step reached allowed) = step_drawn old step allowed (drawn_in first old reached)
 
@@ -120,7 +120,7 @@ drawn_apart first m reached = record { apart = (drawn_in first m reached).apart;
 
 -- ---- a fop draws its call's gfid
 
-record BeganIn (began : ℕ → Option Fop) (calls : ℕ → Call) (submitted : ℕ) : Type 0 where
+pub record BeganIn (began : ℕ → Option Fop) (calls : ℕ → Call) (submitted : ℕ) : Type 0 where
   pub draws : (c : ℕ) (f : Fop) → began c ≡ Some f → DrawsOwn (calls c).drawn f
   pub none : (c : ℕ) → submitted < c → began c ≡ None
 
@@ -161,24 +161,24 @@ step_began_in first m (Step.Learns c run dir spans) reached h a = a
 step_began_in first m (Step.Answers c run answer place) reached h a = kept_began m.began m.calls m.submitted c _ a
 step_began_in first m (Step.AnswersAbove c run answer) reached h a = kept_began m.began m.calls m.submitted c _ a
 
-began_in : (first : List (List ℕ)) (m : State) → IsReached first m → BeganIn m.began m.calls m.submitted
+pub began_in : (first : List (List ℕ)) (m : State) → IsReached first m → BeganIn m.began m.calls m.submitted
 began_in first _ (IsReached.Start planned) = record { draws = λ c f e. absurd cc; none = λ c less. refl }
 began_in first _ (IsReached.Further old step reached allowed) = step_began_in first old step reached allowed (began_in first old reached)
 
 -- ---- operations that make an object
 
-abbrev is_make : FlatOp → Bool
+abbrev pub is_make : FlatOp → Bool
 is_make (flat.Mkdir parent name mode drawn) = true
 is_make (flat.Create parent name mode drawn) = true
 is_make other = false
 
-abbrev gfid_made : FlatOp → Option Gfid
+abbrev pub gfid_made : FlatOp → Option Gfid
 gfid_made (flat.Mkdir parent name mode drawn) = Some drawn
 gfid_made (flat.Create parent name mode drawn) = Some drawn
 gfid_made other = None
 
 -- an operation that is no rename has one part, itself
-one_part : (o : FlatOp) (number : ℕ) (p : FlatOp) → is_rename o ≡ false → part_of (Some o) number ≡ Some p → (o ≡ p) × (number ≡ 1)
+pub one_part : (o : FlatOp) (number : ℕ) (p : FlatOp) → is_rename o ≡ false → part_of (Some o) number ≡ Some p → (o ≡ p) × (number ≡ 1)
 one_part o number p plain h =
     by_case (number == 1) refl (subst (λ (b : Bool). (if number == (if b then 2 else 1) then Some o else (if number == 1 then first_op (Some o) else None)) ≡ Some p) plain h)
   where
@@ -199,7 +199,7 @@ rename_makes parent name target new_name number p makes h = by_last (number == 2
     by_last false false c k = absurd cc
 
 -- a part that makes an object is the whole fop's, and the object has the drawn gfid
-makes_drawn : (f : Fop) (number : ℕ) (p : FlatOp) → is_make p ≡ true → part_of (flat_op f) number ≡ Some p → (d : Option Gfid) → DrawsOwn d f → (d ≡ gfid_made p) × (number ≡ 1)
+pub makes_drawn : (f : Fop) (number : ℕ) (p : FlatOp) → is_make p ≡ true → part_of (flat_op f) number ≡ Some p → (d : Option Gfid) → DrawsOwn d f → (d ≡ gfid_made p) × (number ≡ 1)
 makes_drawn (fop.Mkdir parent name mode drawn) number p makes h d own = let k = one_part (flat.Mkdir parent.gfid name mode drawn) number p refl h in (own ∙ ap gfid_made k.0, k.1)
 makes_drawn (fop.Create fd parent name mode drawn) number p makes h d own = let k = one_part (flat.Create parent.gfid name mode drawn) number p refl h in (own ∙ ap gfid_made k.0, k.1)
 makes_drawn (fop.Rename parent name target new_name) number p makes h d own = absurd (rename_makes parent.gfid name target.gfid new_name number p makes h)
@@ -219,11 +219,11 @@ makes_drawn (fop.Write fd object offset bytes) number p makes h d own = absurd (
 makes_drawn (fop.Migrate fds) number p makes h d own = absurd cc
 makes_drawn (fop.Heal count) number p makes h d own = absurd cc
 
-record Makes (parent : Gfid) (item : Item) (p : FlatOp) : Type 0 where
+pub record Makes (parent : Gfid) (item : Item) (p : FlatOp) : Type 0 where
   pub makes : is_make p ≡ true
   pub gfid_is : gfid_made p ≡ Some item.gfid
 
-added_makes : (k : Kind) (parent : Gfid) (item : Item) (mode : ℕ) (p : FlatOp) → added parent item mode k ≡ Some p → Makes parent item p
+pub added_makes : (k : Kind) (parent : Gfid) (item : Item) (mode : ℕ) (p : FlatOp) → added parent item mode k ≡ Some p → Makes parent item p
 added_makes kind.File parent item mode p h = let is = unwrap (flat.Create parent item.name mode item.gfid) p h in subst (λ (x : FlatOp). Makes parent item x) is (record { makes = refl; gfid_is = refl })
 added_makes kind.Dir parent item mode p h = let is = unwrap (flat.Mkdir parent item.name mode item.gfid) p h in subst (λ (x : FlatOp). Makes parent item x) is (record { makes = refl; gfid_is = refl })
 added_makes kind.Link parent item mode p h = absurd cc

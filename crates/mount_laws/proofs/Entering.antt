@@ -70,7 +70,7 @@ began_is first _ (IsReached.Further old step reached allowed) = step_began old s
 -- ---- effects are the fop's own
 
 -- the job under way is the fop's own part, or changes a link
-own_job : (first : List (List ℕ)) (m : State) → IsReached first m → (c : ℕ) (run : Run) (set : ℕ) (asked : Job) (next : SetReply → Course) → Runs m c run → run.course ≡ Course.Asks set asked next → IsOwnJob c run.fop run.handed set asked
+pub own_job : (first : List (List ℕ)) (m : State) → IsReached first m → (c : ℕ) (run : Run) (set : ℕ) (asked : Job) (next : SetReply → Course) → Runs m c run → run.course ≡ Course.Asks set asked next → IsOwnJob c run.fop run.handed set asked
 own_job first m reached c run set asked next runs asks =
     subst (λ (call : ℕ). IsOwnJob call run.fop run.handed set asked) ((in_its_graph first m reached).planned c run runs).call_is
     ((subst (λ (course : Course). Always (IsOwn run.volume.call run.fop) AnyHold AnyAnswer run.handed course) asks
@@ -380,7 +380,7 @@ module _ (first : List (List ℕ)) (m : State) (reached : IsReached first m) (t 
       of_job (job.Heal cell) is k entry e = absurd is
 
   -- another change of its call is of an earlier part, and adopted
-  is_later : (w : ℕ) (old new : Entry) → HasEffect (m.changes w) old → HasEffect (change_by t.call t.set t.job) new → old.call ≡ new.call → (old.part < new.part) × ((m.changes w).verdict ≡ Adopted)
+  pub is_later : (w : ℕ) (old new : Entry) → HasEffect (m.changes w) old → HasEffect (change_by t.call t.set t.job) new → old.call ≡ new.call → (old.part < new.part) × ((m.changes w).verdict ≡ Adopted)
   is_later w old new k made same =
       let part = made_part new made.effect in
       by_case part ((own_of_run first m reached t.call t.run h.under_way.runs w) old (by part) k)
@@ -451,12 +451,12 @@ get_push [] x (suc i) y h = absurd cc
 get_push (z ∷ xs) x zero y h = inl h
 get_push (z ∷ xs) x (suc i) y h = elim (get_push xs x i y h) [ inl old ↦ inl old | inr new ↦ inr (omega (arith, new.0), new.1) ]
 
-get_front : {A : Type 0} (xs : List A) (x : A) (i : ℕ) → i < length xs → slice_get (xs ++ x ∷ []) i ≡ slice_get xs i
+pub get_front : {A : Type 0} (xs : List A) (x : A) (i : ℕ) → i < length xs → slice_get (xs ++ x ∷ []) i ≡ slice_get xs i
 get_front [] x i h = absurd (omega (arith, h))
 get_front (z ∷ xs) x zero h = refl
 get_front (z ∷ xs) x (suc i) h = get_front xs x i (omega (arith, h))
 
-get_end : {A : Type 0} (xs : List A) (x : A) → slice_get (xs ++ x ∷ []) (length xs) ≡ Some x
+pub get_end : {A : Type 0} (xs : List A) (x : A) → slice_get (xs ++ x ∷ []) (length xs) ≡ Some x
 get_end [] x = refl
 get_end (z ∷ xs) x = get_end xs x
 

@@ -130,7 +130,7 @@ fresh first m reached a u entry parent item mode span was effect is = by_kind (m
 
 -- ---- what was made stays
 
-abbrev Grows : (Gfid → Option Kind) → Homes → (Gfid → Option Kind) → Homes → Type 0
+abbrev pub Grows : (Gfid → Option Kind) → Homes → (Gfid → Option Kind) → Homes → Type 0
 Grows kinds homes new_kinds new_homes = (set : ℕ) (gfid : Gfid) (k : Kind) → IsMadeOn kinds homes set gfid k → IsMadeOn new_kinds new_homes set gfid k
 
 named_grows : (kinds : Gfid → Option Kind) (homes : Homes) (gfid : Gfid) (k : Kind) (set : ℕ) → kinds gfid ≡ None → Grows kinds homes (with_kind kinds gfid k) (with_home homes gfid set)
@@ -375,7 +375,7 @@ move_bears m a _ _ (HandsIn t shown h) = λ set asked next e. absurd cc
 move_bears m a _ _ (Extends c run dir next h) = λ set asked later e. absurd cc
 move_bears m a _ _ (Releases c run gfid h) = a c run h.runs
 
-bearing_is_birth : (first : List (List ℕ)) (m : State) → IsReached first m → (c : ℕ) (run : Run) → Runs m c run → BearsAt run
+pub bearing_is_birth : (first : List (List ℕ)) (m : State) → IsReached first m → (c : ℕ) (run : Run) → Runs m c run → BearsAt run
 bearing_is_birth first _ (IsReached.Start planned) = λ c run runs. absurd cc
 bearing_is_birth first _ (IsReached.Further old step reached allowed) = λ c run runs. move_bears old (bearing_is_birth first old reached) c run (run_moves old step allowed c run runs)
 
@@ -620,7 +620,7 @@ module _ (kinds : Gfid → Option Kind) (homes : Homes) where
           (subst (λ (j : Job). Each (λ (content : Option Content). AreNamesMade kinds homes other (items_of content)) (contents_read j answer)) s.1 k.0))
       one (Held other) k s = absurd s
 
-  record IsFoundMade (set : ℕ) (gfid : Gfid) (k : Kind) : Type 0 where
+  pub record IsFoundMade (set : ℕ) (gfid : Gfid) (k : Kind) : Type 0 where
     pub no_link : is_link k ≡ false
     pub made : IsMadeOn kinds homes set gfid k
 
@@ -641,7 +641,7 @@ module _ (kinds : Gfid → Option Kind) (homes : Homes) where
           subst (λ (s : ℕ). IsFoundMade s gfid k) w.0 (item_made other w.1.1.item gfid k names.0 w.1.1.no_link w.1.1.gfid_is w.1.1.kind_is)
       one (Held dir) made w = absurd w
 
-  found_made : (handed : Handed) (set : ℕ) (gfid : Gfid) (k : Kind) → AreEventsMade kinds homes handed → SawObject handed set gfid k ⊎ WasAdded handed set gfid k → IsFoundMade set gfid k
+  pub found_made : (handed : Handed) (set : ℕ) (gfid : Gfid) (k : Kind) → AreEventsMade kinds homes handed → SawObject handed set gfid k ⊎ WasAdded handed set gfid k → IsFoundMade set gfid k
   found_made handed set gfid k a (inl s) =
       item_made set s.saw.item gfid k (found_is (λ (item : Item). IsNameMade kinds homes set item) s.saw.shown.items s.name s.saw.item (saw_made handed s.dir set s.saw.shown a s.saw.saw) s.saw.named) s.saw.is_object s.saw.gfid_is s.saw.kind_is
   found_made handed set gfid k a (inr w) = added_made handed set gfid k a w

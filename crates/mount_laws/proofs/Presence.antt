@@ -249,13 +249,13 @@ applied_present contents o cell h = by_case (fits contents o)
     by_case true = births_present cell (births o) (after_edits contents (edits contents o)) (edits_present cell (edits contents o) contents h)
     by_case false = h
 
-abbrev Stays : SetContents → SetContents → Type 0
+abbrev pub Stays : SetContents → SetContents → Type 0
 Stays old new = (set : ℕ) (cell : Cell) → is_some (old set cell) ≡ true → is_some (new set cell) ≡ true
 
 set_stays : (adopted : SetContents) (set : ℕ) (new : Contents) → ((cell : Cell) → is_some (adopted set cell) ≡ true → is_some (new cell) ≡ true) → Stays adopted (with_at adopted set new)
 set_stays adopted set new k s cell = at_case (λ i (one : Contents). is_some (adopted i cell) ≡ true → is_some (one cell) ≡ true) adopted set new (k cell) s (λ differ h. h)
 
-step_stays : (m : State) (step : Step) → Allowed m step → Stays m.adopted (after m step).adopted
+pub step_stays : (m : State) (step : Step) → Allowed m step → Stays m.adopted (after m step).adopted
 step_stays m (Step.Settles t u true) h = set_stays m.adopted (m.changes u).set _ (λ cell k. applied_present (m.adopted (m.changes u).set) (m.changes u).op cell k)
 step_stays m (Step.Decides t u) h = set_stays m.adopted (m.changes u).set _ (λ cell k. applied_present (m.adopted (m.changes u).set) (m.changes u).op cell k)
 step_stays m (Step.SendsBirths t) h = set_stays m.adopted t.set _ (λ cell k. births_present cell (births_by t.job) (m.adopted t.set) k)
@@ -291,7 +291,7 @@ sent m t is held = of_job t.job is held
     of_job : (asked : Job) → IsBirth asked → IsHeldFor t.run.holds t.run.fop asked → AreThere (with_at m.adopted t.set (after_births (m.adopted t.set) (births_by asked))) t.set asked
     of_job (job.Birth cells o) is k =
         subst (λ (one : Contents). Each (λ (cell : Cell). is_some (one cell) ≡ true) cells) (sym (at_same m.adopted t.set (after_births (m.adopted t.set) (births o))))
-        (subst (λ (cs : List Cell). Each (λ (cell : Cell). is_some (after_births (m.adopted t.set) (births o) cell) ≡ true) cs) (sym k.1) (births_there (births o) (m.adopted t.set)))
+        (subst (λ (cs : List Cell). Each (λ (cell : Cell). is_some (after_births (m.adopted t.set) (births o) cell) ≡ true) cs) (sym k.1.0) (births_there (births o) (m.adopted t.set)))
     of_job (job.Read cells fd dir) is k = absurd is
     of_job (job.Change cells fd o effect) is k = absurd is
     of_job (job.Open fd gfid) is k = absurd is
@@ -339,7 +339,7 @@ bears_in first _ (IsReached.Further old step reached allowed) = step_bears first
 
 -- ---- firm cells
 
-abbrev FirmSome : (ℕ → Cell → Bool) → SetContents → Type 0
+abbrev pub FirmSome : (ℕ → Cell → Bool) → SetContents → Type 0
 FirmSome firm adopted = (set : ℕ) (cell : Cell) → firm set cell ≡ true → is_some (adopted set cell) ≡ true
 
 firm_stays : (firm : ℕ → Cell → Bool) (old new : SetContents) → Stays old new → FirmSome firm old → FirmSome firm new
@@ -393,7 +393,7 @@ start_firm first set cell = by_meta (is_cell cell (meta_cell root)) refl
     by_meta true e k = rw e refl
     by_meta false e k = by_names (is_cell cell (names_cell root)) e refl k
 
-firm_some : (first : List (List ℕ)) (m : State) → IsReached first m → FirmSome m.firm m.adopted
+pub firm_some : (first : List (List ℕ)) (m : State) → IsReached first m → FirmSome m.firm m.adopted
 firm_some first _ (IsReached.Start planned) = start_firm first
 firm_some first _ (IsReached.Further old step reached allowed) = step_firm first old step reached allowed (firm_some first old reached)
 

@@ -11,6 +11,7 @@ use Rattle.dht_fops.specs.Handed.{Handed, Event, Always, AnyHold, AnyAnswer}
 use Rattle.dht_fops.specs.Handed.Event.{Replied}
 use Rattle.dht_fops.specs.Looks.{span_of, span_job}
 use Rattle.dht_fops.specs.Volumes.{Kept}
+use Rattle.dht_laws.specs.Homes.{IsOwnDir}
 use Rattle.dht_linkto.specs.DirNames.{first_content}
 use Rattle.fop_types.specs.Bounds.{Each, IsFop, IsVolumeName}
 use Rattle.fop_types.specs.Files.{first_files}
@@ -130,9 +131,10 @@ abbrev pub WasSpanRead : Handed → Gfid → ℕ → Option Span → Type 0
 WasSpanRead [] dir set span = ⊥
 WasSpanRead (event ∷ handed) dir set span = IsSpanRead dir set span event ⊎ WasSpanRead handed dir set span
 
--- the fop has read the directory's layout on each set of its graph
+-- the fop has read the layout of a directory that it names, on each set of its graph
 pub record MayLearn (m : State) (c : ℕ) (run : Run) (dir : Gfid) (spans : List (Option Span)) : Type 0 where
   pub runs : Runs m c run
+  pub own : IsOwnDir run.fop dir
   pub whole : length spans ≡ length run.names
   pub read : (set : ℕ) (span : Option Span) → slice_get spans set ≡ Some span → WasSpanRead run.handed dir set span
 

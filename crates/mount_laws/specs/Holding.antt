@@ -1,10 +1,11 @@
 -- What the holds give: no two of them conflict, each job is of objects that its call holds, and a job that changes holds them
 -- exclusively. Ours.
-use Rattle.std.specs.Prelude.{◌≡◌, ◌≢◌, ◌⊎◌, ℕ, false, List, ◌++◌, Option, Some, None}
+use Rattle.std.specs.Prelude.{◌≡◌, ◌≢◌, ◌⊎◌, ℕ, true, false, List, ◌++◌, Option, Some, None}
 use Rattle.dht_fops.specs.Courses.{Course}
 use Rattle.dht_fops.specs.Handed.{Handed}
 use Rattle.fop_types.specs.Bounds.{Each}
 use Rattle.fop_types.specs.Jobs.{cells_of}
+use Rattle.fop_types.specs.Names.{is_directory}
 use Rattle.fop_types.specs.StoreOps.{needs, births}
 use Rattle.fop_types.specs.declared.cells.Cell.{Cell}
 use Rattle.fop_types.specs.declared.cells.Gfid.{Gfid}
@@ -14,6 +15,7 @@ use Rattle.fop_types.specs.declared.jobs.Job.{Job}
 use Rattle.fop_types.specs.declared.jobs.Job.TheVariants as job
 use Rattle.fop_types.specs.declared.jobs.SetReply.{SetReply}
 use Rattle.fop_types.specs.declared.store_ops.StoreOp.{StoreOp}
+use Rattle.fop_types.specs.declared.store_ops.StoreOp.TheVariants as op
 use Rattle.mount_laws.specs.Guards.{NeedsNoMore}
 use Rattle.mount_laws.specs.Holds.{Hold, Holds, HoldsExclusively, AreApart, holds_of, extensions}
 use Rattle.mount_laws.specs.Runs.{Run, SettledJob, Leads, first_course}
@@ -72,12 +74,22 @@ pub record IsHeldChange (hs : List Hold) (f : Fop) (cells : List Cell) (o : Stor
   pub whole : cells ≡ needs o
   pub no_lookup : is_lookup f ≡ false
 
+abbrev pub IsCopyOf : Gfid → StoreOp → Type 0
+IsCopyOf gfid (op.MakeCopy other span) = other ≡ gfid
+IsCopyOf gfid other = ⊥
+
+-- a birth is of the directory that a mkdir makes, or of a rename's new parent
+abbrev pub IsBornBy : Fop → StoreOp → Type 0
+IsBornBy (fop.Mkdir parent name mode drawn) o = IsCopyOf drawn o
+IsBornBy (fop.Rename parent name target new_name) o = IsCopyOf target.gfid o × (is_directory target.kind ≡ true)
+IsBornBy other o = ⊥
+
 -- A read's cells are of objects that are held; those of a change or a birth are held exclusively, births of the drawn
--- object apart. A birth's are those to which its op gives a content.
+-- object apart. A birth's are those to which its op gives a content, of a directory that the fop makes or names.
 abbrev pub IsHeldFor : List Hold → Fop → Job → Type 0
 IsHeldFor hs f (job.Read cells fd dir) = AreHeld hs cells
 IsHeldFor hs f (job.Change cells fd o effect) = IsHeldChange hs f cells o
-IsHeldFor hs f (job.Birth cells o) = AreHeldOrDrawn hs (drawn_by f) cells × (cells ≡ cells_of (births o))
+IsHeldFor hs f (job.Birth cells o) = AreHeldOrDrawn hs (drawn_by f) cells × ((cells ≡ cells_of (births o)) × IsBornBy f o)
 IsHeldFor hs f (job.Open fd gfid) = Unit {0}
 IsHeldFor hs f job.Index = Unit {0}
 IsHeldFor hs f (job.Heal cell) = Unit {0}

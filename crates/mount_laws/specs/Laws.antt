@@ -1,10 +1,15 @@
 -- What every state of the mount keeps that allowed steps lead to. Ours.
 use Rattle.std.specs.Prelude.{ℕ, List}
+use Rattle.mount_laws.specs.Answering.{AnsweredByEntry}
+use Rattle.mount_laws.specs.Births.{OneBirth, UnconfirmedIsBorn, DrawnIsFree, CopiesStand}
 use Rattle.mount_laws.specs.Effects.{EffectIsOwn, PartsInOrder, EnteredOnce, AdoptedIsEntered}
 use Rattle.mount_laws.specs.Graphs.{BeyondOld, InItsGraph}
 use Rattle.mount_laws.specs.Guards.{IsReached}
 use Rattle.mount_laws.specs.Holding.{HoldsApart, HoldsOwn, JobAsked, HoldCovers}
+use Rattle.mount_laws.specs.Homes.{JobHome, ChangedAtHome}
+use Rattle.mount_laws.specs.Layouts.{LayoutStands}
 use Rattle.mount_laws.specs.Objects.{DrawnApart, MadeByChange, NamesAreMade, HandedIsMade, ObjectsMade}
+use Rattle.mount_laws.specs.Places.{PlacesFixed}
 use Rattle.mount_laws.specs.Seeing.{SettledIsListed, SawStill}
 use Rattle.mount_laws.specs.Settling.{OneUnsettled, EachStandsBeside, RunningIsAlone, OwnDecided, SettlingEnds, BirthsApart, ReadIsAdopted, AreWhole, TouchedIsFirm, FirmIsPresent}
 use Rattle.mount_laws.specs.States.{State}
@@ -51,6 +56,20 @@ pub record KeepsObjects (m : State) : Type 0 where
   pub handed : HandedIsMade m
   pub objects : ObjectsMade m
 
+pub record KeepsHomes (m : State) : Type 0 where
+  pub jobs : JobHome m
+  pub changes : ChangedAtHome m
+
+pub record KeepsAnswers (m : State) : Type 0 where
+  pub changed : AnsweredByEntry m
+  pub places : PlacesFixed m
+
+pub record KeepsBirths (m : State) : Type 0 where
+  pub drawn : DrawnIsFree m
+  pub once : OneBirth m
+  pub unconfirmed : UnconfirmedIsBorn m
+  pub copies : CopiesStand m
+
 abbrev pub EveryStateKeepsHolds : Type 0
 EveryStateKeepsHolds = EveryState KeepsHolds
 
@@ -71,3 +90,15 @@ EveryStateKeepsObjects = EveryState KeepsObjects
 
 abbrev pub EveryStateKeepsPresence : Type 0
 EveryStateKeepsPresence = EveryState FirmIsPresent
+
+abbrev pub EveryStateKeepsHomes : Type 0
+EveryStateKeepsHomes = EveryState KeepsHomes
+
+abbrev pub EveryStateKeepsAnswers : Type 0
+EveryStateKeepsAnswers = EveryState KeepsAnswers
+
+abbrev pub EveryStateKeepsBirths : Type 0
+EveryStateKeepsBirths = EveryState KeepsBirths
+
+abbrev pub EveryStateKeepsLayouts : Type 0
+EveryStateKeepsLayouts = EveryState LayoutStands

@@ -1,10 +1,15 @@
+pub mod Answering
+pub mod Births
 pub mod Effects
 pub mod Graphs
 pub mod Guards
 pub mod Holding
 pub mod Holds
+pub mod Homes
 pub mod Laws
+pub mod Layouts
 pub mod Objects
+pub mod Places
 pub mod Runs
 pub mod Seeing
 pub mod Settling

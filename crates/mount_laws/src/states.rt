@@ -1,4 +1,4 @@
-ghost use Rattle.mount_laws.specs.Laws.{EveryStateKeepsHolds, EveryStateKeepsSettled, EveryStateKeepsSights, EveryStateKeepsGraphs, EveryStateKeepsEffects, EveryStateKeepsObjects, EveryStateKeepsPresence};
+ghost use Rattle.mount_laws.specs.Laws.{EveryStateKeepsHolds, EveryStateKeepsSettled, EveryStateKeepsSights, EveryStateKeepsGraphs, EveryStateKeepsEffects, EveryStateKeepsObjects, EveryStateKeepsPresence, EveryStateKeepsHomes, EveryStateKeepsAnswers, EveryStateKeepsBirths, EveryStateKeepsLayouts};
 
 /// The law of holds, of every state that allowed steps lead to. Holds of different calls do not conflict. A call holds
 /// what its fop's kind says, and the directories by which it was extended, as long as the fop needs them. The job
@@ -59,3 +59,46 @@ pub fn every_state_keeps_objects()
 pub fn every_state_keeps_presence()
     ensures { EveryStateKeepsPresence }
 {}
+
+/// The law of homes, of every state that allowed steps lead to. A job that reads, changes or gives birth to a cell of a file is
+/// on the file's home. A change with an effect is of an object that was made: of a file's bytes, mode or attributes on its home,
+/// of a directory's mode or attributes on the first set, where a directory is removed too.
+pub fn every_state_keeps_homes()
+    ensures { EveryStateKeepsHomes }
+{
+    dht_laws::fops_change_on_sets();
+}
+
+/// The law of answers, of every state that allowed steps lead to. A call that has begun a change with an effect, and is
+/// answered something else than an I/O error, has all its changes adopted, and is answered what its own operation
+/// gives, at the number of that operation's entry. The places of a call do not fall: they begin at the length of the
+/// history at its submission, and end at its length now.
+pub fn every_state_keeps_answers()
+    ensures { EveryStateKeepsAnswers }
+{
+    dht_laws::fops_answer_changes();
+    dht_laws::fops_place_answers();
+}
+
+/// The law of births, of every state that allowed steps lead to. An object with the gfid that a call drew is made by a change of
+/// that call alone, and until then its cells are born by that call alone, none before its own fop. Each birth of a cell gives
+/// it the content of its first birth. A present cell has the range of its first birth, and as long as it is not firm all
+/// its content. A made directory's copy is firm on each set of the graph of the call that made it, and has no range on the
+/// others.
+pub fn every_state_keeps_births()
+    ensures { EveryStateKeepsBirths }
+{
+    dht_laws::fops_bear_first();
+    dht_laws::fops_change_links();
+    dht_laws::fops_answer_changes();
+}
+
+/// The law of layouts, of every state that allowed steps lead to. A layout that was learnt is the one that the directory's copies
+/// have now, set by set: a copy's range is that of its birth, and where a set had none to show there is none.
+pub fn every_state_keeps_layouts()
+    ensures { EveryStateKeepsLayouts }
+{
+    dht_laws::fops_bear_first();
+    dht_laws::fops_change_links();
+    dht_laws::fops_answer_changes();
+}

@@ -6,7 +6,6 @@ use Rattle.std.proofs.lemmas.List.Folds.{list_all-append}
 use Rattle.std.specs.Cmp.{first_so, second_so}
 use Rattle.std.specs.List.{list_all}
 use Rattle.std.specs.Fmt.{digits, digit_glyph}
-use Rattle.core.specs.Int.{IsInRange}
 use Rattle.std.proofs.lemmas.Str.Parse.{IsDigitsTest, WeighsDigits, IsNumeralModel, numerals_by_weight}
 use Rattle.std.proofs.lemmas.Fmt.{decimal_nonempty, first_decimal, digits_decimal, digits_value-decimal, decimal-digits_value, decimal_digit, length-decimal-le}
 use Rattle.volfile.proofs.WellRead.{both_so}
@@ -19,10 +18,10 @@ use Rattle.report_reader.specs.code.Forms.{below, unit_of, part_of, is_octal, oc
 use Rattle.report_reader.proofs.Laws.{IsWord, not_some, some_is}
 
 -- ---- decimal
-digit_range : (c : ℕ) → is_digit c ≡ true → IsInRange 48 57 c
+digit_range : (c : ℕ) → is_digit c ≡ true → (48 ≤ c) × (c ≤ 57)
 digit_range c h = (leb-true 48 c (first_so (nat_le 48 c) (nat_le c 57) h), leb-true c 57 (second_so (nat_le 48 c) (nat_le c 57) h))
 
-range_digit : (c : ℕ) → IsInRange 48 57 c → is_digit c ≡ true
+range_digit : (c : ℕ) → (48 ≤ c) × (c ≤ 57) → is_digit c ≡ true
 range_digit c k = both_so (nat_le 48 c) (nat_le c 57) (le-leb 48 c k.0) (le-leb c 57 k.1)
 
 tells : IsDigitsTest (λ ds. list_all is_digit ds ≡ true)

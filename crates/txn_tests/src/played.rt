@@ -224,9 +224,15 @@ impl Play {
         if k >= 5 || !self.txn.wave.is_asked(k) {
             return Ok(Want::Other(k));
         }
-        let need = self
-            .txn
-            .answer(alloc, k, rep, 9, Mask(self.live), &self.last, &mut self.ledger)?;
+        let need = self.txn.answer(
+            alloc,
+            k,
+            rep,
+            9,
+            Mask(self.live),
+            &self.last,
+            &mut self.ledger,
+        )?;
         Ok(summary(&need))
     }
 

@@ -112,7 +112,7 @@ module _ (size : Size) (m : State) (j : ℕ) (lock : BrickLock) (rows : Cell →
   hands_back k Opened rest front = popped_back (without_first_output m k) k Opened rest front refl (λ h. h)
   hands_back k (Connected graph) rest front = popped_back (without_first_output m k) k (Connected graph) rest front refl (λ h. h)
 
-  shown_back : (step : Step) → Allowed size m step → Back (after size m step)
+  pub shown_back : (step : Step) → Allowed size m step → Back (after size m step)
   shown_back (Step.Turns t turn) h = same_bricks (after size m (Step.Turns t turn)) (turn_bricks size m t turn)
   shown_back (Step.Asks t k first asked) h = one_brick (after size m (Step.Asks t k first asked)) k _ refl (λ e. inl e)
   shown_back (Step.Controls k steering) h = one_brick (after size m (Step.Controls k steering)) k _ refl (λ e. inl e)

@@ -6,4 +6,4 @@ use Rattle.brick_machine.proofs.waiters.Waiters.grant_each.Given as goal
 abbrev pub invariant-loop-owner : goal.invariant-loop-owner
 invariant-loop-owner l =
     (left_waiting l.self (drop l.owner-index l.owners) ≡ left_waiting l.fn.self l.owners)
-    × (put_out l.outs (grant_replies l.cells l.self (drop l.owner-index l.owners)) ≡ put_out l.fn.outs (grant_replies l.cells l.fn.self l.owners))
+    × (put_out l.outs (grant_replies l.store.cells l.self (drop l.owner-index l.owners)) ≡ put_out l.fn.outs (grant_replies l.store.cells l.fn.self l.owners))

@@ -1,0 +1,13 @@
+pub mod Noted
+pub mod Confirmed
+pub mod Cells
+pub mod Settlings
+pub mod Staying
+pub mod Handed
+pub mod Shown
+pub mod Stands
+pub mod One
+pub mod Waits
+pub mod Left
+pub mod OpsNew
+pub mod Guarded

@@ -1,0 +1,13 @@
+pub mod Accepting
+pub mod Cells
+pub mod Families
+pub mod Keeping
+pub mod Later
+pub mod Local
+pub mod Making
+pub mod Merges
+pub mod Naming
+pub mod Objects
+pub mod Ops
+pub mod Rises
+pub mod Sentences

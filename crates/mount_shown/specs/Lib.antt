@@ -1,0 +1,5 @@
+pub mod Bridge
+pub mod Dropping
+pub mod Known
+pub mod Pending
+pub mod Replies
