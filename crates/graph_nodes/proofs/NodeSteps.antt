@@ -180,20 +180,35 @@ owned_job n r l is own = owned n (kind.Replicate r) is l own
 
 -- no frame of these kinds waits so
 module _ (n : Node) (l : Local) (own : owns_by (shape_of n.kind) l ≡ true) (waits : waits_of l ≡ true) where
-  pub root_waits_not : n.kind ≡ kind.Root → ⊥
-  root_waits_not is = relay_waits_not l (owned n kind.Root is l own) waits
+  pub root_go_step : (s : Step Down Up Local) → n.kind ≡ kind.Root → IsStep (node_promise n) (Go l) s
+  root_go_step s is = absurd (relay_waits_not l (owned n kind.Root is l own) waits)
 
-  pub pass_waits_not : n.kind ≡ kind.Pass → ⊥
-  pass_waits_not is = relay_waits_not l (owned n kind.Pass is l own) waits
+  pub root_went : (cx : Context) (s : Step Down Up Local) (new : Node) (cx_new : Context) → n.kind ≡ kind.Root → node_makes n cx (Go l) s new cx_new
+  root_went cx s new cx_new is = absurd (relay_waits_not l (owned n kind.Root is l own) waits)
 
-  pub pages_wait_not : (c : IoCache) → n.kind ≡ kind.IoCache c → ⊥
-  pages_wait_not c is = cache_waits_not n.sets n.weight n.breadth l (owned n (kind.IoCache c) is l own) waits
+  pub pass_go_step : (s : Step Down Up Local) → n.kind ≡ kind.Pass → IsStep (node_promise n) (Go l) s
+  pass_go_step s is = absurd (relay_waits_not l (owned n kind.Pass is l own) waits)
 
-  pub jobs_wait_not : (r : Replicate) → n.kind ≡ kind.Replicate r → ⊥
-  jobs_wait_not r is = set_waits_not (length r.plan.bricks) l (owned n (kind.Replicate r) is l own) waits
+  pub pass_went : (cx : Context) (s : Step Down Up Local) (new : Node) (cx_new : Context) → n.kind ≡ kind.Pass → node_makes n cx (Go l) s new cx_new
+  pass_went cx s new cx_new is = absurd (relay_waits_not l (owned n kind.Pass is l own) waits)
 
-  pub bricks_wait_not : (c : BrickClient) → n.kind ≡ kind.Client c → ⊥
-  bricks_wait_not c is = client_waits_not l (owned n (kind.Client c) is l own) waits
+  pub cache_go_step : (s : Step Down Up Local) → (c : IoCache) → n.kind ≡ kind.IoCache c → IsStep (node_promise n) (Go l) s
+  cache_go_step s c is = absurd (cache_waits_not n.sets n.weight n.breadth l (owned n (kind.IoCache c) is l own) waits)
+
+  pub cache_went : (cx : Context) (s : Step Down Up Local) (new : Node) (cx_new : Context) → (c : IoCache) → n.kind ≡ kind.IoCache c → node_makes n cx (Go l) s new cx_new
+  cache_went cx s new cx_new c is = absurd (cache_waits_not n.sets n.weight n.breadth l (owned n (kind.IoCache c) is l own) waits)
+
+  pub job_go_step : (s : Step Down Up Local) → (r : Replicate) → n.kind ≡ kind.Replicate r → IsStep (node_promise n) (Go l) s
+  job_go_step s r is = absurd (set_waits_not (length r.plan.bricks) l (owned n (kind.Replicate r) is l own) waits)
+
+  pub job_went : (cx : Context) (s : Step Down Up Local) (new : Node) (cx_new : Context) → (r : Replicate) → n.kind ≡ kind.Replicate r → node_makes n cx (Go l) s new cx_new
+  job_went cx s new cx_new r is = absurd (set_waits_not (length r.plan.bricks) l (owned n (kind.Replicate r) is l own) waits)
+
+  pub client_go_step : (s : Step Down Up Local) → (c : BrickClient) → n.kind ≡ kind.Client c → IsStep (node_promise n) (Go l) s
+  client_go_step s c is = absurd (client_waits_not l (owned n (kind.Client c) is l own) waits)
+
+  pub client_went : (cx : Context) (s : Step Down Up Local) (new : Node) (cx_new : Context) → (c : BrickClient) → n.kind ≡ kind.Client c → node_makes n cx (Go l) s new cx_new
+  client_went cx s new cx_new c is = absurd (client_waits_not l (owned n (kind.Client c) is l own) waits)
 
 module _ (n : Node) (cx : Context) (l : Local) (s : Step Down Up Local) where
   pub queue_went : (q : IoThreads) (new : Node) (cx_new : Context) → n.kind ≡ kind.IoThreads q → IsMove (go_on_of l) s → new ≡ n → cx_new ≡ cx → node_makes n cx (Go l) s new cx_new

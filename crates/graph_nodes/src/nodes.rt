@@ -47,6 +47,7 @@ where
 }
 
 // A frame ends, and what it kept goes.
+#[tactic(auto, using(crate::proofs::NodeSteps::root_step))]
 fn end(_local: Local) {}
 
 // The error of a set that lacks a quorum, of which no brick is known to be lost.
@@ -311,7 +312,7 @@ impl Xlator<Down, Up, Context> for Node {
         }
     }
 
-    #[tactic(auto, using(crate::proofs::NodeSteps::owned_fop, crate::proofs::NodeSteps::root_waits_not, crate::proofs::NodeSteps::pass_waits_not, crate::proofs::NodeSteps::pages_wait_not, crate::proofs::NodeSteps::jobs_wait_not, crate::proofs::NodeSteps::bricks_wait_not, crate::proofs::NodeSteps::queue_went, crate::proofs::NodeSteps::fop_went, crate::proofs::NodeSteps::queue_go_step, crate::proofs::NodeSteps::fop_go_step))]
+    #[tactic(auto, using(crate::proofs::NodeSteps::owned_fop, crate::proofs::NodeSteps::root_go_step, crate::proofs::NodeSteps::root_went, crate::proofs::NodeSteps::pass_go_step, crate::proofs::NodeSteps::pass_went, crate::proofs::NodeSteps::cache_go_step, crate::proofs::NodeSteps::cache_went, crate::proofs::NodeSteps::job_go_step, crate::proofs::NodeSteps::job_went, crate::proofs::NodeSteps::client_go_step, crate::proofs::NodeSteps::client_went, crate::proofs::NodeSteps::queue_went, crate::proofs::NodeSteps::fop_went, crate::proofs::NodeSteps::queue_go_step, crate::proofs::NodeSteps::fop_go_step))]
     fn go_on(
         &mut self,
         alloc: Global,
