@@ -47,7 +47,6 @@ where
 }
 
 // A frame ends, and what it kept goes.
-#[tactic(auto, using(crate::proofs::NodeSteps::root_step))]
 fn end(_local: Local) {}
 
 // The error of a set that lacks a quorum, of which no brick is known to be lost.
