@@ -26,7 +26,7 @@ entry_code = code_by (ℕ × ℕ) (coded× coded_ℕ coded_ℕ) (λ e. (e.call, 
 abbrev pub mounted_code : Coded Mounted
 mounted_code =
     code_by (List ℕ × (Inodes × (List Entry × Bool))) (coded× (coded_list coded_ℕ) (coded× inodes_code (coded× (coded_list entry_code) coded_bool)))
-        (λ m. (m.numbers, (m.inodes, (m.history, m.spent)))) (λ p. record { numbers = p.0; inodes = p.1.0; history = p.1.1.0; spent = p.1.1.1 }) (λ _. refl)
+    (λ m. (m.numbers, (m.inodes, (m.history, m.spent)))) (λ p. record { numbers = p.0; inodes = p.1.0; history = p.1.1.0; spent = p.1.1.1 }) (λ _. refl)
 
 -- a call that was made: the graphs were not spent, and are the same ones
 pub record KeepsMounted (old new : Mounted) : Type 0 where
