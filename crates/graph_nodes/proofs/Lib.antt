@@ -2,6 +2,7 @@ pub mod Bounds
 pub mod Appends
 pub mod Steps
 pub mod FopTurns
+pub mod FopSteps
 pub mod TxnTurns
 pub mod CopyTurns
 pub mod AskedSlots

@@ -25,8 +25,8 @@ use xlator_law::{Settled, Stop, WindNo};
 /// The graphs of a mount and what they share. Each call names a graph by its number, and answers `None` where there is
 /// no such graph.
 ///
-/// Contracts see the numbers, the inodes in use, and whether the graphs are spent: once a call failed, each answers so from
-/// then on.
+/// Contracts see the numbers, the inodes in use, the history, and whether the graphs are spent: once a call failed, each
+/// answers so from then on.
 #[derive(Drop)]
 pub struct Graphs {
     pub(crate) live: BTreeMap<u32, Graph>,
@@ -44,7 +44,7 @@ impl Model for Graphs {
 
     ghost coded = { mounted_code };
 
-    ghost view = { λ g. record { numbers = keys g.live; inodes = g.mount.inodes; spent = g.is_spent } };
+    ghost view = { λ g. record { numbers = keys g.live; inodes = g.mount.inodes; history = g.mount.ledger.history; spent = g.is_spent } };
 
     ghost invariant = { λ g. MatchBool g.is_spent (Unit {0}) (AllLive g.live g.mount) };
 }
@@ -52,7 +52,7 @@ impl Model for Graphs {
 impl Graphs {
     /// No graphs, in a mount whose first graph will have so many sets. It takes no memory.
     pub fn new(alloc: Global, root_sets: u8) -> Graphs
-        ensures { result ≡ record { numbers = []; inodes = map.empty; spent = false } }
+        ensures { result ≡ record { numbers = []; inodes = map.empty; history = []; spent = false } }
     {
         Graphs {
             live: BTreeMap::new(alloc),
@@ -68,6 +68,7 @@ impl Graphs {
     pub fn make(&mut self, alloc: Global, plan: &Plan, number: u32) -> Result<bool, Stop>
         requires { IsPlan plan.now }
         ensures inodes { self.new.inodes ≡ self.old.inodes }
+        ensures history { self.new.history ≡ self.old.history }
         ensures ok { OnOk result ((self.old.spent ≡ false) × (self.new.spent ≡ false)) }
         ensures numbers { OnOk result ((q : ℕ) → has self.new.numbers q ≡ (is_at (nat_cmp number) q || has self.old.numbers q)) }
         ensures err { OnErr result (IsSpentBy self.old self.new) }
@@ -84,6 +85,7 @@ impl Graphs {
     /// Drops a graph without frames. False comes where it has some, or there is no such graph.
     pub fn remove(&mut self, number: u32) -> bool
         ensures inodes { self.new.inodes ≡ self.old.inodes }
+        ensures history { self.new.history ≡ self.old.history }
         ensures spent { self.new.spent ≡ self.old.spent }
         ensures numbers { (q : ℕ) → has self.new.numbers q ≡ (not (result && is_at (nat_cmp number) q) && has self.old.numbers q) }
     {

@@ -220,7 +220,6 @@ fn resume_job(
     Ok(step)
 }
 
-#[tactic(auto, using(crate::proofs::NodeSteps::lawful, crate::proofs::NodeSteps::made, crate::proofs::NodeSteps::same_kind, crate::proofs::NodeSteps::promise_kept, crate::proofs::RelayLaw::relay_enters, crate::proofs::RelayLaw::client_enters, crate::proofs::RelayLaw::relay_resumes, crate::proofs::RelayLaw::client_resumes, crate::proofs::RelayLaw::relay_waits_not, crate::proofs::RelayLaw::client_waits_not, crate::proofs::RelayLaw::set_waits_not, crate::proofs::QueueLaw::queue_enters, crate::proofs::QueueLaw::queue_resumes, crate::proofs::QueueLaw::queue_goes, crate::proofs::CacheLaw::cache_enters, crate::proofs::CacheLaw::cache_resumes, crate::proofs::CacheLaw::cache_waits_not))]
 impl Xlator<Down, Up, Context> for Node {
     type Local = Local;
 
@@ -231,6 +230,7 @@ impl Xlator<Down, Up, Context> for Node {
 
     ghost makes = { node_makes };
 
+    #[tactic(auto, using(crate::proofs::NodeSteps::same_kind, crate::proofs::NodeSteps::kind_promise, crate::proofs::NodeSteps::queue_promise, crate::proofs::NodeSteps::cache_promise, crate::proofs::NodeSteps::root_entered, crate::proofs::NodeSteps::root_step, crate::proofs::NodeSteps::pass_entered, crate::proofs::NodeSteps::pass_step, crate::proofs::NodeSteps::queue_entered, crate::proofs::NodeSteps::queue_step, crate::proofs::NodeSteps::cache_entered, crate::proofs::NodeSteps::cache_step, crate::proofs::NodeSteps::fop_entered, crate::proofs::NodeSteps::fop_step, crate::proofs::NodeSteps::job_entered, crate::proofs::NodeSteps::job_step, crate::proofs::NodeSteps::client_entered, crate::proofs::NodeSteps::client_step))]
     fn enter(
         &mut self,
         alloc: Global,
@@ -270,6 +270,7 @@ impl Xlator<Down, Up, Context> for Node {
         }
     }
 
+    #[tactic(auto, using(crate::proofs::NodeSteps::same_kind, crate::proofs::NodeSteps::kind_promise, crate::proofs::NodeSteps::cache_promise, crate::proofs::NodeSteps::fop_promise, crate::proofs::NodeSteps::owned_fop, crate::proofs::NodeSteps::owned_job, crate::proofs::NodeSteps::root_replied, crate::proofs::NodeSteps::root_reply_step, crate::proofs::NodeSteps::pass_replied, crate::proofs::NodeSteps::pass_reply_step, crate::proofs::NodeSteps::queue_replied, crate::proofs::NodeSteps::queue_reply_step, crate::proofs::NodeSteps::cache_replied, crate::proofs::NodeSteps::cache_reply_step, crate::proofs::NodeSteps::fop_replied, crate::proofs::NodeSteps::fop_reply_step, crate::proofs::NodeSteps::job_replied, crate::proofs::NodeSteps::job_reply_step, crate::proofs::NodeSteps::client_replied, crate::proofs::NodeSteps::client_reply_step))]
     fn resume(
         &mut self,
         alloc: Global,
@@ -310,6 +311,7 @@ impl Xlator<Down, Up, Context> for Node {
         }
     }
 
+    #[tactic(auto, using(crate::proofs::NodeSteps::owned_fop, crate::proofs::NodeSteps::root_go_step, crate::proofs::NodeSteps::root_went, crate::proofs::NodeSteps::pass_go_step, crate::proofs::NodeSteps::pass_went, crate::proofs::NodeSteps::cache_go_step, crate::proofs::NodeSteps::cache_went, crate::proofs::NodeSteps::job_go_step, crate::proofs::NodeSteps::job_went, crate::proofs::NodeSteps::client_go_step, crate::proofs::NodeSteps::client_went, crate::proofs::NodeSteps::queue_went, crate::proofs::NodeSteps::fop_went, crate::proofs::NodeSteps::queue_go_step, crate::proofs::NodeSteps::fop_go_step))]
     fn go_on(
         &mut self,
         alloc: Global,

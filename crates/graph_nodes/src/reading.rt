@@ -66,7 +66,9 @@ impl Graphs {
     }
 
     /// The accepted changes with an effect, in the order in which they were decided.
-    pub fn history(&self) -> &[Entry] {
+    pub fn history(&self) -> &[Entry]
+        ensures { result.now ≡ self.now.history }
+    {
         self.mount.ledger.history()
     }
 }

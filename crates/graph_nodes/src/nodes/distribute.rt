@@ -100,7 +100,7 @@ impl Distribute {
         Ok(refused(alloc))
     }
 
-    #[tactic(auto, using(crate::proofs::FopTurns::begun_turn, crate::proofs::FopTurns::named_sets))]
+    #[tactic(auto, using(crate::proofs::FopTurns::begun_turn, crate::proofs::FopTurns::named_sets, crate::proofs::FopSteps::fop_begun))]
     fn begin_over(
         &self,
         alloc: Global,
@@ -180,7 +180,7 @@ impl Distribute {
         }
     }
 
-    #[tactic(auto, using(crate::proofs::FopTurns::answer_turn))]
+    #[tactic(auto, using(crate::proofs::FopTurns::answer_turn, crate::proofs::FopSteps::reply_taken))]
     fn take_reply(
         &mut self,
         alloc: Global,
@@ -238,7 +238,7 @@ impl Distribute {
         }
     }
 
-    #[tactic(auto, using(crate::proofs::FopTurns::held_turn))]
+    #[tactic(auto, using(crate::proofs::FopTurns::held_turn, crate::proofs::FopSteps::hold_taken))]
     fn extended(
         &self,
         alloc: Global,
