@@ -12,7 +12,7 @@ use Rattle.fop_types.specs.declared.calls.Call.{Call}
 use Rattle.fop_types.specs.declared.cells.Gfid.{Gfid}
 use Rattle.fop_types.specs.declared.flat.FlatOp.{FlatOp}
 use Rattle.fop_types.specs.declared.history.Entry.{Entry}
-use Rattle.history_replay.specs.Traces.{Trace, of_call, IsLawfulTrace}
+use Rattle.history_replay.specs.Traces.{Trace, of_call, IsLawfulWith, IsLawfulTrace}
 use Rattle.history_replay.specs.code.Cases.{Case, is_none, is_free, are_between}
 use Rattle.history_replay.specs.code.Claims.{AreHeld}
 use Rattle.history_replay.specs.code.Runs.{Progress, begun, places_in, places_by, answer_in, answer_by, reply_at, case_of, after_calls, index_by, IsEntryFound, IsReplyFound, IsLastOf, AreIndexed, AreClaimsOf, Bears}
@@ -266,15 +266,17 @@ module _ (t : Trace) (f : Findings) (count : ℕ) (all : length t.calls ≤ coun
     each = λ k r there. lawful_by k r there (called_of k r there);
   }
 
-pub lawful_trace : (t : Trace) (f : Findings) (count : ℕ) (claims : List Claim) → length t.calls ≤ count → AreIndexed t f → AreClaimsOf t f count claims
-    → Bears t.replies (length t.history) claims → IsLawfulTrace t
-lawful_trace t f count claims all indexed made bears =
-    let held : AreHeld bears.ops t.replies made.end.claims = subst (AreHeld bears.ops t.replies) (sym made.claims_are) bears.held in
-    let facts = facts_of t f count all bears.ops indexed made.end made.reached held in
+pub lawful_with : (t : Trace) (f : Findings) (count : ℕ) (claims : List Claim) (ops : List FlatOp) → AreIndexed t f → AreClaimsOf t f count claims
+    → Bears t.replies (length t.history) claims ops → length t.calls ≤ count → IsLawfulWith t ops
+lawful_with t f count claims ops indexed made bears all =
+    let held : AreHeld ops t.replies made.end.claims = subst (AreHeld ops t.replies) (sym made.claims_are) bears.held in
+    let facts = facts_of t f count all ops indexed made.end made.reached held in
     record {
-      ops = bears.ops;
       places = λ number. places_by t.replies (reply_at f (number - 1));
       answered = λ number. length (places_by t.replies (reply_at f (number - 1)));
-      legal = legal_history t f count all bears.ops indexed bears.as_many facts;
-      lawful = lawful_replies t f count all bears.ops indexed bears.as_many facts;
+      legal = legal_history t f count all ops indexed bears.as_many facts;
+      lawful = lawful_replies t f count all ops indexed bears.as_many facts;
     }
+
+pub lawful_trace : (t : Trace) (ops : List FlatOp) → IsLawfulWith t ops → IsLawfulTrace t
+lawful_trace t ops lawful = record { ops = ops; lawful = lawful }

@@ -12,9 +12,9 @@ use Rattle.mount_log.specs.Submissions.{submissions_of, submissions_from, replie
 use Rattle.mount_log.specs.declared.logs.HubEvent.{HubEvent}
 use Rattle.mount_log.specs.declared.logs.HubEvent.TheVariants as logged
 use Rattle.mount_log.specs.declared.logs.Log.{Log}
-use Rattle.history_replay.specs.Traces.{Trace, of_call, IsLawfulTrace}
+use Rattle.history_replay.specs.Traces.{Trace, of_call, IsLawfulWith}
 use Rattle.log_replay.specs.Events.{submit_events, HasReplyEvents}
-use Rattle.log_replay.specs.Judged.{HasOneFileSystem}
+use Rattle.log_replay.specs.Judged.{IsOneFileSystem}
 
 -- ---- numbers by call that agree where there is a call
 
@@ -94,26 +94,25 @@ until_agrees log calls events until h until_is number s there =
 
 -- ---- the log
 
-pub one_file_system : (script : Script) (log : Log) (t : Trace) (events answered : List ℕ) → t.calls ≡ submissions_of script log → t.replies ≡ replies_of log
+pub one_file_system : (script : Script) (log : Log) (t : Trace) (ops : List FlatOp) (events answered : List ℕ) → t.calls ≡ submissions_of script log → t.replies ≡ replies_of log
     → t.history ≡ log.history → events ≡ submit_events 0 log.events → length events ≡ length t.calls → HasReplyEvents (length t.calls) log.replies answered
     → t.since ≡ map (λ n. count_below (n + 0) log.entered) events → t.until ≡ map (λ n. count_below (n + 1) log.entered) answered
-    → length log.entered ≡ length log.history → IsLawfulTrace t → HasOneFileSystem script log
-one_file_system script log t events answered calls_are replies_are history_is events_are long replied since_is until_is entered lawful =
+    → length log.entered ≡ length log.history → IsLawfulWith t ops → IsOneFileSystem script log ops
+one_file_system script log t ops events answered calls_are replies_are history_is events_are long replied since_is until_is entered lawful =
     let since = since_agrees log t.calls events t.since events_are long since_is in
     let until = until_agrees log t.calls answered t.until replied until_is in
-    let legal : IsLegalHistory t.calls t.replies (length_since log) lawful.places lawful.ops t.history =
-    legal_same t.calls t.replies (of_call t.since) (length_since log) lawful.places lawful.ops t.history since lawful.legal in
-    let replies : AreLawfulReplies t.calls t.replies lawful.ops t.history (length_since log) (length_until log) lawful.answered =
-    lawful_same t.calls t.replies (of_call t.since) (length_since log) (of_call t.until) (length_until log) lawful.ops t.history lawful.answered since until lawful.lawful in
+    let legal : IsLegalHistory t.calls t.replies (length_since log) lawful.places ops t.history =
+    legal_same t.calls t.replies (of_call t.since) (length_since log) lawful.places ops t.history since lawful.legal in
+    let replies : AreLawfulReplies t.calls t.replies ops t.history (length_since log) (length_until log) lawful.answered =
+    lawful_same t.calls t.replies (of_call t.since) (length_since log) (of_call t.until) (length_until log) ops t.history lawful.answered since until lawful.lawful in
     record {
-      ops = lawful.ops;
       places = lawful.places;
       answered = lawful.answered;
-      legal = subst (λ (l : List Entry). IsLegalHistory (submissions_of script log) (replies_of log) (length_since log) lawful.places lawful.ops l) history_is
-          (subst (λ (r : List Reply). IsLegalHistory (submissions_of script log) r (length_since log) lawful.places lawful.ops t.history) replies_are
-          (subst (λ (c : List Submission). IsLegalHistory c t.replies (length_since log) lawful.places lawful.ops t.history) calls_are legal));
-      lawful = subst (λ (l : List Entry). AreLawfulReplies (submissions_of script log) (replies_of log) lawful.ops l (length_since log) (length_until log) lawful.answered) history_is
-          (subst (λ (r : List Reply). AreLawfulReplies (submissions_of script log) r lawful.ops t.history (length_since log) (length_until log) lawful.answered) replies_are
-          (subst (λ (c : List Submission). AreLawfulReplies c t.replies lawful.ops t.history (length_since log) (length_until log) lawful.answered) calls_are replies));
+      legal = subst (λ (l : List Entry). IsLegalHistory (submissions_of script log) (replies_of log) (length_since log) lawful.places ops l) history_is
+          (subst (λ (r : List Reply). IsLegalHistory (submissions_of script log) r (length_since log) lawful.places ops t.history) replies_are
+          (subst (λ (c : List Submission). IsLegalHistory c t.replies (length_since log) lawful.places ops t.history) calls_are legal));
+      lawful = subst (λ (l : List Entry). AreLawfulReplies (submissions_of script log) (replies_of log) ops l (length_since log) (length_until log) lawful.answered) history_is
+          (subst (λ (r : List Reply). AreLawfulReplies (submissions_of script log) r ops t.history (length_since log) (length_until log) lawful.answered) replies_are
+          (subst (λ (c : List Submission). AreLawfulReplies c t.replies ops t.history (length_since log) (length_until log) lawful.answered) calls_are replies));
       entered = entered;
     }
