@@ -1,6 +1,5 @@
 -- Steps that run one after another are borne out by their operations.
 use Rattle.std.proofs.Common.{◌≡◌, ◌≢◌, ◌∷◌, ◌++◌, refl, sym, ap, subst, ◌∙◌, ℕ, ◌+◌, ◌<◌, ◌≤◌, ◌==◌, suc, zero, ◌⊎◌, inl, inr, List, [], length, take, get_or, arith, take_at, take_all}
-use Rattle.std.proofs.lemmas.Option.{slice_get-get_or}
 use Rattle.std.specs.Prelude.{Option, Some, None, slice_get, slice_set}
 use Rattle.std.proofs.lemmas.Bool.{cases_eq}
 use Rattle.fop_types.specs.Files.{Files, first_files}
@@ -15,7 +14,7 @@ use Rattle.history_replay.specs.declared.claims.Claim.{Claim}
 use Rattle.history_replay.specs.declared.claims.Claim.TheVariants as claim
 use Rattle.history_replay.specs.declared.steps.Change.{Change}
 use Rattle.history_replay.specs.declared.steps.Step.{Step}
-use Rattle.history_replay.proofs.Basics.{some_is, same_some, none_some}
+use Rattle.history_replay.proofs.Basics.{some_is, same_some, none_some, get_read}
 
 -- ---- items of a list
 
@@ -72,10 +71,6 @@ puts_change steps index step change there within free ops replies borne = (old, 
     by_index : (index ≡ at) ⊎ (index ≡ at → ⊥) → IsStepHeld ops replies at other
     by_index (inl same) = subst (λ (n : ℕ). IsStepHeld ops replies n other) same (at_index other (ap (slice_get steps) same ∙ o))
     by_index (inr differs) = borne at other (get_set_other steps index at (with_change step change) differs ∙ o)
-
--- the element that is read by an index
-get_read : {X : Type 0} (xs : List X) (i : ℕ) (x : X) → i < length xs → x ≡ get_or xs i x → slice_get xs i ≡ Some x
-get_read xs i x within read = slice_get-get_or xs i x within ∙ ap Some (sym read)
 
 pub added_at : (steps : List Step) (place : ℕ) (before after : Step) (c : Claim) → place < length steps → before ≡ get_or steps place before
     → after ≡ with_claim before c → PutsClaim steps (slice_set steps place after) place c
