@@ -386,7 +386,7 @@ impl Run {
 
 // The operations of the steps' entries, where the steps hold one after another, from the first files on.
 #[tactic(auto, using(crate::proofs::Taking::begins, crate::proofs::Taking::is_run))]
-fn run(
+fn run_all(
     alloc: Global,
     replies: &[Replied],
     steps: Vec<Step>,
@@ -444,6 +444,6 @@ pub(crate) fn hold(
 {
     match put_all(alloc, replies, entries, claims)? {
         None => Ok(None),
-        Some(steps) => run(alloc, replies, steps),
+        Some(steps) => run_all(alloc, replies, steps),
     }
 }
