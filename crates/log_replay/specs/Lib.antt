@@ -1,3 +1,4 @@
--- In reading order: what is judged; the events of calls and replies.
+-- In reading order: what is judged; the events of calls and replies; calls that are gathered.
 pub mod Judged
 pub mod Events
+pub mod Gathering
