@@ -1,6 +1,6 @@
 -- Steps that run one after another are borne out by their operations.
 use Rattle.std.proofs.Common.{◌≡◌, ◌≢◌, ◌∷◌, ◌++◌, refl, sym, ap, subst, ◌∙◌, ℕ, ◌+◌, ◌<◌, ◌≤◌, ◌==◌, suc, zero, ◌⊎◌, inl, inr, List, [], length, take, get_or, arith, take_at, take_all}
-use Rattle.std.specs.Prelude.{Option, Some, None, slice_get, slice_set}
+use Rattle.std.specs.Prelude.{Option, Some, None, IfSome, slice_get, slice_set}
 use Rattle.std.proofs.lemmas.Bool.{cases_eq}
 use Rattle.fop_types.specs.Files.{Files, first_files}
 use Rattle.fop_types.specs.Flat.{flat, flat_answer, flat_after, IsChange}
@@ -220,7 +220,7 @@ pub put_none : (replies : List Reply) (entries : ℕ) (steps : List Step) → le
 put_none replies entries steps long = record { count = long; held = λ ops borne. tt }
 
 -- all claims were put, and the steps run
-pub bears_by : (replies : List Reply) (steps : List Step) (entries : ℕ) (claims : List Claim) (ops : List FlatOp) → ArePut replies entries claims steps
+bears_by : (replies : List Reply) (steps : List Step) (entries : ℕ) (claims : List Claim) (ops : List FlatOp) → ArePut replies entries claims steps
     → RunsWith replies steps ops → Bears replies entries claims ops
 bears_by replies steps entries claims ops put run =
     let count = runs_count first_files 0 replies steps run.runs in
@@ -228,6 +228,11 @@ bears_by replies steps entries claims ops put run =
     let bears : Bears replies entries claims (ops_of steps) =
     record { as_many = omega (arith, count, many); held = put.held (ops_of steps) (runs_bear replies steps run.runs) } in
     subst (Bears replies entries claims) (sym run.ops_are) bears
+
+pub bears_if : (replies : List Reply) (steps : List Step) (entries : ℕ) (claims : List Claim) (o : Option (List FlatOp)) → ArePut replies entries claims steps
+    → IfSome o (λ ops. RunsWith replies steps ops) → IfSome o (λ ops. Bears replies entries claims ops)
+bears_if replies steps entries claims None put run = tt
+bears_if replies steps entries claims (Some ops) put run = bears_by replies steps entries claims ops put run
 
 -- ---- the loop over the steps
 

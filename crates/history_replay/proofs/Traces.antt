@@ -1,6 +1,6 @@
 -- A trace whose claims hold is lawful.
 use Rattle.std.proofs.Common.{◌≡◌, ◌≢◌, ◌∷◌, ◌++◌, refl, sym, ap, subst, ◌∙◌, ℕ, ◌+◌, ◌-◌, ◌<◌, ◌≤◌, ◌==◌, suc, zero, ◌⊎◌, inl, inr, List, [], length, take, get_or, true≢false, arith}
-use Rattle.std.specs.Prelude.{Bool, true, false, ◌&&◌, nat_le, nat_lt, Option, Some, None, slice_get, if◌then◌else◌}
+use Rattle.std.specs.Prelude.{Bool, true, false, ◌&&◌, nat_le, nat_lt, Option, Some, None, IfSome, slice_get, if◌then◌else◌}
 use Rattle.std.proofs.Math.Dec.{eqb-suc-zero}
 use Rattle.std.proofs.lemmas.Bool.{and_parts, cases_eq, eqb-true, leb-true, ltb-true, eq-eqb, lt-ltb}
 use Rattle.std.proofs.lemmas.Option.{slice_get_within}
@@ -266,7 +266,7 @@ module _ (t : Trace) (f : Findings) (count : ℕ) (all : length t.calls ≤ coun
     each = λ k r there. lawful_by k r there (called_of k r there);
   }
 
-pub lawful_with : (t : Trace) (f : Findings) (count : ℕ) (claims : List Claim) (ops : List FlatOp) → AreIndexed t f → AreClaimsOf t f count claims
+lawful_with : (t : Trace) (f : Findings) (count : ℕ) (claims : List Claim) (ops : List FlatOp) → AreIndexed t f → AreClaimsOf t f count claims
     → Bears t.replies (length t.history) claims ops → length t.calls ≤ count → IsLawfulWith t ops
 lawful_with t f count claims ops indexed made bears all =
     let held : AreHeld ops t.replies made.end.claims = subst (AreHeld ops t.replies) (sym made.claims_are) bears.held in
@@ -278,5 +278,20 @@ lawful_with t f count claims ops indexed made bears all =
       lawful = lawful_replies t f count all ops indexed bears.as_many facts;
     }
 
-pub lawful_trace : (t : Trace) (ops : List FlatOp) → IsLawfulWith t ops → IsLawfulTrace t
-lawful_trace t ops lawful = record { ops = ops; lawful = lawful }
+pub lawful_if : (t : Trace) (f : Findings) (count : ℕ) (claims : List Claim) (replies : List Reply) (entries : ℕ) (o : Option (List FlatOp)) → replies ≡ t.replies
+    → entries ≡ length t.history → AreIndexed t f → AreClaimsOf t f count claims → IfSome o (λ ops. Bears replies entries claims ops)
+    → IfSome o (λ ops. length t.calls ≤ count → IsLawfulWith t ops)
+lawful_if t f count claims replies entries None replies_are entries_are indexed made bears = tt
+lawful_if t f count claims replies entries (Some ops) replies_are entries_are indexed made bears =
+    lawful_with t f count claims ops indexed made
+    (subst (λ (r : List Reply). Bears r (length t.history) claims ops) replies_are (subst (λ (n : ℕ). Bears replies n claims ops) entries_are bears))
+
+pub lawful_trace : (t : Trace) (count : ℕ) (o : Option (List FlatOp)) (ops : List FlatOp) → o ≡ Some ops → IfSome o (λ ops. length t.calls ≤ count → IsLawfulWith t ops)
+    → length t.calls ≤ count → IsLawfulTrace t
+lawful_trace t count None ops is lawful all = absurd cc
+lawful_trace t count (Some found) ops is lawful all = record { ops = found; lawful = lawful all }
+
+pub all_lawful : (t : Trace) (count : ℕ) (o : Option (List FlatOp)) → length t.calls ≤ count → IfSome o (λ ops. length t.calls ≤ count → IsLawfulWith t ops)
+    → IfSome o (λ ops. IsLawfulWith t ops)
+all_lawful t count None all lawful = tt
+all_lawful t count (Some ops) all lawful = lawful all

@@ -13,7 +13,6 @@ use std::alloc::{AllocError, Global};
 
 // The operations with which a trace is lawful as far as the replies to its first `count` calls, by what is said to have been
 // found; `None` where it is not.
-#[tactic(auto, using(crate::proofs::Traces::lawful_with))]
 fn borne_by(
     alloc: Global,
     trace: &Trace,
@@ -27,7 +26,10 @@ fn borne_by(
     }
     match claims_of(alloc, trace, f, count)? {
         None => Ok(None),
-        Some(claims) => hold(alloc, trace.replies, trace.history.len(), claims),
+        Some(claims) => {
+            let ops = hold(alloc, trace.replies, trace.history.len(), claims)?;
+            Ok(ops)
+        }
     }
 }
 
@@ -35,7 +37,6 @@ fn borne_by(
 ///
 /// # Errors
 /// Out of memory.
-#[tactic(auto, using(crate::proofs::Traces::lawful_trace))]
 pub(crate) fn is_borne(
     alloc: Global,
     trace: &Trace,
@@ -61,6 +62,9 @@ pub fn lawful_ops(alloc: Global, trace: &Trace) -> Result<Option<Seq<FlatOp>>, A
 {
     match find(alloc, trace)? {
         Err(_) => Ok(None),
-        Ok(walked) => borne_by(alloc, trace, &walked.findings, trace.calls.len()),
+        Ok(walked) => {
+            let ops = borne_by(alloc, trace, &walked.findings, trace.calls.len())?;
+            Ok(ops)
+        }
     }
 }

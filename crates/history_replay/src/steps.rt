@@ -106,7 +106,6 @@ fn is_found(answer: &FlatAnswer, found: Gfid) -> bool
 
 // ---- putting claims at their places
 
-#[tactic(auto, using(crate::proofs::Running::added_at))]
 fn put_claim(steps: &mut Vec<Step>, place: u32, claim: Claim) -> Result<bool, AllocError>
     ensures puts { IfOk result (λ did. did ≡ true → PutsClaim steps.old.items steps.new.items place claim) }
     ensures count { IfOk result (λ did. length steps.new.items ≡ length steps.old.items) }
@@ -119,7 +118,6 @@ fn put_claim(steps: &mut Vec<Step>, place: u32, claim: Claim) -> Result<bool, Al
     Ok(true)
 }
 
-#[tactic(auto, using(crate::proofs::Running::taken_at))]
 fn put_change(steps: &mut Vec<Step>, index: u32, change: Change) -> bool
     ensures puts { result ≡ true → PutsChange steps.old.items steps.new.items index change }
     ensures count { length steps.new.items ≡ length steps.old.items }
@@ -142,7 +140,7 @@ fn place_of(claim: &Claim) -> Option<u32> {
 }
 
 // Puts a claim of a reply or of an entry.
-#[tactic(auto, using(crate::proofs::Running::puts_entry, crate::proofs::Running::puts_said))]
+#[tactic(auto, using(crate::proofs::Running::puts_said))]
 fn put_other(replies: &[Replied], steps: &mut Vec<Step>, claim: Claim) -> bool
     ensures puts { result ≡ true → Puts replies.now steps.old.items steps.new.items claim }
     ensures count { length steps.new.items ≡ length steps.old.items }
@@ -155,7 +153,6 @@ fn put_other(replies: &[Replied], steps: &mut Vec<Step>, claim: Claim) -> bool
 }
 
 // Puts a claim at its place.
-#[tactic(auto, using(crate::proofs::Running::puts_there))]
 fn put(replies: &[Replied], steps: &mut Vec<Step>, claim: Claim) -> Result<bool, AllocError>
     ensures puts { IfOk result (λ did. did ≡ true → Puts replies.now steps.old.items steps.new.items claim) }
     ensures count { IfOk result (λ did. length steps.new.items ≡ length steps.old.items) }
@@ -359,7 +356,6 @@ struct Run {
 
 impl Run {
     // Takes one step more. It is false where the step does not hold, or no step may follow.
-    #[tactic(auto, using(crate::proofs::Taking::ends, crate::proofs::Taking::goes_on))]
     fn take(&mut self, alloc: Global, replies: &[Replied], step: Step) -> Result<bool, AllocError>
         ensures { IfOk result (λ did. did ≡ true → Takes self.old self.new replies.now step) }
     {
@@ -411,7 +407,7 @@ fn run_all(
 }
 
 // All claims at their places, `None` where one has none.
-#[tactic(auto, using(crate::proofs::Running::put_none, crate::proofs::Running::put_next))]
+#[tactic(auto, using(crate::proofs::Running::put_none))]
 fn put_all(
     alloc: Global,
     replies: &[Replied],
@@ -433,7 +429,6 @@ fn put_all(
 ///
 /// # Errors
 /// Out of memory.
-#[tactic(auto, using(crate::proofs::Running::bears_by))]
 pub(crate) fn hold(
     alloc: Global,
     replies: &[Replied],
@@ -444,6 +439,9 @@ pub(crate) fn hold(
 {
     match put_all(alloc, replies, entries, claims)? {
         None => Ok(None),
-        Some(steps) => run_all(alloc, replies, steps),
+        Some(steps) => {
+            let ops = run_all(alloc, replies, steps)?;
+            Ok(ops)
+        }
     }
 }
