@@ -34,14 +34,16 @@ goes_there p None h = absurd (true≢false h)
 goes_there p (Some q) h = ap Some (sym h.1)
 
 -- one call more
-pub calls_next : (t : Trace) (f : Findings) (count : ℕ) (p q : Progress) (o : Option Progress) (i : ℕ) (s : Submission) (did : Bool) → i < length t.calls
-    → s ≡ get_or t.calls i s → did ≡ true → GoesTo did q (after_call t f count p s) → after_calls t f count (Some p) (drop i t.calls) ≡ o
-    → after_calls t f count (Some q) (drop (i + 1) t.calls) ≡ o
-calls_next t f count p q o i s did within read holds goes so_far =
+pub calls_next : (t : Trace) (f : Findings) (count : ℕ) (p q : Progress) (o : Option Progress) (calls : List Submission) (i : ℕ) (s : Submission) (did : Bool)
+    → calls ≡ t.calls → i < length calls → s ≡ get_or calls i s → did ≡ true → GoesTo did q (after_call t f count p s)
+    → after_calls t f count (Some p) (drop i t.calls) ≡ o → after_calls t f count (Some q) (drop (i + 1) t.calls) ≡ o
+calls_next t f count p q o calls i s did same within read holds goes so_far =
     let there : after_call t f count p s ≡ Some q = goes_there q (after_call t f count p s) (subst (λ (b : Bool). GoesTo b q (after_call t f count p s)) holds goes) in
-    let first : drop i t.calls ≡ s ∷ drop (i + 1) t.calls = drop_more t.calls i s within ∙ ap (λ (x : Submission). x ∷ drop (i + 1) t.calls) (sym read) in
-    ap (λ (x : Option Progress). after_calls t f count x (drop (i + 1) t.calls)) (sym there)
-    ∙ ap (after_calls t f count (Some p)) (sym first) ∙ so_far
+    let first : drop i calls ≡ s ∷ drop (i + 1) calls = drop_more calls i s within ∙ ap (λ (x : Submission). x ∷ drop (i + 1) calls) (sym read) in
+    let here : after_calls t f count (Some p) (drop i calls) ≡ o = ap (λ (l : List Submission). after_calls t f count (Some p) (drop i l)) same ∙ so_far in
+    ap (λ (l : List Submission). after_calls t f count (Some q) (drop (i + 1) l)) (sym same)
+    ∙ ap (λ (x : Option Progress). after_calls t f count x (drop (i + 1) calls)) (sym there)
+    ∙ ap (after_calls t f count (Some p)) (sym first) ∙ here
 
 -- ---- one call
 

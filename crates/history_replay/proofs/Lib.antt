@@ -13,5 +13,6 @@ pub mod Earlier
 pub mod Running
 pub mod Shapes
 pub mod Showing
+pub mod Taking
 pub mod Traces
 pub mod Walks

@@ -1,5 +1,6 @@
 -- Lookups of paths, as the code counts and cuts them.
-use Rattle.std.proofs.Common.{◌≡◌, ◌∷◌, ◌++◌, append-nil, refl, ap, sym, subst, ◌∙◌, ℕ, ◌+◌, ◌-◌, ◌==◌, suc, zero, List, [], length, take, drop, get_or, arith}
+use Rattle.std.proofs.Common.{◌≡◌, ◌∷◌, ◌++◌, append-nil, refl, ap, sym, subst, ◌∙◌, ℕ, ◌+◌, ◌-◌, ◌==◌, suc, zero, ◌<◌, ◌≤◌, List, [], length, take, drop, get_or, arith}
+use Rattle.std.proofs.lemmas.Option.{slice_get_past}
 use Rattle.std.specs.Prelude.{Some, None, slice_get}
 use Rattle.fop_types.specs.Calls.{looked_up, lookups}
 use Rattle.fop_types.specs.declared.calls.Call.{Call}
@@ -8,7 +9,7 @@ use Rattle.fop_types.specs.declared.cells.Gfid.{Gfid}
 use Rattle.call_fops.specs.Walks.{first_path, second_path}
 use Rattle.fop_types.specs.declared.flat.FlatOp.{FlatOp}
 use Rattle.fop_types.specs.declared.flat.FlatOp.TheVariants.{Lookup}
-use Rattle.history_replay.proofs.Basics.{some_is}
+use Rattle.history_replay.proofs.Basics.{some_is, get_read}
 use Rattle.history_replay.specs.code.Cases.{last_found}
 use Rattle.history_replay.specs.code.Claims.{path_claims, path_end, next_in}
 use Rattle.history_replay.specs.declared.claims.Claim.{Claim}
@@ -94,6 +95,15 @@ pub next_none : (path : List (List ℕ)) (at : Gfid) (found : List Gfid) (other 
 next_none [] at found other h = refl
 next_none (n ∷ names) at [] other h = absurd cc
 next_none (n ∷ names) at (gfid ∷ found) other h = next_none names gfid found other h
+
+pub next_there : (path : List (List ℕ)) (at parent : Gfid) (found : List Gfid) (other : FlatOp) (name copy : List ℕ) → length found < length path
+    → name ≡ get_or path (length found) name → copy ≡ name → parent ≡ last_found at found → Lookup parent copy ≡ next_in path at found other
+next_there path at parent found other name copy within read copied parent_is =
+    ap (λ (g : Gfid). Lookup g copy) parent_is ∙ ap (Lookup (last_found at found)) copied
+    ∙ sym (next_is path at found other name (get_read path (length found) name within read))
+
+pub next_past : (path : List (List ℕ)) (at : Gfid) (found : List Gfid) (other : FlatOp) → length path ≤ length found → other ≡ next_in path at found other
+next_past path at found other past = sym (next_none path at found other (slice_get_past path (length found) past))
 
 -- ---- where a loop over the lookups of a path ends
 

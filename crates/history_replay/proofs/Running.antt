@@ -1,7 +1,6 @@
 -- Steps that run one after another are borne out by their operations.
 use Rattle.std.proofs.Common.{◌≡◌, ◌≢◌, ◌∷◌, ◌++◌, refl, sym, ap, subst, ◌∙◌, ℕ, ◌+◌, ◌<◌, ◌≤◌, ◌==◌, suc, zero, ◌⊎◌, inl, inr, List, [], length, take, get_or, arith, take_at, take_all}
-use Rattle.std.proofs.lemmas.Option.{slice_get-get_or}
-use Rattle.std.specs.Prelude.{Option, Some, None, slice_get, slice_set}
+use Rattle.std.specs.Prelude.{Option, Some, None, IfSome, slice_get, slice_set}
 use Rattle.std.proofs.lemmas.Bool.{cases_eq}
 use Rattle.fop_types.specs.Files.{Files, first_files}
 use Rattle.fop_types.specs.Flat.{flat, flat_answer, flat_after, IsChange}
@@ -10,12 +9,12 @@ use Rattle.fop_types.specs.declared.answers.Answer.{Answer}
 use Rattle.fop_types.specs.declared.flat.FlatAnswer.TheVariants as flat_answers
 use Rattle.fop_types.specs.declared.flat.FlatOp.{FlatOp}
 use Rattle.history_replay.specs.code.Claims.{IsReplied, IsRepliedIf, IsHeld, AreHeld, IsEntered}
-use Rattle.history_replay.specs.code.Runs.{IsHeldOn, AreHeldOn, IsDone, Runs, RunsBy, ops_of, with_op, IsChangeHeld, IsStepHeld, AreBorne, with_claim, with_change, PutsClaim, PutsChange, Puts, Bears}
+use Rattle.history_replay.specs.code.Runs.{IsHeldOn, AreHeldOn, IsDone, Runs, RunsBy, ops_of, with_op, IsChangeHeld, IsStepHeld, AreBorne, with_claim, with_change, PutsClaim, PutsChange, Puts, ArePut, RunsWith, Bears}
 use Rattle.history_replay.specs.declared.claims.Claim.{Claim}
 use Rattle.history_replay.specs.declared.claims.Claim.TheVariants as claim
 use Rattle.history_replay.specs.declared.steps.Change.{Change}
 use Rattle.history_replay.specs.declared.steps.Step.{Step}
-use Rattle.history_replay.proofs.Basics.{some_is, same_some, none_some}
+use Rattle.history_replay.proofs.Basics.{some_is, same_some, none_some, get_read}
 
 -- ---- items of a list
 
@@ -72,10 +71,6 @@ puts_change steps index step change there within free ops replies borne = (old, 
     by_index : (index ≡ at) ⊎ (index ≡ at → ⊥) → IsStepHeld ops replies at other
     by_index (inl same) = subst (λ (n : ℕ). IsStepHeld ops replies n other) same (at_index other (ap (slice_get steps) same ∙ o))
     by_index (inr differs) = borne at other (get_set_other steps index at (with_change step change) differs ∙ o)
-
--- the element that is read by an index
-get_read : {X : Type 0} (xs : List X) (i : ℕ) (x : X) → i < length xs → x ≡ get_or xs i x → slice_get xs i ≡ Some x
-get_read xs i x within read = slice_get-get_or xs i x within ∙ ap Some (sym read)
 
 pub added_at : (steps : List Step) (place : ℕ) (before after : Step) (c : Claim) → place < length steps → before ≡ get_or steps place before
     → after ≡ with_claim before c → PutsClaim steps (slice_set steps place after) place c
@@ -213,18 +208,31 @@ held_last_claim ops replies [] y h here = (here, tt)
 held_last_claim ops replies (x ∷ xs) y h here = (h.0, held_last_claim ops replies xs y h.1 here)
 
 -- one claim more that was put
-pub held_next : (replies : List Reply) (before after : List Step) (claims : List Claim) (c : Claim) → Puts replies before after c
-    → ((ops : List FlatOp) → AreBorne ops replies before → AreHeld ops replies claims)
-    → (ops : List FlatOp) → AreBorne ops replies after → AreHeld ops replies (claims ++ c ∷ [])
-held_next replies before after claims c puts so_far ops borne =
-    let both = puts ops borne in held_last_claim ops replies claims c (so_far ops both.0) both.1
+pub put_next : (replies : List Reply) (entries : ℕ) (before after : List Step) (claims : List Claim) (c : Claim) → ArePut replies entries claims before
+    → Puts replies before after c → length after ≡ length before → ArePut replies entries (claims ++ c ∷ []) after
+put_next replies entries before after claims c put puts same = record {
+  count = same ∙ put.count;
+  held = λ ops borne. let both = puts ops borne in held_last_claim ops replies claims c (put.held ops both.0) both.1;
+}
+
+-- no claim was put
+pub put_none : (replies : List Reply) (entries : ℕ) (steps : List Step) → length steps ≡ entries + 1 → ArePut replies entries [] steps
+put_none replies entries steps long = record { count = long; held = λ ops borne. tt }
 
 -- all claims were put, and the steps run
-pub bears_by : (replies : List Reply) (steps : List Step) (entries : ℕ) (claims : List Claim) → length steps ≡ entries + 1
-    → ((ops : List FlatOp) → AreBorne ops replies steps → AreHeld ops replies claims) → Runs first_files 0 replies steps → Bears replies entries claims
-bears_by replies steps entries claims many put runs =
-    let count = runs_count first_files 0 replies steps runs in
-    record { ops = ops_of steps; as_many = omega (arith, count, many); held = put (ops_of steps) (runs_bear replies steps runs) }
+bears_by : (replies : List Reply) (steps : List Step) (entries : ℕ) (claims : List Claim) (ops : List FlatOp) → ArePut replies entries claims steps
+    → RunsWith replies steps ops → Bears replies entries claims ops
+bears_by replies steps entries claims ops put run =
+    let count = runs_count first_files 0 replies steps run.runs in
+    let many = put.count in
+    let bears : Bears replies entries claims (ops_of steps) =
+    record { as_many = omega (arith, count, many); held = put.held (ops_of steps) (runs_bear replies steps run.runs) } in
+    subst (Bears replies entries claims) (sym run.ops_are) bears
+
+pub bears_if : (replies : List Reply) (steps : List Step) (entries : ℕ) (claims : List Claim) (o : Option (List FlatOp)) → ArePut replies entries claims steps
+    → IfSome o (λ ops. RunsWith replies steps ops) → IfSome o (λ ops. Bears replies entries claims ops)
+bears_if replies steps entries claims None put run = tt
+bears_if replies steps entries claims (Some ops) put run = bears_by replies steps entries claims ops put run
 
 -- ---- the loop over the steps
 
@@ -236,10 +244,6 @@ held_on_last files at replies (x ∷ xs) y h here = (h.0, held_on_last files at 
 pub holds_next : (files : Files) (at : ℕ) (replies : List Reply) (xs : List Claim) (y : Claim) → AreHeldOn files at replies xs → IsHeldOn files at replies y
     → AreHeldOn files at replies (xs ++ y ∷ [])
 holds_next files at replies xs y h here = held_on_last files at replies xs y h here
-
-steps_assoc : (xs : List Step) (y : Step) (zs : List Step) → (xs ++ y ∷ []) ++ zs ≡ xs ++ y ∷ zs
-steps_assoc [] y zs = refl
-steps_assoc (x ∷ xs) y zs = ap (λ (l : List Step). x ∷ l) (steps_assoc xs y zs)
 
 pub passes_last : (files : Files) (at : ℕ) (replies : List Reply) (step : Step) → AreHeldOn files at replies step.claims → step.change ≡ None
     → Runs files at replies (step ∷ [])
@@ -254,12 +258,3 @@ passes_on before mid after at replies step change held is same done made rest ru
     let after_is : after ≡ flat_after before change.op = made ∙ ap (λ (f : Files). flat_after f change.op) same in
     let on : Runs (flat_after before change.op) (at + 1) replies rest = subst (λ (f : Files). Runs f (at + 1) replies rest) after_is runs in
     (held, subst (λ (o : Option Change). RunsBy o before replies rest (λ next. Runs next (at + 1) replies rest)) (sym is) (done_here, on))
-
--- steps that lead to others
-abbrev pub LeadsOn : Files → ℕ → List Reply → List Step → Type 0
-LeadsOn files at replies passed = (rest : List Step) → Runs files at replies rest → Runs first_files 0 replies (passed ++ rest)
-
-pub leads_on : (files after : Files) (at : ℕ) (replies : List Reply) (passed : List Step) (step : Step) → LeadsOn files at replies passed
-    → ((rest : List Step) → Runs after (at + 1) replies rest → Runs files at replies (step ∷ rest)) → LeadsOn after (at + 1) replies (passed ++ step ∷ [])
-leads_on files after at replies passed step so_far on rest runs =
-    subst (Runs first_files 0 replies) (sym (steps_assoc passed step rest)) (so_far (step ∷ rest) (on rest runs))

@@ -1,6 +1,6 @@
 -- A trace whose claims hold is lawful.
 use Rattle.std.proofs.Common.{◌≡◌, ◌≢◌, ◌∷◌, ◌++◌, refl, sym, ap, subst, ◌∙◌, ℕ, ◌+◌, ◌-◌, ◌<◌, ◌≤◌, ◌==◌, suc, zero, ◌⊎◌, inl, inr, List, [], length, take, get_or, true≢false, arith}
-use Rattle.std.specs.Prelude.{Bool, true, false, ◌&&◌, nat_le, nat_lt, Option, Some, None, slice_get, if◌then◌else◌}
+use Rattle.std.specs.Prelude.{Bool, true, false, ◌&&◌, nat_le, nat_lt, Option, Some, None, IfSome, slice_get, if◌then◌else◌}
 use Rattle.std.proofs.Math.Dec.{eqb-suc-zero}
 use Rattle.std.proofs.lemmas.Bool.{and_parts, cases_eq, eqb-true, leb-true, ltb-true, eq-eqb, lt-ltb}
 use Rattle.std.proofs.lemmas.Option.{slice_get_within}
@@ -12,7 +12,7 @@ use Rattle.fop_types.specs.declared.calls.Call.{Call}
 use Rattle.fop_types.specs.declared.cells.Gfid.{Gfid}
 use Rattle.fop_types.specs.declared.flat.FlatOp.{FlatOp}
 use Rattle.fop_types.specs.declared.history.Entry.{Entry}
-use Rattle.history_replay.specs.Traces.{Trace, of_call, IsLawfulTrace}
+use Rattle.history_replay.specs.Traces.{Trace, of_call, IsLawfulWith, IsLawfulTrace}
 use Rattle.history_replay.specs.code.Cases.{Case, is_none, is_free, are_between}
 use Rattle.history_replay.specs.code.Claims.{AreHeld}
 use Rattle.history_replay.specs.code.Runs.{Progress, begun, places_in, places_by, answer_in, answer_by, reply_at, case_of, after_calls, index_by, IsEntryFound, IsReplyFound, IsLastOf, AreIndexed, AreClaimsOf, Bears}
@@ -266,15 +266,32 @@ module _ (t : Trace) (f : Findings) (count : ℕ) (all : length t.calls ≤ coun
     each = λ k r there. lawful_by k r there (called_of k r there);
   }
 
-pub lawful_trace : (t : Trace) (f : Findings) (count : ℕ) (claims : List Claim) → length t.calls ≤ count → AreIndexed t f → AreClaimsOf t f count claims
-    → Bears t.replies (length t.history) claims → IsLawfulTrace t
-lawful_trace t f count claims all indexed made bears =
-    let held : AreHeld bears.ops t.replies made.end.claims = subst (AreHeld bears.ops t.replies) (sym made.claims_are) bears.held in
-    let facts = facts_of t f count all bears.ops indexed made.end made.reached held in
+lawful_with : (t : Trace) (f : Findings) (count : ℕ) (claims : List Claim) (ops : List FlatOp) → AreIndexed t f → AreClaimsOf t f count claims
+    → Bears t.replies (length t.history) claims ops → length t.calls ≤ count → IsLawfulWith t ops
+lawful_with t f count claims ops indexed made bears all =
+    let held : AreHeld ops t.replies made.end.claims = subst (AreHeld ops t.replies) (sym made.claims_are) bears.held in
+    let facts = facts_of t f count all ops indexed made.end made.reached held in
     record {
-      ops = bears.ops;
       places = λ number. places_by t.replies (reply_at f (number - 1));
       answered = λ number. length (places_by t.replies (reply_at f (number - 1)));
-      legal = legal_history t f count all bears.ops indexed bears.as_many facts;
-      lawful = lawful_replies t f count all bears.ops indexed bears.as_many facts;
+      legal = legal_history t f count all ops indexed bears.as_many facts;
+      lawful = lawful_replies t f count all ops indexed bears.as_many facts;
     }
+
+pub lawful_if : (t : Trace) (f : Findings) (count : ℕ) (claims : List Claim) (replies : List Reply) (entries : ℕ) (o : Option (List FlatOp)) → replies ≡ t.replies
+    → entries ≡ length t.history → AreIndexed t f → AreClaimsOf t f count claims → IfSome o (λ ops. Bears replies entries claims ops)
+    → IfSome o (λ ops. length t.calls ≤ count → IsLawfulWith t ops)
+lawful_if t f count claims replies entries None replies_are entries_are indexed made bears = tt
+lawful_if t f count claims replies entries (Some ops) replies_are entries_are indexed made bears =
+    lawful_with t f count claims ops indexed made
+    (subst (λ (r : List Reply). Bears r (length t.history) claims ops) replies_are (subst (λ (n : ℕ). Bears replies n claims ops) entries_are bears))
+
+pub lawful_trace : (t : Trace) (count : ℕ) (o : Option (List FlatOp)) (ops : List FlatOp) → o ≡ Some ops → IfSome o (λ ops. length t.calls ≤ count → IsLawfulWith t ops)
+    → length t.calls ≤ count → IsLawfulTrace t
+lawful_trace t count None ops is lawful all = absurd cc
+lawful_trace t count (Some found) ops is lawful all = record { ops = found; lawful = lawful all }
+
+pub all_lawful : (t : Trace) (count : ℕ) (o : Option (List FlatOp)) → length t.calls ≤ count → IfSome o (λ ops. length t.calls ≤ count → IsLawfulWith t ops)
+    → IfSome o (λ ops. IsLawfulWith t ops)
+all_lawful t count None all lawful = tt
+all_lawful t count (Some ops) all lawful = lawful all

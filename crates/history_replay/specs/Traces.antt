@@ -19,11 +19,15 @@ pub record Trace : Type 0 where
 abbrev pub of_call : List ℕ → ℕ → ℕ
 of_call numbers call = get_or numbers (call - 1) 0
 
--- The replies are those of one plain file system after the changes of the history: there is an operation for each entry by
--- which the history is legal, and the replies are lawful. `answered` is how many fops of a call have a place.
-pub record IsLawfulTrace (t : Trace) : Type 0 where
-  pub ops : List FlatOp
+-- The replies are those of one plain file system after the changes of the history, which are these operations: with them the
+-- history is legal, and the replies are lawful. `answered` is how many fops of a call have a place.
+pub record IsLawfulWith (t : Trace) (ops : List FlatOp) : Type 0 where
   pub places : ℕ → List ℕ
   pub answered : ℕ → ℕ
   pub legal : IsLegalHistory t.calls t.replies (of_call t.since) places ops t.history
   pub lawful : AreLawfulReplies t.calls t.replies ops t.history (of_call t.since) (of_call t.until) answered
+
+-- there are such operations
+pub record IsLawfulTrace (t : Trace) : Type 0 where
+  pub ops : List FlatOp
+  pub lawful : IsLawfulWith t ops

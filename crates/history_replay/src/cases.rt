@@ -463,7 +463,6 @@ fn claim_once(case: &Case, answer: Answer, claims: &mut Seq<Claim>) -> Result<bo
     claim_said(case, answer, claims)
 }
 
-#[tactic(auto, using(crate::proofs::Adding::sent_adds))]
 fn claim_sent(
     alloc: Global,
     case: &Case,
@@ -481,7 +480,7 @@ fn claim_sent(
 ///
 /// # Errors
 /// Out of memory.
-#[tactic(auto, using(crate::proofs::Adding::case_said, crate::proofs::Adding::case_sent))]
+#[tactic(auto, using(crate::proofs::Adding::case_sent))]
 pub(crate) fn claim_case(
     alloc: Global,
     case: &Case,

@@ -6,7 +6,7 @@ use crate::findings::Findings;
 use crate::indices::{Parts, parts_by_call, replies_by_call};
 use crate::lookups::{ROOT, lookups, next_lookup};
 use crate::places::{is_change, is_ok, is_same_name};
-use crate::trace::Trace;
+use crate::trace::{Submitted, Trace};
 use call_fops::{first_path, second_path};
 use flat_fs::at_once::at_once;
 use flat_fs::last_op::last_op;
@@ -51,9 +51,18 @@ struct Walk<'t, 'a> {
     files: FlatFs,
 }
 
-fn no_sessions(alloc: Global) -> Result<Vec<Session>, AllocError> {
+// How many sessions there are, those below the last one that has a call.
+fn session_count(calls: &[Submitted]) -> usize {
+    let mut count: usize = 0;
+    for call in calls {
+        count = count.max(call.session as usize + 1);
+    }
+    count
+}
+
+fn no_sessions(alloc: Global, count: usize) -> Result<Vec<Session>, AllocError> {
     let mut sessions = Vec::new(alloc);
-    for _ in 0..256usize {
+    for _ in 0..count {
         sessions.push(Session {
             calls: Vec::new(alloc),
             passed: 0,
@@ -164,7 +173,7 @@ impl<'t, 'a> Walk<'t, 'a> {
             trace,
             replied: replies_by_call(alloc, trace)?,
             parts: parts_by_call(alloc, trace)?,
-            sessions: no_sessions(alloc)?,
+            sessions: no_sessions(alloc, session_count(trace.calls))?,
             known: Vec::new(alloc),
             lists: no_lists(alloc, trace.calls.len())?,
             watched: Vec::new(alloc),
@@ -487,7 +496,7 @@ impl<'t, 'a> Walk<'t, 'a> {
     }
 
     fn visit(&mut self, alloc: Global, place: u32) -> Result<(), AllocError> {
-        for session in 0..256usize {
+        for session in 0..self.sessions.len() {
             self.advance(alloc, session, place)?;
         }
         self.watch(alloc, place)

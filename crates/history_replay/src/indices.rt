@@ -95,7 +95,6 @@ fn are_lasts(trace: &Trace, f: &Findings) -> bool
     true
 }
 
-#[tactic(auto, using(crate::proofs::Indexing::replies_next, crate::proofs::Indexing::replies_all))]
 fn are_replies(trace: &Trace, f: &Findings) -> bool
     ensures { result ≡ true → AreRepliesFound trace.now f.now }
 {
@@ -119,7 +118,6 @@ fn are_entries(trace: &Trace, f: &Findings) -> bool
 }
 
 /// Whether each reply and each entry is found by its call.
-#[tactic(auto, using(crate::proofs::Indexing::all_found))]
 pub(crate) fn are_indexed(trace: &Trace, f: &Findings) -> bool
     ensures { result ≡ true → AreIndexed trace.now f.now }
 {

@@ -301,13 +301,13 @@ fn judge_lines(
     Ok(verdict_of(alloc, &trace, &walked.findings, fails)?)
 }
 
-fn walk(
+fn walk<'a>(
     alloc: Global,
-    shown: &[ReportCall],
-    answers: &Vec<Option<Answer>>,
-    calls: &[Submitted],
-    history: &[Entry],
-    since: &[u32],
+    shown: &'a [ReportCall],
+    answers: &'a Vec<Option<Answer>>,
+    calls: &'a [Submitted<'a>],
+    history: &'a [Entry],
+    since: &'a [u32],
 ) -> Result<Result<Walked, u32>, AllocError>
     requires { AreAnswersShown shown.now answers.now.items }
 {

@@ -1,6 +1,6 @@
 //! Whether a trace is lawful.
-ghost use Rattle.std.specs.Prelude.{◌≡◌, ◌≤◌, true, length, IfOk};
-ghost use Rattle.history_replay.specs.Traces.{IsLawfulTrace};
+ghost use Rattle.std.specs.Prelude.{◌≡◌, ◌≤◌, true, length, IfOk, IfSome};
+ghost use Rattle.history_replay.specs.Traces.{IsLawfulWith, IsLawfulTrace};
 
 use crate::finding::find;
 use crate::findings::Findings;
@@ -8,10 +8,35 @@ use crate::indices::are_indexed;
 use crate::progress::claims_of;
 use crate::steps::hold;
 use crate::trace::Trace;
+use fop_types::{FlatOp, Seq};
 use std::alloc::{AllocError, Global};
 
-// Whether a trace is lawful as far as the replies to its first `count` calls, by what is said to have been found.
-#[tactic(auto, using(crate::proofs::Traces::lawful_trace))]
+// The operations with which a trace is lawful as far as the replies to its first `count` calls, by what is said to have been
+// found; `None` where it is not.
+fn borne_by(
+    alloc: Global,
+    trace: &Trace,
+    f: &Findings,
+    count: usize,
+) -> Result<Option<Seq<FlatOp>>, AllocError>
+    ensures { IfOk result (λ o. IfSome o (λ ops. length trace.now.calls ≤ count → IsLawfulWith trace.now ops)) }
+{
+    if !are_indexed(trace, f) {
+        return Ok(None);
+    }
+    match claims_of(alloc, trace, f, count)? {
+        None => Ok(None),
+        Some(claims) => {
+            let ops = hold(alloc, trace.replies, trace.history.len(), claims)?;
+            Ok(ops)
+        }
+    }
+}
+
+/// Whether a trace is lawful as far as the replies to its first `count` calls, by what is said to have been found.
+///
+/// # Errors
+/// Out of memory.
 pub(crate) fn is_borne(
     alloc: Global,
     trace: &Trace,
@@ -20,25 +45,26 @@ pub(crate) fn is_borne(
 ) -> Result<bool, AllocError>
     ensures { IfOk result (λ lawful. lawful ≡ true → length trace.now.calls ≤ count → IsLawfulTrace trace.now) }
 {
-    if !are_indexed(trace, f) {
-        return Ok(false);
-    }
-    match claims_of(alloc, trace, f, count)? {
+    match borne_by(alloc, trace, f, count)? {
         None => Ok(false),
-        Some(claims) => Ok(hold(alloc, trace.replies, trace.history.len(), claims)?),
+        Some(_) => Ok(true),
     }
 }
 
-/// Whether the replies of a trace are those of one plain file system at their places, after the changes of its history. It
-/// takes time of n log n for n calls, lookups and entries, and of the bytes that are read and written.
+/// The operations of a trace's entries, where its replies are those of one plain file system at their places after these
+/// changes; `None` where they are not. It takes time of n log n for n calls, lookups and entries, and of the bytes that are
+/// read and written.
 ///
 /// # Errors
 /// Out of memory.
-pub fn is_lawful(alloc: Global, trace: &Trace) -> Result<bool, AllocError>
-    ensures { IfOk result (λ lawful. lawful ≡ true → IsLawfulTrace trace.now) }
+pub fn lawful_ops(alloc: Global, trace: &Trace) -> Result<Option<Seq<FlatOp>>, AllocError>
+    ensures { IfOk result (λ o. IfSome o (λ ops. IsLawfulWith trace.now ops)) }
 {
     match find(alloc, trace)? {
-        Err(_) => Ok(false),
-        Ok(walked) => is_borne(alloc, trace, &walked.findings, trace.calls.len()),
+        Err(_) => Ok(None),
+        Ok(walked) => {
+            let ops = borne_by(alloc, trace, &walked.findings, trace.calls.len())?;
+            Ok(ops)
+        }
     }
 }

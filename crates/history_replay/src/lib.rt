@@ -9,12 +9,14 @@
 //!   hold       one run of the flat file system over the operations: each claim at its place
 //! ```
 //!
-//! [`is_lawful`] is the check of any trace: a program can run it over its own log. [`judge`] is the check of a report of a
-//! script. What `find` gives is believed by nobody: a wrong finding makes a claim that does not hold.
+//! [`lawful_ops`] is the check of any trace, and gives the operations of its entries: a program can run it over its own log.
+//! [`judge`] is the check of a report of a script. What `find` gives is believed by nobody: a wrong finding makes a claim that
+//! does not hold.
 #![tactic(auto)]
 
 mod cases;
 mod claims;
+mod copies;
 mod finding;
 mod findings;
 mod indices;
@@ -30,5 +32,5 @@ mod steps;
 mod trace;
 
 pub use judging::{Verdict, judge};
-pub use lawful::is_lawful;
+pub use lawful::lawful_ops;
 pub use trace::{Replied, Submitted, Trace};

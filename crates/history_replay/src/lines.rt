@@ -45,7 +45,8 @@ impl<'a> Lines<'a> {
         let phases = script.phases.as_slice();
         for phase in 0..phases.len() {
             for line in phases[phase].calls.as_slice() {
-                lines.by_number.insert(line.line, lines.calls.len())?;
+                let place = lines.calls.len();
+                lines.by_number.insert(line.line, place)?;
                 lines.calls.push(line)?;
                 lines.phases.push(phase)?;
             }

@@ -34,7 +34,6 @@ pub(crate) fn behind<T>(items: &[T], count: usize) -> &[T]
 }
 
 // Claims what the lookups of a path found, as far as there are places and objects, and gives the last of these.
-#[tactic(auto, using(crate::proofs::Paths::end_without_place, crate::proofs::Paths::end_without_object, crate::proofs::Paths::claims_without_place, crate::proofs::Paths::claims_without_object))]
 fn claim_path(
     alloc: Global,
     path: &[Seq<u8>],
@@ -112,7 +111,6 @@ pub(crate) fn last_found(found: &[Gfid]) -> Gfid
 }
 
 // The lookup of a path that is next after these objects were found.
-#[tactic(auto, using(crate::proofs::Paths::next_is, crate::proofs::Paths::next_none))]
 fn next_in(alloc: Global, path: &[Seq<u8>], found: &[Gfid]) -> Result<Option<FlatOp>, AllocError>
     ensures { IfOk result (λ o. (other : FlatOp) → or_other o other ≡ next_of_path path.now root found.now other) }
 {

@@ -317,7 +317,6 @@ fn go_on(
 ///
 /// # Errors
 /// Out of memory.
-#[tactic(auto, using(crate::proofs::Adding::calls_next))]
 pub(crate) fn claims_of(
     alloc: Global,
     trace: &Trace,

@@ -1,11 +1,11 @@
 //! The run of the flat file system that bears claims out.
-ghost use Rattle.std.specs.Prelude.{◌≡◌, ◌+◌, true, None, length, IfOk, OnOk};
-ghost use Rattle.fop_types.specs.Files.{first_files};
+ghost use Rattle.std.specs.Prelude.{◌≡◌, ◌+◌, ◌++◌, [], true, None, length, IfOk, IfSome, OnOk};
 ghost use Rattle.fop_types.specs.Flat.{flat, flat_answer, flat_after, IsChange};
 ghost use Rattle.history_replay.specs.code.Claims.{is_granted as is_granted_of, IsFound, IsReplied};
-ghost use Rattle.history_replay.specs.code.Runs.{IsHeldOn, AreHeldOn, IsDone, Runs, Passes, with_claim, with_change, PutsClaim, PutsChange, Puts, Bears};
+ghost use Rattle.history_replay.specs.code.Runs.{IsHeldOn, AreHeldOn, IsDone, Passes, Takes, RunsWith, with_op, with_claim, with_change, PutsClaim, PutsChange, Puts, ArePut, Bears};
 
 use crate::claims::Claim;
+use crate::copies::copy_op;
 use crate::places::{is_change, is_ok};
 use crate::same::same_answer;
 use crate::trace::Replied;
@@ -106,7 +106,6 @@ fn is_found(answer: &FlatAnswer, found: Gfid) -> bool
 
 // ---- putting claims at their places
 
-#[tactic(auto, using(crate::proofs::Running::added_at))]
 fn put_claim(steps: &mut Vec<Step>, place: u32, claim: Claim) -> Result<bool, AllocError>
     ensures puts { IfOk result (λ did. did ≡ true → PutsClaim steps.old.items steps.new.items place claim) }
     ensures count { IfOk result (λ did. length steps.new.items ≡ length steps.old.items) }
@@ -119,7 +118,6 @@ fn put_claim(steps: &mut Vec<Step>, place: u32, claim: Claim) -> Result<bool, Al
     Ok(true)
 }
 
-#[tactic(auto, using(crate::proofs::Running::taken_at))]
 fn put_change(steps: &mut Vec<Step>, index: u32, change: Change) -> bool
     ensures puts { result ≡ true → PutsChange steps.old.items steps.new.items index change }
     ensures count { length steps.new.items ≡ length steps.old.items }
@@ -142,7 +140,7 @@ fn place_of(claim: &Claim) -> Option<u32> {
 }
 
 // Puts a claim of a reply or of an entry.
-#[tactic(auto, using(crate::proofs::Running::puts_entry, crate::proofs::Running::puts_said))]
+#[tactic(auto, using(crate::proofs::Running::puts_said))]
 fn put_other(replies: &[Replied], steps: &mut Vec<Step>, claim: Claim) -> bool
     ensures puts { result ≡ true → Puts replies.now steps.old.items steps.new.items claim }
     ensures count { length steps.new.items ≡ length steps.old.items }
@@ -155,7 +153,6 @@ fn put_other(replies: &[Replied], steps: &mut Vec<Step>, claim: Claim) -> bool
 }
 
 // Puts a claim at its place.
-#[tactic(auto, using(crate::proofs::Running::puts_there))]
 fn put(replies: &[Replied], steps: &mut Vec<Step>, claim: Claim) -> Result<bool, AllocError>
     ensures puts { IfOk result (λ did. did ≡ true → Puts replies.now steps.old.items steps.new.items claim) }
     ensures count { IfOk result (λ did. length steps.new.items ≡ length steps.old.items) }
@@ -334,49 +331,117 @@ fn take_step(
     }
 }
 
-// Whether the steps hold one after another, from the first files on.
-fn run(alloc: Global, replies: &[Replied], steps: Vec<Step>) -> Result<bool, AllocError>
-    ensures { IfOk result (λ did. did ≡ true → Runs first_files 0 replies.now steps.items) }
+// Notes the operation of a step's entry, if it has one.
+fn note(alloc: Global, ops: &mut Seq<FlatOp>, change: &Option<Change>) -> Result<(), AllocError>
+    ensures { OnOk result (ops.new ≡ ops.old ++ with_op change.now []) }
 {
-    let mut files = FlatFs::new(alloc)?;
-    let mut at: usize = 0;
-    let mut ended = false;
-    for step in steps {
-        if ended {
+    match change {
+        None => Ok(()),
+        Some(change) => {
+            let op = copy_op(alloc, &change.op)?;
+            ops.push(op)?;
+            Ok(())
+        }
+    }
+}
+
+// A run of the steps: the files, the next place, the operations of the entries, and whether the last step was taken.
+#[derive(Drop)]
+struct Run {
+    files: FlatFs,
+    at: usize,
+    ops: Seq<FlatOp>,
+    ended: bool,
+}
+
+impl Run {
+    // Takes one step more. It is false where the step does not hold, or no step may follow.
+    fn take(&mut self, alloc: Global, replies: &[Replied], step: Step) -> Result<bool, AllocError>
+        ensures { IfOk result (λ did. did ≡ true → Takes self.old self.new replies.now step) }
+    {
+        if self.ended {
             return Ok(false);
         }
-        match take_step(alloc, &mut files, at, replies, step)? {
-            Pass::Fails => return Ok(false),
-            Pass::Ends => ended = true,
+        note(alloc, &mut self.ops, &step.change)?;
+        match take_step(alloc, &mut self.files, self.at, replies, step)? {
+            Pass::Fails => Ok(false),
+            Pass::Ends => {
+                self.ended = true;
+                Ok(true)
+            }
             Pass::GoesOn => {
-                let Some(next) = at.checked_add(1) else {
+                let Some(at) = self.at.checked_add(1) else {
                     return Err(AllocError);
                 };
-                at = next;
+                self.at = at;
+                Ok(true)
             }
         }
     }
-    Ok(ended)
 }
 
-/// Whether claims hold: there are operations, one for each of so many entries, with which each claim does.
+// The operations of the steps' entries, where the steps hold one after another, from the first files on.
+#[tactic(auto, using(crate::proofs::Taking::begins, crate::proofs::Taking::is_run))]
+fn run_all(
+    alloc: Global,
+    replies: &[Replied],
+    steps: Vec<Step>,
+) -> Result<Option<Seq<FlatOp>>, AllocError>
+    ensures { IfOk result (λ o. IfSome o (λ ops. RunsWith replies.now steps.items ops)) }
+{
+    let mut run = Run {
+        files: FlatFs::new(alloc)?,
+        at: 0,
+        ops: Seq::new(alloc),
+        ended: false,
+    };
+    for step in steps {
+        if !run.take(alloc, replies, step)? {
+            return Ok(None);
+        }
+    }
+    if !run.ended {
+        return Ok(None);
+    }
+    Ok(Some(run.ops))
+}
+
+// All claims at their places, `None` where one has none.
+#[tactic(auto, using(crate::proofs::Running::put_none))]
+fn put_all(
+    alloc: Global,
+    replies: &[Replied],
+    entries: usize,
+    claims: Seq<Claim>,
+) -> Result<Option<Vec<Step>>, AllocError>
+    ensures { IfOk result (λ o. IfSome o (λ steps. ArePut replies.now entries claims steps.items)) }
+{
+    let mut steps = empty_steps(alloc, entries)?;
+    for claim in claims.into_vec() {
+        if !put(replies, &mut steps, claim)? {
+            return Ok(None);
+        }
+    }
+    Ok(Some(steps))
+}
+
+/// The operations with which claims hold, one for each of so many entries; `None` where a claim does not hold.
 ///
 /// # Errors
 /// Out of memory.
-#[tactic(auto, using(crate::proofs::Running::held_next, crate::proofs::Running::bears_by))]
 pub(crate) fn hold(
     alloc: Global,
     replies: &[Replied],
     entries: usize,
     claims: Seq<Claim>,
-) -> Result<bool, AllocError>
-    ensures { IfOk result (λ did. did ≡ true → Bears replies.now entries claims) }
+) -> Result<Option<Seq<FlatOp>>, AllocError>
+    ensures { IfOk result (λ o. IfSome o (λ ops. Bears replies.now entries claims ops)) }
 {
-    let mut steps = empty_steps(alloc, entries)?;
-    for claim in claims.into_vec() {
-        if !put(replies, &mut steps, claim)? {
-            return Ok(false);
+    match put_all(alloc, replies, entries, claims)? {
+        None => Ok(None),
+        Some(steps) => {
+            let ops = run_all(alloc, replies, steps)?;
+            Ok(ops)
         }
     }
-    Ok(run(alloc, replies, steps)?)
 }

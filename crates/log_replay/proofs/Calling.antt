@@ -2,7 +2,7 @@
 use Rattle.std.proofs.Common.{◌≡◌, refl, sym, ap, subst, ◌∙◌, ℕ, ◌+◌, ◌<◌, ◌≤◌, ◌==◌, zero, suc, List, [], ◌∷◌, ◌++◌, length, take, drop, get_or, arith, append_assoc, append-nil}
 use Rattle.std.specs.Prelude.{Bool, true, false, Option, Some, None, slice_get, if◌then◌else◌}
 use Rattle.std.proofs.lemmas.Bool.{eqb-true, eqb-false}
-use Rattle.std.proofs.lemmas.List.{take_more, drop_more, drop_all}
+use Rattle.std.proofs.lemmas.List.{take_more, drop_more, drop_all, length_push}
 use Rattle.fop_types.specs.Calls.{Submission}
 use Rattle.script_lang.specs.declared.scripts.CallLine.{CallLine}
 use Rattle.script_lang.specs.declared.scripts.Script.{Script}
@@ -11,7 +11,9 @@ use Rattle.mount_log.specs.Submissions.{session_line, line_by, place_of_line, su
 use Rattle.mount_log.specs.declared.logs.HubEvent.{HubEvent}
 use Rattle.mount_log.specs.declared.logs.HubEvent.TheVariants as logged
 use Rattle.mount_log.specs.declared.places.LineAt.{LineAt}
-use Rattle.log_replay.specs.Events.{HaveLeft, Submits, submit_events}
+use Rattle.log_replay.specs.Events.{HaveLeft, Submits, submit_events, submitter}
+use Rattle.log_replay.specs.Gathering.{lines_left, GathersCall, Gathers, HasGathered}
+use Rattle.log_replay.specs.declared.calls.Gathered.{Gathered}
 
 submits_push : (session : ℕ) (es : List HubEvent) (e : HubEvent) → submits_of session (es ++ e ∷ []) ≡ submits_of session es + is_submit_of session e
 submits_push session [] e = let n = is_submit_of session e in let z : n + 0 ≡ 0 + n = omega arith in z
@@ -41,30 +43,42 @@ module _ {X : Type 0} where
 
 -- ---- an event that submits nothing
 
-abbrev pub IsOther : HubEvent → Type 0
-IsOther e = (session line : ℕ) → e ≡ logged.Submit session line → ⊥
-
-none_submitted : (e : HubEvent) → IsOther e → (session : ℕ) → is_submit_of session e ≡ 0
-none_submitted (logged.Submit at line) other session = absurd (other at line refl)
+none_submitted : (e : HubEvent) → submitter e ≡ None → (session : ℕ) → is_submit_of session e ≡ 0
+none_submitted (logged.Submit at line) other session = absurd cc
 none_submitted (logged.Arrive brick bytes) other session = refl
 none_submitted (logged.Run graph task) other session = refl
 none_submitted (logged.Act a) other session = refl
 none_submitted (logged.Arm brick p count a) other session = refl
 
-same_calls : (script : Script) (before : List HubEvent) (e : HubEvent) (es : List HubEvent) → IsOther e
+same_calls : (script : Script) (before : List HubEvent) (e : HubEvent) (es : List HubEvent) → submitter e ≡ None
     → submissions_from script before (e ∷ es) ≡ submissions_from script (before ++ e ∷ []) es
-same_calls script before (logged.Submit at line) es other = absurd (other at line refl)
+same_calls script before (logged.Submit at line) es other = absurd cc
 same_calls script before (logged.Arrive brick bytes) es other = refl
 same_calls script before (logged.Run graph task) es other = refl
 same_calls script before (logged.Act a) es other = refl
 same_calls script before (logged.Arm brick p count a) es other = refl
 
-same_numbers : (last : ℕ) (e : HubEvent) (es : List HubEvent) → IsOther e → submit_events last (e ∷ es) ≡ submit_events (last + 1) es
-same_numbers last (logged.Submit at line) es other = absurd (other at line refl)
+same_numbers : (last : ℕ) (e : HubEvent) (es : List HubEvent) → submitter e ≡ None → submit_events last (e ∷ es) ≡ submit_events (last + 1) es
+same_numbers last (logged.Submit at line) es other = absurd cc
 same_numbers last (logged.Arrive brick bytes) es other = refl
 same_numbers last (logged.Run graph task) es other = refl
 same_numbers last (logged.Act a) es other = refl
 same_numbers last (logged.Arm brick p count a) es other = refl
+
+-- the line of an event that submits one
+line_number : HubEvent → ℕ
+line_number (logged.Submit session line) = line
+line_number (logged.Arrive brick bytes) = 0
+line_number (logged.Run graph task) = 0
+line_number (logged.Act a) = 0
+line_number (logged.Arm brick p count a) = 0
+
+submit_is : (e : HubEvent) (own : ℕ) → submitter e ≡ Some own → e ≡ logged.Submit own (line_number e)
+submit_is (logged.Submit session line) own h = let same : session ≡ own = cc in ap (λ (n : ℕ). logged.Submit n line) same
+submit_is (logged.Arrive brick bytes) own h = absurd cc
+submit_is (logged.Run graph task) own h = absurd cc
+submit_is (logged.Act a) own h = absurd cc
+submit_is (logged.Arm brick p count a) own h = absurd cc
 
 -- ---- an event that submits a line
 
@@ -100,14 +114,14 @@ module _ (script : Script) (events : List HubEvent) (i : ℕ) (e : HubEvent) (lt
   first : drop i events ≡ e ∷ drop (i + 1) events
   first = drop_more events i e lt ∙ ap (λ (x : HubEvent). x ∷ drop (i + 1) events) (sym is)
 
-  pub left_same : (queues : List (List LineAt)) → IsOther e → HaveLeft script (take i events) queues → HaveLeft script (take (i + 1) events) queues
+  left_same : (queues : List (List LineAt)) → submitter e ≡ None → HaveLeft script (take i events) queues → HaveLeft script (take (i + 1) events) queues
   left_same queues other left session =
       let p = submits_push session (take i events) e in let z = none_submitted e other session in
       let same : submits_of session (take i events) ≡ submits_of session (take i events ++ e ∷ []) = omega (arith, p, z) in
       left session ∙ ap (λ (n : ℕ). drop n (places_from session 0 script.phases)) same
       ∙ ap (λ (l : List HubEvent). drop (submits_of session l) (places_from session 0 script.phases)) (sym more)
 
-  pub calls_same : (calls all : List Submission) → IsOther e → calls ++ submissions_from script (take i events) (drop i events) ≡ all
+  calls_same : (calls all : List Submission) → submitter e ≡ None → calls ++ submissions_from script (take i events) (drop i events) ≡ all
       → calls ++ submissions_from script (take (i + 1) events) (drop (i + 1) events) ≡ all
   calls_same calls all other so_far =
       let next : submissions_from script (take i events) (drop i events) ≡ submissions_from script (take (i + 1) events) (drop (i + 1) events) =
@@ -115,18 +129,18 @@ module _ (script : Script) (events : List HubEvent) (i : ℕ) (e : HubEvent) (lt
       ∙ ap (λ (l : List HubEvent). submissions_from script l (drop (i + 1) events)) (sym more) in
       ap (λ (l : List Submission). calls ++ l) (sym next) ∙ so_far
 
-  pub numbers_same : (numbers all : List ℕ) → IsOther e → numbers ++ submit_events i (drop i events) ≡ all → numbers ++ submit_events (i + 1) (drop (i + 1) events) ≡ all
+  numbers_same : (numbers all : List ℕ) → submitter e ≡ None → numbers ++ submit_events i (drop i events) ≡ all → numbers ++ submit_events (i + 1) (drop (i + 1) events) ≡ all
   numbers_same numbers all other so_far =
       let next : submit_events i (drop i events) ≡ submit_events (i + 1) (drop (i + 1) events) = ap (submit_events i) first ∙ same_numbers i e (drop (i + 1) events) other in
       ap (λ (l : List ℕ). numbers ++ l) (sym next) ∙ so_far
 
   module _ (own line : ℕ) (old new : List (List LineAt)) (s : Submission) (e_is : e ≡ logged.Submit own line) (sub : Submits script old own s new) (left : HaveLeft script (take i events) old) where
-    pub left_next : HaveLeft script (take (i + 1) events) new
+    left_next : HaveLeft script (take (i + 1) events) new
     left_next =
         subst (λ (l : List HubEvent). HaveLeft script l new) (sym (more ∙ ap (λ (x : HubEvent). take i events ++ x ∷ []) e_is))
         (left_more script (take i events) own line old new sub.at sub.takes left)
 
-    pub calls_more : (calls all : List Submission) → calls ++ submissions_from script (take i events) (drop i events) ≡ all
+    calls_more : (calls all : List Submission) → calls ++ submissions_from script (take i events) (drop i events) ≡ all
         → (calls ++ s ∷ []) ++ submissions_from script (take (i + 1) events) (drop (i + 1) events) ≡ all
     calls_more calls all so_far =
         let here : submissions_from script (take i events) (logged.Submit own line ∷ drop (i + 1) events)
@@ -139,19 +153,56 @@ module _ (script : Script) (events : List HubEvent) (i : ℕ) (e : HubEvent) (lt
         ∙ ap (λ (l : List HubEvent). s ∷ submissions_from script l (drop (i + 1) events)) (sym (more ∙ ap (λ (x : HubEvent). take i events ++ x ∷ []) e_is)) in
         append_assoc calls (s ∷ []) (submissions_from script (take (i + 1) events) (drop (i + 1) events)) ∙ ap (λ (l : List Submission). calls ++ l) (sym begins) ∙ so_far
 
-  pub numbers_more : (own line : ℕ) (numbers all : List ℕ) → e ≡ logged.Submit own line → numbers ++ submit_events i (drop i events) ≡ all
+  numbers_more : (own line : ℕ) (numbers all : List ℕ) → e ≡ logged.Submit own line → numbers ++ submit_events i (drop i events) ≡ all
       → (numbers ++ (i + 1) ∷ []) ++ submit_events (i + 1) (drop (i + 1) events) ≡ all
   numbers_more own line numbers all e_is so_far =
       let begins : submit_events i (drop i events) ≡ (i + 1) ∷ submit_events (i + 1) (drop (i + 1) events) =
       ap (submit_events i) (first ∙ ap (λ (x : HubEvent). x ∷ drop (i + 1) events) e_is) in
       append_assoc numbers ((i + 1) ∷ []) (submit_events (i + 1) (drop (i + 1) events)) ∙ ap (λ (l : List ℕ). numbers ++ l) (sym begins) ∙ so_far
 
--- all events were looked at
-pub calls_all : (script : Script) (events : List HubEvent) (i : ℕ) (calls all : List Submission) → length events ≤ i
-    → calls ++ submissions_from script (take i events) (drop i events) ≡ all → calls ≡ all
-calls_all script events i calls all past so_far =
-    sym (append-nil calls) ∙ ap (λ (l : List HubEvent). calls ++ submissions_from script (take i events) l) (sym (drop_all i events past)) ∙ so_far
+  same_kept : (g : Gathered) → submitter e ≡ None → HasGathered script events i g → HasGathered script events (i + 1) g
+  same_kept g other h = record {
+    left = left_same (lines_left g) other h.left;
+    calls = calls_same g.calls.items (submissions_from script [] events) other h.calls;
+    numbers = numbers_same g.numbers.items (submit_events 0 events) other h.numbers;
+    long = h.long;
+  }
 
-pub numbers_all : (events : List HubEvent) (i : ℕ) (numbers all : List ℕ) → length events ≤ i → numbers ++ submit_events i (drop i events) ≡ all → numbers ≡ all
-numbers_all events i numbers all past so_far =
-    sym (append-nil numbers) ∙ ap (λ (l : List HubEvent). numbers ++ submit_events i l) (sym (drop_all i events past)) ∙ so_far
+  one_more : (own : ℕ) (old new : Gathered) → submitter e ≡ Some own → GathersCall script own (i + 1) old new → HasGathered script events i old → HasGathered script events (i + 1) new
+  one_more own old new by g h =
+      let e_is : e ≡ logged.Submit own (line_number e) = submit_is e own by in
+      record {
+        left = left_next own (line_number e) (lines_left old) (lines_left new) g.s e_is g.submits h.left;
+        calls = subst (λ (l : List Submission). l ++ submissions_from script (take (i + 1) events) (drop (i + 1) events) ≡ submissions_from script [] events) (sym g.calls)
+            (calls_more own (line_number e) (lines_left old) (lines_left new) g.s e_is g.submits h.left old.calls.items (submissions_from script [] events) h.calls);
+        numbers = subst (λ (l : List ℕ). l ++ submit_events (i + 1) (drop (i + 1) events) ≡ submit_events 0 events) (sym g.numbers)
+            (numbers_more own (line_number e) old.numbers.items (submit_events 0 events) e_is h.numbers);
+        long = ap length g.numbers ∙ length_push old.numbers.items (i + 1) ∙ ap (λ (n : ℕ). n + 1) h.long ∙ sym (length_push old.calls.items g.s) ∙ sym (ap length g.calls);
+      }
+
+  gathers_by : (o : Option ℕ) (old new : Gathered) → submitter e ≡ o → Gathers script o (i + 1) old new → HasGathered script events i old → HasGathered script events (i + 1) new
+  gathers_by None old new by g h = subst (HasGathered script events (i + 1)) (sym g) (same_kept old by h)
+  gathers_by (Some own) old new by g h = one_more own old new by g h
+
+  pub gathered_next : (old new : Gathered) → Gathers script (submitter e) (i + 1) old new → HasGathered script events i old → HasGathered script events (i + 1) new
+  gathered_next old new g h = gathers_by (submitter e) old new refl g h
+
+pub gathered_none : (script : Script) (events : List HubEvent) (g : Gathered) → ((session : ℕ) → queue_of (lines_left g) session ≡ places_from session 0 script.phases)
+    → g.calls.items ≡ [] → g.numbers.items ≡ [] → HasGathered script events 0 g
+gathered_none script events g queues no_calls no_numbers = record {
+  left = queues;
+  calls = ap (λ (l : List Submission). l ++ submissions_from script [] events) no_calls;
+  numbers = ap (λ (l : List ℕ). l ++ submit_events 0 events) no_numbers;
+  long = ap length no_numbers ∙ sym (ap length no_calls);
+}
+
+-- all events were looked at
+pub calls_all : (script : Script) (events : List HubEvent) (i : ℕ) (g : Gathered) → length events ≤ i → HasGathered script events i g
+    → g.calls.items ≡ submissions_from script [] events
+calls_all script events i g past h =
+    sym (append-nil g.calls.items) ∙ ap (λ (l : List HubEvent). g.calls.items ++ submissions_from script (take i events) l) (sym (drop_all i events past)) ∙ h.calls
+
+pub numbers_all : (script : Script) (events : List HubEvent) (i : ℕ) (g : Gathered) → length events ≤ i → HasGathered script events i g
+    → g.numbers.items ≡ submit_events 0 events
+numbers_all script events i g past h =
+    sym (append-nil g.numbers.items) ∙ ap (λ (l : List HubEvent). g.numbers.items ++ submit_events i l) (sym (drop_all i events past)) ∙ h.numbers

@@ -1,6 +1,6 @@
 -- What is said of a trace by lists of lengths, one for each call, said of its log.
 use Rattle.std.proofs.Common.{◌≡◌, refl, sym, ap, subst, ◌∙◌, ℕ, ◌+◌, ◌-◌, ◌<◌, ◌≤◌, ◌==◌, zero, suc, List, [], ◌∷◌, length, map, get_or, arith, length-map}
-use Rattle.std.specs.Prelude.{Bool, true, false, Option, Some, None, slice_get, if◌then◌else◌}
+use Rattle.std.specs.Prelude.{Bool, true, false, Option, Some, None, IfSome, slice_get, if◌then◌else◌}
 use Rattle.std.proofs.lemmas.Option.{slice_get_within}
 use Rattle.fop_types.specs.Calls.{Submission, call_numbered}
 use Rattle.fop_types.specs.History.{Reply, IsLegalEntry, IsLegalHistory}
@@ -12,9 +12,10 @@ use Rattle.mount_log.specs.Submissions.{submissions_of, submissions_from, replie
 use Rattle.mount_log.specs.declared.logs.HubEvent.{HubEvent}
 use Rattle.mount_log.specs.declared.logs.HubEvent.TheVariants as logged
 use Rattle.mount_log.specs.declared.logs.Log.{Log}
-use Rattle.history_replay.specs.Traces.{Trace, of_call, IsLawfulTrace}
+use Rattle.history_replay.specs.Traces.{Trace, of_call, IsLawfulWith}
 use Rattle.log_replay.specs.Events.{submit_events, HasReplyEvents}
-use Rattle.log_replay.specs.Judged.{HasOneFileSystem}
+use Rattle.log_replay.specs.Judged.{IsOneFileSystem}
+use Rattle.log_replay.specs.Lengths.{trace_of, HasLengths}
 
 -- ---- numbers by call that agree where there is a call
 
@@ -94,26 +95,32 @@ until_agrees log calls events until h until_is number s there =
 
 -- ---- the log
 
-pub one_file_system : (script : Script) (log : Log) (t : Trace) (events answered : List ℕ) → t.calls ≡ submissions_of script log → t.replies ≡ replies_of log
+one_file_system : (script : Script) (log : Log) (t : Trace) (ops : List FlatOp) (events answered : List ℕ) → t.calls ≡ submissions_of script log → t.replies ≡ replies_of log
     → t.history ≡ log.history → events ≡ submit_events 0 log.events → length events ≡ length t.calls → HasReplyEvents (length t.calls) log.replies answered
     → t.since ≡ map (λ n. count_below (n + 0) log.entered) events → t.until ≡ map (λ n. count_below (n + 1) log.entered) answered
-    → length log.entered ≡ length log.history → IsLawfulTrace t → HasOneFileSystem script log
-one_file_system script log t events answered calls_are replies_are history_is events_are long replied since_is until_is entered lawful =
+    → length log.entered ≡ length log.history → IsLawfulWith t ops → IsOneFileSystem script log ops
+one_file_system script log t ops events answered calls_are replies_are history_is events_are long replied since_is until_is entered lawful =
     let since = since_agrees log t.calls events t.since events_are long since_is in
     let until = until_agrees log t.calls answered t.until replied until_is in
-    let legal : IsLegalHistory t.calls t.replies (length_since log) lawful.places lawful.ops t.history =
-    legal_same t.calls t.replies (of_call t.since) (length_since log) lawful.places lawful.ops t.history since lawful.legal in
-    let replies : AreLawfulReplies t.calls t.replies lawful.ops t.history (length_since log) (length_until log) lawful.answered =
-    lawful_same t.calls t.replies (of_call t.since) (length_since log) (of_call t.until) (length_until log) lawful.ops t.history lawful.answered since until lawful.lawful in
+    let legal : IsLegalHistory t.calls t.replies (length_since log) lawful.places ops t.history =
+    legal_same t.calls t.replies (of_call t.since) (length_since log) lawful.places ops t.history since lawful.legal in
+    let replies : AreLawfulReplies t.calls t.replies ops t.history (length_since log) (length_until log) lawful.answered =
+    lawful_same t.calls t.replies (of_call t.since) (length_since log) (of_call t.until) (length_until log) ops t.history lawful.answered since until lawful.lawful in
     record {
-      ops = lawful.ops;
       places = lawful.places;
       answered = lawful.answered;
-      legal = subst (λ (l : List Entry). IsLegalHistory (submissions_of script log) (replies_of log) (length_since log) lawful.places lawful.ops l) history_is
-          (subst (λ (r : List Reply). IsLegalHistory (submissions_of script log) r (length_since log) lawful.places lawful.ops t.history) replies_are
-          (subst (λ (c : List Submission). IsLegalHistory c t.replies (length_since log) lawful.places lawful.ops t.history) calls_are legal));
-      lawful = subst (λ (l : List Entry). AreLawfulReplies (submissions_of script log) (replies_of log) lawful.ops l (length_since log) (length_until log) lawful.answered) history_is
-          (subst (λ (r : List Reply). AreLawfulReplies (submissions_of script log) r lawful.ops t.history (length_since log) (length_until log) lawful.answered) replies_are
-          (subst (λ (c : List Submission). AreLawfulReplies c t.replies lawful.ops t.history (length_since log) (length_until log) lawful.answered) calls_are replies));
+      legal = subst (λ (l : List Entry). IsLegalHistory (submissions_of script log) (replies_of log) (length_since log) lawful.places ops l) history_is
+          (subst (λ (r : List Reply). IsLegalHistory (submissions_of script log) r (length_since log) lawful.places ops t.history) replies_are
+          (subst (λ (c : List Submission). IsLegalHistory c t.replies (length_since log) lawful.places ops t.history) calls_are legal));
+      lawful = subst (λ (l : List Entry). AreLawfulReplies (submissions_of script log) (replies_of log) ops l (length_since log) (length_until log) lawful.answered) history_is
+          (subst (λ (r : List Reply). AreLawfulReplies (submissions_of script log) r ops t.history (length_since log) (length_until log) lawful.answered) replies_are
+          (subst (λ (c : List Submission). AreLawfulReplies c t.replies ops t.history (length_since log) (length_until log) lawful.answered) calls_are replies));
       entered = entered;
     }
+
+pub one_if : (script : Script) (log : Log) (calls : List Submission) (events since until : List ℕ) (o : Option (List FlatOp)) → calls ≡ submissions_of script log
+    → events ≡ submit_events 0 log.events → length events ≡ length calls → HasLengths log events (length calls) since until → length log.entered ≡ length log.history
+    → IfSome o (λ ops. IsLawfulWith (trace_of log calls since until) ops) → IfSome o (λ ops. IsOneFileSystem script log ops)
+one_if script log calls events since until None calls_are events_are long lengths entered lawful = tt
+one_if script log calls events since until (Some ops) calls_are events_are long lengths entered lawful =
+    one_file_system script log (trace_of log calls since until) ops events lengths.answered calls_are refl refl events_are long lengths.replied lengths.since_are lengths.until_are entered lawful

@@ -1,5 +1,5 @@
 -- The events of a log that submit calls and give replies, and the lines that sessions have left.
-use Rattle.std.specs.Prelude.{◌≡◌, ℕ, zero, suc, ◌+◌, ◌<◌, ◌≤◌, List, [], ◌∷◌, Some, length, take, drop, get_or, slice_set}
+use Rattle.std.specs.Prelude.{◌≡◌, ℕ, zero, suc, ◌+◌, ◌<◌, ◌≤◌, List, [], ◌∷◌, Option, Some, None, length, take, drop, get_or, slice_set}
 use Rattle.fop_types.specs.Calls.{Submission}
 use Rattle.script_lang.specs.declared.scripts.CallLine.{CallLine}
 use Rattle.script_lang.specs.declared.scripts.Script.{Script}
@@ -21,6 +21,14 @@ pub record Submits (script : Script) (old : List (List LineAt)) (session : ℕ) 
   pub line : CallLine
   pub there : line_of script at ≡ Some line
   pub call_is : s ≡ record { session = session; call = line.call }
+
+-- the session that submits a call in an event, if one does
+abbrev pub submitter : HubEvent → Option ℕ
+submitter (logged.Submit session line) = Some session
+submitter (logged.Arrive brick bytes) = None
+submitter (logged.Run graph task) = None
+submitter (logged.Act a) = None
+submitter (logged.Arm brick p count a) = None
 
 -- the numbers of the events that submit a call, behind events of which the last has the number `last`
 abbrev pub submit_events : ℕ → List HubEvent → List ℕ

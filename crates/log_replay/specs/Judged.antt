@@ -10,8 +10,7 @@ use Rattle.mount_log.specs.declared.logs.Log.{Log}
 -- One history with the operations of its entries, and with the places of each call's fops, also of those that have no reply:
 -- it is legal, and the replies are lawful. `answered` is how many fops of a call were answered by something else than an I/O
 -- error.
-pub record HasOneFileSystem (script : Script) (log : Log) : Type 0 where
-  pub ops : List FlatOp
+pub record IsOneFileSystem (script : Script) (log : Log) (ops : List FlatOp) : Type 0 where
   pub places : ℕ → List ℕ
   pub answered : ℕ → ℕ
   pub legal : IsLegalHistory (submissions_of script log) (replies_of log) (length_since log) places ops log.history

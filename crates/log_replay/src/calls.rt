@@ -1,9 +1,10 @@
 //! The calls of a log, and the events that submit them.
-ghost use Rattle.std.specs.Prelude.{◌≡◌, [], length, map, option_copied, slice_get, IfOk, IfSome};
+ghost use Rattle.std.specs.Prelude.{◌≡◌, [], true, length, map, option_copied, slice_get, IfOk, IfSome};
 ghost use Rattle.script_lang.specs.Accepted.{IsAccepted};
 ghost use Rattle.mount_log.specs.Lines.{line_of};
 ghost use Rattle.mount_log.specs.Submissions.{submissions_from};
-ghost use Rattle.log_replay.specs.Events.{Submits, submit_events};
+ghost use Rattle.log_replay.specs.Events.{Submits, submit_events, submitter as submitter_of};
+ghost use Rattle.log_replay.specs.Gathering.{Gathers};
 
 use history_replay::Submitted;
 use mount_log::{HubEvent, LineAt, lines_of_sessions, take_line};
@@ -59,11 +60,50 @@ fn next_call<'a>(
     }
 }
 
+// The session that submits a call in an event, if one does.
+fn submitter(event: &HubEvent) -> Option<u8>
+    ensures { result ≡ submitter_of event.now }
+{
+    match event {
+        HubEvent::Submit { session, .. } => Some(*session),
+        _ => None,
+    }
+}
+
+// What was gathered from events: the calls with the numbers of their events, and the lines that sessions have left.
+#[derive(Drop)]
+pub(crate) struct Gathered<'a> {
+    pub queues: Vec<VecDeque<LineAt>>,
+    pub calls: Vec<Submitted<'a>>,
+    pub numbers: Vec<u64>,
+}
+
+impl<'a> Gathered<'a> {
+    // Gathers the call that an event of this number submits, if it does. It is false where the session has no line left.
+    fn gather(
+        &mut self,
+        script: &'a Script,
+        number: u64,
+        event: &HubEvent,
+    ) -> Result<bool, AllocError>
+        ensures { IfOk result (λ did. did ≡ true → Gathers script.now (submitter_of event.now) number self.old self.new) }
+    {
+        let Some(session) = submitter(event) else {
+            return Ok(true);
+        };
+        let Some(call) = next_call(script, &mut self.queues, session) else {
+            return Ok(false);
+        };
+        self.calls.push(call)?;
+        self.numbers.push(number)?;
+        Ok(true)
+    }
+}
+
 /// The calls that events submit. `None` where one submits no line of the script.
 ///
 /// # Errors
 /// Out of memory.
-#[tactic(auto, using(crate::proofs::Calling::left_same, crate::proofs::Calling::calls_same, crate::proofs::Calling::numbers_same, crate::proofs::Calling::left_next, crate::proofs::Calling::calls_more, crate::proofs::Calling::numbers_more, crate::proofs::Calling::calls_all, crate::proofs::Calling::numbers_all))]
 pub(crate) fn calls_in<'a>(
     alloc: Global,
     script: &'a Script,
@@ -74,21 +114,18 @@ pub(crate) fn calls_in<'a>(
     ensures events { IfOk result (λ o. IfSome o (λ c. c.events.items ≡ submit_events 0 events.now)) }
     ensures long { IfOk result (λ o. IfSome o (λ c. length c.events.items ≡ length c.calls.items)) }
 {
-    let mut queues = lines_of_sessions(alloc, script)?;
-    let mut calls = Vec::new(alloc);
-    let mut numbers = Vec::new(alloc);
+    let mut gathered = Gathered {
+        queues: lines_of_sessions(alloc, script)?,
+        calls: Vec::new(alloc),
+        numbers: Vec::new(alloc),
+    };
     for at in 0..events.len() {
-        let HubEvent::Submit { session, .. } = &events[at] else {
-            continue;
-        };
-        let Some(call) = next_call(script, &mut queues, *session) else {
+        if !gathered.gather(script, at as u64 + 1, &events[at])? {
             return Ok(None);
-        };
-        calls.push(call)?;
-        numbers.push(at as u64 + 1)?;
+        }
     }
     Ok(Some(Calls {
-        calls,
-        events: numbers,
+        calls: gathered.calls,
+        events: gathered.numbers,
     }))
 }

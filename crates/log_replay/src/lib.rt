@@ -6,7 +6,7 @@
 //!   replies    the replies, and the event of each call's reply
 //!   lengths    how long the history was at each of these events
 //!     |
-//!   history_replay::is_lawful
+//!   history_replay::lawful_ops
 //! ```
 #![tactic(auto)]
 
@@ -15,4 +15,4 @@ mod judging;
 mod lengths;
 mod replies;
 
-pub use judging::is_one_file_system;
+pub use judging::one_file_system;

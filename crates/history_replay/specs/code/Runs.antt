@@ -1,9 +1,9 @@
 -- The claims of a whole trace, call by call, and the run of the flat file system that bears them out.
-use Rattle.std.specs.Prelude.{◌≡◌, ℕ, ◌+◌, ◌-◌, ◌<◌, ◌≤◌, ◌==◌, ◌&&◌, nat_lt, nat_le, Bool, true, false, List, [], ◌∷◌, ◌++◌, length, Option, Some, None, get_or, slice_get, replicate, if◌then◌else◌}
+use Rattle.std.specs.Prelude.{◌≡◌, ℕ, ◌+◌, ◌-◌, ◌<◌, ◌≤◌, ◌==◌, ◌&&◌, nat_lt, nat_le, Bool, true, false, List, [], ◌∷◌, ◌++◌, length, Option, Some, None, get_or, slice_get, replicate, if◌then◌else◌, MatchBool}
 use Rattle.std.specs.FinMap.{empty}
 use Rattle.std.specs.List.{slice_set}
 use Rattle.fop_types.specs.Calls.{Submission, Descriptors, after_answer, looked_up, lookups, makes, last_part_number}
-use Rattle.fop_types.specs.Files.{Files}
+use Rattle.fop_types.specs.Files.{Files, first_files}
 use Rattle.fop_types.specs.Flat.{flat, flat_answer, flat_after, IsChange}
 use Rattle.fop_types.specs.History.{Reply, fs_after}
 use Rattle.fop_types.specs.declared.answers.Answer.{Answer}
@@ -20,6 +20,7 @@ use Rattle.history_replay.specs.declared.progress.Progress.{Progress as Kept}
 use Rattle.history_replay.specs.declared.steps.Change.{Change}
 use Rattle.history_replay.specs.declared.steps.Pass.{Pass}
 use Rattle.history_replay.specs.declared.steps.Pass.TheVariants as passed
+use Rattle.history_replay.specs.declared.steps.Run.{Run}
 use Rattle.history_replay.specs.declared.steps.Step.{Step}
 
 -- ---- the case of a call
@@ -226,6 +227,23 @@ abbrev pub ops_of : List Step → List FlatOp
 ops_of [] = []
 ops_of (step ∷ steps) = with_op step.change (ops_of steps)
 
+-- steps that lead to others
+abbrev pub LeadsOn : Files → ℕ → List Reply → List Step → Type 0
+LeadsOn files at replies passed = (rest : List Step) → Runs files at replies rest → Runs first_files 0 replies (passed ++ rest)
+
+-- a run that took these steps is at its end, or can go on; its operations are theirs
+pub record HasRun (run : Run) (replies : List Reply) (passed : List Step) : Type 0 where
+  pub so_far : MatchBool run.ended (Runs first_files 0 replies passed) (LeadsOn run.files run.at replies passed)
+  pub ops_are : run.ops ≡ ops_of passed
+
+abbrev pub Takes : Run → Run → List Reply → Step → Type 0
+Takes before after replies step = (passed : List Step) → HasRun before replies passed → HasRun after replies (passed ++ step ∷ [])
+
+-- the steps run, with these operations
+pub record RunsWith (replies : List Reply) (steps : List Step) (ops : List FlatOp) : Type 0 where
+  pub runs : Runs first_files 0 replies steps
+  pub ops_are : ops ≡ ops_of steps
+
 -- ---- steps that are borne out by operations
 
 abbrev pub IsChangeHeld : List FlatOp → List Reply → ℕ → Option Change → Type 0
@@ -259,8 +277,12 @@ abbrev pub Puts : List Reply → List Step → List Step → Claim → Type 0
 Puts replies before after c =
     (ops : List FlatOp) → AreBorne ops replies after → AreBorne ops replies before × IsHeld ops replies c
 
--- there are operations, one for each entry, with which the claims hold
-pub record Bears (replies : List Reply) (entries : ℕ) (claims : List Claim) : Type 0 where
-  pub ops : List FlatOp
+-- operations that bear the steps out bear the claims out; there is a step for each entry, and one more
+pub record ArePut (replies : List Reply) (entries : ℕ) (claims : List Claim) (steps : List Step) : Type 0 where
+  pub count : length steps ≡ entries + 1
+  pub held : (ops : List FlatOp) → AreBorne ops replies steps → AreHeld ops replies claims
+
+-- the claims hold with these operations, one for each entry
+pub record Bears (replies : List Reply) (entries : ℕ) (claims : List Claim) (ops : List FlatOp) : Type 0 where
   pub as_many : length ops ≡ entries
   pub held : AreHeld ops replies claims
