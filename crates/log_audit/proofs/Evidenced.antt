@@ -4,13 +4,12 @@ use Rattle.std.specs.Prelude.{ℕ, ◌-◌, ◌<◌, ◌≤◌, List, Option, No
 use Rattle.std.specs.List.{AllByRecursion}
 use Rattle.fop_types.specs.declared.answers.Answer.{Answer}
 use Rattle.fop_types.specs.declared.answers.Answer.TheVariants as answer
-use Rattle.fop_types.specs.declared.answers.IoError.{IoError}
-use Rattle.fop_types.specs.declared.jobs.SetPlan.{SetPlan}
 use Rattle.graph_build.specs.declared.plans.Plan.{Plan}
 use Rattle.script_lang.specs.declared.scripts.Script.{Script}
 use Rattle.wire_xdr.specs.Xdr.{IsUnit}
 use Rattle.wire_messages.specs.Messages.{MessagesReadBack}
-use Rattle.mount_log.specs.Causes.{set_of_plan, plan_of_volfile, set_of_call, set_named, HasEvidence, HasCause, IsCaused, AreCaused}
+use Rattle.mount_log.specs.Causes.{set_of_plan, plan_of_volfile, set_of_call, IsCaused, AreCaused}
+use Rattle.mount_log.specs.Connections.{graph_of_call}
 use Rattle.mount_log.specs.Graphs.{volfiles_of}
 use Rattle.mount_log.specs.declared.logs.Log.{Log}
 use Rattle.mount_log.specs.declared.logs.ReplyLine.{ReplyLine}
@@ -28,18 +27,14 @@ module _ (script : Script) (log : Log) (tables : Tables) (t : AreTables script l
   pub numbers_of : MessagesReadBack → (graph : ℕ) → IsUnit graph → HasNumbers log graph tables.openings.items
   numbers_of back graph fits last brick = ap (openings_to last graph brick) t.openings ∙ number_is back log last graph brick fits
 
-  pub call_of : (call : ℕ) (at : CallAt) → call_at tables.calls.items call ≡ Some at → IsCallAt log call at
-  call_of call at is = call_is log call at (sym (ap (λ (l : List CallAt). call_at l call) t.calls) ∙ is)
+  pub call_of : (calls : List CallAt) (call : ℕ) (at : CallAt) → calls ≡ tables.calls.items → call_at calls call ≡ Some at → IsCallAt log call at
+  call_of calls call at same is = call_is log call at (sym (ap (λ (l : List CallAt). call_at l call) (same ∙ t.calls)) ∙ is)
 
-  pub set_is : (plans : List Plan) (call set : ℕ) (at : CallAt) (plan : SetPlan) → IsCallAt log call at
-      → set_of_plan (plan_of_volfile plans (slice_get tables.volfiles.items (at.graph - 1))) set ≡ Some plan → set_of_call script plans log call set ≡ Some plan
-  set_is plans call set at plan c is =
-      ap (λ (n : ℕ). set_of_plan (plan_of_volfile plans (slice_get (volfiles_of script log) (n - 1))) set) c.graph_is
-      ∙ sym (ap (λ (l : List ℕ). set_of_plan (plan_of_volfile plans (slice_get l (at.graph - 1))) set) t.volfiles) ∙ is
-
-  pub cause : (plans : List Plan) (reply : ReplyLine) (error : IoError) (at : CallAt) (plan : SetPlan) → IsCallAt log reply.call at
-      → set_of_plan (plan_of_volfile plans (slice_get tables.volfiles.items (at.graph - 1))) (set_named error) ≡ Some plan → HasEvidence log plan reply.call reply.event error → HasCause script plans log reply error
-  cause plans reply error at plan c is evidence = record { plan = plan; set = set_is plans reply.call (set_named error) at plan c is; evidence = evidence }
+  pub set_is : (plans : List Plan) (volfiles : List ℕ) (call graph set : ℕ) → volfiles ≡ tables.volfiles.items → graph ≡ graph_of_call log call
+      → set_of_plan (plan_of_volfile plans (slice_get volfiles (graph - 1))) set ≡ set_of_call script plans log call set
+  set_is plans volfiles call graph set same is =
+      ap (λ (l : List ℕ). set_of_plan (plan_of_volfile plans (slice_get l (graph - 1))) set) (same ∙ t.volfiles)
+      ∙ ap (λ (n : ℕ). set_of_plan (plan_of_volfile plans (slice_get (volfiles_of script log) (n - 1))) set) is
 
 module _ (script : Script) (plans : List Plan) (log : Log) where
   plain_caused : (reply : ReplyLine) (a : Answer) → IsPlain a → IsCaused script plans log reply a

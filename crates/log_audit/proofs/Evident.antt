@@ -26,6 +26,7 @@ use Rattle.mount_log.specs.declared.logs.SentLine.{SentLine}
 use Rattle.log_audit.specs.Evidence.{IsSentTo, HasNumbers, IsArrived, IsFaultOf, HasRow, IsRowOf}
 use Rattle.log_audit.specs.Opened.{openings_to}
 use Rattle.log_audit.specs.declared.connections.Opening.{Opening}
+use Rattle.log_audit.proofs.Different.{behind}
 use Rattle.log_audit.proofs.Openings.{lists_same}
 
 -- a line is among those that were sent
@@ -51,7 +52,7 @@ member [] x any = absurd cc
 member (y ∷ xs) x any = by (y == x) refl any (member xs x) where
   by : (b : Bool) → (y == x) ≡ b → (b || list_any (λ y. y == x) xs) ≡ true → (list_any (λ y. y == x) xs ≡ true → Contains xs x) → Contains (y ∷ xs) x
   by true is rest later = (0, omega arith, eqb-true y x is)
-  by false is rest later = let c = later rest in let lt = c.1.0 in (suc c.0, omega (arith, lt), c.1.1)
+  by false is rest later = behind y xs x (later rest)
 
 pub faulted : (log : Log) (plan : SetPlan) (call until : ℕ) (pair : ℕ × ℕ) (output : Output) → Contains plan.bricks pair.0 → IsArrived log until pair.0 output → output.taken ≡ pair.1 → IsFaultOf log call output.kind
     → IsFaulted log plan call until pair

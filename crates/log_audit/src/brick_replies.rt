@@ -115,16 +115,21 @@ fn is_fault(answer: &BrickRep) -> bool
     }
 }
 
+fn is_faulty(log: &Log, answer: &BrickRep, call: u32, place: usize, wind: u64) -> bool
+    ensures fault { result ≡ true → answer.now ≡ rep.Fault }
+    ensures wind { result ≡ true → IsWindOf log.now call wind }
+{
+    if !is_fault(answer) {
+        return false;
+    }
+    is_wind_of(log, place, call, wind)
+}
+
 fn is_fault_of(log: &Log, kind: &OutKind, call: u32, place: usize) -> bool
     ensures { result ≡ true → IsFaultOf log.now call kind.now }
 {
     match kind {
-        OutKind::Reply { wind, rep } => {
-            if !is_fault(rep) {
-                return false;
-            }
-            is_wind_of(log, place, call, *wind)
-        }
+        OutKind::Reply { wind, rep } => is_faulty(log, rep, call, place, *wind),
         _ => false,
     }
 }
@@ -144,15 +149,16 @@ pub fn is_faulted(
     log: &Log,
     plan: &SetPlan,
     reply: &ReplyLine,
-    pair: (u8, u64),
+    pair: &(u8, u64),
     at: ReplyAt,
 ) -> Result<bool, AllocError>
-    ensures { IfOk result (λ yes. yes ≡ true → IsFaulted log.now plan.now reply.now.call reply.now.event pair) }
+    ensures { IfOk result (λ yes. yes ≡ true → IsFaulted log.now plan.now reply.now.call reply.now.event pair.now) }
 {
     if !has_brick(plan, pair.0) {
         return Ok(false);
     }
-    let Some(output) = arrived(alloc, log, at.event, pair.0, reply.event)? else {
+    let found = arrived(alloc, log, at.event, pair.0, reply.event)?;
+    let Some(output) = found else {
         return Ok(false);
     };
     if !is_at(&output, pair.1) {
@@ -207,16 +213,28 @@ fn has_row(answer: &BrickRep, row: &Row) -> bool
     }
 }
 
+fn shows(
+    log: &Log,
+    answer: &BrickRep,
+    call: u32,
+    place: usize,
+    wind: u64,
+    row: &Row,
+) -> bool
+    ensures row { result ≡ true → HasRow answer.now row.now }
+    ensures wind { result ≡ true → IsWindOf log.now call wind }
+{
+    if !has_row(answer, row) {
+        return false;
+    }
+    is_wind_of(log, place, call, wind)
+}
+
 fn is_row_of(log: &Log, kind: &OutKind, call: u32, place: usize, row: &Row) -> bool
     ensures { result ≡ true → IsRowOf log.now call kind.now row.now }
 {
     match kind {
-        OutKind::Reply { wind, rep } => {
-            if !has_row(rep, row) {
-                return false;
-            }
-            is_wind_of(log, place, call, *wind)
-        }
+        OutKind::Reply { wind, rep } => shows(log, rep, call, place, *wind, row),
         _ => false,
     }
 }
@@ -238,7 +256,8 @@ pub fn is_shown(
     if !has_brick(plan, row.brick) {
         return Ok(false);
     }
-    let Some(output) = arrived(alloc, log, at.event, row.brick, reply.event)? else {
+    let found = arrived(alloc, log, at.event, row.brick, reply.event)?;
+    let Some(output) = found else {
         return Ok(false);
     };
     Ok(is_row_of(log, &output.kind, reply.call, at.wind, &row.row))

@@ -7,7 +7,6 @@ use fop_types::{SetPlan, SplitRow};
 use std::alloc::{AllocError, Global};
 
 // One brick more, which is none of the others. It is false where it is one of them.
-#[tactic(auto, using(crate::proofs::Different::distinct_push))]
 fn push_new(bricks: &mut Vec<u8>, brick: u8) -> Result<bool, AllocError>
     ensures pushed { IfOk result (λ yes. yes ≡ true → bricks.new.items ≡ bricks.old.items ++ brick ∷ []) }
     ensures differ { IfOk result (λ yes. yes ≡ true → IsDistinct ◌==◌ bricks.old.items → IsDistinct ◌==◌ bricks.new.items) }
@@ -59,7 +58,7 @@ pub fn are_enough(plan: &SetPlan, bricks: &[u8]) -> bool
 }
 
 // A brick more, unless it is one of the others.
-#[tactic(auto, using(crate::proofs::Different::distinct_push, crate::proofs::Different::all_push))]
+#[tactic(auto, using(crate::proofs::Different::all_push))]
 fn push_once(bricks: &mut Vec<u8>, brick: u8) -> Result<(), AllocError>
     ensures differ { OnOk result (IsDistinct ◌==◌ bricks.old.items → IsDistinct ◌==◌ bricks.new.items) }
     ensures all { OnOk result ((among : List ℕ) → Contains among brick → AllByRecursion (Contains among) bricks.old.items → AllByRecursion (Contains among) bricks.new.items) }

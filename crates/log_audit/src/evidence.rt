@@ -175,7 +175,7 @@ fn note_output(
     match &output.kind {
         OutKind::Closed => {
             let end = End {
-                event: place as u64 + 1,
+                event: (place as u64).saturating_add(1),
                 by: None,
             };
             put(&mut clues.ends, brick as usize, end)
@@ -308,7 +308,7 @@ pub fn find_loss(
     clues: &Clues,
     span: Span,
     until: u64,
-    pair: (u8, u32),
+    pair: &(u8, u32),
 ) -> Loss {
     let found = last_with(openings, span.graph, pair.0, pair.1, until);
     let end = clues.last_end(span.graph, pair.0, found);

@@ -1,7 +1,7 @@
 //! Whether each I/O error has its cause.
-ghost use Rattle.std.specs.Prelude.{◌≡◌, ◌≢◌, ◌<◌, ◌^◌, [], true, IfOk, IfSome};
+ghost use Rattle.std.specs.Prelude.{◌≡◌, ◌≢◌, ◌<◌, ◌≤◌, ◌^◌, [], true, option_copied, IfOk, IfSome};
 ghost use Rattle.std.specs.List.{AllByRecursion};
-ghost use Rattle.mount_log.specs.Causes.{IsLost, IsFaulted, IsShown, IsQuorumLost, IsFault, IsSplit, set_named, HasEvidence, HasCause, IsCaused, AreCaused};
+ghost use Rattle.mount_log.specs.Causes.{IsLost, IsFaulted, IsShown, IsQuorumLost, IsFault, IsSplit, set_of_call, set_named, HasEvidence, HasCause, IsCaused, AreCaused};
 ghost use Rattle.mount_log.specs.Connections.{graph_of_call};
 ghost use Rattle.mount_log.specs.Submissions.{submitted_at};
 ghost use Rattle.log_audit.specs.Evidence.{HasNumbers};
@@ -63,8 +63,8 @@ fn are_lost(
 {
     let openings = tables.openings.as_slice();
     for pair in lost {
-        let loss = find_loss(openings, &tables.clues, span, reply.event, *pair);
-        if !is_lost(alloc, log, openings, plan, reply, span, *pair, loss)? {
+        let loss = find_loss(openings, &tables.clues, span, reply.event, pair);
+        if !is_lost(alloc, log, openings, plan, reply, span, pair, loss)? {
             return Ok(false);
         }
     }
@@ -100,10 +100,10 @@ fn is_fault_found(
     log: &Log,
     plan: &SetPlan,
     reply: &ReplyLine,
-    pair: (u8, u64),
+    pair: &(u8, u64),
     found: &[Found],
 ) -> Result<bool, AllocError>
-    ensures { IfOk result (λ yes. yes ≡ true → IsFaulted log.now plan.now reply.now.call reply.now.event pair) }
+    ensures { IfOk result (λ yes. yes ≡ true → IsFaulted log.now plan.now reply.now.call reply.now.event pair.now) }
 {
     for one in found {
         if one.brick != pair.0 || one.taken != pair.1 {
@@ -127,7 +127,7 @@ fn are_faulted(
     ensures { IfOk result (λ yes. yes ≡ true → AllByRecursion (IsFaulted log.now plan.now reply.now.call reply.now.event) faults.now) }
 {
     for pair in faults {
-        if !is_fault_found(alloc, log, plan, reply, *pair, found)? {
+        if !is_fault_found(alloc, log, plan, reply, pair, found)? {
             return Ok(false);
         }
     }
@@ -274,17 +274,85 @@ fn has_evidence(
     }
 }
 
-// The span of a call whose graph has a number that an input has.
-fn span_of(at: CallAt) -> Option<Span>
-    ensures { IfSome result (λ span. (span.graph ≡ at.graph) × (span.since ≡ at.event) × (span.graph < 2 ^ 32)) }
+fn fits(graph: u64) -> bool
+    ensures { result ≡ true → graph < 2 ^ 32 }
 {
-    if at.graph > 4294967295 {
+    graph <= 4294967295
+}
+
+fn unit_of(graph: u64) -> u32
+    requires { graph < 2 ^ 32 }
+    ensures { result ≡ graph }
+{
+    graph as u32
+}
+
+// The graph and the submission of a reply's call, where the graph has a number that an input has.
+fn span_of(script: &Script, log: &Log, tables: &Tables, reply: &ReplyLine) -> Option<Span>
+    requires { AreTables script.now log.now tables.now }
+    ensures graph { IfSome result (λ span. span.graph ≡ graph_of_call log.now reply.now.call) }
+    ensures since { IfSome result (λ span. span.since ≡ submitted_at log.now reply.now.call) }
+    ensures from_one { IfSome result (λ span. 1 ≤ span.graph) }
+    ensures numbers { IfSome result (λ span. HasNumbers log.now span.graph tables.now.openings.items) }
+{
+    let _ = script;
+    let _ = log;
+    messages_read_back();
+    let Some(at) = call_at(tables.calls.as_slice(), reply.call) else {
+        return None;
+    };
+    if !fits(at.graph) {
         return None;
     }
     Some(Span {
-        graph: at.graph as u32,
+        graph: unit_of(at.graph),
         since: at.event,
     })
+}
+
+// A set of the graph of a reply's call.
+fn plan_of<'a>(
+    script: &Script,
+    plans: &'a [Plan],
+    log: &Log,
+    tables: &Tables,
+    reply: &ReplyLine,
+    span: Span,
+    set: u8,
+) -> Option<&'a SetPlan>
+    requires tables { AreTables script.now log.now tables.now }
+    requires graph { span.graph ≡ graph_of_call log.now reply.now.call }
+    requires from_one { 1 ≤ span.graph }
+    ensures { option_copied result ≡ set_of_call script.now plans.now log.now reply.now.call set }
+{
+    let _ = script;
+    let _ = log;
+    let _ = reply;
+    set_of(plans, tables.volfiles.as_slice(), span.graph as u64, set)
+}
+
+fn has_cause_in(
+    alloc: Global,
+    script: &Script,
+    plans: &[Plan],
+    log: &Log,
+    tables: &Tables,
+    reply: &ReplyLine,
+    span: Span,
+    error: &IoError,
+) -> Result<bool, AllocError>
+    requires tables { AreTables script.now log.now tables.now }
+    requires graph { span.graph ≡ graph_of_call log.now reply.now.call }
+    requires since { span.since ≡ submitted_at log.now reply.now.call }
+    requires from_one { 1 ≤ span.graph }
+    requires numbers { HasNumbers log.now span.graph tables.now.openings.items }
+    ensures { IfOk result (λ yes. yes ≡ true → HasCause script.now plans.now log.now reply.now error.now) }
+{
+    let Some(plan) = plan_of(script, plans, log, tables, reply, span, set_named(error)) else {
+        return Ok(false);
+    };
+    let yes = has_evidence(alloc, log, tables, plan, reply, span, error)?;
+    Ok(yes)
 }
 
 fn has_cause(
@@ -299,19 +367,10 @@ fn has_cause(
     requires { AreTables script.now log.now tables.now }
     ensures { IfOk result (λ yes. yes ≡ true → HasCause script.now plans.now log.now reply.now error.now) }
 {
-    let _ = script;
-    messages_read_back();
-    let Some(at) = call_at(tables.calls.as_slice(), reply.call) else {
+    let Some(span) = span_of(script, log, tables, reply) else {
         return Ok(false);
     };
-    let Some(span) = span_of(at) else {
-        return Ok(false);
-    };
-    let volfiles = tables.volfiles.as_slice();
-    let Some(plan) = set_of(plans, volfiles, at.graph, set_named(error)) else {
-        return Ok(false);
-    };
-    let yes = has_evidence(alloc, log, tables, plan, reply, span, error)?;
+    let yes = has_cause_in(alloc, script, plans, log, tables, reply, span, error)?;
     Ok(yes)
 }
 
@@ -375,6 +434,15 @@ fn are_plain(replies: &[ReplyLine]) -> bool
     true
 }
 
+// Whether no reply is an I/O error.
+fn have_none(script: &Script, plans: &[Plan], log: &Log) -> bool
+    ensures { result ≡ true → AreCaused script.now plans.now log.now }
+{
+    let _ = script;
+    let _ = plans;
+    are_plain(log.replies.as_slice())
+}
+
 /// Whether each reply that is an I/O error has its cause: bricks that were lost to the call's graph, bricks that answered a
 /// request of the call by a fault, or rows that bricks showed with its locks. `plans` are those of the script's volfiles.
 ///
@@ -388,11 +456,11 @@ pub fn io_errors_are_caused(
 ) -> Result<bool, AllocError>
     ensures { IfOk result (λ yes. yes ≡ true → AreCaused script.now plans.now log.now) }
 {
-    let replies = log.replies.as_slice();
-    if are_plain(replies) {
+    if have_none(script, plans, log) {
         return Ok(true);
     }
     let tables = tables_of(alloc, script, log)?;
+    let replies = log.replies.as_slice();
     let yes = are_caused(alloc, script, plans, log, &tables, replies)?;
     Ok(yes)
 }

@@ -161,6 +161,36 @@ fn was_disconnected(
     Ok(yes)
 }
 
+// Whether the graph's connection to the brick ends by a Disconnect.
+fn ends_by_line(
+    alloc: Global,
+    log: &Log,
+    place: usize,
+    number: u64,
+    brick: u8,
+    graph: u32,
+) -> Result<bool, AllocError>
+    ensures { IfOk result (λ yes. yes ≡ true → ends_in log.now graph brick number ≡ true) }
+{
+    let yes = was_disconnected(alloc, log, place, number, brick, graph)?;
+    Ok(yes)
+}
+
+// Whether the graph's connection to the brick ends by a Closed.
+fn ends_by_closed(
+    alloc: Global,
+    log: &Log,
+    number: u64,
+    brick: u8,
+    graph: u32,
+) -> Result<bool, AllocError>
+    ensures { IfOk result (λ yes. yes ≡ true → ends_in log.now graph brick number ≡ true) }
+{
+    let _ = graph;
+    let yes = is_closing(alloc, log, number, brick)?;
+    Ok(yes)
+}
+
 // Whether the graph's connection to the brick ends as is said.
 fn is_end(
     alloc: Global,
@@ -173,11 +203,11 @@ fn is_end(
 {
     match end.by {
         Some(sent) => {
-            let yes = was_disconnected(alloc, log, sent.place, end.event, brick, graph)?;
+            let yes = ends_by_line(alloc, log, sent.place, end.event, brick, graph)?;
             Ok(yes)
         }
         None => {
-            let yes = is_closing(alloc, log, end.event, brick)?;
+            let yes = ends_by_closed(alloc, log, end.event, brick, graph)?;
             Ok(yes)
         }
     }
@@ -301,13 +331,13 @@ pub fn is_lost(
     plan: &SetPlan,
     reply: &ReplyLine,
     span: Span,
-    pair: (u8, u32),
+    pair: &(u8, u32),
     loss: Loss,
 ) -> Result<bool, AllocError>
     requires numbers { HasNumbers log.now span.graph openings.now }
     requires graph { span.graph ≡ graph_of_call log.now reply.now.call }
     requires since { span.since ≡ submitted_at log.now reply.now.call }
-    ensures { IfOk result (λ yes. yes ≡ true → IsLost log.now plan.now reply.now.call reply.now.event pair) }
+    ensures { IfOk result (λ yes. yes ≡ true → IsLost log.now plan.now reply.now.call reply.now.event pair.now) }
 {
     if !has_brick(plan, pair.0) || !is_within(span.since, reply.event, loss) {
         return Ok(false);
