@@ -213,14 +213,7 @@ fn has_row(answer: &BrickRep, row: &Row) -> bool
     }
 }
 
-fn shows(
-    log: &Log,
-    answer: &BrickRep,
-    call: u32,
-    place: usize,
-    wind: u64,
-    row: &Row,
-) -> bool
+fn shows(log: &Log, answer: &BrickRep, call: u32, place: usize, wind: u64, row: &Row) -> bool
     ensures row { result ≡ true → HasRow answer.now row.now }
     ensures wind { result ≡ true → IsWindOf log.now call wind }
 {

@@ -16,11 +16,7 @@ pub struct Opening {
     pub event: u64,
 }
 
-fn push_input(
-    openings: &mut Vec<Opening>,
-    line: &SentLine,
-    sent: &Input,
-) -> Result<(), AllocError>
+fn push_input(openings: &mut Vec<Opening>, line: &SentLine, sent: &Input) -> Result<(), AllocError>
     ensures { OnOk result (openings.new.items ≡ openings.old.items ++ opened_by line.now sent.now) }
 {
     match sent {
@@ -39,11 +35,7 @@ fn push_input(
     }
 }
 
-fn push_line(
-    alloc: Global,
-    openings: &mut Vec<Opening>,
-    line: &SentLine,
-) -> Result<(), AllocError>
+fn push_line(alloc: Global, openings: &mut Vec<Opening>, line: &SentLine) -> Result<(), AllocError>
     ensures { OnOk result (openings.new.items ≡ openings.old.items ++ opened_in line.now (input_in line.now.bytes)) }
 {
     match input_of(alloc, line.bytes.as_slice())? {

@@ -154,15 +154,7 @@ fn note_reply(
         event: place,
         wind: wound.place,
     };
-    put(
-        &mut clues.replies,
-        wound.call,
-        Found {
-            brick,
-            taken,
-            at,
-        },
-    )
+    put(&mut clues.replies, wound.call, Found { brick, taken, at })
 }
 
 fn note_output(
@@ -316,9 +308,5 @@ pub fn find_loss(
         Some(end) => closed_until(openings, span.graph, pair.0, end.event, found),
         None => found,
     };
-    Loss {
-        moment,
-        found,
-        end,
-    }
+    Loss { moment, found, end }
 }

@@ -192,13 +192,7 @@ fn ends_by_closed(
 }
 
 // Whether the graph's connection to the brick ends as is said.
-fn is_end(
-    alloc: Global,
-    log: &Log,
-    graph: u32,
-    brick: u8,
-    end: End,
-) -> Result<bool, AllocError>
+fn is_end(alloc: Global, log: &Log, graph: u32, brick: u8, end: End) -> Result<bool, AllocError>
     ensures { IfOk result (λ yes. yes ≡ true → ends_in log.now graph brick end.event ≡ true) }
 {
     match end.by {
@@ -254,13 +248,7 @@ fn has_none(openings: &[Opening], graph: u32, brick: u8, moment: u64) -> bool
 }
 
 // Whether no connection was opened yet.
-fn is_never_open(
-    log: &Log,
-    openings: &[Opening],
-    graph: u32,
-    brick: u8,
-    moment: u64,
-) -> bool
+fn is_never_open(log: &Log, openings: &[Opening], graph: u32, brick: u8, moment: u64) -> bool
     requires { HasNumbers log.now graph openings.now }
     ensures { result ≡ true → is_open_after log.now graph brick moment ≡ false }
 {
