@@ -136,9 +136,9 @@ module _ (log : Log) (graph brick : ℕ) where
       sym (ap (is_open_after log graph brick) t) ∙ closed_for (from - 1) m (ap (ends_in log graph brick) f ∙ ends) same (m - from) (omega (arith, t))
 
 -- the same by the openings
-pub never_open : (log : Log) (graph brick m : ℕ) (openings : List Opening) → HasNumbers log graph openings → openings_to m graph brick openings ≡ 0 → is_open_after log graph brick m ≡ false
-never_open log graph brick m openings numbers none = closed_ever log graph brick m (sym (numbers m brick) ∙ none)
+pub never_open : (log : Log) (graph brick m : ℕ) (openings : List Opening) → HasNumbers log graph brick openings → openings_to m graph brick openings ≡ 0 → is_open_after log graph brick m ≡ false
+never_open log graph brick m openings numbers none = closed_ever log graph brick m (sym (numbers m) ∙ none)
 
-pub not_open : (log : Log) (graph brick from m : ℕ) (openings : List Opening) → HasNumbers log graph openings → 1 ≤ from → from ≤ m → ends_in log graph brick from ≡ true
+pub not_open : (log : Log) (graph brick from m : ℕ) (openings : List Opening) → HasNumbers log graph brick openings → 1 ≤ from → from ≤ m → ends_in log graph brick from ≡ true
     → openings_to m graph brick openings ≡ openings_to (from - 1) graph brick openings → is_open_after log graph brick m ≡ false
-not_open log graph brick from m openings numbers one le ends same = closed_since log graph brick from m one le ends (sym (numbers m brick) ∙ same ∙ numbers (from - 1) brick)
+not_open log graph brick from m openings numbers one le ends same = closed_since log graph brick from m one le ends (sym (numbers m) ∙ same ∙ numbers (from - 1))

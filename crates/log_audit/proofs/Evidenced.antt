@@ -1,6 +1,6 @@
 -- The cause of an I/O error, by what is looked up in the log.
 use Rattle.std.proofs.Common.{◌≡◌, refl, sym, ap, ◌∙◌, arith}
-use Rattle.std.specs.Prelude.{ℕ, ◌-◌, ◌<◌, ◌≤◌, List, Option, None, Some, slice_get}
+use Rattle.std.specs.Prelude.{ℕ, ◌-◌, ◌<◌, ◌≤◌, List, Option, None, Some, map, slice_get}
 use Rattle.std.specs.List.{AllByRecursion}
 use Rattle.fop_types.specs.declared.answers.Answer.{Answer}
 use Rattle.fop_types.specs.declared.answers.Answer.TheVariants as answer
@@ -14,18 +14,19 @@ use Rattle.mount_log.specs.Graphs.{volfiles_of}
 use Rattle.mount_log.specs.declared.logs.Log.{Log}
 use Rattle.mount_log.specs.declared.logs.ReplyLine.{ReplyLine}
 use Rattle.log_audit.specs.CallGraphs.{call_at, IsCallAt}
-use Rattle.log_audit.specs.Evidence.{HasNumbers}
+use Rattle.log_audit.specs.Evidence.{HaveNumbers}
 use Rattle.log_audit.specs.IoCauses.{AreTables, IsPlain}
-use Rattle.log_audit.specs.Opened.{openings_to}
+use Rattle.log_audit.specs.Opened.{openings_of, openings_to}
 use Rattle.log_audit.specs.declared.call_graphs.CallAt.{CallAt}
 use Rattle.log_audit.specs.declared.io_causes.Tables.{Tables}
 use Rattle.log_audit.proofs.Callings.{call_is}
 use Rattle.log_audit.proofs.Different.{all_at}
-use Rattle.log_audit.proofs.Openings.{number_is}
+use Rattle.log_audit.proofs.Openings.{number_is, same_to_brick}
 
 module _ (script : Script) (log : Log) (tables : Tables) (t : AreTables script log tables) where
-  pub numbers_of : MessagesReadBack → (graph : ℕ) → IsUnit graph → HasNumbers log graph tables.openings.items
-  numbers_of back graph fits last brick = ap (openings_to last graph brick) t.openings ∙ number_is back log last graph brick fits
+  pub numbers_of : MessagesReadBack → (graph : ℕ) → IsUnit graph → HaveNumbers log graph (map (λ l. l.items) tables.openings.items)
+  numbers_of back graph fits brick last =
+      ap (openings_to last graph brick) (t.openings brick) ∙ same_to_brick last graph brick (openings_of log.sent) ∙ number_is back log last graph brick fits
 
   pub call_of : (calls : List CallAt) (call : ℕ) (at : CallAt) → calls ≡ tables.calls.items → call_at calls call ≡ Some at → IsCallAt log call at
   call_of calls call at same is = call_is log call at (sym (ap (λ (l : List CallAt). call_at l call) (same ∙ t.calls)) ∙ is)

@@ -90,7 +90,7 @@ pub row_of : (log : Log) (call wind : ℕ) (kind : OutKind) (answer : BrickRep) 
 row_of log call wind kind answer row is has of_call = record { wind = wind; answer = answer; is = is; of_call = of_call; has = has }
 
 -- a loss, in the words of a call's graph
-pub lost : (log : Log) (plan : SetPlan) (call until graph since moment found : ℕ) (pair : ℕ × ℕ) (openings : List Opening) → HasNumbers log graph openings → graph ≡ graph_of_call log call → since ≡ submitted_at log call
+pub lost : (log : Log) (plan : SetPlan) (call until graph since moment found : ℕ) (pair : ℕ × ℕ) (openings : List Opening) → HasNumbers log graph pair.0 openings → graph ≡ graph_of_call log call → since ≡ submitted_at log call
     → Contains plan.bricks pair.0 → since ≤ moment + 1 → moment ≤ found → found ≤ until → pair.1 ≡ openings_to found graph pair.0 openings → is_open_after log graph pair.0 moment ≡ false → IsLost log plan call until pair
 lost log plan call until graph since moment found pair openings numbers graph_is since_is member from later before number closed = record {
   member = member;
@@ -100,5 +100,5 @@ lost log plan call until graph since moment found pair openings numbers graph_is
   found = found;
   later = later;
   before = before;
-  number = number ∙ numbers found pair.0 ∙ ap (λ (g : ℕ). last_connection log g pair.0 found) graph_is;
+  number = number ∙ numbers found ∙ ap (λ (g : ℕ). last_connection log g pair.0 found) graph_is;
 }

@@ -1,9 +1,11 @@
 -- The connections of a graph to a brick are the openings.
-use Rattle.std.proofs.Common.{◌≡◌, refl, sym, ap, subst, ◌∙◌, arith}
-use Rattle.std.specs.Prelude.{ℕ, ◌+◌, ◌==◌, nat_le, ◌&&◌, Bool, true, false, List, [], ◌∷◌, ◌++◌, if◌then◌else◌}
+use Rattle.std.proofs.Common.{◌≡◌, refl, sym, ap, subst, ◌∙◌, arith, inl, inr, get_or}
+use Rattle.std.specs.Prelude.{ℕ, zero, suc, ◌+◌, ◌<◌, ◌≤◌, ◌==◌, ◌⊎◌, nat_le, ◌&&◌, Bool, true, false, List, [], ◌∷◌, ◌++◌, Option, None, Some, option_map, length, map, take, slice_get, slice_index_or, slice_set, if◌then◌else◌}
 use Rattle.std.specs.Cmp.Derive.{both_true}
 use Rattle.std.specs.Cmp.Lexicographic.{pointwise}
-use Rattle.std.proofs.lemmas.Bool.{eq-eqb, eqb-true}
+use Rattle.std.proofs.lemmas.Bool.{eq-eqb, eqb-true, ne_eqb, cases_eq}
+use Rattle.std.proofs.lemmas.List.{map-set, get_or-set_same, get_or-set_other, get_or-map, length-map, append-nil, take_more, take_all}
+use Rattle.std.proofs.lemmas.Option.{slice_get-map, get_or_from_slice_get}
 use Rattle.fop_types.specs.declared.messages.Input.{Input}
 use Rattle.fop_types.specs.declared.messages.Input.TheVariants as input
 use Rattle.wire_xdr.specs.WireText.{input_text}
@@ -14,7 +16,7 @@ use Rattle.wire_messages.specs.declared.messages.Message.TheVariants.{Whole, Wro
 use Rattle.mount_log.specs.Connections.{connect_in, connects_among, last_connection}
 use Rattle.mount_log.specs.declared.logs.Log.{Log}
 use Rattle.mount_log.specs.declared.logs.SentLine.{SentLine}
-use Rattle.log_audit.specs.Opened.{opening_of, opened_in, openings_of, is_opening, openings_to}
+use Rattle.log_audit.specs.Opened.{opening_of, opened_in, openings_of, is_opening, openings_to, to_brick, openings_at, IsPut, AreByBrick}
 use Rattle.log_audit.specs.declared.connections.Opening.{Opening}
 
 pub pointwise_same : (xs : List ℕ) → pointwise ◌==◌ xs xs ≡ true
@@ -118,3 +120,67 @@ module _ (back : MessagesReadBack) (graph : ℕ) (fits : IsUnit graph) where
 -- the number of a graph's last connection to a brick
 pub number_is : MessagesReadBack → (log : Log) (last graph brick : ℕ) → IsUnit graph → openings_to last graph brick (openings_of log.sent) ≡ last_connection log graph brick last
 number_is back log last graph brick fits = sym (connected back graph fits last brick log.sent)
+
+-- ---- by brick
+
+kept : (last graph brick : ℕ) (o : Opening) → (o.brick == brick) ≡ false → is_opening last graph brick o ≡ false
+kept last graph brick o other = ap (λ (b : Bool). nat_le o.event last && (b && (o.graph == graph))) other ∙ and_false (nat_le o.event last)
+
+-- the openings to a brick are as many among those to the brick
+pub same_to_brick : (last graph brick : ℕ) (os : List Opening) → openings_to last graph brick (to_brick brick os) ≡ openings_to last graph brick os
+same_to_brick last graph brick [] = refl
+same_to_brick last graph brick (o ∷ os) = by (o.brick == brick) refl (same_to_brick last graph brick os) where
+  by : (b : Bool) → (o.brick == brick) ≡ b → openings_to last graph brick (to_brick brick os) ≡ openings_to last graph brick os
+      → openings_to last graph brick (if b then o ∷ to_brick brick os else to_brick brick os) ≡ one (is_opening last graph brick o) + openings_to last graph brick os
+  by true is rest = ap (λ (n : ℕ). one (is_opening last graph brick o) + n) rest
+  by false is rest =
+      let zero_is : one (is_opening last graph brick o) ≡ 0 = ap one (kept last graph brick o is) in omega (arith, zero_is, rest)
+
+-- those to a brick, with one more
+pub to_brick_push : (brick : ℕ) (os : List Opening) (o : Opening) → to_brick brick (os ++ o ∷ []) ≡ to_brick brick os ++ to_brick brick (o ∷ [])
+to_brick_push brick [] o = refl
+to_brick_push brick (x ∷ os) o = by (x.brick == brick) (to_brick_push brick os o) where
+  by : (b : Bool) → to_brick brick (os ++ o ∷ []) ≡ to_brick brick os ++ to_brick brick (o ∷ [])
+      → (if b then x ∷ to_brick brick (os ++ o ∷ []) else to_brick brick (os ++ o ∷ [])) ≡ (if b then x ∷ to_brick brick os else to_brick brick os) ++ to_brick brick (o ∷ [])
+  by true rest = ap (λ (l : List Opening). x ∷ l) rest
+  by false rest = rest
+
+module _ {V : Type 0} (f : V → List Opening) where
+  -- the list of the opening's brick has it at its end
+  pub puts : (qs : List V) (before q : V) (o : Opening) → o.brick < length qs → before ≡ slice_index_or qs o.brick before → f q ≡ f before ++ o ∷ [] → IsPut (map f qs) o (map f (slice_set qs o.brick q))
+  puts qs before q o low is pushed brick = by (cases_eq o.brick brick) where
+    set_is : openings_at (map f (slice_set qs o.brick q)) brick ≡ slice_index_or (slice_set (map f qs) o.brick (f q)) brick []
+    set_is = ap (λ (l : List (List Opening)). openings_at l brick) (map-set f qs o.brick q)
+
+    by : (o.brick ≡ brick) ⊎ (o.brick ≡ brick → ⊥) → openings_at (map f (slice_set qs o.brick q)) brick ≡ openings_at (map f qs) brick ++ to_brick brick (o ∷ [])
+    by (inl e) =
+        let own : to_brick brick (o ∷ []) ≡ o ∷ [] = ap (λ (b : Bool). if b then o ∷ [] else []) (eq-eqb o.brick brick e) in
+        let old : openings_at (map f qs) brick ≡ f before = ap (openings_at (map f qs)) (sym e) ∙ get_or-map f qs o.brick before [] low ∙ ap f (sym is) in
+        set_is ∙ sym (ap (λ (n : ℕ). slice_index_or (slice_set (map f qs) o.brick (f q)) n []) e) ∙ get_or-set_same (map f qs) o.brick (f q) [] (omega (arith, length-map qs f, low)) ∙ pushed
+        ∙ ap (λ (l : List Opening). l ++ o ∷ []) (sym old) ∙ ap (λ (l : List Opening). openings_at (map f qs) brick ++ l) (sym own)
+    by (inr d) =
+        let none_own : to_brick brick (o ∷ []) ≡ [] = ap (λ (b : Bool). if b then o ∷ [] else []) (ne_eqb o.brick brick d) in
+        set_is ∙ get_or-set_other (map f qs) o.brick brick (f q) [] (λ e. d (sym e)) ∙ sym (append-nil (openings_at (map f qs) brick)) ∙ ap (λ (l : List Opening). openings_at (map f qs) brick ++ l) (sym none_own)
+
+  pub list_there : (qs : List V) (i : ℕ) (q : V) → slice_get qs i ≡ Some q → openings_at (map f qs) i ≡ f q
+  list_there qs i q e = get_or_from_slice_get (map f qs) i (f q) [] (slice_get-map f qs i ∙ ap (option_map f) e)
+
+  pub list_none : (qs : List V) (i : ℕ) → slice_get qs i ≡ None → openings_at (map f qs) i ≡ []
+  list_none [] i e = refl
+  list_none (q ∷ qs) zero e = absurd cc
+  list_none (q ∷ qs) (suc i) e = list_none qs i e
+
+  -- one empty list more
+  pub empty_more : (qs : List V) (q : V) → f q ≡ [] → AreByBrick [] (map f qs) → AreByBrick [] (map f (qs ++ q ∷ []))
+  empty_more [] q none are zero = none
+  empty_more [] q none are (suc brick) = refl
+  empty_more (x ∷ qs) q none are zero = are 0
+  empty_more (x ∷ qs) q none are (suc brick) = empty_more qs q none (λ n. are (suc n)) brick
+
+-- the next opening is put
+pub next_put : (os : List Opening) (k : ℕ) (d : Opening) (old new : List (List Opening)) → k < length os → AreByBrick (take k os) old → IsPut old (get_or os k d) new → AreByBrick (take (k + 1) os) new
+next_put os k d old new lt are put brick =
+    put brick ∙ ap (λ (l : List Opening). l ++ to_brick brick (get_or os k d ∷ [])) (are brick) ∙ sym (to_brick_push brick (take k os) (get_or os k d)) ∙ sym (ap (to_brick brick) (take_more os k d lt))
+
+pub all_put : (os : List Opening) (k : ℕ) (lists : List (List Opening)) → length os ≤ k → AreByBrick (take k os) lists → AreByBrick os lists
+all_put os k lists le are = subst (λ (l : List Opening). AreByBrick l lists) (take_all k os le) are

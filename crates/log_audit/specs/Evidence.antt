@@ -16,7 +16,7 @@ use Rattle.mount_log.specs.Connections.{last_connection}
 use Rattle.mount_log.specs.declared.logs.HubEvent.TheVariants as logged
 use Rattle.mount_log.specs.declared.logs.Log.{Log}
 use Rattle.mount_log.specs.declared.logs.SentLine.{SentLine}
-use Rattle.log_audit.specs.Opened.{openings_to}
+use Rattle.log_audit.specs.Opened.{openings_to, openings_at}
 use Rattle.log_audit.specs.declared.connections.Opening.{Opening}
 
 -- the event of this number sent the input to the brick
@@ -25,9 +25,12 @@ pub record IsSentTo (number brick : ℕ) (x : Input) (line : SentLine) : Type 0 
   pub brick_is : line.brick ≡ brick
   pub bytes_are : line.bytes ≡ input_text x
 
--- the openings have the number of the graph's last connection to each brick, at each moment
-abbrev pub HasNumbers : Log → ℕ → List Opening → Type 0
-HasNumbers log graph openings = (last brick : ℕ) → openings_to last graph brick openings ≡ last_connection log graph brick last
+-- the openings have the number of the graph's last connection to the brick, at each moment
+abbrev pub HasNumbers : Log → ℕ → ℕ → List Opening → Type 0
+HasNumbers log graph brick openings = (last : ℕ) → openings_to last graph brick openings ≡ last_connection log graph brick last
+
+abbrev pub HaveNumbers : Log → ℕ → List (List Opening) → Type 0
+HaveNumbers log graph lists = (brick : ℕ) → HasNumbers log graph brick (openings_at lists brick)
 
 -- the output arrived from the brick, before the event of this number ended
 pub record IsArrived (log : Log) (until brick : ℕ) (output : Output) : Type 0 where

@@ -1,5 +1,5 @@
 -- The connections that were opened, and how many a graph has opened to a brick.
-use Rattle.std.specs.Prelude.{ℕ, ◌+◌, ◌==◌, nat_le, ◌&&◌, Bool, List, [], ◌∷◌, ◌++◌, if◌then◌else◌}
+use Rattle.std.specs.Prelude.{◌≡◌, ℕ, ◌+◌, ◌==◌, nat_le, ◌&&◌, Bool, List, [], ◌∷◌, ◌++◌, slice_index_or, if◌then◌else◌}
 use Rattle.fop_types.specs.declared.messages.Input.{Input}
 use Rattle.fop_types.specs.declared.messages.Input.TheVariants as input
 use Rattle.wire_messages.specs.Messages.{input_in}
@@ -35,3 +35,21 @@ is_opening last graph brick o = nat_le o.event last && ((o.brick == brick) && (o
 abbrev pub openings_to : ℕ → ℕ → ℕ → List Opening → ℕ
 openings_to last graph brick [] = 0
 openings_to last graph brick (o ∷ os) = (if is_opening last graph brick o then 1 else 0) + openings_to last graph brick os
+
+-- ---- by brick
+
+-- those that are to the brick
+abbrev pub to_brick : ℕ → List Opening → List Opening
+to_brick brick [] = []
+to_brick brick (o ∷ os) = if o.brick == brick then o ∷ to_brick brick os else to_brick brick os
+
+-- the list of a brick, by its number
+abbrev pub openings_at : List (List Opening) → ℕ → List Opening
+openings_at lists brick = slice_index_or lists brick []
+
+-- each brick's list has one more at its end where the opening is to it
+abbrev pub IsPut : List (List Opening) → Opening → List (List Opening) → Type 0
+IsPut old o new = (brick : ℕ) → openings_at new brick ≡ openings_at old brick ++ to_brick brick (o ∷ [])
+
+abbrev pub AreByBrick : List Opening → List (List Opening) → Type 0
+AreByBrick openings lists = (brick : ℕ) → openings_at lists brick ≡ to_brick brick openings

@@ -1,12 +1,15 @@
 //! The connections that graphs opened to bricks.
-ghost use Rattle.std.specs.Prelude.{◌≡◌, ◌++◌, ◌==◌, ◌≤◌, length, IfOk, OnOk};
+ghost use Rattle.std.specs.Prelude.{◌≡◌, ◌++◌, ◌==◌, ◌≤◌, ◌<◌, [], map, length, option_copied, slice_get, IfOk, OnOk};
 ghost use Rattle.wire_messages.specs.Messages.{input_in};
-ghost use Rattle.log_audit.specs.Opened.{opened_by, opened_in, openings_of, is_opening, openings_to};
+ghost use Rattle.log_audit.specs.Opened.{opened_by, opened_in, openings_of, is_opening, openings_to, openings_at, IsPut, AreByBrick};
 
 use fop_types::Input;
 use mount_log::SentLine;
 use std::alloc::{AllocError, Global};
 use wire_messages::{Message, input_of};
+
+// How many bricks may have a number.
+const BRICKS: usize = 256;
 
 /// A connection that a graph opened to a brick, with the event in which its Connect was sent.
 #[derive(Clone, Copy)]
@@ -60,6 +63,68 @@ pub fn openings_of(alloc: Global, sent: &[SentLine]) -> Result<Vec<Opening>, All
     }
     Ok(openings)
 }
+
+// ---- by brick
+
+// An empty list for each number of a brick.
+fn empty_lists(alloc: Global) -> Result<Vec<Vec<Opening>>, AllocError>
+    ensures many { IfOk result (λ lists. length lists.items ≡ 256) }
+    ensures empty { IfOk result (λ lists. AreByBrick [] (map (λ l. l.items) lists.items)) }
+{
+    let mut lists = Vec::new(alloc);
+    for _ in 0..BRICKS {
+        lists.push(Vec::new(alloc))?;
+    }
+    Ok(lists)
+}
+
+fn bricks_have_lists(brick: u8)
+    ensures { brick < 256 }
+{
+    let _ = brick;
+}
+
+fn put(lists: &mut Vec<Vec<Opening>>, opening: Opening) -> Result<(), AllocError>
+    requires { length lists.old.items ≡ 256 }
+    ensures many { OnOk result (length lists.new.items ≡ 256) }
+    ensures put { OnOk result (IsPut (map (λ l. l.items) lists.old.items) opening (map (λ l. l.items) lists.new.items)) }
+{
+    bricks_have_lists(opening.brick);
+    lists[opening.brick as usize].push(opening)?;
+    Ok(())
+}
+
+/// The connections to each brick, by its number, in their order.
+///
+/// # Errors
+/// Out of memory.
+pub fn by_brick(alloc: Global, openings: &[Opening]) -> Result<Vec<Vec<Opening>>, AllocError>
+    ensures { IfOk result (λ lists. AreByBrick openings.now (map (λ l. l.items) lists.items)) }
+{
+    let mut lists = empty_lists(alloc)?;
+    for k in 0..openings.len() {
+        put(&mut lists, openings[k])?;
+    }
+    Ok(lists)
+}
+
+fn list_at(lists: &[Vec<Opening>], brick: u8) -> Option<&Vec<Opening>>
+    ensures { option_copied result ≡ slice_get lists.now brick }
+{
+    lists.get(brick as usize)
+}
+
+/// The connections to a brick.
+pub fn openings_at(lists: &[Vec<Opening>], brick: u8) -> &[Opening]
+    ensures { result.now ≡ openings_at (map (λ l. l.items) lists.now) brick }
+{
+    match list_at(lists, brick) {
+        Some(list) => list.as_slice(),
+        None => &[],
+    }
+}
+
+// ---- numbers
 
 fn is_opening(opening: &Opening, last: u64, graph: u32, brick: u8) -> bool
     ensures { result ≡ is_opening last graph brick opening.now }

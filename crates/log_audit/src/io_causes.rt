@@ -1,15 +1,15 @@
 //! Whether each I/O error has its cause.
-ghost use Rattle.std.specs.Prelude.{◌≡◌, ◌≢◌, ◌<◌, ◌≤◌, ◌^◌, [], true, option_copied, IfOk, IfSome};
+ghost use Rattle.std.specs.Prelude.{◌≡◌, ◌≢◌, ◌<◌, ◌≤◌, ◌^◌, [], true, map, option_copied, IfOk, IfSome};
 ghost use Rattle.std.specs.List.{AllByRecursion};
 ghost use Rattle.mount_log.specs.Causes.{IsLost, IsFaulted, IsShown, IsQuorumLost, IsFault, IsSplit, set_of_call, set_named, HasEvidence, HasCause, IsCaused, AreCaused};
 ghost use Rattle.mount_log.specs.Connections.{graph_of_call};
 ghost use Rattle.mount_log.specs.Submissions.{submitted_at};
-ghost use Rattle.log_audit.specs.Evidence.{HasNumbers};
+ghost use Rattle.log_audit.specs.Evidence.{HaveNumbers};
 ghost use Rattle.log_audit.specs.IoCauses.{AreTables, IsPlain};
 
 use crate::brick_replies::{is_faulted, is_shown};
 use crate::call_graphs::{CallAt, call_at, calls_of, graphs_of, set_of};
-use crate::connections::{Opening, openings_of};
+use crate::connections::{Opening, by_brick, openings_at, openings_of};
 use crate::enough::{are_enough, push_failed, push_lost, showers_of};
 use crate::evidence::{Clues, Found, clues_of, find_loss};
 use crate::losses::{Span, is_lost};
@@ -26,7 +26,7 @@ use wire_messages::messages_read_back;
 pub struct Tables {
     pub calls: Vec<CallAt>,
     pub volfiles: Vec<u8>,
-    pub openings: Vec<Opening>,
+    pub openings: Vec<Vec<Opening>>,
     pub clues: Clues,
 }
 
@@ -35,7 +35,8 @@ fn tables_of(alloc: Global, script: &Script, log: &Log) -> Result<Tables, AllocE
 {
     let calls = calls_of(alloc, log.events.as_slice())?;
     let volfiles = graphs_of(alloc, script, log)?;
-    let openings = openings_of(alloc, log.sent.as_slice())?;
+    let all = openings_of(alloc, log.sent.as_slice())?;
+    let openings = by_brick(alloc, all.as_slice())?;
     let clues = clues_of(alloc, log)?;
     Ok(Tables {
         calls,
@@ -47,6 +48,26 @@ fn tables_of(alloc: Global, script: &Script, log: &Log) -> Result<Tables, AllocE
 
 // ---- lost quorum
 
+fn is_pair_lost(
+    alloc: Global,
+    log: &Log,
+    tables: &Tables,
+    plan: &SetPlan,
+    reply: &ReplyLine,
+    span: Span,
+    pair: &(u8, u32),
+) -> Result<bool, AllocError>
+    requires numbers { HaveNumbers log.now span.graph (map (λ l. l.items) tables.now.openings.items) }
+    requires graph { span.graph ≡ graph_of_call log.now reply.now.call }
+    requires since { span.since ≡ submitted_at log.now reply.now.call }
+    ensures { IfOk result (λ yes. yes ≡ true → IsLost log.now plan.now reply.now.call reply.now.event pair.now) }
+{
+    let openings = openings_at(tables.openings.as_slice(), pair.0);
+    let loss = find_loss(openings, &tables.clues, span, reply.event, pair);
+    let yes = is_lost(alloc, log, openings, plan, reply, span, pair, loss)?;
+    Ok(yes)
+}
+
 fn are_lost(
     alloc: Global,
     log: &Log,
@@ -56,15 +77,13 @@ fn are_lost(
     span: Span,
     lost: &[(u8, u32)],
 ) -> Result<bool, AllocError>
-    requires numbers { HasNumbers log.now span.graph tables.now.openings.items }
+    requires numbers { HaveNumbers log.now span.graph (map (λ l. l.items) tables.now.openings.items) }
     requires graph { span.graph ≡ graph_of_call log.now reply.now.call }
     requires since { span.since ≡ submitted_at log.now reply.now.call }
     ensures { IfOk result (λ yes. yes ≡ true → AllByRecursion (IsLost log.now plan.now reply.now.call reply.now.event) lost.now) }
 {
-    let openings = tables.openings.as_slice();
     for pair in lost {
-        let loss = find_loss(openings, &tables.clues, span, reply.event, pair);
-        if !is_lost(alloc, log, openings, plan, reply, span, pair, loss)? {
+        if !is_pair_lost(alloc, log, tables, plan, reply, span, pair)? {
             return Ok(false);
         }
     }
@@ -80,7 +99,7 @@ fn is_quorum_lost(
     span: Span,
     lost: &[(u8, u32)],
 ) -> Result<bool, AllocError>
-    requires numbers { HasNumbers log.now span.graph tables.now.openings.items }
+    requires numbers { HaveNumbers log.now span.graph (map (λ l. l.items) tables.now.openings.items) }
     requires graph { span.graph ≡ graph_of_call log.now reply.now.call }
     requires since { span.since ≡ submitted_at log.now reply.now.call }
     ensures { IfOk result (λ yes. yes ≡ true → IsQuorumLost log.now plan.now reply.now.call reply.now.event lost.now) }
@@ -150,7 +169,7 @@ fn is_fault(
     faults: &[(u8, u64)],
     lost: &[(u8, u32)],
 ) -> Result<bool, AllocError>
-    requires numbers { HasNumbers log.now span.graph tables.now.openings.items }
+    requires numbers { HaveNumbers log.now span.graph (map (λ l. l.items) tables.now.openings.items) }
     requires graph { span.graph ≡ graph_of_call log.now reply.now.call }
     requires since { span.since ≡ submitted_at log.now reply.now.call }
     ensures { IfOk result (λ yes. yes ≡ true → IsFault log.now plan.now reply.now.call reply.now.event faults.now lost.now) }
@@ -249,7 +268,7 @@ fn has_evidence(
     span: Span,
     error: &IoError,
 ) -> Result<bool, AllocError>
-    requires numbers { HasNumbers log.now span.graph tables.now.openings.items }
+    requires numbers { HaveNumbers log.now span.graph (map (λ l. l.items) tables.now.openings.items) }
     requires graph { span.graph ≡ graph_of_call log.now reply.now.call }
     requires since { span.since ≡ submitted_at log.now reply.now.call }
     ensures { IfOk result (λ yes. yes ≡ true → HasEvidence log.now plan.now reply.now.call reply.now.event error.now) }
@@ -293,7 +312,7 @@ fn span_of(script: &Script, log: &Log, tables: &Tables, reply: &ReplyLine) -> Op
     ensures graph { IfSome result (λ span. span.graph ≡ graph_of_call log.now reply.now.call) }
     ensures since { IfSome result (λ span. span.since ≡ submitted_at log.now reply.now.call) }
     ensures from_one { IfSome result (λ span. 1 ≤ span.graph) }
-    ensures numbers { IfSome result (λ span. HasNumbers log.now span.graph tables.now.openings.items) }
+    ensures numbers { IfSome result (λ span. HaveNumbers log.now span.graph (map (λ l. l.items) tables.now.openings.items)) }
 {
     let _ = script;
     let _ = log;
@@ -345,7 +364,7 @@ fn has_cause_in(
     requires graph { span.graph ≡ graph_of_call log.now reply.now.call }
     requires since { span.since ≡ submitted_at log.now reply.now.call }
     requires from_one { 1 ≤ span.graph }
-    requires numbers { HasNumbers log.now span.graph tables.now.openings.items }
+    requires numbers { HaveNumbers log.now span.graph (map (λ l. l.items) tables.now.openings.items) }
     ensures { IfOk result (λ yes. yes ≡ true → HasCause script.now plans.now log.now reply.now error.now) }
 {
     let Some(plan) = plan_of(script, plans, log, tables, reply, span, set_named(error)) else {

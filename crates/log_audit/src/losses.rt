@@ -231,7 +231,7 @@ fn is_closed_since(
     moment: u64,
     end: End,
 ) -> Result<bool, AllocError>
-    requires { HasNumbers log.now graph openings.now }
+    requires { HasNumbers log.now graph brick openings.now }
     ensures { IfOk result (λ yes. yes ≡ true → is_open_after log.now graph brick moment ≡ false) }
 {
     if !is_last(openings, graph, brick, moment, end.event) {
@@ -249,7 +249,7 @@ fn has_none(openings: &[Opening], graph: u32, brick: u8, moment: u64) -> bool
 
 // Whether no connection was opened yet.
 fn is_never_open(log: &Log, openings: &[Opening], graph: u32, brick: u8, moment: u64) -> bool
-    requires { HasNumbers log.now graph openings.now }
+    requires { HasNumbers log.now graph brick openings.now }
     ensures { result ≡ true → is_open_after log.now graph brick moment ≡ false }
 {
     let _ = log;
@@ -266,7 +266,7 @@ fn is_closed_at(
     moment: u64,
     end: Option<End>,
 ) -> Result<bool, AllocError>
-    requires { HasNumbers log.now graph openings.now }
+    requires { HasNumbers log.now graph brick openings.now }
     ensures { IfOk result (λ yes. yes ≡ true → is_open_after log.now graph brick moment ≡ false) }
 {
     if is_never_open(log, openings, graph, brick, moment) {
@@ -308,7 +308,8 @@ fn has_number(openings: &[Opening], graph: u32, brick: u8, found: u64, number: u
     count_openings(openings, found, graph, brick) == number as usize
 }
 
-/// Whether a brick of a set was lost to a call before its reply, with this connection's number.
+/// Whether a brick of a set was lost to a call before its reply, with this connection's number, by the connections to the
+/// brick.
 ///
 /// # Errors
 /// Out of memory.
@@ -322,7 +323,7 @@ pub fn is_lost(
     pair: &(u8, u32),
     loss: Loss,
 ) -> Result<bool, AllocError>
-    requires numbers { HasNumbers log.now span.graph openings.now }
+    requires numbers { HasNumbers log.now span.graph pair.now.0 openings.now }
     requires graph { span.graph ≡ graph_of_call log.now reply.now.call }
     requires since { span.since ≡ submitted_at log.now reply.now.call }
     ensures { IfOk result (λ yes. yes ≡ true → IsLost log.now plan.now reply.now.call reply.now.event pair.now) }

@@ -1,6 +1,6 @@
-use Rattle.std.proofs.Common.{◌≡◌, sym, subst, ◌∙◌}
+use Rattle.std.proofs.Common.{◌≡◌, sym, subst, ◌∙◌, map}
 use Rattle.std.specs.Prelude.{ℕ, ◌≤◌}
-use Rattle.log_audit.specs.Evidence.{HasNumbers}
+use Rattle.log_audit.specs.Evidence.{HaveNumbers}
 use Rattle.log_audit.proofs.Evidenced.{numbers_of, call_of}
 use Rattle.log_audit.proofs.io_causes.span_of.Goals as goal
 
@@ -17,5 +17,5 @@ returns-clause-from_one c =
 
 pub returns-clause-numbers : goal.returns-clause-numbers
 returns-clause-numbers c =
-    subst (λ (n : ℕ). HasNumbers c.args.log.now n c.args.tables.now.openings.items) (sym c.unit_of.ensures)
+    subst (λ (n : ℕ). HaveNumbers c.args.log.now n (map (λ l. l.items) c.args.tables.now.openings.items)) (sym c.unit_of.ensures)
     (numbers_of c.args.script.now c.args.log.now c.args.tables.now c.requires c.messages_read_back.ensures c.in-Some.at.graph (c.fits.ensures c.if-not-fits.false))
