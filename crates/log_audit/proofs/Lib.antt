@@ -10,3 +10,9 @@ pub mod Endings
 pub mod Causing
 pub mod Arming
 pub mod Carrying
+pub mod Callings
+pub mod Openings
+pub mod Closings
+pub mod Evident
+pub mod Different
+pub mod Evidenced

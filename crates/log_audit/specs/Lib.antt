@@ -1,5 +1,5 @@
 -- In reading order: the last wind of each slot; what it says of the winds so far; prefixes; timely arrivals; lines
--- that can be armed; causes of what was sent.
+-- that can be armed; causes of what was sent; calls with their graphs, connections, and the evidence of I/O errors.
 pub mod Slots
 pub mod Agreeing
 pub mod Prefixes
@@ -9,3 +9,7 @@ pub mod Submitted
 pub mod Replied
 pub mod Armed
 pub mod Caused
+pub mod CallGraphs
+pub mod Opened
+pub mod Evidence
+pub mod IoCauses

@@ -8,6 +8,7 @@
 //!   connects_are_caused    what was sent          connections, Downs and Ups have their causes
 //!   arrivals_are_honest    what was sent and      what arrived is what the bricks make of what was sent
 //!                          arrived, the bricks
+//!   io_errors_are_caused   the replies, plans     each I/O error has its cause
 //! ```
 //!
 //! Each audit goes through the log a fixed number of times, `arrivals_are_honest` once more for each brick. It knows nothing
@@ -16,13 +17,20 @@
 #![tactic(auto)]
 
 mod armed_lines;
+mod brick_replies;
 mod bricks;
+mod call_graphs;
 mod causes;
+mod connections;
 mod connects;
 mod downs;
 mod ended;
+mod enough;
+mod evidence;
 mod finished;
 mod honest;
+mod io_causes;
+mod losses;
 mod requests;
 mod slots;
 mod submits;
@@ -32,5 +40,6 @@ mod winds;
 pub use connects::connects_are_caused;
 pub use ended::is_finished;
 pub use honest::arrivals_are_honest;
+pub use io_causes::io_errors_are_caused;
 pub use submits::submits_are_in_order;
 pub use winds::{winds_are_balanced, winds_are_once};

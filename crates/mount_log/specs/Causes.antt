@@ -46,14 +46,17 @@ set_of_call script plans log call set =
 -- ---- the evidence
 
 -- A brick of the set was without an open connection in the call's graph at some moment between the call's submission and
--- this event, after `moment` events; it is named with the number of its last connection then.
+-- this event, after `moment` events. It was found to be out later, after `found` events, by then perhaps with a new
+-- connection, and is named with the number of its last connection at that moment.
 pub record IsLost (log : Log) (plan : SetPlan) (call until : ℕ) (pair : ℕ × ℕ) : Type 0 where
   pub member : Contains plan.bricks pair.0
   pub moment : ℕ
   pub since : submitted_at log call ≤ moment + 1
-  pub before : moment ≤ until
   pub closed : is_open_after log (graph_of_call log call) pair.0 moment ≡ false
-  pub number : pair.1 ≡ last_connection log (graph_of_call log call) pair.0 moment
+  pub found : ℕ
+  pub later : moment ≤ found
+  pub before : found ≤ until
+  pub number : pair.1 ≡ last_connection log (graph_of_call log call) pair.0 found
 
 -- a wind of a call was opened in the log: that of a request, or of the open that goes before it
 pub record IsWindOf (log : Log) (call wind : ℕ) : Type 0 where

@@ -1,0 +1,86 @@
+//! Bricks that differ from one another, as many as an I/O error needs.
+ghost use Rattle.std.specs.Prelude.{◌≡◌, ◌++◌, ◌==◌, ◌+◌, ◌-◌, ◌≤◌, ℕ, List, [], ◌∷◌, true, Contains, map, length, IfOk, OnOk};
+ghost use Rattle.std.specs.List.{AllByRecursion, IsDistinct};
+ghost use Rattle.mount_log.specs.Causes.{brick_of, shower_of};
+
+use fop_types::{SetPlan, SplitRow};
+use std::alloc::{AllocError, Global};
+
+// One brick more, which is none of the others. It is false where it is one of them.
+fn push_new(bricks: &mut Vec<u8>, brick: u8) -> Result<bool, AllocError>
+    ensures pushed { IfOk result (λ yes. yes ≡ true → bricks.new.items ≡ bricks.old.items ++ brick ∷ []) }
+    ensures differ { IfOk result (λ yes. yes ≡ true → IsDistinct ◌==◌ bricks.old.items → IsDistinct ◌==◌ bricks.new.items) }
+{
+    if bricks.as_slice().contains(&brick) {
+        return Ok(false);
+    }
+    bricks.push(brick)?;
+    Ok(true)
+}
+
+/// The bricks of these losses more, each of which is none of the others. It is false where one of them is.
+///
+/// # Errors
+/// Out of memory.
+pub fn push_lost(bricks: &mut Vec<u8>, lost: &[(u8, u32)]) -> Result<bool, AllocError>
+    ensures pushed { IfOk result (λ yes. yes ≡ true → bricks.new.items ≡ bricks.old.items ++ map brick_of lost.now) }
+    ensures differ { IfOk result (λ yes. yes ≡ true → IsDistinct ◌==◌ bricks.old.items → IsDistinct ◌==◌ bricks.new.items) }
+{
+    for pair in lost {
+        if !push_new(bricks, pair.0)? {
+            return Ok(false);
+        }
+    }
+    Ok(true)
+}
+
+/// The bricks of these faults more, each of which is none of the others. It is false where one of them is.
+///
+/// # Errors
+/// Out of memory.
+pub fn push_failed(bricks: &mut Vec<u8>, faults: &[(u8, u64)]) -> Result<bool, AllocError>
+    ensures pushed { IfOk result (λ yes. yes ≡ true → bricks.new.items ≡ bricks.old.items ++ map brick_of faults.now) }
+    ensures differ { IfOk result (λ yes. yes ≡ true → IsDistinct ◌==◌ bricks.old.items → IsDistinct ◌==◌ bricks.new.items) }
+{
+    for pair in faults {
+        if !push_new(bricks, pair.0)? {
+            return Ok(false);
+        }
+    }
+    Ok(true)
+}
+
+/// Whether without so many bricks a set has no quorum.
+pub fn are_enough(plan: &SetPlan, bricks: &[u8]) -> bool
+    ensures { result ≡ true → length plan.now.bricks - plan.now.q + 1 ≤ length bricks.now }
+{
+    plan.bricks.len().saturating_sub(plan.q as usize) < bricks.len()
+}
+
+// A brick more, unless it is one of the others.
+#[tactic(auto, using(crate::proofs::Different::all_push))]
+fn push_once(bricks: &mut Vec<u8>, brick: u8) -> Result<(), AllocError>
+    ensures differ { OnOk result (IsDistinct ◌==◌ bricks.old.items → IsDistinct ◌==◌ bricks.new.items) }
+    ensures all { OnOk result ((among : List ℕ) → Contains among brick → AllByRecursion (Contains among) bricks.old.items → AllByRecursion (Contains among) bricks.new.items) }
+{
+    if bricks.as_slice().contains(&brick) {
+        return Ok(());
+    }
+    bricks.push(brick)?;
+    Ok(())
+}
+
+/// The bricks that showed these rows, each once.
+///
+/// # Errors
+/// Out of memory.
+pub fn showers_of(alloc: Global, rows: &[SplitRow]) -> Result<Vec<u8>, AllocError>
+    ensures differ { IfOk result (λ bricks. IsDistinct ◌==◌ bricks.items) }
+    ensures all { IfOk result (λ bricks. AllByRecursion (Contains (map shower_of rows.now)) bricks.items) }
+{
+    let mut bricks = Vec::new(alloc);
+    for row in rows {
+        push_once(&mut bricks, row.brick)?;
+    }
+    Ok(bricks)
+}
