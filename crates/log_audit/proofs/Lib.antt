@@ -10,3 +10,8 @@ pub mod Endings
 pub mod Causing
 pub mod Arming
 pub mod Carrying
+pub mod Phased
+pub mod Controlling
+pub mod Calling
+pub mod Running
+pub mod Tying

@@ -9,3 +9,7 @@ pub mod Submitted
 pub mod Replied
 pub mod Armed
 pub mod Caused
+pub mod Noted
+pub mod Controlled
+pub mod Called
+pub mod Tied

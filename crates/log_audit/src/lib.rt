@@ -14,22 +14,37 @@
 //! more than its definition, where every log of a run has it. A program calls them before it writes a report.
 #![tactic(auto)]
 
+mod acts;
 mod armed_lines;
 mod bricks;
+mod calls_made;
+mod carried;
 mod causes;
 mod connects;
 mod downs;
 mod ended;
 mod finished;
 mod honest;
+mod in_time;
+mod noting;
+mod phase_ends;
 mod requests;
+mod run;
+mod run_notes;
 mod slots;
 mod submits;
+mod tie_notes;
+mod tied_replies;
+mod tied_requests;
+mod tied_winds;
+mod ties;
 mod timely;
 mod winds;
 
 pub use connects::connects_are_caused;
 pub use ended::is_finished;
 pub use honest::arrivals_are_honest;
+pub use run::is_run_of;
 pub use submits::submits_are_in_order;
+pub use ties::lines_are_tied;
 pub use winds::winds_are_balanced;

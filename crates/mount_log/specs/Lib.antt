@@ -10,3 +10,4 @@ pub mod Procedures
 pub mod Follows
 pub mod Connections
 pub mod Causes
+pub mod Ties

@@ -1,0 +1,45 @@
+//! Whether the lines of a log are tied to its events.
+ghost use Rattle.std.specs.Prelude.{◌≡◌, true, IfOk};
+ghost use Rattle.script_lang.specs.Accepted.{IsAccepted};
+ghost use Rattle.mount_log.specs.Ties.{AreTied};
+
+use crate::calls_made::calls_made;
+use crate::in_time::all_numbers_rise;
+use crate::tie_notes::tie_notes_of;
+use crate::tied_replies::replies_are_tied;
+use crate::tied_requests::requests_are_tied;
+use crate::tied_winds::winds_are_tied;
+use mount_log::Log;
+use script_lang::Script;
+use std::alloc::{AllocError, Global};
+
+/// Whether the lines of a log are tied to its events and to one another: numbers of events rise, replies are to their calls,
+/// winds are of their calls' graphs, and each request has its wind. It is false, too, where a session submits more lines than
+/// it has.
+///
+/// # Errors
+/// Out of memory.
+pub fn lines_are_tied(alloc: Global, script: &Script, log: &Log) -> Result<bool, AllocError>
+    requires { IsAccepted script.now }
+    ensures { IfOk result (λ yes. yes ≡ true → AreTied log.now) }
+{
+    if !all_numbers_rise(log) {
+        return Ok(false);
+    }
+    let Some(calls) = calls_made(alloc, script, log)? else {
+        return Ok(false);
+    };
+    let notes = tie_notes_of(alloc, log)?;
+    if !replies_are_tied(log, calls.as_slice(), notes.ends.as_slice()) {
+        return Ok(false);
+    }
+    if !winds_are_tied(log, calls.as_slice()) {
+        return Ok(false);
+    }
+    requests_are_tied(
+        alloc,
+        log,
+        notes.openings.as_slice(),
+        notes.sent_for.as_slice(),
+    )
+}
