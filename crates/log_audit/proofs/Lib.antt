@@ -15,3 +15,4 @@ pub mod Controlling
 pub mod Calling
 pub mod Running
 pub mod Tying
+pub mod Numbering

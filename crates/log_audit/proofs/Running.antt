@@ -7,7 +7,8 @@ use Rattle.script_lang.specs.declared.scripts.Phase.{Phase}
 use Rattle.script_lang.specs.declared.scripts.Script.{Script}
 use Rattle.script_lang.specs.declared.scripts.When.TheVariants as moment
 use Rattle.mount_log.proofs.Items.{some_is}
-use Rattle.mount_log.specs.Follows.{IsEvent, control_in, control_at, RunOf}
+use Rattle.mount_log.specs.Follows.{IsEvent, control_in, control_at, IsCarriedIn, IsArmedIn, RunOf}
+use Rattle.fop_types.specs.declared.messages.Proc.{Proc}
 use Rattle.mount_log.specs.Logs.{submits_in}
 use Rattle.mount_log.specs.Submissions.{place_of_line, submits_of, submit_event, submitted_at, event_of_reply, replied_at}
 use Rattle.mount_log.specs.declared.logs.HubEvent.{HubEvent}
@@ -16,12 +17,16 @@ use Rattle.mount_log.specs.declared.logs.Log.{Log}
 use Rattle.mount_log.specs.declared.logs.ReplyLine.{ReplyLine}
 use Rattle.mount_log.specs.declared.places.LineAt.{LineAt}
 use Rattle.log_audit.specs.Called.{IsCallAt, AreCalls, call_by, HaveCalls}
-use Rattle.log_audit.specs.Controlled.{IsControlCarried, IsOfControl, AreCarriedOut}
-use Rattle.log_audit.specs.Noted.{event_of_control, carried_at, ended_at, AreRising}
+use Rattle.log_audit.specs.Controlled.{IsControlCarried, IsFound, IsOfControl, AreCarriedOut}
+use Rattle.log_audit.specs.Noted.{event_in, sent_in, armed_in, how_at, carried_at, sent_at, armed_at, noted_for, ended_at, begun, AreRising, IsWithin}
+use Rattle.log_audit.specs.declared.carried.SentTables.{SentTables}
+use Rattle.log_audit.specs.declared.run_notes.Carried.{Carried}
+use Rattle.log_audit.specs.declared.run_notes.ControlAt.{ControlAt}
 use Rattle.log_audit.specs.declared.calls_made.CallMade.{CallMade}
 use Rattle.log_audit.specs.declared.run_notes.RunNotes.{RunNotes}
 use Rattle.log_audit.proofs.Calling.{event_of_call, counted, same_place}
-use Rattle.log_audit.proofs.Phased.{rises_to}
+use Rattle.log_audit.proofs.Controlling.{carried_in}
+use Rattle.log_audit.proofs.Phased.{rises_to, begun_next}
 
 -- ---- calls
 
@@ -82,12 +87,30 @@ reply_bound (r ∷ rs) number bound each = by (r.call == number) refl where
 
 -- ---- the run
 
+phases_are : (p q i j : ℕ) → ◌≡◌ {A = Option ControlAt} (Some (record { phase = p; at = i })) (Some (record { phase = q; at = j })) → (p ≡ q) × (i ≡ j)
+phases_are p q i j e = (phase_is e, at_is e) where
+  phase_is : ◌≡◌ {A = Option ControlAt} (Some (record { phase = p; at = i })) (Some (record { phase = q; at = j })) → p ≡ q
+  phase_is e = cc
+
+  at_is : ◌≡◌ {A = Option ControlAt} (Some (record { phase = p; at = i })) (Some (record { phase = q; at = j })) → i ≡ j
+  at_is e = cc
+
+-- how a control was carried out
+record IsHow (log : Log) (tables : SentTables) (notes : RunNotes) (phase at : ℕ) (c : ControlLine) : Type 0 where
+  pub how : Carried
+  pub is : how_at notes.carried phase at ≡ Some how
+  pub carried : IsControlCarried log tables notes phase at c how
+
 module _ (script : Script) (log : Log) (notes : RunNotes) (rising : AreRising notes.ended (length log.events)) (have : HaveCalls script log notes.ended (length log.events)) (out : AreCarriedOut script log notes) where
-  control : (phase at : ℕ) (c : ControlLine) → control_at script phase at ≡ Some c → IsControlCarried log notes.ended phase c (carried_at notes.carried phase at)
-  control phase at c is = by (slice_get script.phases phase) refl is where
-    by : (o : Option Phase) → slice_get script.phases phase ≡ o → control_in o at ≡ Some c → IsControlCarried log notes.ended phase c (carried_at notes.carried phase at)
+  how_of : (phase at : ℕ) (c : ControlLine) → control_at script phase at ≡ Some c → IsHow log out.tables notes phase at c
+  how_of phase at c is = by (slice_get script.phases phase) refl is where
+    found : (o : Option Carried) → how_at notes.carried phase at ≡ o → IsFound log out.tables notes phase at c o → IsHow log out.tables notes phase at c
+    found None e none = absurd none
+    found (Some how) e own = record { how = how; is = e; carried = own }
+
+    by : (o : Option Phase) → slice_get script.phases phase ≡ o → control_in o at ≡ Some c → IsHow log out.tables notes phase at c
     by None e none = absurd cc
-    by (Some p) e there = (out.phases phase p e).each at c there
+    by (Some p) e there = found (how_at notes.carried phase at) refl ((out.phases phase p e).each at c there)
 
   turns : (phase i j : ℕ) (a b : ControlLine) → control_at script phase i ≡ Some a → control_at script phase j ≡ Some b → a.when ≡ moment.Now → b.when ≡ moment.Now → i < j
       → carried_at notes.carried phase i < carried_at notes.carried phase j
@@ -96,10 +119,38 @@ module _ (script : Script) (log : Log) (notes : RunNotes) (rising : AreRising no
     by None e none other = absurd cc
     by (Some at) e first second = (out.phases phase at e).turns i j a b first second p q lt
 
-  of_control : (number : ℕ) (e : HubEvent) → IsEvent log number e → IsOfControl script (carried_at notes.carried) number e
+  carried : (phase at : ℕ) (c : ControlLine) → control_at script phase at ≡ Some c
+      → IsCarriedIn log (begun notes.ended (length log.events) phase) (carried_at notes.carried phase at) (sent_at notes.carried phase at) c
+  carried phase at c is =
+      let h = how_of phase at c is in
+      subst (λ (o : Option Carried). IsCarriedIn log (begun notes.ended (length log.events) phase) (event_in o) (sent_in o) c) (sym h.is)
+      (carried_in log notes out.tables out.are phase c h.how h.carried.within h.carried.carried)
+
+  within : (phase at : ℕ) (c : ControlLine) → control_at script phase at ≡ Some c → IsWithin notes.ended (length log.events) phase (carried_at notes.carried phase at)
+  within phase at c is =
+      let h = how_of phase at c is in subst (λ (o : Option Carried). IsWithin notes.ended (length log.events) phase (event_in o)) (sym h.is) h.carried.within
+
+  arms : (phase at brick count : ℕ) (p : Proc) (c : ControlLine) → control_at script phase at ≡ Some c → c.when ≡ moment.Before brick p count
+      → IsArmedIn log (armed_at notes.carried phase at) brick p count c.action (begun notes.ended (length log.events) phase) (carried_at notes.carried phase at)
+  arms phase at brick count p c is when_is =
+      let h = how_of phase at c is in
+      subst (λ (o : Option Carried). IsArmedIn log (armed_in o) brick p count c.action (begun notes.ended (length log.events) phase) (event_in o)) (sym h.is) (h.carried.armed brick count p when_is)
+
+  noted_is : (phase at : ℕ) (c : ControlLine) → control_at script phase at ≡ Some c → noted_for notes (carried_at notes.carried phase at) (sent_at notes.carried phase at) ≡ Some (record { phase = phase; at = at })
+  noted_is phase at c is =
+      let h = how_of phase at c is in
+      subst (λ (o : Option Carried). noted_for notes (event_in o) (sent_in o) ≡ Some (record { phase = phase; at = at })) (sym h.is) h.carried.own
+
+  once : (p i q j : ℕ) (a b : ControlLine) → control_at script p i ≡ Some a → control_at script q j ≡ Some b → carried_at notes.carried p i ≡ carried_at notes.carried q j → sent_at notes.carried p i ≡ sent_at notes.carried q j
+      → (p ≡ q) × (i ≡ j)
+  once p i q j a b x y e s =
+      phases_are p q i j
+      (sym (noted_is p i a x) ∙ ap (λ (n : ℕ). noted_for notes n (sent_at notes.carried p i)) e ∙ ap (λ (o : Option ℕ). noted_for notes (carried_at notes.carried q j) o) s ∙ noted_is q j b y)
+
+  of_control : (number : ℕ) (e : HubEvent) → IsEvent log number e → IsOfControl script notes number e
   of_control number e event =
       let one = event.from_one in let n : number - 1 + 1 ≡ number = omega (arith, one) in
-      subst (λ (k : ℕ). IsOfControl script (carried_at notes.carried) k e) n (out.acts (number - 1) e event.there)
+      subst (λ (k : ℕ). IsOfControl script notes k e) n (out.acts (number - 1) e event.there)
 
   submitted : (k session line : ℕ) (at : LineAt) → slice_get log.events k ≡ Some (logged.Submit session line) → place_of_line script session (submits_of session (take k log.events)) ≡ Some at
       → (k < ended_at notes.ended (length log.events) at.phase) × ((earlier : ℕ) → earlier < at.phase → ended_at notes.ended (length log.events) earlier ≤ k)
@@ -130,7 +181,9 @@ module _ (script : Script) (log : Log) (notes : RunNotes) (rising : AreRising no
     behind : (earlier : ℕ) → earlier < at.phase → ended_at notes.ended (length log.events) earlier ≤ k
     behind earlier lt =
         let before : found.item.phase ≡ at.phase - 1 + 1 = let s : at.phase ≡ at.phase - 1 + 1 = omega (arith, lt) in phase ∙ s in
-        let b = (have.submitted (submits_in (take k log.events)) found.item found.there).behind (at.phase - 1) before in
+        let b : ended_at notes.ended (length log.events) (at.phase - 1) < found.item.event =
+        subst (λ (n : ℕ). n < found.item.event) (ap (begun notes.ended (length log.events)) before ∙ begun_next notes.ended (length log.events) (at.phase - 1))
+        (have.submitted (submits_in (take k log.events)) found.item found.there).behind in
         let r = rises_to notes.ended (length log.events) rising earlier (at.phase - 1) (omega (arith, lt)) in
         omega (arith, b, r, event)
 
@@ -158,12 +211,16 @@ module _ (script : Script) (log : Log) (notes : RunNotes) (rising : AreRising no
 
   pub run_of : RunOf script log
   run_of = record {
-    carried_at = carried_at notes.carried;
     ended_at = ended_at notes.ended (length log.events);
+    carried_at = carried_at notes.carried;
+    sent_at = sent_at notes.carried;
+    armed_at = armed_at notes.carried;
     rises = rising;
-    carried = λ phase at c is. (control phase at c is).carried;
-    within = λ phase at c is. (control phase at c is).within.until;
-    after = λ phase at c is. (control (phase + 1) at c is).within.behind phase refl;
+    carried = carried;
+    behind = λ phase at c is. (within phase at c is).behind;
+    within = λ phase at c is. (within phase at c is).until;
+    once = once;
+    arms = arms;
     in_order = turns;
     submitted = submitted;
     answered = answered;

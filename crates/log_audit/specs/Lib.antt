@@ -13,3 +13,4 @@ pub mod Noted
 pub mod Controlled
 pub mod Called
 pub mod Tied
+pub mod Numbered

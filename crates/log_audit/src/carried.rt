@@ -1,22 +1,30 @@
 //! Whether each control was carried out where the notes of a run say.
-ghost use Rattle.std.specs.Prelude.{◌≡◌, true, IfOk, IfSome, slice_get};
+ghost use Rattle.std.specs.Prelude.{◌≡◌, true, Some, IfOk, IfSome, option_copied, slice_get};
 ghost use Rattle.fop_types.specs.declared.messages.Input.TheVariants as input;
-ghost use Rattle.mount_log.specs.Follows.{IsEvent, IsSentBefore, IsCarriedIn};
+ghost use Rattle.mount_log.specs.Follows.{IsEvent};
 ghost use Rattle.mount_log.specs.declared.logs.HubEvent.TheVariants as logged;
-ghost use Rattle.log_audit.specs.Armed.{AreAllArmed};
-ghost use Rattle.log_audit.specs.Noted.{event_of_control, among};
-ghost use Rattle.log_audit.specs.Controlled.{IsActionInput, Says, SendsAction, IsRequestTo, IsRequestAt, IsSentAt, IsControlCarried, AreControlsCarried, Passes, AreInTurn, IsPhaseCarried, ArePhasesCarried};
+ghost use Rattle.log_audit.specs.Noted.{event_in, among, noted_for};
+ghost use Rattle.log_audit.specs.Controlled.{IsActionInput, Says, SendsAction, IsRequestTo, IsRequestAt, IsSentAt, GoesBefore, IsSentFor, IsSentControl, IsCarriedSo, IsArmed};
+ghost use Rattle.log_audit.specs.Controlled.{IsControlCarried, AreControlsCarried, Passes, AreInTurn, IsPhaseCarried, ArePhasesCarried};
 
 use crate::armed_lines::ArmedLines;
 use crate::causes::{event_at, line_at};
-use crate::phase_ends::is_within;
+use crate::phase_ends::{begun_of, is_within};
 use crate::requests::is_request_of;
-use crate::run_notes::{Carried, RunNotes, phase_at};
+use crate::run_notes::{Carried, ControlAt, RunNotes, phase_at};
 use fop_types::{Input, Proc};
 use mount_log::{HubEvent, Log, SentLine};
 use script_lang::{Action, ControlLine, Script, When};
 use std::alloc::{AllocError, Global};
 use wire_messages::{Message, input_of};
+
+/// Of each line that was sent, the lines that can be armed which begin there, and, if it is a request, which one it is of its
+/// procedure in its phase.
+#[derive(Drop)]
+pub struct SentTables {
+    pub armed: Vec<ArmedLines>,
+    pub nth: Vec<u64>,
+}
 
 /// Whether two actions are the same.
 pub fn is_same(one: Action, other: Action) -> bool
@@ -148,45 +156,89 @@ fn is_sent_at(
     Ok(yes)
 }
 
-// Whether the line at a place sends the brick an action's input in the event, directly before a request.
-fn is_sent_before(
-    alloc: Global,
+// Whether a request is this one of its procedure in its phase.
+fn is_nth(tables: &SentTables, at: usize, count: u32) -> bool
+    ensures { result ≡ true → slice_get tables.now.nth.items at ≡ Some count }
+{
+    match tables.nth.as_slice().get(at) {
+        Some(n) => *n == count as u64,
+        None => false,
+    }
+}
+
+// Where the armed lines stop that the line at a place begins.
+fn stop_of(tables: &SentTables, at: usize) -> Option<&ArmedLines>
+    ensures { option_copied result ≡ slice_get tables.now.armed.items at }
+{
+    tables.armed.as_slice().get(at)
+}
+
+// Whether the armed lines that begin at a place stop at the request.
+fn goes_before(
     log: &Log,
-    armed: &[ArmedLines],
+    tables: &SentTables,
     at: usize,
     number: u64,
     brick: u8,
     proc: Proc,
+    count: u32,
+) -> bool
+    ensures { result ≡ true → GoesBefore log.now.sent tables.now at number brick proc count }
+{
+    let Some(lines) = stop_of(tables, at) else {
+        return false;
+    };
+    if lines.stop <= at || !is_nth(tables, lines.stop, count) {
+        return false;
+    }
+    is_request_at(log, lines.stop, number, brick, proc)
+}
+
+// Whether the line at a place sends the brick an action's input in the event, directly before a request.
+fn is_sent_before(
+    alloc: Global,
+    log: &Log,
+    tables: &SentTables,
+    at: usize,
+    number: u64,
+    brick: u8,
+    proc: Proc,
+    count: u32,
     action: Action,
 ) -> Result<bool, AllocError>
-    requires { AreAllArmed log.now.sent armed.now }
-    ensures { IfOk result (λ yes. yes ≡ true → IsSentBefore log.now number brick proc action) }
+    ensures { IfOk result (λ yes. yes ≡ true → IsSentFor log.now.sent tables.now at number brick proc count action) }
 {
-    let Some(lines) = armed.get(at) else {
-        return Ok(false);
-    };
-    if lines.stop <= at || !is_request_at(log, lines.stop, number, brick, proc) {
+    if !goes_before(log, tables, at, number, brick, proc, count) {
         return Ok(false);
     }
     let yes = is_sent_at(alloc, log, at, number, brick, action)?;
     Ok(yes)
 }
 
-fn is_armed_carried(
+fn is_sent_control(
     alloc: Global,
     log: &Log,
-    armed: &[ArmedLines],
+    tables: &SentTables,
     control: &ControlLine,
     number: u64,
     at: usize,
 ) -> Result<bool, AllocError>
-    requires { AreAllArmed log.now.sent armed.now }
-    ensures { IfOk result (λ yes. yes ≡ true → IsCarriedIn log.now number control.now) }
+    ensures { IfOk result (λ yes. yes ≡ true → IsSentControl log.now.sent tables.now at number control.now) }
 {
-    let When::Before(brick, proc, _) = control.when else {
+    let When::Before(brick, proc, count) = control.when else {
         return Ok(false);
     };
-    let yes = is_sent_before(alloc, log, armed, at, number, brick, proc, control.action)?;
+    let yes = is_sent_before(
+        alloc,
+        log,
+        tables,
+        at,
+        number,
+        brick,
+        proc,
+        count,
+        control.action,
+    )?;
     Ok(yes)
 }
 
@@ -195,50 +247,109 @@ fn is_armed_carried(
 fn is_carried(
     alloc: Global,
     log: &Log,
-    armed: &[ArmedLines],
+    tables: &SentTables,
     control: &ControlLine,
     how: Carried,
 ) -> Result<bool, AllocError>
-    requires { AreAllArmed log.now.sent armed.now }
-    ensures { IfOk result (λ yes. yes ≡ true → IsCarriedIn log.now how.event control.now) }
+    ensures { IfOk result (λ yes. yes ≡ true → IsCarriedSo log.now tables.now how.event how.sent control.now) }
 {
     match how.sent {
-        Some(at) => is_armed_carried(alloc, log, armed, control, how.event, at),
+        Some(at) => is_sent_control(alloc, log, tables, control, how.event, at),
         None => Ok(is_act(log, how.event, control.action)),
     }
 }
 
-// Whether a control was carried out, within its phase.
+// The control that is noted for how another was carried out.
+fn noted(notes: &RunNotes, how: Carried) -> Option<ControlAt>
+    ensures { result ≡ noted_for notes.now how.event how.sent }
+{
+    match how.sent {
+        Some(place) => notes.by_line.as_slice().get(place).copied(),
+        None => {
+            let at = how.event.saturating_sub(1) as usize;
+            notes.by_event.as_slice().get(at).copied()
+        }
+    }
+}
+
+// Whether how a control was carried out is noted for it, and so for no other.
+fn is_its_own(notes: &RunNotes, phase: usize, at: usize, how: Carried) -> bool
+    ensures { result ≡ true → noted_for notes.now how.event how.sent ≡ Some (record { phase = phase; at = at }) }
+{
+    match noted(notes, how) {
+        Some(found) => found.phase == phase && found.at == at,
+        None => false,
+    }
+}
+
+fn arms(event: &HubEvent, brick: u8, proc: Proc, count: u32, action: Action) -> bool
+    ensures { result ≡ true → event.now ≡ logged.Arm brick proc count action }
+{
+    match event {
+        HubEvent::Arm(at, which, nth, what) => {
+            *at == brick && *which == proc && *nth == count && is_same(*what, action)
+        }
+        _ => false,
+    }
+}
+
+fn is_arm(log: &Log, number: u64, brick: u8, proc: Proc, count: u32, action: Action) -> bool
+    ensures { result ≡ true → IsEvent log.now number (logged.Arm brick proc count action) }
+{
+    match event_at(log, number) {
+        Some(event) => arms(event, brick, proc, count, action),
+        None => false,
+    }
+}
+
+// Whether a control that goes before a request was armed behind an event, before it was carried out.
+fn is_armed(log: &Log, control: &ControlLine, how: Carried, since: u64) -> bool
+    ensures { result ≡ true → IsArmed log.now how.armed control.now since how.event }
+{
+    let When::Before(brick, proc, count) = control.when else {
+        return true;
+    };
+    if how.armed <= since || how.armed >= how.event {
+        return false;
+    }
+    is_arm(log, how.armed, brick, proc, count, control.action)
+}
+
+// Whether a control was carried out within its phase, by what no other was, and armed before, if it goes before a request.
 fn is_control_carried(
     alloc: Global,
     log: &Log,
-    armed: &[ArmedLines],
-    ended: &[u64],
+    tables: &SentTables,
+    notes: &RunNotes,
     phase: usize,
+    at: usize,
     control: &ControlLine,
     how: Carried,
 ) -> Result<bool, AllocError>
-    requires { AreAllArmed log.now.sent armed.now }
-    ensures { IfOk result (λ yes. yes ≡ true → IsControlCarried log.now ended.now phase control.now how.event) }
+    ensures { IfOk result (λ yes. yes ≡ true → IsControlCarried log.now tables.now notes.now phase at control.now how) }
 {
-    if !is_within(ended, log.events.len() as u64, phase, how.event) {
+    let ended = notes.ended.as_slice();
+    let last = log.events.len() as u64;
+    if !is_within(ended, last, phase, how.event) || !is_its_own(notes, phase, at, how) {
         return Ok(false);
     }
-    let yes = is_carried(alloc, log, armed, control, how)?;
+    if !is_armed(log, control, how, begun_of(ended, last, phase)) {
+        return Ok(false);
+    }
+    let yes = is_carried(alloc, log, tables, control, how)?;
     Ok(yes)
 }
 
 fn are_controls_carried(
     alloc: Global,
     log: &Log,
-    armed: &[ArmedLines],
-    ended: &[u64],
+    tables: &SentTables,
+    notes: &RunNotes,
     phase: usize,
     controls: &[ControlLine],
     carried: &[Carried],
 ) -> Result<bool, AllocError>
-    requires { AreAllArmed log.now.sent armed.now }
-    ensures { IfOk result (λ yes. yes ≡ true → AreControlsCarried log.now ended.now phase controls.now carried.now) }
+    ensures { IfOk result (λ yes. yes ≡ true → AreControlsCarried log.now tables.now notes.now phase controls.now carried.now) }
 {
     for at in 0..controls.len() {
         let Some(control) = controls.get(at) else {
@@ -247,7 +358,7 @@ fn are_controls_carried(
         let Some(how) = carried.get(at) else {
             return Ok(false);
         };
-        if !is_control_carried(alloc, log, armed, ended, phase, control, *how)? {
+        if !is_control_carried(alloc, log, tables, notes, phase, at, control, *how)? {
             return Ok(false);
         }
     }
@@ -258,7 +369,7 @@ fn are_controls_carried(
 
 // The event of the control at a place, 0 where there is none.
 fn number_at(carried: &[Carried], at: usize) -> u64
-    ensures { result ≡ event_of_control (slice_get carried.now at) }
+    ensures { result ≡ event_in (slice_get carried.now at) }
 {
     match carried.get(at) {
         Some(how) => how.event,
@@ -307,24 +418,23 @@ fn carried_of(notes: &RunNotes, phase: usize) -> &[Carried]
 fn is_phase_carried(
     alloc: Global,
     log: &Log,
-    armed: &[ArmedLines],
+    tables: &SentTables,
     notes: &RunNotes,
     phase: usize,
     controls: &[ControlLine],
 ) -> Result<bool, AllocError>
-    requires { AreAllArmed log.now.sent armed.now }
-    ensures { IfOk result (λ yes. yes ≡ true → IsPhaseCarried log.now notes.now phase controls.now) }
+    ensures { IfOk result (λ yes. yes ≡ true → IsPhaseCarried log.now tables.now notes.now phase controls.now) }
 {
     let carried = carried_of(notes, phase);
     if !are_in_turn(controls, carried) {
         return Ok(false);
     }
-    let ended = notes.ended.as_slice();
-    let yes = are_controls_carried(alloc, log, armed, ended, phase, controls, carried)?;
+    let yes = are_controls_carried(alloc, log, tables, notes, phase, controls, carried)?;
     Ok(yes)
 }
 
-/// Whether each control of each phase was carried out, within its phase, and those without a condition in their order.
+/// Whether each control of each phase was carried out, within its phase, by what no other was; armed before, if it goes before
+/// a request; and those without a condition in their order.
 ///
 /// # Errors
 /// Out of memory.
@@ -332,17 +442,16 @@ pub fn phases_are_carried(
     alloc: Global,
     script: &Script,
     log: &Log,
-    armed: &[ArmedLines],
+    tables: &SentTables,
     notes: &RunNotes,
 ) -> Result<bool, AllocError>
-    requires { AreAllArmed log.now.sent armed.now }
-    ensures { IfOk result (λ yes. yes ≡ true → ArePhasesCarried script.now log.now notes.now) }
+    ensures { IfOk result (λ yes. yes ≡ true → ArePhasesCarried script.now log.now tables.now notes.now) }
 {
     for k in 0..script.phases.len() {
         let Some(phase) = phase_at(script, k) else {
             return Ok(false);
         };
-        if !is_phase_carried(alloc, log, armed, notes, k, phase.controls.as_slice())? {
+        if !is_phase_carried(alloc, log, tables, notes, k, phase.controls.as_slice())? {
             return Ok(false);
         }
     }

@@ -27,6 +27,7 @@ mod finished;
 mod honest;
 mod in_time;
 mod noting;
+mod nth_requests;
 mod phase_ends;
 mod requests;
 mod run;

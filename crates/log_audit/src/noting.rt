@@ -32,7 +32,8 @@ pub struct ArmedFor {
 
 /// The phase in which an event is: how its controls were carried out so far, how many are left, the next control without a
 /// condition and the next one to be armed, those that wait and those that are armed, and how many requests of each procedure
-/// were sent to each brick. `calls` is how many calls the script has up to the phase.
+/// were sent to each brick. `calls` is how many calls the script has up to the phase; `by_line` has the control that each
+/// line so far carries out.
 #[derive(Drop)]
 pub struct InPhase {
     phase: usize,
@@ -44,9 +45,11 @@ pub struct InPhase {
     waiting: BTreeSet<Waiting>,
     armed: BTreeSet<ArmedFor>,
     counts: BTreeMap<(u8, u8), u32>,
+    by_line: Vec<ControlAt>,
 }
 
 const NOT_CARRIED: Carried = Carried {
+    armed: 0,
     event: 0,
     sent: None,
 };
@@ -167,6 +170,7 @@ impl InPhase {
             waiting: BTreeSet::new(alloc),
             armed: BTreeSet::new(alloc),
             counts: BTreeMap::new(alloc),
+            by_line: Vec::new(alloc),
         }
     }
 
@@ -200,10 +204,18 @@ impl InPhase {
         self.left == 0 && replied >= self.calls
     }
 
-    fn carry(&mut self, at: usize, how: Carried) {
+    // A control is carried out in an event, before its request by the line at a place.
+    fn carry(&mut self, at: usize, number: u64, sent: Option<usize>) {
         self.left = self.left.saturating_sub(1);
         if let Some(carried) = self.carried.get_mut(at) {
-            *carried = how;
+            carried.event = number;
+            carried.sent = sent;
+        }
+    }
+
+    fn note_armed(&mut self, at: usize, number: u64) {
+        if let Some(carried) = self.carried.get_mut(at) {
+            carried.armed = number;
         }
     }
 
@@ -262,13 +274,7 @@ impl InPhase {
         let phase = self.phase;
         match self.take(controls_of(script, phase), action) {
             Some(at) => {
-                self.carry(
-                    at,
-                    Carried {
-                        event: number,
-                        sent: None,
-                    },
-                );
+                self.carry(at, number, None);
                 ControlAt { phase, at }
             }
             None => NO_CONTROL,
@@ -276,7 +282,7 @@ impl InPhase {
     }
 
     // The next control that is to be armed is armed.
-    fn arm(&mut self, script: &Script) -> Result<ControlAt, AllocError> {
+    fn arm(&mut self, script: &Script, number: u64) -> Result<ControlAt, AllocError> {
         let phase = self.phase;
         let at = self.unarmed;
         let controls = controls_of(script, phase);
@@ -287,6 +293,7 @@ impl InPhase {
         if let When::Before(brick, proc, count) = control.when {
             self.armed.insert(armed_for(brick, proc, count, at))?;
         }
+        self.note_armed(at, number);
         Ok(ControlAt { phase, at })
     }
 
@@ -338,13 +345,11 @@ impl InPhase {
             return;
         };
         self.waiting.remove(&wait_key(control.action, true, at));
-        self.carry(
-            at,
-            Carried {
-                event: number,
-                sent: Some(sent),
-            },
-        );
+        self.carry(at, number, Some(sent));
+        let phase = self.phase;
+        if let Some(control) = self.by_line.get_mut(sent) {
+            *control = ControlAt { phase, at };
+        }
     }
 
     // A request was sent at this place: what was armed for it was sent at the places before.
@@ -373,6 +378,7 @@ impl InPhase {
         line: &SentLine,
         place: usize,
     ) -> Result<(), AllocError> {
+        self.by_line.push(NO_CONTROL)?;
         match request_proc(line.bytes.as_slice()) {
             Some(proc) => self.request(alloc, script, line, proc, place),
             None => Ok(()),
@@ -467,7 +473,7 @@ impl Noting {
             }
             HubEvent::Arm(_, _, _, _) => {
                 self.move_on(alloc, script, log, before)?;
-                self.now.arm(script)
+                self.now.arm(script, before.saturating_add(1))
             }
             _ => Ok(NO_CONTROL),
         }
@@ -503,7 +509,7 @@ impl Noting {
         event: &HubEvent,
     ) -> Result<(), AllocError> {
         let control = self.control_of(alloc, script, log, before, event)?;
-        self.notes.controls.push(control)?;
+        self.notes.by_event.push(control)?;
         self.pass_sent(alloc, script, log, before.saturating_add(1))
     }
 
@@ -515,6 +521,8 @@ impl Noting {
             }
             self.next_phase(alloc, script, last)?;
         }
+        let by_line = mem::replace(&mut self.now.by_line, Vec::new(alloc));
+        self.notes.by_line = Seq::from_vec(by_line);
         self.end(alloc, last)
     }
 }
@@ -528,7 +536,8 @@ pub fn notes_of(alloc: Global, script: &Script, log: &Log) -> Result<RunNotes, A
     let notes = RunNotes {
         carried: Seq::new(alloc),
         ended: Seq::new(alloc),
-        controls: Seq::new(alloc),
+        by_event: Seq::new(alloc),
+        by_line: Seq::new(alloc),
     };
     let mut noting = Noting {
         notes,

@@ -23,7 +23,8 @@ const KINDS: usize = 16;
 
 const REQUEST: [u8; 4] = [0, 0, 0, 0];
 
-fn rank(input: &[u8]) -> Option<u8>
+/// The rank of the procedure of an input that is a request, and `None` of other inputs.
+pub fn rank_of(input: &[u8]) -> Option<u8>
     ensures { result ≡ rank_in input.now }
 {
     if input.len() < KINDS + 4 || &input[..4] != REQUEST.as_slice() {
@@ -37,7 +38,7 @@ fn rank(input: &[u8]) -> Option<u8>
 pub fn request_proc(input: &[u8]) -> Option<Proc>
     ensures { result ≡ proc_in input.now }
 {
-    let rank = rank(input)?;
+    let rank = rank_of(input)?;
     PROCS.get(rank as usize).copied()
 }
 

@@ -1,15 +1,17 @@
 //! Whether a log is that of a run of its script.
-ghost use Rattle.std.specs.Prelude.{◌≡◌, true, IfOk, length};
+ghost use Rattle.std.specs.Prelude.{◌≡◌, true, IfOk, IfSome, length};
 ghost use Rattle.script_lang.specs.Accepted.{IsAccepted};
 ghost use Rattle.mount_log.specs.Follows.{RunOf};
 ghost use Rattle.log_audit.specs.Called.{HaveCalls};
-ghost use Rattle.log_audit.specs.Controlled.{AreCarriedOut};
+ghost use Rattle.log_audit.specs.Controlled.{AreCarriedOut, AreTables};
+ghost use Rattle.log_audit.specs.Noted.{AreRising};
 
 use crate::acts::acts_are_of_controls;
 use crate::armed_lines::all_armed;
 use crate::calls_made::{are_answered_in, are_in_phases, calls_made};
-use crate::carried::phases_are_carried;
+use crate::carried::{SentTables, phases_are_carried};
 use crate::noting::notes_of;
+use crate::nth_requests::nth_requests;
 use crate::phase_ends::ends_rise;
 use crate::run_notes::RunNotes;
 use mount_log::Log;
@@ -36,6 +38,20 @@ fn calls_are_in_phases(
     Ok(are_answered_in(calls.as_slice(), ended, last, log.replies.as_slice()))
 }
 
+// What the audit of controls looks up of what was sent.
+fn sent_tables(alloc: Global, log: &Log, ended: &[u64]) -> Result<Option<SentTables>, AllocError>
+    requires { AreRising ended.now (length log.now.events) }
+    ensures { IfOk result (λ found. IfSome found (λ tables. AreTables ended.now log.now tables)) }
+{
+    let last = log.events.len() as u64;
+    let sent = log.sent.as_slice();
+    let Some(nth) = nth_requests(alloc, sent, ended, last)? else {
+        return Ok(None);
+    };
+    let armed = all_armed(alloc, sent)?;
+    Ok(Some(SentTables { armed, nth }))
+}
+
 // Whether controls were carried out as the notes say, and there are no other actions.
 fn controls_are_carried(
     alloc: Global,
@@ -43,13 +59,16 @@ fn controls_are_carried(
     log: &Log,
     notes: &RunNotes,
 ) -> Result<bool, AllocError>
+    requires { AreRising notes.now.ended (length log.now.events) }
     ensures { IfOk result (λ yes. yes ≡ true → AreCarriedOut script.now log.now notes.now) }
 {
     if !acts_are_of_controls(script, log, notes) {
         return Ok(false);
     }
-    let armed = all_armed(alloc, log.sent.as_slice())?;
-    let yes = phases_are_carried(alloc, script, log, armed.as_slice(), notes)?;
+    let Some(tables) = sent_tables(alloc, log, notes.ended.as_slice())? else {
+        return Ok(false);
+    };
+    let yes = phases_are_carried(alloc, script, log, &tables, notes)?;
     Ok(yes)
 }
 
@@ -69,9 +88,9 @@ fn is_shown(alloc: Global, script: &Script, log: &Log, notes: &RunNotes) -> Resu
     Ok(yes)
 }
 
-/// Whether the log is that of a run of the script: each control was carried out within its phase, as an event of its own or
-/// before its request, there is no other action, and calls are submitted and answered within their phases. It is false, too,
-/// where a reply is to no call.
+/// Whether the log is that of a run of the script: each control was carried out once, within its phase, as an event of its own
+/// or before its request, there is no other action, and calls are submitted and answered within their phases. It is false, too,
+/// where a reply is to no call, or lines do not stand in the order of their events.
 ///
 /// # Errors
 /// Out of memory.

@@ -5,9 +5,11 @@ ghost use Rattle.mount_log.specs.Follows.{control_at};
 use fop_types::Seq;
 use script_lang::{ControlLine, Phase, Script};
 
-/// The event in which a control was carried out, and, where it was armed, the place of the line that sent its input.
+/// The events in which a control was armed, 0 if in none, and carried out; and, where it was carried out before its request,
+/// the place of the line that sent its input.
 #[derive(Clone, Copy)]
 pub struct Carried {
+    pub armed: u64,
     pub event: u64,
     pub sent: Option<usize>,
 }
@@ -19,13 +21,14 @@ pub struct ControlAt {
     pub at: usize,
 }
 
-/// How each control was carried out, by its phase and place; the last event of each phase; and, by event, the control that
-/// it carries out or arms.
+/// How each control was carried out, by its phase and place; the last event of each phase; and which control an event carries
+/// out or arms, and a line that was sent carries out.
 #[derive(Drop)]
 pub struct RunNotes {
     pub carried: Seq<Seq<Carried>>,
     pub ended: Seq<u64>,
-    pub controls: Seq<ControlAt>,
+    pub by_event: Seq<ControlAt>,
+    pub by_line: Seq<ControlAt>,
 }
 
 /// The phase of this number, from 0.

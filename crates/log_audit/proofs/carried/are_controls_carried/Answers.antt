@@ -6,7 +6,7 @@ use Rattle.log_audit.proofs.carried.are_controls_carried.Goals as goal
 
 pub loop-at-preserved : goal.loop-at-preserved
 loop-at-preserved c =
-    control_next c.args.log.now c.args.ended.now c.args.phase c.args.controls.now c.args.carried.now c.loop-at.at c.in-Some.control.now c.in-Some-2.how.now (sym c.in-Some.ensures) (sym c.in-Some-2.ensures)
+    control_next c.args.log.now c.args.tables.now c.args.notes.now c.args.phase c.args.controls.now c.args.carried.now c.loop-at.at c.in-Some.control.now c.in-Some-2.how.now (sym c.in-Some.ensures) (sym c.in-Some-2.ensures)
     (c.in_ok-is_control_carried.ensures c.if-not-branch.false) c.loop-at.invariant
 
 pub returns : goal.returns

@@ -8,7 +8,7 @@ use Rattle.log_audit.proofs.carried.phases_are_carried.Goals as goal
 
 pub loop-k-preserved : goal.loop-k-preserved
 loop-k-preserved c =
-    each_next (λ (n : ℕ) (phase : Phase). IsPhaseCarried c.args.log.now c.args.notes.now n phase.controls) c.args.script.now.phases c.loop-k.k c.in-Some.phase.now (sym c.in-Some.ensures)
+    each_next (λ (n : ℕ) (phase : Phase). IsPhaseCarried c.args.log.now c.args.tables.now c.args.notes.now n phase.controls) c.args.script.now.phases c.loop-k.k c.in-Some.phase.now (sym c.in-Some.ensures)
     (c.in_ok-is_phase_carried.ensures c.if-not-branch.false) c.loop-k.invariant
 
 pub returns : goal.returns

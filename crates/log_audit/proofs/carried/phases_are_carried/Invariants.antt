@@ -4,4 +4,4 @@ use Rattle.log_audit.specs.Controlled.{IsPhaseCarried}
 use Rattle.log_audit.proofs.carried.phases_are_carried.Given as goal
 
 abbrev pub invariant-loop-k : goal.invariant-loop-k
-invariant-loop-k l = (i : ℕ) (phase : Phase) → i < l.k → slice_get l.script.phases i ≡ Some phase → IsPhaseCarried l.log l.notes i phase.controls
+invariant-loop-k l = (i : ℕ) (phase : Phase) → i < l.k → slice_get l.script.phases i ≡ Some phase → IsPhaseCarried l.log l.tables l.notes i phase.controls
