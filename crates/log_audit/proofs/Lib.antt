@@ -16,3 +16,4 @@ pub mod Calling
 pub mod Running
 pub mod Tying
 pub mod Numbering
+pub mod Ending

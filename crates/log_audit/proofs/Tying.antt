@@ -11,14 +11,15 @@ use Rattle.mount_log.specs.Connections.{graph_of_call}
 use Rattle.mount_log.specs.Follows.{IsEvent}
 use Rattle.mount_log.specs.Graphs.{switches_in}
 use Rattle.mount_log.specs.Submissions.{submitted_at}
-use Rattle.mount_log.specs.Ties.{NumbersRise, IsReplyTied, IsWindOfCall, IsWindTied, HaveWinds, AreTied}
+use Rattle.mount_log.specs.Ties.{IsReplyTied, IsWindOfCall, IsWindTied, AreTied}
 use Rattle.mount_log.specs.declared.logs.HubEvent.TheVariants as logged
 use Rattle.mount_log.specs.declared.logs.Log.{Log}
 use Rattle.mount_log.specs.declared.logs.ReplyLine.{ReplyLine}
 use Rattle.mount_log.specs.declared.logs.WindLine.{WindLine}
+use Rattle.log_audit.specs.Ended.{IsEnded}
 use Rattle.log_audit.specs.Called.{IsCallAt, AreCalls, call_by}
 use Rattle.log_audit.specs.Caused.{IsCounted}
-use Rattle.log_audit.specs.Tied.{IsReplyFound, AreRepliesTied, IsWindOf, IsWindFound, AreWindsTied, IsTied, AreRequestsTied, request_at, open_at}
+use Rattle.log_audit.specs.Tied.{IsReplyFound, IsWindOf, IsWindFound, IsTied, AreLinesTied, request_at, open_at}
 use Rattle.log_audit.specs.declared.calls_made.CallMade.{CallMade}
 use Rattle.log_audit.specs.declared.causes.Switched.{Switched}
 use Rattle.log_audit.specs.declared.tied_requests.SentFor.{SentFor}
@@ -80,14 +81,15 @@ module _ (script : Script) (log : Log) (calls : List CallMade) (are : AreCalls s
       graph_is = let c = found.of_call one in let g = graph line.call c.call c.there in let i = c.graph_is in omega (arith, g, i);
     }
 
-  pub tied : (all : List SentFor) → NumbersRise log → AreRepliesTied log calls → AreWindsTied log calls → AreRequestsTied log all → AreTied log
-  tied all numbers replies winds requests = record {
-    numbers = numbers;
-    replies = λ k reply is. reply_tied reply (replies k reply is);
-    winds = λ k line is. wind_tied line (winds k line is);
+  pub tied : AreLinesTied log calls → AreTied log
+  tied lines = record {
+    numbers = lines.numbers;
+    replies = λ k reply is. reply_tied reply (lines.replies k reply is);
+    winds = λ k line is. wind_tied line (lines.winds k line is);
     requests = record {
-      request_at = request_at all;
-      open_at = open_at all;
-      each = λ k number graph line request there read. subst (λ (m : Message Input). IsTied log all k line.event m) read (requests k line there);
+      request_at = request_at lines.all;
+      open_at = open_at lines.all;
+      each = λ k number graph line request there read. subst (λ (m : Message Input). IsTied log lines.all k line.event m) read (lines.requests k line there);
     };
+    ends = λ k number graph line request there read. subst (λ (m : Message Input). IsEnded log line.brick m) read (lines.ends k line there);
   }

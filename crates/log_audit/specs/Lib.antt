@@ -14,3 +14,4 @@ pub mod Controlled
 pub mod Called
 pub mod Tied
 pub mod Numbered
+pub mod Ended

@@ -6,12 +6,13 @@ use Rattle.wire_messages.specs.Messages.{input_in}
 use Rattle.wire_messages.specs.declared.messages.Message.{Message}
 use Rattle.wire_messages.specs.declared.messages.Message.TheVariants.{Whole, Wrong}
 use Rattle.mount_log.specs.Graphs.{switches_in}
-use Rattle.mount_log.specs.Ties.{IsAnsweredBy, HasWind}
+use Rattle.mount_log.specs.Ties.{NumbersRise, IsAnsweredBy, HasWind}
 use Rattle.mount_log.specs.declared.logs.Log.{Log}
 use Rattle.mount_log.specs.declared.logs.ReplyLine.{ReplyLine}
 use Rattle.mount_log.specs.declared.logs.SentLine.{SentLine}
 use Rattle.mount_log.specs.declared.logs.WindLine.{WindLine}
 use Rattle.log_audit.specs.Called.{call_by}
+use Rattle.log_audit.specs.Ended.{AreEnded}
 use Rattle.log_audit.specs.declared.calls_made.CallMade.{CallMade}
 use Rattle.log_audit.specs.declared.tied_requests.SentFor.{SentFor}
 
@@ -80,3 +81,13 @@ IsTied log all k event (Wrong place) = Unit {0}
 
 abbrev pub AreRequestsTied : Log → List SentFor → Type 0
 AreRequestsTied log all = (k : ℕ) (line : SentLine) → slice_get log.sent k ≡ Some line → IsTied log all k line.event (input_in line.bytes)
+
+-- ---- all lines
+
+pub record AreLinesTied (log : Log) (calls : List CallMade) : Type 0 where
+  pub numbers : NumbersRise log
+  pub replies : AreRepliesTied log calls
+  pub winds : AreWindsTied log calls
+  pub all : List SentFor
+  pub requests : AreRequestsTied log all
+  pub ends : AreEnded log

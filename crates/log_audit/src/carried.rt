@@ -1,9 +1,9 @@
 //! Whether each control was carried out where the notes of a run say.
-ghost use Rattle.std.specs.Prelude.{◌≡◌, true, Some, IfOk, IfSome, option_copied, slice_get};
+ghost use Rattle.std.specs.Prelude.{◌≡◌, true, Some, IfOk, IfSome, length, option_copied, slice_get};
 ghost use Rattle.fop_types.specs.declared.messages.Input.TheVariants as input;
 ghost use Rattle.mount_log.specs.Follows.{IsEvent};
 ghost use Rattle.mount_log.specs.declared.logs.HubEvent.TheVariants as logged;
-ghost use Rattle.log_audit.specs.Noted.{event_in, among, noted_for};
+ghost use Rattle.log_audit.specs.Noted.{event_in, among, noted_for, begun, IsWithin};
 ghost use Rattle.log_audit.specs.Controlled.{IsActionInput, Says, SendsAction, IsRequestTo, IsRequestAt, IsSentAt, GoesBefore, IsSentFor, IsSentControl, IsCarriedSo, IsArmed};
 ghost use Rattle.log_audit.specs.Controlled.{IsControlCarried, AreControlsCarried, Passes, AreInTurn, IsPhaseCarried, ArePhasesCarried};
 
@@ -315,6 +315,24 @@ fn is_armed(log: &Log, control: &ControlLine, how: Carried, since: u64) -> bool
     is_arm(log, how.armed, brick, proc, count, control.action)
 }
 
+fn is_in_phase(log: &Log, notes: &RunNotes, phase: usize, number: u64) -> bool
+    ensures { result ≡ true → IsWithin notes.now.ended (length log.now.events) phase number }
+{
+    is_within(
+        notes.ended.as_slice(),
+        log.events.len() as u64,
+        phase,
+        number,
+    )
+}
+
+// The last event before a phase.
+fn begun_in(log: &Log, notes: &RunNotes, phase: usize) -> u64
+    ensures { result ≡ begun notes.now.ended (length log.now.events) phase }
+{
+    begun_of(notes.ended.as_slice(), log.events.len() as u64, phase)
+}
+
 // Whether a control was carried out within its phase, by what no other was, and armed before, if it goes before a request.
 fn is_control_carried(
     alloc: Global,
@@ -328,12 +346,10 @@ fn is_control_carried(
 ) -> Result<bool, AllocError>
     ensures { IfOk result (λ yes. yes ≡ true → IsControlCarried log.now tables.now notes.now phase at control.now how) }
 {
-    let ended = notes.ended.as_slice();
-    let last = log.events.len() as u64;
-    if !is_within(ended, last, phase, how.event) || !is_its_own(notes, phase, at, how) {
+    if !is_in_phase(log, notes, phase, how.event) || !is_its_own(notes, phase, at, how) {
         return Ok(false);
     }
-    if !is_armed(log, control, how, begun_of(ended, last, phase)) {
+    if !is_armed(log, control, how, begun_in(log, notes, phase)) {
         return Ok(false);
     }
     let yes = is_carried(alloc, log, tables, control, how)?;

@@ -1,10 +1,10 @@
 //! Whether requests are tied to their winds.
-ghost use Rattle.std.specs.Prelude.{◌≡◌, true, IfOk, slice_index_or};
+ghost use Rattle.std.specs.Prelude.{◌≡◌, true, IfOk};
 ghost use Rattle.fop_types.specs.declared.messages.Input.TheVariants as input;
 ghost use Rattle.wire_messages.specs.Messages.{input_in};
 ghost use Rattle.xlator_law.specs.Numbers.{wind_number, open_before};
-ghost use Rattle.mount_log.specs.Ties.{IsOfCall, IsOpen, HasNumberOf, HasWind, HaveWinds};
-ghost use Rattle.log_audit.specs.Tied.{request_at, open_at, IsSentFor, IsInputTied, IsTied, AreRequestsTied};
+ghost use Rattle.mount_log.specs.Ties.{IsOfCall, IsOpen, HasNumberOf, HasWind};
+ghost use Rattle.log_audit.specs.Tied.{request_at, open_at, IsInputTied, IsTied, AreRequestsTied};
 
 use crate::causes::line_at;
 use crate::tied_replies::wind_at;
@@ -40,7 +40,8 @@ fn is_open(req: &BrickReq) -> bool
     }
 }
 
-fn is_number_of_open(wind: WindNo, number: u64) -> bool
+/// Whether a number is that of the open before a wind's request.
+pub fn is_number_of_open(wind: WindNo, number: u64) -> bool
     ensures { result ≡ true → wind_number (open_before wind) ≡ number }
 {
     if wind.slot >= 2147483648 {

@@ -1,7 +1,6 @@
 //! Whether winds are of their calls and graphs.
 ghost use Rattle.std.specs.Prelude.{◌≡◌, ◌+◌, ◌≤◌, true};
-ghost use Rattle.log_audit.specs.Caused.{IsCounted};
-ghost use Rattle.log_audit.specs.Tied.{IsMade, IsWindOf, AreWindsTied};
+ghost use Rattle.log_audit.specs.Tied.{IsWindOf, AreWindsTied};
 
 use crate::calls_made::{CallMade, call_of};
 use crate::causes::{Switched, passed_to};

@@ -1,16 +1,20 @@
 -- How the lines of a log are tied to its events: numbers of events rise; a reply is to the call that its session submitted by
 -- its line, and comes as a wind of that call ends, or at once; a wind is of a graph that was made by then, that of a call of
--- the call's graph; and each request was sent for a wind that was opened in its event, each wind having at most one request
--- and one open before it.
-use Rattle.std.specs.Prelude.{◌≡◌, ℕ, ◌+◌, ◌≤◌, nat_le, ◌&&◌, Bool, true, false, List, [], ◌∷◌, Some, length, map, slice_get, take}
+-- the call's graph; each request was sent for a wind that was opened in its event, each wind having at most one request and
+-- one open before it; and such a wind ends by what arrives from the brick, or with its connection.
+use Rattle.std.specs.Prelude.{◌≡◌, ℕ, ◌+◌, ◌≤◌, nat_le, ◌&&◌, ◌⊎◌, Bool, true, false, List, [], ◌∷◌, Some, length, map, slice_get, take}
 use Rattle.fop_types.specs.declared.answers.Answer.TheVariants.{App}
 use Rattle.fop_types.specs.declared.answers.AppError.TheVariants.{Enoent}
 use Rattle.fop_types.specs.declared.messages.BrickReq.{BrickReq}
 use Rattle.fop_types.specs.declared.messages.BrickReq.TheVariants as req
-use Rattle.fop_types.specs.declared.messages.Input.TheVariants.{Request}
-use Rattle.wire_messages.specs.Messages.{input_in}
-use Rattle.wire_messages.specs.declared.messages.Message.TheVariants.{Whole}
+use Rattle.fop_types.specs.declared.messages.Input.TheVariants.{Request, Disconnect}
+use Rattle.fop_types.specs.declared.messages.OutKind.{OutKind}
+use Rattle.fop_types.specs.declared.messages.OutKind.TheVariants as out
+use Rattle.fop_types.specs.declared.messages.Output.{Output}
+use Rattle.wire_messages.specs.Messages.{input_in, output_in}
+use Rattle.wire_messages.specs.declared.messages.Message.TheVariants as message
 use Rattle.xlator_law.specs.Numbers.{wind_number, open_before}
+use Rattle.xlator_law.specs.declared.winds.WindNo.{WindNo}
 use Rattle.mount_log.specs.declared.logs.HubEvent.TheVariants as logged
 use Rattle.mount_log.specs.declared.logs.Log.{Log}
 use Rattle.mount_log.specs.declared.logs.ReplyLine.{ReplyLine}
@@ -123,8 +127,42 @@ pub record HasWind (log : Log) (request_at open_at : ℕ → ℕ) (k number grap
 pub record HaveWinds (log : Log) : Type 0 where
   pub request_at : ℕ → ℕ
   pub open_at : ℕ → ℕ
-  pub each : (k number graph : ℕ) (line : SentLine) (request : BrickReq) → slice_get log.sent k ≡ Some line → input_in line.bytes ≡ Whole (Request number graph request)
+  pub each : (k number graph : ℕ) (line : SentLine) (request : BrickReq) → slice_get log.sent k ≡ Some line → input_in line.bytes ≡ message.Whole (Request number graph request)
       → HasWind log request_at open_at k number graph line.event request
+
+-- ---- the ends of requests
+
+-- a number on the wire is that of a wind, or of the open before its request
+abbrev pub IsNumberOf : WindNo → ℕ → Type 0
+IsNumberOf wind number = (wind_number wind ≡ number) ⊎ (wind_number (open_before wind) ≡ number)
+
+-- a reply ends the wind, and so does Closed of the brick
+abbrev pub EndsWind : WindNo → OutKind → Type 0
+EndsWind wind (out.Reply number answer) = IsNumberOf wind number
+EndsWind wind out.Closed = Unit {0}
+EndsWind wind out.Opened = ⊥
+EndsWind wind (out.Connected graph version) = ⊥
+EndsWind wind (out.Malformed place) = ⊥
+
+-- a wind that is open at a brick ends as that arrives, or as a Disconnect of its graph is sent there
+pub data IsEndedBy (log : Log) (brick : ℕ) (ending : WindLine) : Type 0 where
+  ByOutput : (bytes : List ℕ) (output : Output) → IsEvent log ending.event (logged.Arrive brick bytes) → output_in bytes ≡ message.Whole output → EndsWind ending.wind output.kind
+      → IsEndedBy log brick ending
+  ByDisconnect : (at : ℕ) (line : SentLine) → slice_get log.sent at ≡ Some line → line.event ≡ ending.event → line.brick ≡ brick → input_in line.bytes ≡ message.Whole (Disconnect ending.graph)
+      → IsEndedBy log brick ending
+
+-- the wind of a request to a brick ends in the request's graph
+pub record HasEnd (log : Log) (brick number graph : ℕ) : Type 0 where
+  pub place : ℕ
+  pub ending : WindLine
+  pub there : slice_get log.winds place ≡ Some ending
+  pub is_end : ending.opened ≡ false
+  pub same_graph : ending.graph ≡ graph
+  pub of_wind : IsNumberOf ending.wind number
+  pub by : IsEndedBy log brick ending
+
+abbrev pub HaveEnds : Log → Type 0
+HaveEnds log = (k number graph : ℕ) (line : SentLine) (request : BrickReq) → slice_get log.sent k ≡ Some line → input_in line.bytes ≡ message.Whole (Request number graph request) → HasEnd log line.brick number graph
 
 -- ---- the log
 
@@ -133,3 +171,4 @@ pub record AreTied (log : Log) : Type 0 where
   pub replies : (k : ℕ) (reply : ReplyLine) → slice_get log.replies k ≡ Some reply → IsReplyTied log reply
   pub winds : (k : ℕ) (line : WindLine) → slice_get log.winds k ≡ Some line → IsWindTied log line
   pub requests : HaveWinds log
+  pub ends : HaveEnds log
