@@ -36,7 +36,7 @@ module _ {X : Type 0} where
   take_next (y ∷ xs) zero x is = let e : y ≡ x = first y x is in ap (λ (z : X). z ∷ []) e where
     first : (a b : X) → Some a ≡ Some b → a ≡ b
     first a b e = cc
-  take_next (y ∷ xs) (suc n) x is = ap (λ l. y ∷ l) (take_next xs n x is)
+  take_next (y ∷ xs) (suc n) x is = let e : suc n + 1 ≡ suc (n + 1) = omega arith in ap (λ (m : ℕ). take m (y ∷ xs)) e ∙ ap (λ l. y ∷ l) (take_next xs n x is)
 
 module _ (script : Script) (log : Log) (n : ℕ) (e : HubEvent) (there : slice_get log.events n ≡ Some e) (queues : List (List LineAt)) (calls : List CallMade) (so_far : AreGathered script log n queues calls) where
   passed : take (n + 1) log.events ≡ take n log.events ++ e ∷ []

@@ -1,7 +1,9 @@
 -- How controls are carried out, from what an audit finds.
-use Rattle.std.proofs.Common.{◌≡◌, refl, sym, ap, subst, ◌∙◌, arith}
+use Rattle.std.proofs.Common.{◌≡◌, refl, sym, ap, subst, ◌∙◌, arith, get_or}
 use Rattle.std.specs.Prelude.{ℕ, zero, suc, ◌<◌, ◌≤◌, ◌+◌, nat_lt, Bool, true, false, List, [], ◌∷◌, ◌++◌, Option, None, Some, length, slice_get}
 use Rattle.std.proofs.lemmas.Bool.{ltb-true, ltb-false}
+use Rattle.std.proofs.lemmas.List.{length-append}
+use Rattle.std.proofs.lemmas.Option.{slice_get_read}
 use Rattle.fop_types.specs.declared.messages.Input.{Input}
 use Rattle.fop_types.specs.declared.messages.Proc.{Proc}
 use Rattle.script_lang.specs.declared.scripts.Action.{Action}
@@ -86,6 +88,7 @@ module _ (log : Log) (notes : RunNotes) (tables : SentTables) (are : AreTables n
 
 pub carried_in : (log : Log) (notes : RunNotes) (tables : SentTables) → AreTables notes.ended log tables → (phase : ℕ) (c : ControlLine) (how : Carried) → IsWithin notes.ended (length log.events) phase how.event
     → IsCarriedSo log tables how.event how.sent c → IsCarriedIn log (begun notes.ended (length log.events) phase) how.event how.sent c
+unfolding sent_before
 carried_in log notes tables are phase c how within so = by how.sent refl so where
   by : (o : Option ℕ) → how.sent ≡ o → IsCarriedSo log tables how.event o c → IsCarriedIn log (begun notes.ended (length log.events) phase) how.event how.sent c
   by None is event = ByEvent is event
@@ -114,6 +117,13 @@ module _ {X : Type 0} where
     by false e =
         let last = is_last xs x y k is (ltb-false k (length xs) e) in
         subst (λ (z : X). P k z) (sym last.1) (subst (λ (n : ℕ). P n x) (sym last.0) own)
+
+  pub one_longer : (xs : List X) (x : X) (n : ℕ) → length xs ≡ n → length (xs ++ x ∷ []) ≡ n + 1
+  one_longer xs x n e = let a = length-append xs (x ∷ []) in omega (arith, a, e)
+
+  -- an item that was got by its place
+  pub got : (xs : List X) (i : ℕ) (x : X) → true ≡ nat_lt i (length xs) → x ≡ get_or xs i x → slice_get xs i ≡ Some x
+  got xs i x lt is = slice_get_read xs (length xs) i x refl (ltb-true i (length xs) (sym lt)) is
 
 pub armed_push : (sent : List SentLine) (all : List ArmedLines) (at : ℕ) (armed : ArmedLines) → length all ≡ at → AreArmedFrom sent at armed → AreAllArmed sent all → AreAllArmed sent (all ++ armed ∷ [])
 armed_push sent all at armed many own before = each_push (λ (k : ℕ) (a : ArmedLines). AreArmedFrom sent k a) all armed (subst (λ (n : ℕ). AreArmedFrom sent n armed) (sym many) own) before

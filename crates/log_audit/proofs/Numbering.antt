@@ -55,18 +55,18 @@ requests_push : (since brick rank : ℕ) (xs : List SentLine) (x : SentLine) →
 requests_push since brick rank [] x = comm (if is_request_since since brick rank x then 1 else 0) where
   comm : (n : ℕ) → n + 0 ≡ 0 + n
   comm n = omega arith
-requests_push since brick rank (y ∷ ys) x = let ih = requests_push since brick rank ys x in more (if is_request_since since brick rank y then 1 else 0) ih where
-  more : (n : ℕ) {a b c : ℕ} → a ≡ b + c → n + a ≡ n + b + c
-  more n e = omega (arith, e)
+requests_push since brick rank (y ∷ ys) x = let ih = requests_push since brick rank ys x in more (if is_request_since since brick rank y then 1 else 0) (requests_since since brick rank (ys ++ x ∷ [])) (requests_since since brick rank ys) (if is_request_since since brick rank x then 1 else 0) ih where
+  more : (n a b c : ℕ) → a ≡ b + c → n + a ≡ n + b + c
+  more n a b c e = omega (arith, e)
 
 none_since : (since brick rank : ℕ) (lines : List SentLine) → ((j : ℕ) (line : SentLine) → slice_get lines j ≡ Some line → line.event ≤ since) → requests_since since brick rank lines ≡ 0
 none_since since brick rank [] low = refl
 none_since since brick rank (x ∷ xs) low =
     let first : (if is_request_since since brick rank x then 1 else 0) ≡ 0 = none_if (is_request_since since brick rank x) (no_left (nat_lt since x.event) ((x.brick == brick) && is_rank rank (rank_in x.bytes)) (lt_false since x.event (low 0 x refl))) in
     let rest = none_since since brick rank xs (λ j line is. low (suc j) line is) in
-    sum first rest where
-      sum : {a b : ℕ} → a ≡ 0 → b ≡ 0 → a + b ≡ 0
-      sum e f = omega (arith, e, f)
+    sum (if is_request_since since brick rank x then 1 else 0) (requests_since since brick rank xs) first rest where
+      sum : (a b : ℕ) → a ≡ 0 → b ≡ 0 → a + b ≡ 0
+      sum a b e f = omega (arith, e, f)
 
 held_none : (phase : ℕ) (o : Option PhaseCount) → ((found : PhaseCount) → o ≡ Some found → found.phase < phase) → held phase o ≡ 0
 held_none phase None early = refl
@@ -116,9 +116,11 @@ module _ (ended : List ℕ) (last : ℕ) (rising : AreRising ended last) where
     low_more = each_push (λ (j : ℕ) (y : SentLine). y.event ≤ line.event) lines line (omega arith) have.low
 
     other : (brick rank : ℕ) → is_request_since (begun ended last phase) brick rank line ≡ false → requests_since (begun ended last phase) brick rank (lines ++ line ∷ []) ≡ requests_since (begun ended last phase) brick rank lines
-    other brick rank no = let p = requests_push (begun ended last phase) brick rank lines line in let z = none_if (is_request_since (begun ended last phase) brick rank line) no in p ∙ plus z where
-      plus : {a b : ℕ} → b ≡ 0 → a + b ≡ a
-      plus e = omega (arith, e)
+    other brick rank none =
+        let p = requests_push (begun ended last phase) brick rank lines line in let z = none_if (is_request_since (begun ended last phase) brick rank line) none in
+        p ∙ plus (requests_since (begun ended last phase) brick rank lines) (if is_request_since (begun ended last phase) brick rank line then 1 else 0) z where
+          plus : (a b : ℕ) → b ≡ 0 → a + b ≡ a
+          plus a b e = omega (arith, e)
 
     not_counted : rank_in line.bytes ≡ None → new ≡ old → HaveCounts ended last (lines ++ line ∷ []) phase line.event new
     not_counted none same = subst (λ (l : List PhaseCount). HaveCounts ended last (lines ++ line ∷ []) phase line.event l) (sym same) (record {
@@ -142,9 +144,10 @@ module _ (ended : List ℕ) (last : ℕ) (rising : AreRising ended last) where
           (both (line.brick == line.brick) (is_rank rank (rank_in line.bytes)) (eq_true line.brick line.brick refl) (ap (is_rank rank) is ∙ eq_true rank rank refl)) in
           let o = one_if (is_request_since (begun ended last phase) line.brick rank line) yes in
           let c = have.counts_are line.brick rank more.brick_fits more.rank_fits in
-          p ∙ sum o c ∙ sym more.count where
-            sum : {a b d : ℕ} → b ≡ 1 → a ≡ d → a + b ≡ d + 1
-            sum e f = omega (arith, e, f)
+          p ∙ sum (requests_since (begun ended last phase) line.brick rank lines) (if is_request_since (begun ended last phase) line.brick rank line then 1 else 0) (held phase (slice_get old (cell_of line.brick rank))) o c
+          ∙ sym more.count where
+            sum : (a b d : ℕ) → b ≡ 1 → a ≡ d → a + b ≡ d + 1
+            sum a b d e f = omega (arith, e, f)
 
       own_cell : held phase (slice_get new (cell_of line.brick rank)) ≡ n
       own_cell =
@@ -154,10 +157,13 @@ module _ (ended : List ℕ) (last : ℕ) (rising : AreRising ended last) where
       other_cell : (i : ℕ) → i ≢ cell_of line.brick rank → slice_get new i ≡ slice_get old i
       other_cell i ne = ap (λ (l : List PhaseCount). slice_get l i) more.counts ∙ beside_set old (cell_of line.brick rank) i (record { phase = phase; count = n }) ne
 
+      same_cell : (a b c d : ℕ) → c < 256 → d < 256 → cell_of a c ≡ cell_of b d → b ≡ a
+      same_cell a b c d x y e = omega (arith, x, y, e)
+
       counted_at : (brick r : ℕ) → brick < 256 → r < 256 → requests_since (begun ended last phase) brick r (lines ++ line ∷ []) ≡ held phase (slice_get new (cell_of brick r))
       counted_at brick r bf rf = by (line.brick == brick) refl where
         beside : is_request_since (begun ended last phase) brick r line ≡ false → cell_of brick r ≢ cell_of line.brick rank → requests_since (begun ended last phase) brick r (lines ++ line ∷ []) ≡ held phase (slice_get new (cell_of brick r))
-        beside no ne = other brick r no ∙ have.counts_are brick r bf rf ∙ ap (held phase) (sym (other_cell (cell_of brick r) ne))
+        beside none ne = other brick r none ∙ have.counts_are brick r bf rf ∙ ap (held phase) (sym (other_cell (cell_of brick r) ne))
 
         same_brick : line.brick ≡ brick → (t : Bool) → (rank == r) ≡ t → requests_since (begun ended last phase) brick r (lines ++ line ∷ []) ≡ held phase (slice_get new (cell_of brick r))
         same_brick b true e =
@@ -174,9 +180,6 @@ module _ (ended : List ℕ) (last : ℕ) (rising : AreRising ended last) where
             beside
             (no_right (nat_lt (begun ended last phase) line.event) ((line.brick == brick) && is_rank r (rank_in line.bytes)) (no_left (line.brick == brick) (is_rank r (rank_in line.bytes)) e))
             (λ c. (let ne = eqb-false line.brick brick e in ne (same_cell brick line.brick r rank rf more.rank_fits c)))
-
-        same_cell : (a b c d : ℕ) → c < 256 → d < 256 → cell_of a c ≡ cell_of b d → b ≡ a
-        same_cell a b c d x y e = omega (arith, x, y, e)
 
       early_more : (i : ℕ) (found : PhaseCount) → slice_get new i ≡ Some found → found.phase ≤ phase
       early_more i found there = by (i == cell_of line.brick rank) refl where
@@ -225,8 +228,8 @@ module _ (ended : List ℕ) (last : ℕ) (rising : AreRising ended last) where
       → HaveCounts ended last (take (k + 1) sent) q line.event new × (length (nth ++ n ∷ []) ≡ k + 1) × AreNth ended last sent (nth ++ n ∷ [])
   line_next sent k phase q floor counts new nth n line there le later until c so_far = (
     subst (λ (l : List SentLine). HaveCounts ended last l q line.event new) (sym more) (line_more (take k sent) q line counts n new have c),
-    (let a = length-append nth (n ∷ []) in let m = so_far.1.0 in omega (arith, a, m)),
-    each_push (λ (j m : ℕ). (y : SentLine) → slice_get sent j ≡ Some y → IsNthOf ended last sent j m y) nth n (subst (λ (j : ℕ). (y : SentLine) → slice_get sent j ≡ Some y → IsNthOf ended last sent j n y) (sym so_far.1.0) own) so_far.1.1,
+    (let a = length-append nth (n ∷ []) in let m = so_far.1 in omega (arith, a, m)),
+    each_push (λ (j m : ℕ). (y : SentLine) → slice_get sent j ≡ Some y → IsNthOf ended last sent j m y) nth n (subst (λ (j : ℕ). (y : SentLine) → slice_get sent j ≡ Some y → IsNthOf ended last sent j n y) (sym so_far.1) own) so_far.2,
   ) where
     more : take (k + 1) sent ≡ take k sent ++ line ∷ []
     more = take_next sent k line there
@@ -236,25 +239,6 @@ module _ (ended : List ℕ) (last : ℕ) (rising : AreRising ended last) where
 
     own : (y : SentLine) → slice_get sent k ≡ Some y → IsNthOf ended last sent k n y
     own y is = subst (λ (z : SentLine). IsNthOf ended last sent k n z) (some_is line y (sym there ∙ is)) (number_is (take k sent) q line counts n new have k sent more c)
-
-  pub none_yet : (sent : List SentLine) (counts : List PhaseCount) → length counts ≡ 65536 → AreZero counts → HaveCounts ended last (take 0 sent) 0 0 counts × (length {X = ℕ} [] ≡ 0) × AreNth ended last sent []
-  none_yet sent counts many zeros = (
-    record {
-      many = many;
-      early = λ i found is. (let z = (zeros i found is).0 in omega (arith, z));
-      low = λ j line is. absurd cc;
-      until = omega arith;
-      counts_are = λ brick rank b r. sym (zero_held (slice_get counts (cell_of brick rank)) (λ found is. (zeros (cell_of brick rank) found is).1));
-    },
-    refl,
-    λ k n none. absurd cc,
-  ) where
-    zero_held : (o : Option PhaseCount) → ((found : PhaseCount) → o ≡ Some found → found.count ≡ 0) → held 0 o ≡ 0
-    zero_held None zero_count = refl
-    zero_held (Some found) zero_count = by (found.phase == 0) where
-      by : (t : Bool) → (if t then found.count else 0) ≡ 0
-      by true = zero_count found refl
-      by false = refl
 
 pub zero_more : (counts : List PhaseCount) → AreZero counts → AreZero (counts ++ record { phase = 0; count = 0 } ∷ [])
 zero_more counts zeros = each_push (λ (i : ℕ) (found : PhaseCount). (found.phase ≡ 0) × (found.count ≡ 0)) counts (record { phase = 0; count = 0 }) (refl, refl) zeros

@@ -16,7 +16,7 @@ use Rattle.mount_log.specs.declared.logs.HubEvent.TheVariants as logged
 use Rattle.mount_log.specs.declared.logs.Log.{Log}
 use Rattle.mount_log.specs.declared.logs.ReplyLine.{ReplyLine}
 use Rattle.mount_log.specs.declared.places.LineAt.{LineAt}
-use Rattle.log_audit.specs.Called.{IsCallAt, AreCalls, call_by, HaveCalls}
+use Rattle.log_audit.specs.Called.{IsCallAt, AreCalls, call_by, IsAnsweredIn, HaveCalls}
 use Rattle.log_audit.specs.Controlled.{IsControlCarried, IsFound, IsOfControl, AreCarriedOut}
 use Rattle.log_audit.specs.Noted.{event_in, sent_in, armed_in, how_at, carried_at, sent_at, armed_at, noted_for, ended_at, begun, AreRising, IsWithin}
 use Rattle.log_audit.specs.declared.carried.SentTables.{SentTables}
@@ -39,7 +39,7 @@ has_item [] n lt = absurd (omega (arith, lt))
 has_item (x ∷ xs) zero lt = record { item = x; there = refl }
 has_item (x ∷ xs) (suc n) lt = let rest = has_item xs n (omega (arith, lt)) in record { item = rest.item; there = rest.there }
 
-record IsCallBy (calls : List CallMade) (number : ℕ) (call : CallMade) : Type 0 where
+pub record IsCallBy (calls : List CallMade) (number : ℕ) (call : CallMade) : Type 0 where
   pub from_one : 1 ≤ number
   pub there : slice_get calls (number - 1) ≡ Some call
 
@@ -80,20 +80,17 @@ module _ (script : Script) (log : Log) where
 
 reply_bound : (replies : List ReplyLine) (number bound : ℕ) → ((k : ℕ) (r : ReplyLine) → slice_get replies k ≡ Some r → r.call ≡ number → r.event ≤ bound) → event_of_reply replies number ≤ bound
 reply_bound [] number bound each = omega arith
-reply_bound (r ∷ rs) number bound each = by (r.call == number) refl where
-  by : (b : Bool) → (r.call == number) ≡ b → (if b then r.event else event_of_reply rs number) ≤ bound
-  by true e = each 0 r refl (eqb-true r.call number e)
-  by false e = reply_bound rs number bound (λ k x is. each (suc k) x is)
+reply_bound (r ∷ rs) number bound each = by (r.call == number) refl (reply_bound rs number bound (λ k x is. each (suc k) x is)) where
+  by : (b : Bool) → (r.call == number) ≡ b → event_of_reply rs number ≤ bound → (if b then r.event else event_of_reply rs number) ≤ bound
+  by true e rest = each 0 r refl (eqb-true r.call number e)
+  by false e rest = rest
 
 -- ---- the run
 
 phases_are : (p q i j : ℕ) → ◌≡◌ {A = Option ControlAt} (Some (record { phase = p; at = i })) (Some (record { phase = q; at = j })) → (p ≡ q) × (i ≡ j)
-phases_are p q i j e = (phase_is e, at_is e) where
-  phase_is : ◌≡◌ {A = Option ControlAt} (Some (record { phase = p; at = i })) (Some (record { phase = q; at = j })) → p ≡ q
-  phase_is e = cc
-
-  at_is : ◌≡◌ {A = Option ControlAt} (Some (record { phase = p; at = i })) (Some (record { phase = q; at = j })) → i ≡ j
-  at_is e = cc
+phases_are p q i j e =
+    let same : ◌≡◌ {A = ControlAt} (record { phase = p; at = i }) (record { phase = q; at = j }) = some_is (record { phase = p; at = i }) (record { phase = q; at = j }) e in
+    (ap (λ (x : ControlAt). x.phase) same, ap (λ (x : ControlAt). x.at) same)
 
 -- how a control was carried out
 record IsHow (log : Log) (tables : SentTables) (notes : RunNotes) (phase at : ℕ) (c : ControlLine) : Type 0 where
@@ -192,6 +189,7 @@ module _ (script : Script) (log : Log) (notes : RunNotes) (rising : AreRising no
   answered k session line number at there place submit = reply_bound log.replies number (ended_at notes.ended (length log.events) at.phase) each where
     each : (j : ℕ) (r : ReplyLine) → slice_get log.replies j ≡ Some r → r.call ≡ number → r.event ≤ ended_at notes.ended (length log.events) at.phase
     each j r is call_is = subst (λ (p : ℕ). r.event ≤ ended_at notes.ended (length log.events) p) phase answer.until where
+      answer : IsAnsweredIn have.calls notes.ended (length log.events) r
       answer = have.answered j r is
 
       by : IsCallBy have.calls r.call answer.call

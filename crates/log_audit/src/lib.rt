@@ -46,7 +46,6 @@ mod winds;
 pub use connects::connects_are_caused;
 pub use ended::is_finished;
 pub use honest::arrivals_are_honest;
-pub use run::is_run_of;
 pub use run::{follows_script, is_run_of};
 pub use submits::submits_are_in_order;
 pub use ties::lines_are_tied;

@@ -1,5 +1,6 @@
 //! Notes of a run, from its script and its log.
 
+use crate::carried::is_same;
 use crate::requests::request_proc;
 use crate::run_notes::{Carried, ControlAt, RunNotes};
 use fop_types::{Proc, Seq};
@@ -9,15 +10,15 @@ use std::alloc::{AllocError, Global};
 use std::collections::{BTreeMap, BTreeSet};
 use std::mem;
 
-/// A control with a condition that was not carried out, by its action: those that follow a request first, then by their
-/// places in the phase.
+/// A control with a condition that was not carried out, by its action: those that follow a request first (`before` is 0), then
+/// by their places in the phase.
 #[derive(Clone, Copy, PartialEq, Eq, PartialOrd, Ord)]
 pub struct Waiting {
     pub kind: u8,
     pub brick: u8,
     pub proc: u8,
     pub number: u32,
-    pub before: bool,
+    pub before: u8,
     pub at: usize,
 }
 
@@ -64,7 +65,7 @@ fn key(kind: u8, brick: u8, proc: u8, number: u32) -> Waiting {
         brick,
         proc,
         number,
-        before: false,
+        before: 0,
         at: 0,
     }
 }
@@ -81,7 +82,7 @@ fn key_of(action: Action) -> Waiting {
     }
 }
 
-fn wait_key(action: Action, before: bool, at: usize) -> Waiting {
+fn wait_key(action: Action, before: u8, at: usize) -> Waiting {
     let mut key = key_of(action);
     key.before = before;
     key.at = at;
@@ -93,10 +94,6 @@ fn has_action(one: &Waiting, other: &Waiting) -> bool {
         && one.brick == other.brick
         && one.proc == other.proc
         && one.number == other.number
-}
-
-fn is_same(one: Action, other: Action) -> bool {
-    has_action(&key_of(one), &key_of(other))
 }
 
 fn armed_for(brick: u8, proc: Proc, count: u32, at: usize) -> ArmedFor {
@@ -179,8 +176,8 @@ impl InPhase {
         if is_plain(control) {
             return Ok(());
         }
-        self.waiting
-            .insert(wait_key(control.action, is_before(control), at))?;
+        let before = if is_before(control) { 1 } else { 0 };
+        self.waiting.insert(wait_key(control.action, before, at))?;
         Ok(())
     }
 
@@ -344,7 +341,7 @@ impl InPhase {
         let Some(control) = controls.get(at) else {
             return;
         };
-        self.waiting.remove(&wait_key(control.action, true, at));
+        self.waiting.remove(&wait_key(control.action, 1, at));
         self.carry(at, number, Some(sent));
         let phase = self.phase;
         if let Some(control) = self.by_line.get_mut(sent) {

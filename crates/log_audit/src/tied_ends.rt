@@ -197,6 +197,21 @@ fn is_input_ended(
     }
 }
 
+fn is_message_ended(
+    alloc: Global,
+    log: &Log,
+    ended: EndedAt,
+    brick: u8,
+    message: &Message<Input>,
+) -> Result<bool, AllocError>
+    ensures { IfOk result (λ yes. yes ≡ true → IsEnded log.now brick message.now) }
+{
+    match message {
+        Message::Whole(found) => is_input_ended(alloc, log, ended, brick, found),
+        Message::Wrong { place: _ } => Ok(true),
+    }
+}
+
 fn is_line_ended(
     alloc: Global,
     log: &Log,
@@ -205,10 +220,9 @@ fn is_line_ended(
 ) -> Result<bool, AllocError>
     ensures { IfOk result (λ yes. yes ≡ true → IsEnded log.now line.now.brick (input_in line.now.bytes)) }
 {
-    match input_of(alloc, line.bytes.as_slice())? {
-        Message::Whole(found) => is_input_ended(alloc, log, ended, line.brick, &found),
-        Message::Wrong { place: _ } => Ok(true),
-    }
+    let message = input_of(alloc, line.bytes.as_slice())?;
+    let yes = is_message_ended(alloc, log, ended, line.brick, &message)?;
+    Ok(yes)
 }
 
 fn ended_at(all: &[EndedAt], k: usize) -> EndedAt {

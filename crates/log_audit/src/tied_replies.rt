@@ -1,5 +1,5 @@
 //! Whether replies are tied to their calls and their events.
-ghost use Rattle.std.specs.Prelude.{◌≡◌, true, option_copied, slice_get};
+ghost use Rattle.std.specs.Prelude.{◌≡◌, false, true, option_copied, slice_get};
 ghost use Rattle.fop_types.specs.declared.answers.Answer.TheVariants as answer;
 ghost use Rattle.fop_types.specs.declared.answers.AppError.TheVariants as error;
 ghost use Rattle.mount_log.specs.Follows.{IsEvent};
