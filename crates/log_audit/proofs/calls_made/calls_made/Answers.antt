@@ -2,8 +2,14 @@ use Rattle.std.proofs.Common.{◌≡◌, ◌≤◌, sym, ap, subst, ◌∙◌, m
 use Rattle.std.specs.Prelude.{List, ◌++◌, ◌∷◌, [], ◌+◌}
 use Rattle.log_audit.specs.Called.{AreGathered}
 use Rattle.log_audit.specs.declared.calls_made.CallMade.{CallMade}
-use Rattle.log_audit.proofs.Calling.{pass_submit, all_passed}
+use Rattle.log_audit.proofs.Calling.{pass_other, pass_submit, all_passed}
 use Rattle.log_audit.proofs.calls_made.calls_made.Goals as goal
+
+pub loop-k-preserved-in_default-event : goal.loop-k-preserved-in_default-event
+loop-k-preserved-in_default-event c = (
+  pass_other c.args.script.now c.args.log.now c.loop-k.k c.in-Some.event.now (sym c.in-Some.ensures) (map (λ q. q.items) c.loop-k.queues.items) c.loop-k.calls.items c.loop-k.invariant.0 c.in_default-event.not-Submit,
+  c.loop-k.invariant.1,
+)
 
 pub loop-k-preserved : goal.loop-k-preserved
 loop-k-preserved c = (
