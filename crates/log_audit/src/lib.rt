@@ -3,7 +3,10 @@
 //! ```text
 //!   winds_are_balanced     the winds              each was opened once and ended once
 //!   submits_are_in_order   the events, a script   each session submits its lines in order
+//!   is_run_of              the events, what was   each control is carried out once, at its request where it goes before
+//!                          sent, a script         one, and calls are submitted and answered within their phases
 //!   is_finished            the replies, a script  each call has one reply
+//!   lines_are_tied         all lines              replies, winds and requests are of their calls, events and graphs
 //!   connects_are_caused    what was sent          connections, Downs and Ups have their causes
 //!   arrivals_are_honest    what was sent and      what arrived is what the bricks make of what was sent
 //!                          arrived, the bricks
