@@ -1,5 +1,5 @@
 -- In reading order: the last wind of each slot; what it says of the winds so far; prefixes; timely arrivals; lines
--- that can be armed; causes of what was sent.
+-- that can be armed; causes of what was sent; notes of a run; requests by their numbers; controls; calls; ends of winds; ties.
 pub mod Slots
 pub mod Agreeing
 pub mod Prefixes
@@ -10,8 +10,8 @@ pub mod Replied
 pub mod Armed
 pub mod Caused
 pub mod Noted
+pub mod Numbered
 pub mod Controlled
 pub mod Called
-pub mod Tied
-pub mod Numbered
 pub mod Ended
+pub mod Tied
