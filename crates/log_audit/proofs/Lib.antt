@@ -16,3 +16,10 @@ pub mod Closings
 pub mod Evident
 pub mod Different
 pub mod Evidenced
+pub mod Phased
+pub mod Controlling
+pub mod Calling
+pub mod Running
+pub mod Tying
+pub mod Numbering
+pub mod Ending

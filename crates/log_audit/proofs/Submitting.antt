@@ -63,7 +63,7 @@ module _ (script : Script) (es : List HubEvent) (e : HubEvent) where
         let all : take k (es ++ e ∷ []) ≡ es = ap (λ (n : ℕ). take n (es ++ e ∷ [])) last.0 ∙ take_within es e (length es) (omega arith) ∙ take_long es in
         subst (λ (l : List HubEvent). HasNumber (session_line script session (submits_of session l)) line) (sym all) (own session line (sym last.1))
 
-  left_other : (queues : List (List LineAt)) → ((session : ℕ) → is_submit_of session e ≡ 0) → HaveLeft script es queues → HaveLeft script (es ++ e ∷ []) queues
+  pub left_other : (queues : List (List LineAt)) → ((session : ℕ) → is_submit_of session e ≡ 0) → HaveLeft script es queues → HaveLeft script (es ++ e ∷ []) queues
   left_other queues none left session =
       let p = submits_push session es e in let z = none session in let same : submits_of session es ≡ submits_of session (es ++ e ∷ []) = omega (arith, p, z) in
       left session ∙ ap (λ (n : ℕ). drop n (places_from session 0 script.phases)) same
@@ -72,7 +72,7 @@ module _ (script : Script) (es : List HubEvent) (e : HubEvent) where
       → AreNext script (es ++ e ∷ []) × HaveLeft script (es ++ e ∷ []) queues
   other_more queues not_one none both = (next_more both.0 (λ session line is. absurd (not_one session line is)), left_other queues none both.1)
 
-submits_none : (e : HubEvent) → ((session line : ℕ) → e ≡ logged.Submit session line → ⊥) → (session : ℕ) → is_submit_of session e ≡ 0
+pub submits_none : (e : HubEvent) → ((session line : ℕ) → e ≡ logged.Submit session line → ⊥) → (session : ℕ) → is_submit_of session e ≡ 0
 submits_none (logged.Submit at line) not_one session = absurd (not_one at line refl)
 submits_none (logged.Arrive brick bytes) not_one session = refl
 submits_none (logged.Run graph task) not_one session = refl
@@ -80,10 +80,10 @@ submits_none (logged.Act a) not_one session = refl
 submits_none (logged.Arm brick p count a) not_one session = refl
 
 module _ (script : Script) (es : List HubEvent) (own line : ℕ) (old new : List (List LineAt)) (at : LineAt) (takes : TakesLine old own at new) (left : HaveLeft script es old) where
-  its_next : slice_get (places_from own 0 script.phases) (submits_of own es) ≡ Some at
+  pub its_next : slice_get (places_from own 0 script.phases) (submits_of own es) ≡ Some at
   its_next = first_left (places_from own 0 script.phases) (submits_of own es) at (queue_of new own) (sym (left own) ∙ takes.line)
 
-  left_submit : HaveLeft script (es ++ logged.Submit own line ∷ []) new
+  pub left_submit : HaveLeft script (es ++ logged.Submit own line ∷ []) new
   left_submit session = by (own == session) refl where
     pushed : submits_of session (es ++ logged.Submit own line ∷ []) ≡ submits_of session es + (if own == session then 1 else 0)
     pushed = submits_push session es (logged.Submit own line)

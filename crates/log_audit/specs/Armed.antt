@@ -14,3 +14,7 @@ IsArmable (Wrong place) = ⊥
 -- each line from this place up to the stop sends this brick, in this event, an input that can be armed
 pub record AreArmedFrom (sent : List SentLine) (from : ℕ) (armed : ArmedLines) : Type 0 where
   pub each : (k : ℕ) (line : SentLine) → from ≤ k → k < armed.stop → slice_get sent k ≡ Some line → IsArmedLine armed.event armed.brick line
+
+-- and at each place are given lines that begin there
+abbrev pub AreAllArmed : List SentLine → List ArmedLines → Type 0
+AreAllArmed sent all = (k : ℕ) (armed : ArmedLines) → slice_get all k ≡ Some armed → AreArmedFrom sent k armed

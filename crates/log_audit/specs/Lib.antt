@@ -1,5 +1,6 @@
 -- In reading order: the last wind of each slot; what it says of the winds so far; prefixes; timely arrivals; lines
--- that can be armed; causes of what was sent; calls with their graphs, connections, and the evidence of I/O errors.
+-- that can be armed; causes of what was sent; calls with their graphs, connections, and the evidence of I/O errors;
+-- notes of a run; requests by their numbers; controls; calls; ends of winds; ties.
 pub mod Slots
 pub mod Agreeing
 pub mod Prefixes
@@ -13,3 +14,9 @@ pub mod CallGraphs
 pub mod Opened
 pub mod Evidence
 pub mod IoCauses
+pub mod Noted
+pub mod Numbered
+pub mod Controlled
+pub mod Called
+pub mod Ended
+pub mod Tied

@@ -2,7 +2,7 @@
 ghost use Rattle.std.specs.Prelude.{◌≡◌, ℕ, List, true, IfOk};
 ghost use Rattle.mount_log.specs.declared.logs.SentLine.{SentLine as Line};
 ghost use Rattle.mount_log.specs.Follows.{AreArmable, CanBeArmed, IsArmedLine};
-ghost use Rattle.log_audit.specs.Armed.{IsArmable, AreArmedFrom};
+ghost use Rattle.log_audit.specs.Armed.{IsArmable, AreArmedFrom, AreAllArmed};
 
 use crate::requests::is_request;
 use fop_types::Input;
@@ -112,4 +112,20 @@ pub fn armed_at(
         Some(line) => armed_from(alloc, sent, at, line.event, line.brick),
         None => Ok(before),
     }
+}
+
+/// The armed lines that the line at each place is among.
+///
+/// # Errors
+/// Out of memory.
+pub fn all_armed(alloc: Global, sent: &[SentLine]) -> Result<Vec<ArmedLines>, AllocError>
+    ensures { IfOk result (λ all. AreAllArmed sent.now all.items) }
+{
+    let mut all = Vec::new(alloc);
+    let mut armed = none_armed();
+    for at in 0..sent.len() {
+        armed = armed_at(alloc, sent, at, armed)?;
+        all.push(armed)?;
+    }
+    Ok(all)
 }

@@ -28,8 +28,8 @@ pub struct Switched {
     pub count: usize,
 }
 
-// The event of this number, from 1.
-fn event_at(log: &Log, number: u64) -> Option<&HubEvent>
+/// The event of this number, from 1.
+pub fn event_at(log: &Log, number: u64) -> Option<&HubEvent>
     ensures { option_copied result ≡ event_of log.now number }
 {
     if number == 0 {
@@ -124,7 +124,8 @@ fn count_to(events: &[HubEvent], number: u64, passed: Switched) -> Switched
     now
 }
 
-fn passed_to(log: &Log, number: u64, passed: Switched) -> Switched
+/// The events up to this number are passed, behind those that were passed before.
+pub fn passed_to(log: &Log, number: u64, passed: Switched) -> Switched
     requires { IsCounted log.now.events passed }
     ensures { IsCounted log.now.events result }
 {

@@ -105,8 +105,8 @@ fn is_carried(
     }
 }
 
-// The event at this place, from 0.
-fn event_at(log: &Log, k: usize) -> Option<&HubEvent>
+/// The event at this place, from 0.
+pub fn event_at(log: &Log, k: usize) -> Option<&HubEvent>
     ensures { option_copied result ≡ slice_get log.now.events k }
 {
     log.events.as_slice().get(k)

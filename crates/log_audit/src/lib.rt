@@ -4,7 +4,10 @@
 //!   winds_are_balanced     the winds              each was opened once and ended once
 //!   winds_are_once         the winds              each was opened once and ended at most once
 //!   submits_are_in_order   the events, a script   each session submits its lines in order
+//!   is_run_of              the events, what was   each control is carried out once, at its request where it goes before
+//!                          sent, a script         one, and calls are submitted and answered within their phases
 //!   is_finished            the replies, a script  each call has one reply
+//!   lines_are_tied         all lines              replies, winds and requests are of their calls, events and graphs
 //!   connects_are_caused    what was sent          connections, Downs and Ups have their causes
 //!   arrivals_are_honest    what was sent and      what arrived is what the bricks make of what was sent
 //!                          arrived, the bricks
@@ -16,10 +19,13 @@
 //! more than its definition, where every log of a run has it. A program calls them before it writes a report.
 #![tactic(auto)]
 
+mod acts;
 mod armed_lines;
 mod brick_replies;
 mod bricks;
 mod call_graphs;
+mod calls_made;
+mod carried;
 mod causes;
 mod connections;
 mod connects;
@@ -29,11 +35,23 @@ mod enough;
 mod evidence;
 mod finished;
 mod honest;
+mod in_time;
 mod io_causes;
 mod losses;
+mod noting;
+mod nth_requests;
+mod phase_ends;
 mod requests;
+mod run;
+mod run_notes;
 mod slots;
 mod submits;
+mod tie_notes;
+mod tied_ends;
+mod tied_replies;
+mod tied_requests;
+mod tied_winds;
+mod ties;
 mod timely;
 mod winds;
 
@@ -41,5 +59,7 @@ pub use connects::connects_are_caused;
 pub use ended::is_finished;
 pub use honest::arrivals_are_honest;
 pub use io_causes::io_errors_are_caused;
+pub use run::{follows_script, is_run_of};
 pub use submits::submits_are_in_order;
+pub use ties::lines_are_tied;
 pub use winds::{winds_are_balanced, winds_are_once};

@@ -1,5 +1,5 @@
 //! The procedure of a request, by its encoding.
-ghost use Rattle.std.specs.Prelude.{◌≡◌, is_some};
+ghost use Rattle.std.specs.Prelude.{◌≡◌, Some, is_some, true};
 ghost use Rattle.mount_log.specs.Procedures.{rank_in, proc_in};
 
 use fop_types::Proc;
@@ -23,7 +23,8 @@ const KINDS: usize = 16;
 
 const REQUEST: [u8; 4] = [0, 0, 0, 0];
 
-fn rank(input: &[u8]) -> Option<u8>
+/// The rank of the procedure of an input that is a request, and `None` of other inputs.
+pub fn rank_of(input: &[u8]) -> Option<u8>
     ensures { result ≡ rank_in input.now }
 {
     if input.len() < KINDS + 4 || &input[..4] != REQUEST.as_slice() {
@@ -33,11 +34,11 @@ fn rank(input: &[u8]) -> Option<u8>
     if number == 0 { None } else { Some(number - 1) }
 }
 
-// The procedure of an input that is a request, and `None` of other inputs.
-fn request_proc(input: &[u8]) -> Option<Proc>
+/// The procedure of an input that is a request, and `None` of other inputs.
+pub fn request_proc(input: &[u8]) -> Option<Proc>
     ensures { result ≡ proc_in input.now }
 {
-    let rank = rank(input)?;
+    let rank = rank_of(input)?;
     PROCS.get(rank as usize).copied()
 }
 
@@ -46,4 +47,14 @@ pub fn is_request(input: &[u8]) -> bool
     ensures { result ≡ is_some (proc_in input.now) }
 {
     request_proc(input).is_some()
+}
+
+/// Whether an input is a request of this procedure.
+pub fn is_request_of(input: &[u8], proc: Proc) -> bool
+    ensures { result ≡ true → proc_in input.now ≡ Some proc }
+{
+    match request_proc(input) {
+        Some(found) => found == proc,
+        None => false,
+    }
 }

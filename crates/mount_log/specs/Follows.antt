@@ -1,7 +1,7 @@
 -- When a log follows a script, and when it is finished. Each session's calls are submitted in order, those of a phase once
 -- all earlier phases have ended; each control of a phase is carried out once, as an event of its own, or, where it was armed,
--- directly before its request; and there is no other action.
-use Rattle.std.specs.Prelude.{◌≡◌, ℕ, ◌+◌, ◌-◌, ◌<◌, ◌≤◌, ◌==◌, List, [], ◌∷◌, Option, Some, None, length, slice_get, take, if◌then◌else◌}
+-- directly before its request; each control before a request is armed once; and there is no other action.
+use Rattle.std.specs.Prelude.{◌≡◌, ℕ, ◌+◌, ◌-◌, ◌<◌, ◌≤◌, ◌==◌, nat_lt, ◌&&◌, Bool, false, List, [], ◌∷◌, Option, Some, None, length, slice_get, take, if◌then◌else◌}
 use Rattle.fop_types.specs.declared.messages.Input.{Input}
 use Rattle.fop_types.specs.declared.messages.Input.TheVariants as input
 use Rattle.fop_types.specs.declared.messages.Proc.{Proc}
@@ -14,7 +14,7 @@ use Rattle.script_lang.specs.declared.scripts.Phase.{Phase}
 use Rattle.script_lang.specs.declared.scripts.Script.{Script}
 use Rattle.script_lang.specs.declared.scripts.When.TheVariants as moment
 use Rattle.wire_xdr.specs.WireText.{input_text}
-use Rattle.mount_log.specs.Procedures.{proc_in}
+use Rattle.mount_log.specs.Procedures.{rank_in, proc_in}
 use Rattle.mount_log.specs.declared.logs.HubEvent.{HubEvent}
 use Rattle.mount_log.specs.declared.logs.HubEvent.TheVariants as logged
 use Rattle.mount_log.specs.declared.logs.Log.{Log}
@@ -94,10 +94,38 @@ pub record IsSentBefore (log : Log) (number brick : ℕ) (p : Proc) (a : Action)
   pub same_event : request.event ≡ number
   pub is_request : proc_in request.bytes ≡ Some p
 
--- how a control is carried out in an event
-pub data IsCarriedIn (log : Log) (number : ℕ) (c : ControlLine) : Type 0 where
-  ByEvent : IsEvent log number (logged.Act c.action) → IsCarriedIn log number c
-  ByRequest : (brick : ℕ) (p : Proc) (count : ℕ) → c.when ≡ moment.Before brick p count → IsSentBefore log number brick p c.action → IsCarriedIn log number c
+-- how many requests of the procedure of this rank were sent to a brick behind an event
+abbrev pub is_rank : ℕ → Option ℕ → Bool
+is_rank rank None = false
+is_rank rank (Some found) = found == rank
+
+abbrev pub is_request_since : ℕ → ℕ → ℕ → SentLine → Bool
+is_request_since since brick rank line = nat_lt since line.event && ((line.brick == brick) && is_rank rank (rank_in line.bytes))
+
+abbrev pub requests_since : ℕ → ℕ → ℕ → List SentLine → ℕ
+requests_since since brick rank [] = 0
+requests_since since brick rank (line ∷ lines) = (if is_request_since since brick rank line then 1 else 0) + requests_since since brick rank lines
+
+-- the line at a place is, behind an event, the request of this number to its brick among those of its procedure
+pub record IsNth (log : Log) (since at count : ℕ) : Type 0 where
+  pub line : SentLine
+  pub there : slice_get log.sent at ≡ Some line
+  pub rank : ℕ
+  pub rank_is : rank_in line.bytes ≡ Some rank
+  pub count_is : requests_since since line.brick rank (take (at + 1) log.sent) ≡ count
+
+-- how a control is carried out in an event, in a phase that is behind another: by the event itself, or, where it was armed,
+-- by the line at a place, before the request of its number in the phase
+pub data IsCarriedIn (log : Log) (since number : ℕ) (place : Option ℕ) (c : ControlLine) : Type 0 where
+  ByEvent : place ≡ None → IsEvent log number (logged.Act c.action) → IsCarriedIn log since number place c
+  ByRequest : (brick : ℕ) (p : Proc) (count : ℕ) → c.when ≡ moment.Before brick p count → (sent : IsSentBefore log number brick p c.action)
+      → place ≡ Some sent.place → IsNth log since sent.request_at count → IsCarriedIn log since number place c
+
+-- a control before a request is armed in an event
+pub record IsArmedIn (log : Log) (number brick : ℕ) (p : Proc) (count : ℕ) (a : Action) (since until : ℕ) : Type 0 where
+  pub event : IsEvent log number (logged.Arm brick p count a)
+  pub behind : since < number
+  pub before : number < until
 
 -- the action of an event is that of a control which is carried out there
 pub record IsCarriedAt (script : Script) (carried_at : ℕ → ℕ → ℕ) (number : ℕ) (a : Action) : Type 0 where
@@ -108,23 +136,37 @@ pub record IsCarriedAt (script : Script) (carried_at : ℕ → ℕ → ℕ) (num
   pub number_is : carried_at phase at ≡ number
   pub action_is : control.action ≡ a
 
--- what is armed is a control of the script, for its request
-pub record IsControlBefore (script : Script) (brick : ℕ) (p : Proc) (count : ℕ) (a : Action) : Type 0 where
+-- what an event arms is a control of the script that is armed there, for its request
+pub record IsControlBefore (script : Script) (armed_at : ℕ → ℕ → ℕ) (number brick : ℕ) (p : Proc) (count : ℕ) (a : Action) : Type 0 where
   pub phase : ℕ
   pub at : ℕ
   pub control : ControlLine
   pub there : control_at script phase at ≡ Some control
+  pub number_is : armed_at phase at ≡ number
   pub when_is : control.when ≡ moment.Before brick p count
   pub action_is : control.action ≡ a
 
--- a plan of the run: the event in which each control is carried out, and the last event of each phase
+-- the last event before a phase
+abbrev pub begun_at : (ℕ → ℕ) → ℕ → ℕ
+begun_at ended_at phase = if phase == 0 then 0 else ended_at (phase - 1)
+
+-- a plan of the run: the last event of each phase; the events in which each control is carried out and armed; and the place of
+-- the line that sends its input, where it was armed
 pub record RunOf (script : Script) (log : Log) : Type 0 where
-  pub carried_at : ℕ → ℕ → ℕ
   pub ended_at : ℕ → ℕ
+  pub carried_at : ℕ → ℕ → ℕ
+  pub sent_at : ℕ → ℕ → Option ℕ
+  pub armed_at : ℕ → ℕ → ℕ
   pub rises : (phase : ℕ) → ended_at phase ≤ ended_at (phase + 1)
-  pub carried : (phase at : ℕ) (c : ControlLine) → control_at script phase at ≡ Some c → IsCarriedIn log (carried_at phase at) c
+  pub carried : (phase at : ℕ) (c : ControlLine) → control_at script phase at ≡ Some c → IsCarriedIn log (begun_at ended_at phase) (carried_at phase at) (sent_at phase at) c
+  pub behind : (phase at : ℕ) (c : ControlLine) → control_at script phase at ≡ Some c → begun_at ended_at phase < carried_at phase at
   pub within : (phase at : ℕ) (c : ControlLine) → control_at script phase at ≡ Some c → carried_at phase at ≤ ended_at phase
-  pub after : (phase at : ℕ) (c : ControlLine) → control_at script (phase + 1) at ≡ Some c → ended_at phase < carried_at (phase + 1) at
+  -- no two controls are carried out by one event or one line
+  pub once : (p i q j : ℕ) (a b : ControlLine) → control_at script p i ≡ Some a → control_at script q j ≡ Some b → carried_at p i ≡ carried_at q j → sent_at p i ≡ sent_at q j
+      → (p ≡ q) × (i ≡ j)
+  -- each control before a request is armed within its phase, before it is carried out
+  pub arms : (phase at brick count : ℕ) (p : Proc) (c : ControlLine) → control_at script phase at ≡ Some c → c.when ≡ moment.Before brick p count
+      → IsArmedIn log (armed_at phase at) brick p count c.action (begun_at ended_at phase) (carried_at phase at)
   -- controls without a condition are carried out in their order
   pub in_order : (phase i j : ℕ) (a b : ControlLine) → control_at script phase i ≡ Some a → control_at script phase j ≡ Some b
       → a.when ≡ moment.Now → b.when ≡ moment.Now → i < j → carried_at phase i < carried_at phase j
@@ -135,9 +177,9 @@ pub record RunOf (script : Script) (log : Log) : Type 0 where
   pub answered : (k session line number : ℕ) (at : LineAt) → slice_get log.events k ≡ Some (logged.Submit session line)
       → place_of_line script session (submits_of session (take k log.events)) ≡ Some at → submitted_at log number ≡ k + 1
       → replied_at log number ≤ ended_at at.phase
-  -- there is no other action, and nothing is armed but controls
+  -- there is no other action, and no other is armed
   pub no_other : (number : ℕ) (a : Action) → IsEvent log number (logged.Act a) → IsCarriedAt script carried_at number a
-  pub armed : (number brick count : ℕ) (p : Proc) (a : Action) → IsEvent log number (logged.Arm brick p count a) → IsControlBefore script brick p count a
+  pub armed : (number brick count : ℕ) (p : Proc) (a : Action) → IsEvent log number (logged.Arm brick p count a) → IsControlBefore script armed_at number brick p count a
 
 pub record FollowsScript (script : Script) (log : Log) : Type 0 where
   pub submitted : AreInOrder script log

@@ -1,5 +1,5 @@
 -- In reading order: the log; lines of a script; submissions and replies; the graphs of a run; winds; the procedure of a
--- request; when a log follows its script; connections; causes of I/O errors.
+-- request; when a log follows its script; connections; causes of I/O errors; how lines are tied to events.
 pub mod Logs
 pub mod Lines
 pub mod Submissions
@@ -10,3 +10,4 @@ pub mod Procedures
 pub mod Follows
 pub mod Connections
 pub mod Causes
+pub mod Ties

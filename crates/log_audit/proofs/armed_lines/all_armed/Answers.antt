@@ -1,0 +1,15 @@
+use Rattle.std.proofs.Common.{◌≡◌, sym, ap, subst, ◌∙◌, arith}
+use Rattle.std.specs.Prelude.{List, length}
+use Rattle.log_audit.specs.Armed.{AreAllArmed}
+use Rattle.log_audit.specs.declared.armed_lines.ArmedLines.{ArmedLines}
+use Rattle.log_audit.proofs.Arming.{armed_later}
+use Rattle.log_audit.proofs.Controlling.{armed_push, one_longer}
+use Rattle.log_audit.proofs.armed_lines.all_armed.Goals as goal
+
+pub loop-at-preserved : goal.loop-at-preserved
+loop-at-preserved c = (
+  subst (λ (l : List ArmedLines). AreAllArmed c.args.sent.now l) (sym c.in_ok-push.ensures.items)
+      (armed_push c.args.sent.now c.loop-at.all.items c.loop-at.at c.in_ok-armed.armed c.loop-at.invariant.1 c.in_ok-armed.ensures c.loop-at.invariant.0),
+  ap length c.in_ok-push.ensures.items ∙ one_longer c.loop-at.all.items c.in_ok-armed.armed c.loop-at.at c.loop-at.invariant.1,
+  armed_later c.args.sent.now c.loop-at.at c.in_ok-armed.armed c.in_ok-armed.ensures,
+)

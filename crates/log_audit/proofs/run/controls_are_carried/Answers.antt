@@ -1,0 +1,12 @@
+use Rattle.std.proofs.Common.{◌≡◌, subst}
+use Rattle.std.specs.Prelude.{IfSome}
+use Rattle.log_audit.specs.Controlled.{AreTables}
+use Rattle.log_audit.proofs.run.controls_are_carried.Goals as goal
+
+pub returns : goal.returns
+returns c = λ yes. record {
+  acts = c.acts_are_of_controls.ensures c.if-not-acts_are_of_controls.false;
+  tables = c.in-Some.tables;
+  are = subst (λ o. IfSome o (λ tables. AreTables c.args.notes.now.ended c.args.log.now tables)) c.in-Some.is c.in_ok-tables.ensures;
+  phases = c.in_ok-yes.ensures yes;
+}

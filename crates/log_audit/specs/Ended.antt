@@ -1,0 +1,66 @@
+-- What ends the wind of a request, as an audit finds it.
+use Rattle.std.specs.Prelude.{◌≡◌, ℕ, false, List, Some, slice_get}
+use Rattle.fop_types.specs.declared.messages.Input.{Input}
+use Rattle.fop_types.specs.declared.messages.Input.TheVariants as input
+use Rattle.fop_types.specs.declared.messages.Output.{Output}
+use Rattle.wire_messages.specs.Messages.{input_in, output_in}
+use Rattle.wire_messages.specs.declared.messages.Message.{Message}
+use Rattle.wire_messages.specs.declared.messages.Message.TheVariants.{Whole, Wrong}
+use Rattle.xlator_law.specs.declared.winds.WindNo.{WindNo}
+use Rattle.mount_log.specs.Ties.{IsNumberOf, EndsWind, HasEnd}
+use Rattle.mount_log.specs.declared.logs.HubEvent.{HubEvent}
+use Rattle.mount_log.specs.declared.logs.HubEvent.TheVariants as logged
+use Rattle.mount_log.specs.declared.logs.Log.{Log}
+use Rattle.mount_log.specs.declared.logs.SentLine.{SentLine}
+use Rattle.mount_log.specs.declared.logs.WindLine.{WindLine}
+
+-- ---- by an output
+
+abbrev pub SaysEnd : WindNo → Message Output → Type 0
+SaysEnd wind (Whole output) = EndsWind wind output.kind
+SaysEnd wind (Wrong place) = ⊥
+
+abbrev pub IsEndEvent : ℕ → WindNo → HubEvent → Type 0
+IsEndEvent brick wind (logged.Arrive from bytes) = (from ≡ brick) × SaysEnd wind (output_in bytes)
+IsEndEvent brick wind (logged.Submit session line) = ⊥
+IsEndEvent brick wind (logged.Run graph task) = ⊥
+IsEndEvent brick wind (logged.Act a) = ⊥
+IsEndEvent brick wind (logged.Arm at p count a) = ⊥
+
+-- ---- by a Disconnect
+
+abbrev pub SaysDisconnect : ℕ → Message Input → Type 0
+SaysDisconnect graph (Whole found) = found ≡ input.Disconnect graph
+SaysDisconnect graph (Wrong place) = ⊥
+
+pub record IsDisconnect (number brick graph : ℕ) (line : SentLine) : Type 0 where
+  pub event_is : line.event ≡ number
+  pub brick_is : line.brick ≡ brick
+  pub says : SaysDisconnect graph (input_in line.bytes)
+
+pub record IsDisconnectAt (sent : List SentLine) (at number brick graph : ℕ) : Type 0 where
+  pub line : SentLine
+  pub there : slice_get sent at ≡ Some line
+  pub is : IsDisconnect number brick graph line
+
+-- ---- of a request
+
+pub record IsEndingOf (number graph : ℕ) (line : WindLine) : Type 0 where
+  pub is_end : line.opened ≡ false
+  pub same_graph : line.graph ≡ graph
+  pub of_wind : IsNumberOf line.wind number
+
+abbrev pub IsInputEnded : Log → ℕ → Input → Type 0
+IsInputEnded log brick (input.Request number graph request) = HasEnd log brick number graph
+IsInputEnded log brick (input.Connect graph version) = Unit {0}
+IsInputEnded log brick (input.Disconnect graph) = Unit {0}
+IsInputEnded log brick (input.Down serve) = Unit {0}
+IsInputEnded log brick input.Up = Unit {0}
+IsInputEnded log brick (input.FaultAt p number) = Unit {0}
+
+abbrev pub IsEnded : Log → ℕ → Message Input → Type 0
+IsEnded log brick (Whole found) = IsInputEnded log brick found
+IsEnded log brick (Wrong place) = Unit {0}
+
+abbrev pub AreEnded : Log → Type 0
+AreEnded log = (k : ℕ) (line : SentLine) → slice_get log.sent k ≡ Some line → IsEnded log line.brick (input_in line.bytes)

@@ -1,0 +1,117 @@
+//! The calls that were submitted, by their numbers.
+ghost use Rattle.std.specs.Prelude.{◌≡◌, true, IfOk, IfSome, option_copied, slice_get};
+ghost use Rattle.script_lang.specs.Accepted.{IsAccepted};
+ghost use Rattle.log_audit.specs.Called.{AreCalls, AreInPhases, IsAnsweredIn, AreAnsweredIn, call_by};
+
+use crate::causes::{Switched, passed_to};
+use crate::downs::event_at;
+use crate::phase_ends::{end_of, is_within};
+use mount_log::{HubEvent, Log, ReplyLine, lines_of_sessions, take_line};
+use script_lang::Script;
+use std::alloc::{AllocError, Global};
+
+/// A call: the event that submitted it, its session and line, the phase of the line, and how many switches were carried out
+/// before.
+#[derive(Clone, Copy)]
+pub struct CallMade {
+    pub event: u64,
+    pub session: u8,
+    pub line: u32,
+    pub phase: u32,
+    pub switches: usize,
+}
+
+fn call_made(event: u64, session: u8, line: u32, phase: u32, switches: usize) -> CallMade
+    ensures { result ≡ record { event = event; session = session; line = line; phase = phase; switches = switches } }
+{
+    CallMade {
+        event,
+        session,
+        line,
+        phase,
+        switches,
+    }
+}
+
+/// The calls of a log by their numbers, the first one at 0; `None` where a session submits more lines than it has.
+///
+/// # Errors
+/// Out of memory.
+pub fn calls_made(
+    alloc: Global,
+    script: &Script,
+    log: &Log,
+) -> Result<Option<Vec<CallMade>>, AllocError>
+    requires { IsAccepted script.now }
+    ensures { IfOk result (λ found. IfSome found (λ calls. AreCalls script.now log.now calls.items)) }
+{
+    let mut queues = lines_of_sessions(alloc, script)?;
+    let mut calls = Vec::new(alloc);
+    let mut passed = Switched { next: 0, count: 0 };
+    for k in 0..log.events.len() {
+        let Some(event) = event_at(log, k) else {
+            return Ok(None);
+        };
+        let HubEvent::Submit { session, line } = event else {
+            continue;
+        };
+        let Some(at) = take_line(&mut queues, *session) else {
+            return Ok(None);
+        };
+        passed = passed_to(log, k as u64, passed);
+        if passed.next != k {
+            return Ok(None);
+        }
+        calls.push(call_made(k as u64 + 1, *session, *line, at.phase, passed.count))?;
+    }
+    Ok(Some(calls))
+}
+
+/// The call of this number, from 1.
+pub fn call_of(calls: &[CallMade], number: u32) -> Option<&CallMade>
+    ensures { option_copied result ≡ call_by calls.now number }
+{
+    if number == 0 {
+        return None;
+    }
+    calls.get(number as usize - 1)
+}
+
+/// Whether each call was submitted within the phase of its line.
+pub fn are_in_phases(calls: &[CallMade], ended: &[u64], last: u64) -> bool
+    ensures { result ≡ true → AreInPhases ended.now last calls.now }
+{
+    for k in 0..calls.len() {
+        let Some(call) = calls.get(k) else {
+            return false;
+        };
+        if !is_within(ended, last, call.phase as usize, call.event) {
+            return false;
+        }
+    }
+    true
+}
+
+fn is_answered_in(calls: &[CallMade], ended: &[u64], last: u64, reply: &ReplyLine) -> bool
+    ensures { result ≡ true → IsAnsweredIn calls.now ended.now last reply.now }
+{
+    match call_of(calls, reply.call) {
+        Some(call) => reply.event <= end_of(ended, last, call.phase as usize),
+        None => false,
+    }
+}
+
+/// Whether each reply is to a call, and comes before the end of the phase of its line.
+pub fn are_answered_in(calls: &[CallMade], ended: &[u64], last: u64, replies: &[ReplyLine]) -> bool
+    ensures { result ≡ true → AreAnsweredIn calls.now ended.now last replies.now }
+{
+    for k in 0..replies.len() {
+        let Some(reply) = replies.get(k) else {
+            return false;
+        };
+        if !is_answered_in(calls, ended, last, reply) {
+            return false;
+        }
+    }
+    true
+}
