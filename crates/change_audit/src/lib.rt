@@ -1,0 +1,25 @@
+//! The audit of acknowledged changes: whether each change of the history whose call was answered well is on the bricks.
+//!
+//! ```text
+//!   history    entry k: call 7, part 1          its operation, by the judge of histories
+//!   replies    call 7 was answered well         call_graphs, acknowledged
+//!
+//!   brick 0    journal .. Op 12 .. Post 12 ..   each answered Done in its outputs, in the call's graph
+//!   brick 2    journal .. Op 12 .. Post 12 ..   one change number, one store op, which makes the operation
+//!              a quorum of the bricks of one set
+//! ```
+//!
+//! Which bricks bear a change is found (`finding`) by one pass over each brick's journal and outputs, and then each is looked at
+//! again where it was found (`bearers`): what is found carries no proof, what is looked at does. It is the `true` of the look
+//! alone that says something.
+#![tactic(auto)]
+
+mod acknowledged;
+mod bearers;
+mod call_graphs;
+mod changes;
+mod finding;
+mod making;
+mod served;
+
+pub use changes::changes_are_borne;

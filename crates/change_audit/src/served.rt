@@ -1,0 +1,311 @@
+//! Requests that a brick has answered Done.
+ghost use Rattle.std.specs.Prelude.{◌≡◌, true, Some, option_copied, slice_get, drop, IfOk, IfSome};
+ghost use Rattle.fop_types.specs.declared.messages.BrickRep.TheVariants.{Done};
+ghost use Rattle.fop_types.specs.declared.messages.DoneArm.TheVariants.{Nothing};
+ghost use Rattle.fop_types.specs.declared.messages.Input.TheVariants.{Request};
+ghost use Rattle.fop_types.specs.declared.messages.OutKind.TheVariants.{Reply};
+ghost use Rattle.wire_xdr.specs.WireText.{input_text, output_text, IsOutput};
+ghost use Rattle.change_audit.specs.Served.{IsPutOut, IsOnWind, IsOpOf, IsOpIn, IsOpText, IsPostOf, IsPostIn, IsPostOn, HasText, IsServed, IsPosted};
+
+use brick_machine::{Brick, outputs_are_encoded};
+use bytes::Bytes;
+use fop_types::{BrickRep, BrickReq, DoneArm, Input, OutKind, Output, StoreOp};
+use std::alloc::{AllocError, Global};
+use wire_messages::{Message, input_of, messages_read_back, output_of};
+
+/// A request in a brick's journal, and its answer among the brick's outputs, by their places from 0.
+#[derive(Clone, Copy)]
+pub struct Served {
+    pub place: usize,
+    pub answer: usize,
+}
+
+/// The bytes at a place.
+pub(crate) fn bytes_at(list: &[Bytes], at: usize) -> Option<&Bytes>
+    ensures { option_copied result ≡ slice_get list.now at }
+{
+    list.get(at)
+}
+
+// ---- outputs
+
+/// The output that the bytes are, if they are one.
+///
+/// # Errors
+/// Out of memory.
+pub(crate) fn whole_output(alloc: Global, bytes: &[u8]) -> Result<Option<Output>, AllocError>
+    ensures { IfOk result (λ found. IfSome found (λ x. IsOutput x × (bytes.now ≡ output_text x))) }
+{
+    match output_of(alloc, bytes)? {
+        Message::Whole(output) => Ok(Some(output)),
+        Message::Wrong { place: _ } => Ok(None),
+    }
+}
+
+// The kind of the output at a place.
+fn kind_at(alloc: Global, brick: &Brick, at: usize) -> Result<Option<OutKind>, AllocError>
+    ensures { IfOk result (λ found. IfSome found (λ kind. IsPutOut brick.now.journal at kind)) }
+{
+    outputs_are_encoded();
+    messages_read_back();
+    let Some(bytes) = bytes_at(brick.outputs(), at) else {
+        return Ok(None);
+    };
+    let Some(output) = whole_output(alloc, bytes.as_slice())? else {
+        return Ok(None);
+    };
+    Ok(Some(output.kind))
+}
+
+fn is_nothing(arm: &DoneArm) -> bool
+    ensures { result ≡ true → arm.now ≡ Nothing }
+{
+    match arm {
+        DoneArm::Nothing => true,
+        _ => false,
+    }
+}
+
+fn is_done(rep: &BrickRep) -> bool
+    ensures { result ≡ true → rep.now ≡ Done Nothing }
+{
+    match rep {
+        BrickRep::Done(arm) => is_nothing(arm),
+        _ => false,
+    }
+}
+
+/// The wind of an output that is a Done with nothing.
+pub(crate) fn done_wind(kind: &OutKind) -> Option<u64>
+    ensures { IfSome result (λ wind. kind.now ≡ Reply wind (Done Nothing)) }
+{
+    match kind {
+        OutKind::Reply { wind, rep } => {
+            if is_done(rep) {
+                Some(*wind)
+            } else {
+                None
+            }
+        }
+        _ => None,
+    }
+}
+
+// The wind of the output at a place, if that is a Done with nothing.
+fn done_at(alloc: Global, brick: &Brick, at: usize) -> Result<Option<u64>, AllocError>
+    ensures { IfOk result (λ found. IfSome found (λ wind. IsPutOut brick.now.journal at (Reply wind (Done Nothing)))) }
+{
+    let Some(kind) = kind_at(alloc, brick, at)? else {
+        return Ok(None);
+    };
+    Ok(done_wind(&kind))
+}
+
+// Whether the output at a place is the Done of a wind.
+fn is_answered(alloc: Global, brick: &Brick, at: usize, wind: u64) -> Result<bool, AllocError>
+    ensures { IfOk result (λ yes. yes ≡ true → IsPutOut brick.now.journal at (Reply wind (Done Nothing))) }
+{
+    match done_at(alloc, brick, at)? {
+        Some(found) => Ok(found == wind),
+        None => Ok(false),
+    }
+}
+
+// ---- requests
+
+/// The input that the bytes are, if they are one.
+///
+/// # Errors
+/// Out of memory.
+pub(crate) fn whole_input(alloc: Global, bytes: &[u8]) -> Result<Option<Input>, AllocError>
+    ensures { IfOk result (λ found. IfSome found (λ x. bytes.now ≡ input_text x)) }
+{
+    match input_of(alloc, bytes)? {
+        Message::Whole(input) => Ok(Some(input)),
+        Message::Wrong { place: _ } => Ok(None),
+    }
+}
+
+// The kind of an input, a unit, and the number of a request's wind, a hyper.
+const BEFORE_TEXT: usize = 12;
+
+/// What bytes are behind the number of a wind.
+pub(crate) fn text_in(bytes: &[u8]) -> Option<&[u8]>
+    ensures { IfSome result (λ text. text.now ≡ drop 12 bytes.now) }
+{
+    if bytes.len() < BEFORE_TEXT {
+        return None;
+    }
+    let (_, text) = bytes.split_at(BEFORE_TEXT);
+    Some(text)
+}
+
+// The wind of bytes that are a request.
+fn wind_in(alloc: Global, bytes: &[u8]) -> Result<Option<u64>, AllocError>
+    ensures { IfOk result (λ found. IfSome found (λ wind. IsOnWind wind bytes.now)) }
+{
+    match whole_input(alloc, bytes)? {
+        Some(Input::Request { wind, .. }) => Ok(Some(wind)),
+        _ => Ok(None),
+    }
+}
+
+fn has_text(bytes: &[u8], text: &[u8]) -> bool
+    ensures { result ≡ true → drop 12 bytes.now ≡ text.now }
+{
+    match text_in(bytes) {
+        Some(found) => found == text,
+        None => false,
+    }
+}
+
+// The wind of bytes that are a request of this text.
+fn wind_before(alloc: Global, bytes: &[u8], text: &[u8]) -> Result<Option<u64>, AllocError>
+    ensures { IfOk result (λ found. IfSome found (λ wind. HasText wind text.now bytes.now)) }
+{
+    if !has_text(bytes, text) {
+        return Ok(None);
+    }
+    let found = wind_in(alloc, bytes)?;
+    Ok(found)
+}
+
+/// Whether the brick has answered Done to the request at a place, and this is the request's text.
+///
+/// # Errors
+/// Out of memory.
+pub(crate) fn is_served(
+    alloc: Global,
+    brick: &Brick,
+    at: Served,
+    text: &[u8],
+) -> Result<bool, AllocError>
+    ensures { IfOk result (λ yes. yes ≡ true → IsServed brick.now.journal at.place text.now) }
+{
+    let Some(bytes) = bytes_at(brick.journal(), at.place) else {
+        return Ok(false);
+    };
+    let Some(wind) = wind_before(alloc, bytes.as_slice(), text)? else {
+        return Ok(false);
+    };
+    let yes = is_answered(alloc, brick, at.answer, wind)?;
+    Ok(yes)
+}
+
+// ---- ops
+
+fn op_of(req: BrickReq, change: u64) -> Option<StoreOp>
+    ensures { IfSome result (λ o. IsOpOf change o req) }
+{
+    match req {
+        BrickReq::Op { change: of, op, .. } => {
+            if of == change {
+                Some(op)
+            } else {
+                None
+            }
+        }
+        _ => None,
+    }
+}
+
+fn op_asked(input: Input, graph: usize, change: u64) -> Option<StoreOp>
+    ensures { IfSome result (λ o. IsOpIn graph change o input) }
+{
+    match input {
+        Input::Request { graph: of, req, .. } => {
+            if of as usize == graph {
+                op_of(req, change)
+            } else {
+                None
+            }
+        }
+        _ => None,
+    }
+}
+
+/// The store op of bytes that are the op of a change in a graph.
+///
+/// # Errors
+/// Out of memory.
+pub(crate) fn op_in(
+    alloc: Global,
+    bytes: &[u8],
+    graph: usize,
+    change: u64,
+) -> Result<Option<StoreOp>, AllocError>
+    ensures { IfOk result (λ found. IfSome found (λ o. IsOpText graph change o (drop 12 bytes.now))) }
+{
+    match whole_input(alloc, bytes)? {
+        Some(input) => Ok(op_asked(input, graph, change)),
+        None => Ok(None),
+    }
+}
+
+// ---- posts
+
+fn is_post(req: &BrickReq, change: u64) -> bool
+    ensures { result ≡ true → IsPostOf change req.now }
+{
+    match req {
+        BrickReq::Post { change: of, .. } => *of == change,
+        _ => false,
+    }
+}
+
+// The wind of an input that is the post of a change in a graph.
+fn post_asked(input: &Input, graph: usize, change: u64) -> Option<u64>
+    ensures { IfSome result (λ wind. IsPostIn wind graph change input.now) }
+{
+    match input {
+        Input::Request {
+            wind,
+            graph: of,
+            req,
+        } => {
+            if *of as usize == graph && is_post(req, change) {
+                Some(*wind)
+            } else {
+                None
+            }
+        }
+        _ => None,
+    }
+}
+
+fn post_in(
+    alloc: Global,
+    bytes: &[u8],
+    graph: usize,
+    change: u64,
+) -> Result<Option<u64>, AllocError>
+    ensures { IfOk result (λ found. IfSome found (λ wind. IsPostOn wind graph change bytes.now)) }
+{
+    match whole_input(alloc, bytes)? {
+        Some(input) => Ok(post_asked(&input, graph, change)),
+        None => Ok(None),
+    }
+}
+
+/// Whether the brick has answered Done to the post of a change in a graph, which is at a place.
+///
+/// # Errors
+/// Out of memory.
+pub(crate) fn is_posted(
+    alloc: Global,
+    brick: &Brick,
+    at: Served,
+    graph: usize,
+    change: u64,
+) -> Result<bool, AllocError>
+    ensures { IfOk result (λ yes. yes ≡ true → IsPosted brick.now.journal graph change at.place) }
+{
+    let Some(bytes) = bytes_at(brick.journal(), at.place) else {
+        return Ok(false);
+    };
+    let Some(wind) = post_in(alloc, bytes.as_slice(), graph, change)? else {
+        return Ok(false);
+    };
+    let yes = is_answered(alloc, brick, at.answer, wind)?;
+    Ok(yes)
+}
