@@ -117,19 +117,16 @@ fn are_enough(plan: &SetPlan, bearers: &[Bearer]) -> bool
     plan.q as usize <= bearers.len()
 }
 
-/// The bytes of the op of the first bearer.
-pub(crate) fn first_op<'a>(bricks: &'a [Brick], bearers: &[Bearer]) -> Option<&'a [u8]> {
+// The bytes of the op of the first bearer.
+fn first_op<'a>(bricks: &'a [Brick], bearers: &[Bearer]) -> Option<&'a [u8]> {
     let first = bearers.first()?;
     let brick = brick_at(bricks, first.brick)?;
     let bytes = bytes_at(brick.journal(), first.op.place)?;
     Some(bytes.as_slice())
 }
 
-/// Whether bytes are the op of a change in a graph that makes the operation.
-///
-/// # Errors
-/// Out of memory.
-pub(crate) fn is_making(
+// Whether bytes are the op of a change in a graph that makes the operation.
+fn is_making(
     alloc: Global,
     bytes: &[u8],
     graph: usize,
@@ -160,7 +157,10 @@ pub(crate) fn has_bearers(
 ) -> Result<bool, AllocError>
     ensures { IfOk result (λ yes. yes ≡ true → HasBearers bricks.now plan.now graph operation.now) }
 {
-    if !are_apart(bearers) || !are_enough(plan, bearers) {
+    if !are_apart(bearers) {
+        return Ok(false);
+    }
+    if !are_enough(plan, bearers) {
         return Ok(false);
     }
     let Some(bytes) = first_op(bricks, bearers) else {

@@ -1,7 +1,7 @@
 //! The audit.
 ghost use Rattle.std.specs.Prelude.{◌≡◌, true, Some, option_copied, slice_get, IfOk, IfSome};
 ghost use Rattle.fop_types.specs.declared.history.Entry.{Entry as Made};
-ghost use Rattle.change_audit.specs.Borne.{IsBorne, AreBorne};
+ghost use Rattle.change_audit.specs.Borne.{IsBorne, IsAcknowledged, AreBorne};
 ghost use Rattle.change_audit.specs.CallGraphs.{AreGraphsOf};
 ghost use Rattle.change_audit.specs.Entries.{AreNotesOf, IsEntryBorne};
 
@@ -34,7 +34,7 @@ fn notes_of(
 ) -> Result<Option<Notes>, AllocError>
     ensures { IfOk result (λ found. IfSome found (λ notes. AreNotesOf script.now log.now notes)) }
 {
-    let bound = log.events.len() + 1;
+    let bound = log.events.len().saturating_add(1);
     let Some(marks) = answered_well(alloc, log.replies.as_slice(), bound)? else {
         return Ok(None);
     };
@@ -53,6 +53,35 @@ fn set_of(plans: &[Plan], graphs: &CallGraphs, graph: usize, change: &Borne) -> 
     set_with(plans, graphs, graph, first.brick)
 }
 
+// Whether the bricks of a set bear this change of a call, and it makes the operation.
+fn is_borne_in(
+    alloc: Global,
+    script: &Script,
+    plans: &[Plan],
+    log: &Log,
+    bricks: &[Brick],
+    graphs: &CallGraphs,
+    call: u32,
+    operation: &FlatOp,
+    change: &Borne,
+) -> Result<bool, AllocError>
+    requires { AreGraphsOf script.now log.now graphs.now }
+    ensures { IfOk result (λ yes. yes ≡ true → IsBorne script.now plans.now log.now bricks.now call operation.now) }
+{
+    let Some(graph) = graph_of(graphs, call) else {
+        return Ok(false);
+    };
+    let Some(set) = set_of(plans, graphs, graph, change) else {
+        return Ok(false);
+    };
+    let Some(plan) = set_in(plans, graphs, graph, set) else {
+        return Ok(false);
+    };
+    let bearers = change.bearers.as_slice();
+    let yes = has_bearers(alloc, bricks, plan, graph, operation, change.change, bearers)?;
+    Ok(yes)
+}
+
 // Whether the bricks of a set bear a change of a call that makes the operation.
 fn is_borne(
     alloc: Global,
@@ -67,30 +96,45 @@ fn is_borne(
     requires { AreGraphsOf script.now log.now notes.now.graphs }
     ensures { IfOk result (λ yes. yes ≡ true → IsBorne script.now plans.now log.now bricks.now call operation.now) }
 {
-    let Some(graph) = graph_of(&notes.graphs, call) else {
-        return Ok(false);
-    };
-    let Some(at) = notes.found.best(alloc, bricks, call, graph, operation)? else {
-        return Ok(false);
-    };
-    let Some(change) = notes.found.change(at) else {
-        return Ok(false);
-    };
-    let Some(set) = set_of(plans, &notes.graphs, graph, change) else {
-        return Ok(false);
-    };
-    let Some(plan) = set_in(plans, &notes.graphs, graph, set) else {
-        return Ok(false);
-    };
-    let bearers = change.bearers.as_slice();
-    let yes = has_bearers(alloc, bricks, plan, graph, operation, change.change, bearers)?;
+    let graphs = &notes.graphs;
+    for at in notes.found.begin(call)..notes.found.count() {
+        let Some(change) = notes.found.change(at, call) else {
+            return Ok(false);
+        };
+        if is_borne_in(
+            alloc, script, plans, log, bricks, graphs, call, operation, change,
+        )? {
+            return Ok(true);
+        }
+    }
+    Ok(false)
+}
+
+// Whether the operation of a call is borne, if the call was answered well.
+fn is_call_borne(
+    alloc: Global,
+    script: &Script,
+    plans: &[Plan],
+    log: &Log,
+    bricks: &[Brick],
+    notes: &Notes,
+    call: u32,
+    operation: &FlatOp,
+) -> Result<bool, AllocError>
+    requires { AreNotesOf script.now log.now notes.now }
+    ensures { IfOk result (λ yes. yes ≡ true → IsAcknowledged log.now call → IsBorne script.now plans.now log.now bricks.now call operation.now) }
+{
+    if !is_marked(notes.marks.as_slice(), call) {
+        return Ok(true);
+    }
+    let yes = is_borne(alloc, script, plans, log, bricks, notes, call, operation)?;
     Ok(yes)
 }
 
-fn entry_at(history: &[Entry], k: usize) -> Option<Entry>
-    ensures { result ≡ slice_get history.now k }
+fn entry_at(log: &Log, k: usize) -> Option<Entry>
+    ensures { result ≡ slice_get log.now.history k }
 {
-    history.get(k).copied()
+    log.history.as_slice().get(k).copied()
 }
 
 fn op_at(ops: &[FlatOp], k: usize) -> Option<&FlatOp>
@@ -113,22 +157,20 @@ fn is_entry_borne(
     requires { AreNotesOf script.now log.now notes.now }
     ensures { IfOk result (λ yes. yes ≡ true → (entry : Made) → slice_get log.now.history k ≡ Some entry → IsEntryBorne script.now plans.now log.now bricks.now ops.now k entry) }
 {
-    let Some(entry) = entry_at(log.history.as_slice(), k) else {
-        return Ok(true);
+    let Some(entry) = entry_at(log, k) else {
+        return Ok(false);
     };
-    if !is_marked(notes.marks.as_slice(), entry.call) {
-        return Ok(true);
-    }
     let Some(operation) = op_at(ops, k) else {
-        return Ok(true);
+        return Ok(false);
     };
-    let yes = is_borne(alloc, script, plans, log, bricks, notes, entry.call, operation)?;
+    let call = entry.call;
+    let yes = is_call_borne(alloc, script, plans, log, bricks, notes, call, operation)?;
     Ok(yes)
 }
 
 /// Whether each entry of the history whose call was answered well is borne: by a quorum of the bricks of one set, which have
 /// served the op of one change, which makes the entry's operation, and later its post, and have answered both Done. `ops` are
-/// the operations of the entries, in their order.
+/// the operations of the entries, in their order; where they are fewer than the entries, it is false.
 ///
 /// # Errors
 /// Out of memory.

@@ -1,10 +1,10 @@
 //! Which bricks bear which changes, found in journals and outputs. Nothing is said of what is found.
 
-use crate::bearers::{Bearer, first_op, is_making};
+use crate::bearers::Bearer;
 use crate::served::{Served, done_wind, whole_input, whole_output};
 use brick_machine::Brick;
 use bytes::Bytes;
-use fop_types::{BrickReq, FlatOp, Input, Seq};
+use fop_types::{BrickReq, Input, Seq};
 use mount_log::WindLine;
 use std::alloc::{AllocError, Global};
 use std::collections::BTreeMap;
@@ -212,20 +212,6 @@ fn in_order(
     Ok(found)
 }
 
-// Whether a change, by the op of its first bearer, makes the operation.
-fn is_of(
-    alloc: Global,
-    bricks: &[Brick],
-    change: &Borne,
-    graph: usize,
-    operation: &FlatOp,
-) -> Result<bool, AllocError> {
-    match first_op(bricks, change.bearers.as_slice()) {
-        Some(bytes) => is_making(alloc, bytes, graph, change.change, operation),
-        None => Ok(false),
-    }
-}
-
 impl Found {
     fn add(&mut self, key: ChangeOf, bearers: Seq<Bearer>) -> Result<(), AllocError> {
         let at = self.changes.len();
@@ -240,40 +226,26 @@ impl Found {
         Ok(())
     }
 
-    /// The place of the change of a call in a graph that makes the operation and has the most bearers.
-    ///
-    /// # Errors
-    /// Out of memory.
-    pub(crate) fn best(
-        &self,
-        alloc: Global,
-        bricks: &[Brick],
-        call: u32,
-        graph: usize,
-        operation: &FlatOp,
-    ) -> Result<Option<usize>, AllocError> {
-        let Some(begin) = self.begins.get(&call).copied() else {
-            return Ok(None);
-        };
-        let mut best = None;
-        let mut most = 0usize;
-        for at in begin..self.changes.len() {
-            let change = &self.changes[at];
-            if change.call != call {
-                return Ok(best);
-            }
-            let many = change.bearers.len();
-            if many > most && is_of(alloc, bricks, change, graph, operation)? {
-                best = Some(at);
-                most = many;
-            }
-        }
-        Ok(best)
+    /// The number of changes.
+    pub(crate) fn count(&self) -> usize {
+        self.changes.len()
     }
 
-    /// The change at a place.
-    pub(crate) fn change(&self, at: usize) -> Option<&Borne> {
-        self.changes.get(at)
+    /// The place of the first change of a call, and the number of changes where it has none.
+    pub(crate) fn begin(&self, call: u32) -> usize {
+        match self.begins.get(&call) {
+            Some(begin) => *begin,
+            None => self.changes.len(),
+        }
+    }
+
+    /// The change at a place, if it is one of the call.
+    pub(crate) fn change(&self, at: usize, call: u32) -> Option<&Borne> {
+        let change = self.changes.get(at)?;
+        if change.call != call {
+            return None;
+        }
+        Some(change)
     }
 }
 
