@@ -18,8 +18,7 @@ use Rattle.change_audit.proofs.Items.{all_mapped}
 apart_from : (n least : ℕ) (numbers : List ℕ) → n < least → RisesFrom least numbers → AllByRecursion (λ y. (n == y) ≡ false) numbers
 apart_from n least [] lt rises = tt
 apart_from n least (x ∷ numbers) lt rises =
-    let le = rises.0 in
-    (
+    let le = rises.0 in (
       false_from_ne_true (n == x) (λ e. let same = eqb-true n x e in absurd (omega (arith, same, lt, le))),
       apart_from n (x + 1) numbers (omega (arith, lt, le)) rises.1,
     )

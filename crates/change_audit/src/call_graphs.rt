@@ -179,12 +179,7 @@ fn set_among(plan: &Plan, brick: u8) -> Option<u8> {
 }
 
 /// The number of the set that has the brick in a graph.
-pub(crate) fn set_with(
-    plans: &[Plan],
-    tables: &CallGraphs,
-    graph: usize,
-    brick: u8,
-) -> Option<u8> {
+pub(crate) fn set_with(plans: &[Plan], tables: &CallGraphs, graph: usize, brick: u8) -> Option<u8> {
     let volfile = volfile_of(tables, graph)?;
     let plan = plan_at(plans, volfile)?;
     set_among(plan, brick)

@@ -78,7 +78,15 @@ fn is_borne_in(
         return Ok(false);
     };
     let bearers = change.bearers.as_slice();
-    let yes = has_bearers(alloc, bricks, plan, graph, operation, change.change, bearers)?;
+    let yes = has_bearers(
+        alloc,
+        bricks,
+        plan,
+        graph,
+        operation,
+        change.change,
+        bearers,
+    )?;
     Ok(yes)
 }
 

@@ -198,10 +198,7 @@ impl Search {
 }
 
 // The changes by call, and where those of each call begin.
-fn in_order(
-    alloc: Global,
-    changes: BTreeMap<ChangeOf, Seq<Bearer>>,
-) -> Result<Found, AllocError> {
+fn in_order(alloc: Global, changes: BTreeMap<ChangeOf, Seq<Bearer>>) -> Result<Found, AllocError> {
     let mut found = Found {
         changes: Vec::new(alloc),
         begins: BTreeMap::new(alloc),

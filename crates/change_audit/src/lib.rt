@@ -9,9 +9,10 @@
 //!              a quorum of the bricks of one set
 //! ```
 //!
-//! Which bricks bear a change is found (`finding`) by one pass over each brick's journal and outputs, and then each is looked at
-//! again where it was found (`bearers`): what is found carries no proof, what is looked at does. It is the `true` of the look
-//! alone that says something.
+//! Bearers are found by one pass over each brick's journal and outputs (`finding`), without a contract. What was found is then
+//! checked where it is (`bearers`), and the audit's `true` rests on that check alone: true says that each acknowledged change is
+//! on the bricks, false says nothing. With n inputs, outputs, winds and entries the audit takes time of the order n log n, and of
+//! the bytes that are decoded.
 #![tactic(auto)]
 
 mod acknowledged;

@@ -138,13 +138,7 @@ fn is_rmdir(flat: &FlatOp, parent: Gfid, name: &Seq<u8>) -> bool
     }
 }
 
-fn is_rename(
-    flat: &FlatOp,
-    parent: Gfid,
-    name: &Seq<u8>,
-    target: Gfid,
-    new_name: &Seq<u8>,
-) -> bool
+fn is_rename(flat: &FlatOp, parent: Gfid, name: &Seq<u8>, target: Gfid, new_name: &Seq<u8>) -> bool
     ensures { result ≡ true → flat.now ≡ op.Rename parent name.now target new_name.now }
 {
     match flat {
@@ -154,10 +148,7 @@ fn is_rename(
             target: t,
             new_name: m,
         } => {
-            is_gfid(*p, parent)
-                && are_same(n, name)
-                && is_gfid(*t, target)
-                && are_same(m, new_name)
+            is_gfid(*p, parent) && are_same(n, name) && is_gfid(*t, target) && are_same(m, new_name)
         }
         _ => false,
     }

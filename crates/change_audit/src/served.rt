@@ -80,13 +80,7 @@ pub(crate) fn done_wind(kind: &OutKind) -> Option<u64>
     ensures { IfSome result (λ wind. kind.now ≡ Reply wind (Done Nothing)) }
 {
     match kind {
-        OutKind::Reply { wind, rep } => {
-            if is_done(rep) {
-                Some(*wind)
-            } else {
-                None
-            }
-        }
+        OutKind::Reply { wind, rep } => { if is_done(rep) { Some(*wind) } else { None } }
         _ => None,
     }
 }
@@ -198,13 +192,7 @@ fn op_of(req: BrickReq, change: u64) -> Option<StoreOp>
     ensures { IfSome result (λ o. IsOpOf change o req) }
 {
     match req {
-        BrickReq::Op { change: of, op, .. } => {
-            if of == change {
-                Some(op)
-            } else {
-                None
-            }
-        }
+        BrickReq::Op { change: of, op, .. } => { if of == change { Some(op) } else { None } }
         _ => None,
     }
 }
