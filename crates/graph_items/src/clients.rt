@@ -1,4 +1,4 @@
-ghost use Rattle.std.specs.Prelude.{◌≡◌, ◌≢◌, ◌<◌, ◌+◌, OnOk, OnErr, IfOk, IfSome, length, true};
+ghost use Rattle.std.specs.Prelude.{◌≡◌, ◌≢◌, ◌<◌, ◌+◌, ◌↔◌, OnOk, OnErr, IfOk, IfSome, IsTrue, length, true};
 ghost use Rattle.client_xlator.specs.Client.{carried};
 ghost use Rattle.fop_types.specs.Bounds.{IsReq};
 ghost use Rattle.graph_items.specs.Clients.{new_clients, reaches_at, connection_at, last_at, connected_at, ended_at, noted_at, sent_at, is_open_at, last_of, live_of, lasts_of};
@@ -40,6 +40,13 @@ impl Clients {
             all.push(Client::new(alloc, brick, graph))?;
         }
         Ok(Clients { all })
+    }
+
+    /// Whether there is a client of the brick with this number.
+    pub fn has(&self, brick: u8) -> bool
+        ensures { IsTrue result ↔ (brick < length self.now) }
+    {
+        (brick as usize) < self.all.len()
     }
 
     /// Whether a request that is bound to this connection, or to none, goes out to the brick.
