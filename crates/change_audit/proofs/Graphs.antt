@@ -52,7 +52,7 @@ behind e es graph last number g at =
     let more : number - (last + 1) ≡ suc (number - (last + 1 + 1)) = omega (arith, later) in
     let graph_is = at.graph_is in
     let sum = long e (switches_in (take (number - (last + 1 + 1)) es)) in
-    let is : g ≡ graph + length (switches_in (take (suc (number - (last + 1 + 1))) (e ∷ es))) = omega (arith, graph_is, sum) in
+    let is : g ≡ graph + length (switched_by e (switches_in (take (number - (last + 1 + 1)) es))) = omega (arith, graph_is, sum) in
     record { graph_is = is ∙ ap (λ (n : ℕ). graph + length (switches_in (take n (e ∷ es)))) (sym more); later = omega (arith, later) }
 
 graph_at : (es : List HubEvent) (graph last c g : ℕ) → slice_get (graphs_from graph es) c ≡ Some g → IsGraphAt es graph last (submit_event last es (suc c)) g

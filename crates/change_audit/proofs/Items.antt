@@ -42,18 +42,17 @@ module _ {X : Type 0} where
   pub all_next : (P : X → Type 0) (xs : List X) (i : ℕ) (d : X) → i < length xs → P (get_or xs i d) → AllByRecursion P (take i xs) → AllByRecursion P (take (i + 1) xs)
   all_next P xs i d lt p all = subst (AllByRecursion P) (sym (take_more xs i d lt)) (all_push P (take i xs) (get_or xs i d) all p)
 
-module _ {X Y : Type 0} (f : X → Y) where
-  -- an item of the mapped list is that of an item
-  pub record IsMapped (xs : List X) (k : ℕ) (y : Y) : Type 0 where
-    pub item : X
-    pub there : slice_get xs k ≡ Some item
-    pub is : f item ≡ y
+-- an item of a mapped list is that of an item
+pub record IsMapped {X Y : Type 0} (f : X → Y) (xs : List X) (k : ℕ) (y : Y) : Type 0 where
+  pub item : X
+  pub there : slice_get xs k ≡ Some item
+  pub is : f item ≡ y
 
-  pub mapped : (xs : List X) (k : ℕ) (y : Y) → slice_get (map f xs) k ≡ Some y → IsMapped xs k y
-  mapped [] k y is = absurd cc
-  mapped (x ∷ xs) zero y is = record { item = x; there = refl; is = some_is (f x) y is }
-  mapped (x ∷ xs) (suc k) y is = let m = mapped xs k y is in record { item = m.item; there = m.there; is = m.is }
+pub mapped : {X Y : Type 0} (f : X → Y) (xs : List X) (k : ℕ) (y : Y) → slice_get (map f xs) k ≡ Some y → IsMapped f xs k y
+mapped f [] k y is = absurd cc
+mapped f (x ∷ xs) zero y is = record { item = x; there = refl; is = some_is (f x) y is }
+mapped f (x ∷ xs) (suc k) y is = let m = mapped f xs k y is in record { item = m.item; there = m.there; is = m.is }
 
-  pub all_mapped : (Q : X → Type 0) (P : Y → Type 0) → ((x : X) → Q x → P (f x)) → (xs : List X) → AllByRecursion Q xs → AllByRecursion P (map f xs)
-  all_mapped Q P gives [] all = tt
-  all_mapped Q P gives (x ∷ xs) all = (gives x all.0, all_mapped Q P gives xs all.1)
+pub all_mapped : {X Y : Type 0} (f : X → Y) (Q : X → Type 0) (P : Y → Type 0) → ((x : X) → Q x → P (f x)) → (xs : List X) → AllByRecursion Q xs → AllByRecursion P (map f xs)
+all_mapped f Q P gives [] all = tt
+all_mapped f Q P gives (x ∷ xs) all = (gives x all.0, all_mapped f Q P gives xs all.1)

@@ -11,7 +11,7 @@ use Rattle.change_audit.proofs.Items.{each_more, item_is}
 pub marked_next : (replies : List ReplyLine) (i : ℕ) (reply : ReplyLine) (before after : List Bool) → i < length replies → reply ≡ get_or replies i reply → KeepMarks before after → IsMarked after reply
     → AreMarkedTo i replies before → AreMarkedTo (i + 1) replies after
 marked_next replies i reply before after lt is keep marked so_far =
-    each_more (λ (k : ℕ) (r : ReplyLine). IsMarked after r) replies i (λ r there. subst (IsMarked after) (item_is replies i reply r lt is there) marked)
+    each_more (λ (k : ℕ) (r : ReplyLine). IsMarked after r) replies i (λ r there. subst (λ (x : ReplyLine). IsMarked after x) (item_is replies i reply r lt is there) marked)
     (λ k r below there well. keep r.call (so_far k r below there well))
 
 pub marked_all : (replies : List ReplyLine) (i : ℕ) (marks : List Bool) → length replies ≤ i → AreMarkedTo i replies marks → AreMarked replies marks

@@ -34,30 +34,31 @@ kinds_are : (a b : Output) → output_text a ≡ output_text b → out_text a.ki
 kinds_are a b same =
     sym (drop_front (hyper a.taken) (out_text a.kind) 8 (hyper_size a.taken)) ∙ ap (drop 8) same ∙ drop_front (hyper b.taken) (out_text b.kind) 8 (hyper_size b.taken)
 
-module _ (back : MessagesReadBack) where
-  read_first : (kind : OutKind) → IsOutKind true kind → output_in (output_text (record { taken = 0; kind = kind })) ≡ Whole (record { taken = 0; kind = kind })
-  read_first kind legal = let small : IsHyper 0 = omega arith in back.1.0 (record { taken = 0; kind = kind }) (small, legal)
+abbrev kind_or : OutKind → Message Output → OutKind
+kind_or kind (Whole x) = x.kind
+kind_or kind (Wrong place) = kind
 
-  same_kind : (a b : OutKind) → IsOutKind true a → IsOutKind true b → out_text a ≡ out_text b → a ≡ b
-  same_kind a b is_a is_b same =
-      let texts : output_text (record { taken = 0; kind = a }) ≡ output_text (record { taken = 0; kind = b }) = ap (λ (t : List ℕ). hyper 0 ++ t) same in
-      let read : Whole (record { taken = 0; kind = a }) ≡ Whole (record { taken = 0; kind = b }) = sym (read_first a is_a) ∙ ap output_in texts ∙ read_first b is_b in
-      ap kind_of read
-    where
-      kind_of : Message Output → OutKind
-      kind_of (Whole x) = x.kind
-      kind_of (Wrong place) = a
+abbrev of_none : OutKind → Output
+of_none kind = record { taken = 0; kind = kind }
 
-  pub put_out : (encoded : OutputsAreEncoded) (journal : List (List ℕ)) (at : ℕ) (bytes : List ℕ) (x : Output) → slice_get (texts_of journal) at ≡ Some bytes → IsOutput x × (bytes ≡ output_text x)
-      → IsPutOut journal at x.kind
-  put_out encoded journal at bytes x there said =
-      let m = mapped output_text (outputs_of journal) at bytes there in
-      let legal : IsOutKind true m.item.kind = each_at (λ (o : Output). IsOutKind true o.kind) (outputs_of journal) at m.item (encoded journal) m.there in
-      record { output = m.item; there = m.there; kind_is = same_kind m.item.kind x.kind legal said.0.1 (kinds_are m.item x (m.is ∙ said.1)) }
+read_first : (back : MessagesReadBack) (kind : OutKind) → IsOutKind true kind → output_in (output_text (of_none kind)) ≡ Whole (of_none kind)
+read_first back kind legal = let small : 0 < 2 ^ 64 = omega arith in back.1.0 (of_none kind) (small, legal)
+
+same_kind : (back : MessagesReadBack) (a b : OutKind) → IsOutKind true a → IsOutKind true b → out_text a ≡ out_text b → a ≡ b
+same_kind back a b is_a is_b same =
+    let texts : output_text (of_none a) ≡ output_text (of_none b) = ap (λ (t : List ℕ). hyper 0 ++ t) same in
+    ap (kind_or a) (sym (read_first back a is_a) ∙ ap output_in texts ∙ read_first back b is_b)
+
+pub put_out : (back : MessagesReadBack) (encoded : OutputsAreEncoded) (journal : List (List ℕ)) (at : ℕ) (bytes : List ℕ) (x : Output) → slice_get (texts_of journal) at ≡ Some bytes
+    → IsOutput x × (bytes ≡ output_text x) → IsPutOut journal at x.kind
+put_out back encoded journal at bytes x there said =
+    let m = mapped output_text (outputs_of journal) at bytes there in
+    let legal : IsOutKind true m.item.kind = each_at (λ (o : Output). IsOutKind true o.kind) (outputs_of journal) at m.item (encoded journal) m.there in
+    record { output = m.item; there = m.there; kind_is = same_kind back m.item.kind x.kind legal said.0.1 (kinds_are m.item x (m.is ∙ said.1)) }
 
 -- an output of a kind that is another
 pub of_kind : (journal : List (List ℕ)) (at : ℕ) (a b : OutKind) → IsPutOut journal at a → a ≡ b → IsPutOut journal at b
-of_kind journal at a b put is = subst (IsPutOut journal at) is put
+of_kind journal at a b put is = subst (λ (k : OutKind). IsPutOut journal at k) is put
 
 -- ---- texts of requests
 
