@@ -28,6 +28,15 @@ module _ {X : Type 0} where
   each_at P (y ∷ xs) zero x each is = subst P (some_is y x is) each.0
   each_at P (y ∷ xs) (suc k) x each is = each_at P xs k x each.1 is
 
+  pub all_at : (P : X → Type 0) (xs : List X) (k : ℕ) (x : X) → AllByRecursion P xs → slice_get xs k ≡ Some x → P x
+  all_at P [] k x all is = absurd cc
+  all_at P (y ∷ xs) zero x all is = subst P (some_is y x is) all.0
+  all_at P (y ∷ xs) (suc k) x all is = all_at P xs k x all.1 is
+
+  pub take_long : (xs : List X) → take (length xs) xs ≡ xs
+  take_long [] = refl
+  take_long (x ∷ xs) = ap (λ l. x ∷ l) (take_long xs)
+
   drop_long : (xs ys : List X) → drop (length xs) (xs ++ ys) ≡ ys
   drop_long [] ys = refl
   drop_long (x ∷ xs) ys = drop_long xs ys

@@ -1,64 +1,52 @@
--- The texts of requests, and the kinds of outputs, by their bytes.
+-- Outputs by their bytes, and the texts of requests.
 use Rattle.std.proofs.Common.{◌≡◌, refl, sym, ap, subst, ◌∙◌, arith, append_assoc, length-append}
-use Rattle.std.specs.Prelude.{ℕ, ◌<◌, ◌^◌, ◌/◌, ◌%◌, true, List, [], ◌∷◌, ◌++◌, Some, length, drop, slice_get}
-use Rattle.fop_types.specs.Bounds.{IsHyper}
+use Rattle.std.specs.Prelude.{ℕ, ◌<◌, ◌≤◌, ◌^◌, nat_le, true, List, ◌++◌, Some, length, drop, slice_get}
+use Rattle.std.specs.List.{All}
+use Rattle.std.proofs.lemmas.Bool.{leb-true}
+use Rattle.std.proofs.lemmas.List.Elements.{filter_passes, recursion_from_All}
 use Rattle.fop_types.specs.declared.messages.BrickReq.{BrickReq}
 use Rattle.fop_types.specs.declared.messages.BrickReq.TheVariants.{Op}
-use Rattle.fop_types.specs.declared.messages.BrickRep.TheVariants.{Done}
-use Rattle.fop_types.specs.declared.messages.DoneArm.TheVariants.{Nothing}
 use Rattle.fop_types.specs.declared.messages.Input.{Input}
 use Rattle.fop_types.specs.declared.messages.Input.TheVariants.{Request}
-use Rattle.fop_types.specs.declared.messages.OutKind.{OutKind}
-use Rattle.fop_types.specs.declared.messages.OutKind.TheVariants.{Reply}
 use Rattle.fop_types.specs.declared.messages.Output.{Output}
 use Rattle.fop_types.specs.declared.store_ops.StoreOp.{StoreOp}
-use Rattle.wire_xdr.specs.Limits.{unit_range}
 use Rattle.wire_xdr.specs.Xdr.{unit, hyper}
-use Rattle.wire_xdr.specs.WireText.{input_text, output_text, out_text, IsOutput, IsOutKind}
+use Rattle.wire_xdr.specs.WireText.{input_text, output_text, IsOutKind}
 use Rattle.wire_xdr.proofs.QuadLaws.{unit_size}
 use Rattle.wire_messages.specs.Messages.{output_in, MessagesReadBack}
 use Rattle.wire_messages.specs.declared.messages.Message.{Message}
 use Rattle.wire_messages.specs.declared.messages.Message.TheVariants.{Whole, Wrong}
 use Rattle.brick_machine.specs.Encoded.{OutputsAreEncoded}
+use Rattle.brick_machine.specs.Laws.{OutputsByTaken, outputs_up_to}
 use Rattle.brick_machine.specs.Machine.{outputs_of, texts_of}
 use Rattle.change_audit.specs.Borne.{IsDoneRequest}
-use Rattle.change_audit.specs.Served.{IsPutOut, IsOnWind, IsOpIn, IsOpText, IsPostIn, IsPostOn, IsPosted, HasText, IsServed, text_of}
-use Rattle.change_audit.proofs.Items.{drop_front, each_at, mapped}
+use Rattle.change_audit.specs.Served.{IsAnswered, IsOnWind, IsOpIn, IsOpText, IsPostIn, IsPostOn, IsPosted, HasText, IsServed, text_of}
+use Rattle.change_audit.proofs.Items.{all_at, drop_front, each_at, mapped, take_long}
 
--- ---- kinds of outputs
+-- ---- outputs
 
-hyper_size : (n : ℕ) → length (hyper n) ≡ 8
-hyper_size n = simp (length-append, unit_size) refl
+abbrev value_or : Output → Message Output → Output
+value_or x (Whole y) = y
+value_or x (Wrong place) = x
 
-kinds_are : (a b : Output) → output_text a ≡ output_text b → out_text a.kind ≡ out_text b.kind
-kinds_are a b same =
-    sym (drop_front (hyper a.taken) (out_text a.kind) 8 (hyper_size a.taken)) ∙ ap (drop 8) same ∙ drop_front (hyper b.taken) (out_text b.kind) 8 (hyper_size b.taken)
+-- an output counts inputs of the journal alone
+counts_few : (first : OutputsByTaken) (journal : List (List ℕ)) (at : ℕ) (o : Output) → slice_get (outputs_of journal) at ≡ Some o → o.taken ≤ length journal
+counts_few first journal at o there =
+    let kept : outputs_up_to (length journal) (outputs_of journal) ≡ outputs_of journal = sym (first journal (length journal)) ∙ ap outputs_of (take_long journal) in
+    let passes : All (λ (x : Output). nat_le x.taken (length journal) ≡ true) (outputs_of journal) =
+    subst (All (λ (x : Output). nat_le x.taken (length journal) ≡ true)) kept (filter_passes (λ (x : Output). nat_le x.taken (length journal)) (outputs_of journal)) in
+    leb-true o.taken (length journal) (all_at (λ (x : Output). nat_le x.taken (length journal) ≡ true) (outputs_of journal) at o (recursion_from_All _ (outputs_of journal) passes) there)
 
-abbrev kind_or : OutKind → Message Output → OutKind
-kind_or kind (Whole x) = x.kind
-kind_or kind (Wrong place) = kind
-
-abbrev of_none : OutKind → Output
-of_none kind = record { taken = 0; kind = kind }
-
-read_first : (back : MessagesReadBack) (kind : OutKind) → IsOutKind true kind → output_in (output_text (of_none kind)) ≡ Whole (of_none kind)
-read_first back kind legal = let small : 0 < 2 ^ 64 = omega arith in back.1.0 (of_none kind) (small, legal)
-
-same_kind : (back : MessagesReadBack) (a b : OutKind) → IsOutKind true a → IsOutKind true b → out_text a ≡ out_text b → a ≡ b
-same_kind back a b is_a is_b same =
-    let texts : output_text (of_none a) ≡ output_text (of_none b) = ap (λ (t : List ℕ). hyper 0 ++ t) same in
-    ap (kind_or a) (sym (read_first back a is_a) ∙ ap output_in texts ∙ read_first back b is_b)
-
-pub put_out : (back : MessagesReadBack) (encoded : OutputsAreEncoded) (journal : List (List ℕ)) (at : ℕ) (bytes : List ℕ) (x : Output) → slice_get (texts_of journal) at ≡ Some bytes
-    → IsOutput x × (bytes ≡ output_text x) → IsPutOut journal at x.kind
-put_out back encoded journal at bytes x there said =
+-- what an output's bytes are read as is the output
+pub output_is : (back : MessagesReadBack) (encoded : OutputsAreEncoded) (first : OutputsByTaken) (journal : List (List ℕ)) (few : length journal < 2 ^ 64) (at : ℕ) (bytes : List ℕ) (x : Output)
+    → slice_get (texts_of journal) at ≡ Some bytes → output_in bytes ≡ Whole x → slice_get (outputs_of journal) at ≡ Some x
+output_is back encoded first journal few at bytes x there read =
     let m = mapped output_text (outputs_of journal) at bytes there in
+    let le = counts_few first journal at m.item m.there in
+    let small : m.item.taken < 2 ^ 64 = omega (arith, le, few) in
     let legal : IsOutKind true m.item.kind = each_at (λ (o : Output). IsOutKind true o.kind) (outputs_of journal) at m.item (encoded journal) m.there in
-    record { output = m.item; there = m.there; kind_is = same_kind back m.item.kind x.kind legal said.0.1 (kinds_are m.item x (m.is ∙ said.1)) }
-
--- an output of a kind that is another
-pub of_kind : (journal : List (List ℕ)) (at : ℕ) (a b : OutKind) → IsPutOut journal at a → a ≡ b → IsPutOut journal at b
-of_kind journal at a b put is = subst (λ (k : OutKind). IsPutOut journal at k) is put
+    let same : m.item ≡ x = ap (value_or m.item) (sym (back.1.0 m.item (small, legal)) ∙ ap output_in m.is ∙ read) in
+    m.there ∙ ap Some same
 
 -- ---- texts of requests
 
@@ -82,15 +70,15 @@ post_text wind graph change x bytes is post = record { cells = post.cells; mask 
 
 -- ---- requests that were answered
 
-done : (journal : List (List ℕ)) (wind graph place answer : ℕ) (req : BrickReq) → slice_get journal place ≡ Some (input_text (Request wind graph req)) → IsPutOut journal answer (Reply wind (Done Nothing))
+done : (journal : List (List ℕ)) (wind graph place answer : ℕ) (req : BrickReq) → slice_get journal place ≡ Some (input_text (Request wind graph req)) → IsAnswered journal place answer wind
     → IsDoneRequest journal graph place req
-done journal wind graph place answer req there put = record { wind = wind; answer_at = answer; output = put.output; there = there; answered = put.there; reply = put.kind_is }
+done journal wind graph place answer req there put = record { wind = wind; answer_at = answer; output = put.output; there = there; answered = put.there; caused = put.caused; reply = put.reply }
 
-pub served : (journal : List (List ℕ)) (wind place answer : ℕ) (bytes text : List ℕ) → slice_get journal place ≡ Some bytes → HasText wind text bytes → IsPutOut journal answer (Reply wind (Done Nothing))
+pub served : (journal : List (List ℕ)) (wind place answer : ℕ) (bytes text : List ℕ) → slice_get journal place ≡ Some bytes → HasText wind text bytes → IsAnswered journal place answer wind
     → IsServed journal place text
 served journal wind place answer bytes text there has put graph req is = done journal wind graph place answer req (there ∙ ap Some (has graph req is)) put
 
-pub posted : (journal : List (List ℕ)) (wind graph change place answer : ℕ) (bytes : List ℕ) → slice_get journal place ≡ Some bytes → IsPostOn wind graph change bytes → IsPutOut journal answer (Reply wind (Done Nothing))
+pub posted : (journal : List (List ℕ)) (wind graph change place answer : ℕ) (bytes : List ℕ) → slice_get journal place ≡ Some bytes → IsPostOn wind graph change bytes → IsAnswered journal place answer wind
     → IsPosted journal graph change place
 posted journal wind graph change place answer bytes there post put =
     record { cells = post.cells; mask = post.mask; done = done journal wind graph place answer _ (there ∙ ap Some post.is) put }

@@ -1,13 +1,15 @@
 -- A request that a brick has answered Done, by the places of the request in the journal and of the answer among the outputs. A
 -- request's text is what its bytes are behind the number of its wind: its graph, and what is asked.
-use Rattle.std.specs.Prelude.{◌≡◌, ℕ, List, ◌++◌, Some, slice_get}
+use Rattle.std.specs.Prelude.{◌≡◌, ℕ, ◌+◌, List, ◌++◌, Some, slice_get}
 use Rattle.fop_types.specs.declared.cells.Cell.{Cell}
 use Rattle.fop_types.specs.declared.contents.Mask.{Mask}
+use Rattle.fop_types.specs.declared.messages.BrickRep.TheVariants.{Done}
 use Rattle.fop_types.specs.declared.messages.BrickReq.{BrickReq}
 use Rattle.fop_types.specs.declared.messages.BrickReq.TheVariants.{Op, Post}
+use Rattle.fop_types.specs.declared.messages.DoneArm.TheVariants.{Nothing}
 use Rattle.fop_types.specs.declared.messages.Input.{Input}
 use Rattle.fop_types.specs.declared.messages.Input.TheVariants.{Request}
-use Rattle.fop_types.specs.declared.messages.OutKind.{OutKind}
+use Rattle.fop_types.specs.declared.messages.OutKind.TheVariants.{Reply}
 use Rattle.fop_types.specs.declared.messages.Output.{Output}
 use Rattle.fop_types.specs.declared.store_ops.StoreOp.{StoreOp}
 use Rattle.wire_xdr.specs.MessageText.{req_text}
@@ -16,11 +18,12 @@ use Rattle.wire_xdr.specs.Xdr.{unit}
 use Rattle.brick_machine.specs.Machine.{outputs_of}
 use Rattle.change_audit.specs.Borne.{IsDoneRequest}
 
--- an output of this kind is at this place
-pub record IsPutOut (journal : List (List ℕ)) (at : ℕ) (kind : OutKind) : Type 0 where
+-- the output at a place is the Done of a wind, and the input at another place caused it
+pub record IsAnswered (journal : List (List ℕ)) (place answer wind : ℕ) : Type 0 where
   pub output : Output
-  pub there : slice_get (outputs_of journal) at ≡ Some output
-  pub kind_is : output.kind ≡ kind
+  pub there : slice_get (outputs_of journal) answer ≡ Some output
+  pub caused : output.taken ≡ place + 1
+  pub reply : output.kind ≡ Reply wind (Done Nothing)
 
 -- the bytes are a request on this wind
 pub record IsOnWind (wind : ℕ) (bytes : List ℕ) : Type 0 where

@@ -8,7 +8,7 @@ ghost use Rattle.change_audit.specs.Entries.{AreNotesOf, IsEntryBorne};
 use crate::acknowledged::{answered_well, is_marked};
 use crate::bearers::has_bearers;
 use crate::call_graphs::{CallGraphs, call_graphs, graph_of, set_in, set_with};
-use crate::finding::{Borne, Found, find};
+use crate::finding::{Candidate, Candidates, find};
 use brick_machine::Brick;
 use fop_types::{Entry, FlatOp, Seq};
 use graph_build::Plan;
@@ -22,10 +22,10 @@ use std::alloc::{AllocError, Global};
 pub struct Notes {
     pub graphs: CallGraphs,
     pub marks: Seq<bool>,
-    pub found: Found,
+    pub found: Candidates,
 }
 
-// A call has a smaller number than the log has events.
+// Each call was submitted by an event of its own, so no call has a greater number than there are events.
 fn notes_of(
     alloc: Global,
     script: &Script,
@@ -48,7 +48,7 @@ fn notes_of(
 }
 
 // The number of the set that the first of the bearers is in.
-fn set_of(plans: &[Plan], graphs: &CallGraphs, graph: usize, change: &Borne) -> Option<u8> {
+fn set_of(plans: &[Plan], graphs: &CallGraphs, graph: usize, change: &Candidate) -> Option<u8> {
     let first = change.bearers.as_slice().first()?;
     set_with(plans, graphs, graph, first.brick)
 }
@@ -63,7 +63,7 @@ fn is_borne_in(
     graphs: &CallGraphs,
     call: u32,
     operation: &FlatOp,
-    change: &Borne,
+    change: &Candidate,
 ) -> Result<bool, AllocError>
     requires { AreGraphsOf script.now log.now graphs.now }
     ensures { IfOk result (λ yes. yes ≡ true → IsBorne script.now plans.now log.now bricks.now call operation.now) }

@@ -9,18 +9,18 @@ use mount_log::WindLine;
 use std::alloc::{AllocError, Global};
 use std::collections::BTreeMap;
 
-/// A change of a call, and the bricks that bear it, by rising numbers.
+/// A change of a call, and the bricks that are said to bear it, by rising numbers.
 #[derive(Drop)]
-pub struct Borne {
+pub struct Candidate {
     pub call: u32,
     pub change: u64,
     pub bearers: Seq<Bearer>,
 }
 
-/// The changes that bricks bear, by call, and where those of each call begin.
+/// The changes that bricks are said to bear, by call, and where those of each call begin.
 #[derive(Drop)]
-pub struct Found {
-    changes: Vec<Borne>,
+pub struct Candidates {
+    changes: Vec<Candidate>,
     begins: BTreeMap<u32, usize>,
 }
 
@@ -198,8 +198,11 @@ impl Search {
 }
 
 // The changes by call, and where those of each call begin.
-fn in_order(alloc: Global, changes: BTreeMap<ChangeOf, Seq<Bearer>>) -> Result<Found, AllocError> {
-    let mut found = Found {
+fn in_order(
+    alloc: Global,
+    changes: BTreeMap<ChangeOf, Seq<Bearer>>,
+) -> Result<Candidates, AllocError> {
+    let mut found = Candidates {
         changes: Vec::new(alloc),
         begins: BTreeMap::new(alloc),
     };
@@ -209,13 +212,13 @@ fn in_order(alloc: Global, changes: BTreeMap<ChangeOf, Seq<Bearer>>) -> Result<F
     Ok(found)
 }
 
-impl Found {
+impl Candidates {
     fn add(&mut self, key: ChangeOf, bearers: Seq<Bearer>) -> Result<(), AllocError> {
         let at = self.changes.len();
         if !self.begins.contains_key(&key.call) {
             self.begins.insert(key.call, at)?;
         }
-        self.changes.push(Borne {
+        self.changes.push(Candidate {
             call: key.call,
             change: key.change,
             bearers,
@@ -237,7 +240,7 @@ impl Found {
     }
 
     /// The change at a place, if it is one of the call.
-    pub(crate) fn change(&self, at: usize, call: u32) -> Option<&Borne> {
+    pub(crate) fn change(&self, at: usize, call: u32) -> Option<&Candidate> {
         let change = self.changes.get(at)?;
         if change.call != call {
             return None;
@@ -254,7 +257,7 @@ pub(crate) fn find(
     alloc: Global,
     winds: &[WindLine],
     bricks: &[Brick],
-) -> Result<Found, AllocError> {
+) -> Result<Candidates, AllocError> {
     let calls = calls_of_winds(alloc, winds)?;
     let mut search = Search {
         calls,

@@ -1,13 +1,16 @@
 //! Requests that a brick has answered Done.
-ghost use Rattle.std.specs.Prelude.{◌≡◌, true, Some, option_copied, slice_get, drop, IfOk, IfSome};
+ghost use Rattle.std.specs.Prelude.{◌≡◌, ◌+◌, ◌<◌, ◌^◌, true, Some, length, option_copied, slice_get, drop, IfOk, IfSome};
 ghost use Rattle.fop_types.specs.declared.messages.BrickRep.TheVariants.{Done};
 ghost use Rattle.fop_types.specs.declared.messages.DoneArm.TheVariants.{Nothing};
 ghost use Rattle.fop_types.specs.declared.messages.Input.TheVariants.{Request};
 ghost use Rattle.fop_types.specs.declared.messages.OutKind.TheVariants.{Reply};
-ghost use Rattle.wire_xdr.specs.WireText.{input_text, output_text, IsOutput};
-ghost use Rattle.change_audit.specs.Served.{IsPutOut, IsOnWind, IsOpOf, IsOpIn, IsOpText, IsPostOf, IsPostIn, IsPostOn, HasText, IsServed, IsPosted};
+ghost use Rattle.wire_xdr.specs.WireText.{input_text};
+ghost use Rattle.wire_messages.specs.Messages.{output_in};
+ghost use Rattle.wire_messages.specs.declared.messages.Message.TheVariants.{Whole};
+ghost use Rattle.brick_machine.specs.Machine.{outputs_of};
+ghost use Rattle.change_audit.specs.Served.{IsAnswered, IsOnWind, IsOpOf, IsOpIn, IsOpText, IsPostOf, IsPostIn, IsPostOn, HasText, IsServed, IsPosted};
 
-use brick_machine::{Brick, outputs_are_encoded};
+use brick_machine::{Brick, outputs_are_encoded, outputs_are_in_order};
 use bytes::Bytes;
 use fop_types::{BrickRep, BrickReq, DoneArm, Input, OutKind, Output, StoreOp};
 use std::alloc::{AllocError, Global};
@@ -34,7 +37,7 @@ pub(crate) fn bytes_at(list: &[Bytes], at: usize) -> Option<&Bytes>
 /// # Errors
 /// Out of memory.
 pub(crate) fn whole_output(alloc: Global, bytes: &[u8]) -> Result<Option<Output>, AllocError>
-    ensures { IfOk result (λ found. IfSome found (λ x. IsOutput x × (bytes.now ≡ output_text x))) }
+    ensures { IfOk result (λ found. IfSome found (λ x. output_in bytes.now ≡ Whole x)) }
 {
     match output_of(alloc, bytes)? {
         Message::Whole(output) => Ok(Some(output)),
@@ -42,19 +45,27 @@ pub(crate) fn whole_output(alloc: Global, bytes: &[u8]) -> Result<Option<Output>
     }
 }
 
-// The kind of the output at a place.
-fn kind_at(alloc: Global, brick: &Brick, at: usize) -> Result<Option<OutKind>, AllocError>
-    ensures { IfOk result (λ found. IfSome found (λ kind. IsPutOut brick.now.journal at kind)) }
+fn are_few(journal: &[Bytes]) -> bool
+    ensures { length journal.now < 2 ^ 64 }
+{
+    journal.is_empty()
+}
+
+// The output at a place.
+fn output_at(alloc: Global, brick: &Brick, at: usize) -> Result<Option<Output>, AllocError>
+    ensures { IfOk result (λ found. IfSome found (λ x. slice_get (outputs_of brick.now.journal) at ≡ Some x)) }
 {
     outputs_are_encoded();
+    outputs_are_in_order();
     messages_read_back();
+    are_few(brick.journal());
     let Some(bytes) = bytes_at(brick.outputs(), at) else {
         return Ok(None);
     };
     let Some(output) = whole_output(alloc, bytes.as_slice())? else {
         return Ok(None);
     };
-    Ok(Some(output.kind))
+    Ok(Some(output))
 }
 
 fn is_nothing(arm: &DoneArm) -> bool
@@ -85,24 +96,35 @@ pub(crate) fn done_wind(kind: &OutKind) -> Option<u64>
     }
 }
 
-// The wind of the output at a place, if that is a Done with nothing.
-fn done_at(alloc: Global, brick: &Brick, at: usize) -> Result<Option<u64>, AllocError>
-    ensures { IfOk result (λ found. IfSome found (λ wind. IsPutOut brick.now.journal at (Reply wind (Done Nothing)))) }
+fn says_done(kind: &OutKind, wind: u64) -> bool
+    ensures { result ≡ true → kind.now ≡ Reply wind (Done Nothing) }
 {
-    let Some(kind) = kind_at(alloc, brick, at)? else {
-        return Ok(None);
-    };
-    Ok(done_wind(&kind))
+    match done_wind(kind) {
+        Some(found) => found == wind,
+        None => false,
+    }
 }
 
-// Whether the output at a place is the Done of a wind.
-fn is_answered(alloc: Global, brick: &Brick, at: usize, wind: u64) -> Result<bool, AllocError>
-    ensures { IfOk result (λ yes. yes ≡ true → IsPutOut brick.now.journal at (Reply wind (Done Nothing))) }
+fn is_caused_by(output: &Output, place: usize) -> bool
+    ensures { result ≡ true → output.now.taken ≡ place + 1 }
 {
-    match done_at(alloc, brick, at)? {
-        Some(found) => Ok(found == wind),
-        None => Ok(false),
+    output.taken > 0 && output.taken - 1 == place as u64
+}
+
+// Whether the output at a place is the Done of a wind, and the input at the other place caused it.
+fn is_answered(alloc: Global, brick: &Brick, at: Served, wind: u64) -> Result<bool, AllocError>
+    ensures { IfOk result (λ yes. yes ≡ true → IsAnswered brick.now.journal at.place at.answer wind) }
+{
+    let Some(output) = output_at(alloc, brick, at.answer)? else {
+        return Ok(false);
+    };
+    if !is_caused_by(&output, at.place) {
+        return Ok(false);
     }
+    if !says_done(&output.kind, wind) {
+        return Ok(false);
+    }
+    Ok(true)
 }
 
 // ---- requests
@@ -182,7 +204,7 @@ pub(crate) fn is_served(
     let Some(wind) = wind_before(alloc, bytes.as_slice(), text)? else {
         return Ok(false);
     };
-    let yes = is_answered(alloc, brick, at.answer, wind)?;
+    let yes = is_answered(alloc, brick, at, wind)?;
     Ok(yes)
 }
 
@@ -294,6 +316,6 @@ pub(crate) fn is_posted(
     let Some(wind) = post_in(alloc, bytes.as_slice(), graph, change)? else {
         return Ok(false);
     };
-    let yes = is_answered(alloc, brick, at.answer, wind)?;
+    let yes = is_answered(alloc, brick, at, wind)?;
     Ok(yes)
 }
