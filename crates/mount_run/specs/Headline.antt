@@ -13,7 +13,7 @@ use Rattle.hub_calls.specs.declared.racks.Rack.{Rack}
 use Rattle.report_text.specs.ReportText.{report_text}
 use Rattle.log_audit.specs.Honest.{HasHonestArrivals}
 use Rattle.mount_log.specs.Arrivals.{inputs_to}
-use Rattle.mount_run.specs.Borne.{AreBorne}
+use Rattle.change_audit.specs.Borne.{AreBorne}
 use Rattle.mount_log.specs.Causes.{AreCaused}
 use Rattle.mount_log.specs.Connections.{ConnectsAreCaused}
 use Rattle.mount_log.specs.Follows.{FollowsScript, IsFinished}

@@ -1,7 +1,7 @@
 -- Acknowledged changes are on the bricks: for each entry of a call that was answered well, a quorum of the bricks of one set
 -- has in its journals the store op of the entry and later its post, under one change number and of the call's graph, each
 -- answered Done.
-use Rattle.std.specs.Prelude.{◌≡◌, ℕ, ◌<◌, ◌≤◌, ◌==◌, true, List, Some, Contains, length, slice_get}
+use Rattle.std.specs.Prelude.{◌≡◌, ℕ, ◌+◌, ◌<◌, ◌≤◌, ◌==◌, true, List, Some, Contains, length, slice_get}
 use Rattle.std.specs.List.{AllByRecursion, IsDistinct}
 use Rattle.dht_fops.specs.Answers.{change_of}
 use Rattle.fop_types.specs.Replies.{is_ok}
@@ -28,13 +28,14 @@ use Rattle.mount_log.specs.declared.logs.ReplyLine.{ReplyLine}
 use Rattle.mount_log.specs.Causes.{set_of_call}
 use Rattle.mount_log.specs.Connections.{graph_of_call}
 
--- a request of a graph is at this place in a journal, and the brick answered it Done
+-- a request of a graph is at this place in a journal, from 0, and what it caused is its Done
 pub record IsDoneRequest (journal : List (List ℕ)) (graph place : ℕ) (req : BrickReq) : Type 0 where
   pub wind : ℕ
   pub answer_at : ℕ
   pub output : Output
   pub there : slice_get journal place ≡ Some (input_text (Request wind graph req))
   pub answered : slice_get (outputs_of journal) answer_at ≡ Some output
+  pub caused : output.taken ≡ place + 1
   pub reply : output.kind ≡ Reply wind (Done Nothing)
 
 -- a brick has served the op and then its post

@@ -1,0 +1,102 @@
+-- The graph of a call is that of the table.
+use Rattle.std.proofs.Common.{◌≡◌, refl, sym, ap, subst, ◌∙◌, arith}
+use Rattle.std.specs.Prelude.{ℕ, zero, suc, ◌<◌, ◌≤◌, ◌+◌, ◌-◌, List, [], ◌∷◌, ◌++◌, Option, Some, length, take, drop, slice_get}
+use Rattle.std.specs.List.{AllByRecursion}
+use Rattle.fop_types.specs.declared.flat.FlatOp.{FlatOp}
+use Rattle.fop_types.specs.declared.jobs.SetPlan.{SetPlan}
+use Rattle.graph_build.specs.declared.plans.Plan.{Plan}
+use Rattle.script_lang.specs.declared.scripts.Action.{Action}
+use Rattle.script_lang.specs.declared.scripts.Action.TheVariants as action
+use Rattle.script_lang.specs.declared.scripts.Script.{Script}
+use Rattle.brick_machine.specs.Journal.{Journal}
+use Rattle.mount_log.proofs.Items.{some_is}
+use Rattle.mount_log.specs.Causes.{set_of_plan, plan_of_volfile}
+use Rattle.mount_log.specs.Connections.{graph_of_call}
+use Rattle.mount_log.specs.Graphs.{switched_by, with_switch, switches_in}
+use Rattle.mount_log.specs.Submissions.{submit_event}
+use Rattle.mount_log.specs.declared.logs.HubEvent.{HubEvent}
+use Rattle.mount_log.specs.declared.logs.HubEvent.TheVariants as logged
+use Rattle.mount_log.specs.declared.logs.Log.{Log}
+use Rattle.change_audit.specs.Borne.{IsBorne, IsBearer}
+use Rattle.change_audit.specs.Bearing.{HasBearers}
+use Rattle.change_audit.specs.CallGraphs.{graphs_from, AreGraphsOf, HasGraph}
+use Rattle.change_audit.specs.declared.call_graphs.CallGraphs.{CallGraphs}
+
+-- ---- switches
+
+long_act : (a : Action) (rest : List ℕ) → length (with_switch a rest) ≡ length (with_switch a []) + length rest
+long_act (action.Switch volfile) rest = omega arith
+long_act (action.Down brick serve) rest = omega arith
+long_act (action.Up brick) rest = omega arith
+long_act (action.Cut brick) rest = omega arith
+long_act (action.Fault brick p n) rest = omega arith
+long_act action.Heal rest = omega arith
+
+long : (e : HubEvent) (rest : List ℕ) → length (switched_by e rest) ≡ length (switched_by e []) + length rest
+long (logged.Act a) rest = long_act a rest
+long (logged.Submit session line) rest = omega arith
+long (logged.Arrive brick bytes) rest = omega arith
+long (logged.Run graph task) rest = omega arith
+long (logged.Arm brick p count a) rest = omega arith
+
+-- ---- the graph of each call
+
+-- the graph of the call whose submission is the event of this number, behind events of which the last has the number `last`
+pub record IsGraphAt (es : List HubEvent) (graph last number g : ℕ) : Type 0 where
+  pub graph_is : g ≡ graph + length (switches_in (take (number - (last + 1)) es))
+  pub later : last + 1 ≤ number
+
+behind : (e : HubEvent) (es : List HubEvent) (graph last number g : ℕ) → IsGraphAt es (graph + length (switched_by e [])) (last + 1) number g → IsGraphAt (e ∷ es) graph last number g
+behind e es graph last number g at =
+    let later = at.later in
+    let more : number - (last + 1) ≡ suc (number - (last + 1 + 1)) = omega (arith, later) in
+    let graph_is = at.graph_is in
+    let sum = long e (switches_in (take (number - (last + 1 + 1)) es)) in
+    let is : g ≡ graph + length (switched_by e (switches_in (take (number - (last + 1 + 1)) es))) = omega (arith, graph_is, sum) in
+    record { graph_is = is ∙ ap (λ (n : ℕ). graph + length (switches_in (take n (e ∷ es)))) (sym more); later = omega (arith, later) }
+
+graph_at : (es : List HubEvent) (graph last c g : ℕ) → slice_get (graphs_from graph es) c ≡ Some g → IsGraphAt es graph last (submit_event last es (suc c)) g
+graph_at [] graph last c g is = absurd cc
+graph_at (logged.Submit session line ∷ es) graph last zero g is =
+    let same = some_is graph g is in
+    let none : last + 1 - (last + 1) ≡ 0 = omega arith in
+    let first : g ≡ graph + length (switches_in (take 0 (logged.Submit session line ∷ es))) = omega (arith, same) in
+    record { graph_is = first ∙ ap (λ (n : ℕ). graph + length (switches_in (take n (logged.Submit session line ∷ es)))) (sym none); later = omega arith }
+graph_at (logged.Submit session line ∷ es) graph last (suc c) g is =
+    behind (logged.Submit session line) es graph last (submit_event (last + 1) es (suc c)) g (graph_at es (graph + length (switched_by (logged.Submit session line) [])) (last + 1) c g is)
+graph_at (logged.Arrive brick bytes ∷ es) graph last c g is =
+    behind (logged.Arrive brick bytes) es graph last (submit_event (last + 1) es (suc c)) g (graph_at es (graph + length (switched_by (logged.Arrive brick bytes) [])) (last + 1) c g is)
+graph_at (logged.Run number task ∷ es) graph last c g is =
+    behind (logged.Run number task) es graph last (submit_event (last + 1) es (suc c)) g (graph_at es (graph + length (switched_by (logged.Run number task) [])) (last + 1) c g is)
+graph_at (logged.Act a ∷ es) graph last c g is =
+    behind (logged.Act a) es graph last (submit_event (last + 1) es (suc c)) g (graph_at es (graph + length (switched_by (logged.Act a) [])) (last + 1) c g is)
+graph_at (logged.Arm brick p count a ∷ es) graph last c g is =
+    behind (logged.Arm brick p count a) es graph last (submit_event (last + 1) es (suc c)) g (graph_at es (graph + length (switched_by (logged.Arm brick p count a) [])) (last + 1) c g is)
+
+module _ (script : Script) (log : Log) (tables : CallGraphs) (are : AreGraphsOf script log tables) where
+  graph_is : (call graph : ℕ) → HasGraph tables call graph → graph ≡ graph_of_call log call
+  graph_is call graph has =
+      let from_one = has.from_one in
+      let number : suc (call - 1) ≡ call = omega (arith, from_one) in
+      let at = graph_at log.events 1 0 (call - 1) graph (ap (λ (l : List ℕ). slice_get l (call - 1)) (sym are.calls) ∙ has.there) in
+      at.graph_is ∙ ap (λ (n : ℕ). 1 + length (switches_in (take (submit_event 0 log.events n - 1) log.events))) number
+
+  -- a change of a call that the bricks of a set of its graph bear
+  pub borne : (plans : List Plan) (bricks : List Journal) (call graph set : ℕ) (operation : FlatOp) (plan : SetPlan) → HasGraph tables call graph
+      → set_of_plan (plan_of_volfile plans (slice_get tables.volfiles (graph - 1))) set ≡ Some plan → HasBearers bricks plan graph operation → IsBorne script plans log bricks call operation
+  borne plans bricks call graph set operation plan has set_is have =
+      let same = graph_is call graph has in
+      record {
+        set = set;
+        plan = plan;
+        plan_is =
+            ap (λ (vs : List ℕ). set_of_plan (plan_of_volfile plans (slice_get vs (graph_of_call log call - 1))) set) (sym are.volfiles)
+            ∙ ap (λ (n : ℕ). set_of_plan (plan_of_volfile plans (slice_get tables.volfiles (n - 1))) set) (sym same) ∙ set_is;
+        op = have.op;
+        op_is = have.op_is;
+        change = have.change;
+        bearers = have.bearers;
+        differ = have.differ;
+        quorum = have.quorum;
+        each = subst (λ (n : ℕ). AllByRecursion (IsBearer bricks plan n have.change have.op) have.bearers) same have.each;
+      }

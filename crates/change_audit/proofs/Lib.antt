@@ -1,0 +1,6 @@
+pub mod Items
+pub mod Texts
+pub mod Bearing
+pub mod Graphs
+pub mod Marking
+pub mod Entries

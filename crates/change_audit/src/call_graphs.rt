@@ -1,0 +1,186 @@
+//! The graph of each call, and the set that a number means there.
+ghost use Rattle.std.specs.Prelude.{◌≡◌, ◌+◌, ◌-◌, ◌++◌, ◌≤◌, ℕ, List, Some, length, option_copied, slice_get, IfOk, IfSome, OnOk};
+ghost use Rattle.mount_log.specs.Causes.{plan_of_volfile, set_of_plan};
+ghost use Rattle.mount_log.specs.Graphs.{switched_by, with_switch, volfiles_of as volfiles_in};
+ghost use Rattle.change_audit.specs.CallGraphs.{submitted_in, graphs_from, AreGraphsOf, HasGraph};
+
+use fop_types::{Seq, SetPlan};
+use graph_build::Plan;
+use mount_log::{HubEvent, Log};
+use script_lang::{Action, Script};
+use std::alloc::{AllocError, Global};
+
+/// The graph of each call, by the calls' numbers, and the volfile of each graph; both are numbered from 1.
+#[derive(Drop)]
+pub struct CallGraphs {
+    pub calls: Seq<usize>,
+    pub volfiles: Seq<u8>,
+}
+
+// ---- the tables
+
+fn switch_of(a: &Action) -> usize
+    ensures value { (rest : List ℕ) → length (with_switch a.now rest) ≡ result + length rest }
+    ensures few { result ≤ 1 }
+{
+    match a {
+        Action::Switch(_) => 1,
+        _ => 0,
+    }
+}
+
+fn switch_in(event: &HubEvent) -> usize
+    ensures value { (rest : List ℕ) → length (switched_by event.now rest) ≡ result + length rest }
+    ensures few { result ≤ 1 }
+{
+    match event {
+        HubEvent::Act(a) => switch_of(a),
+        _ => 0,
+    }
+}
+
+// Adds the graph of the call that an event submits, if it does.
+fn add_graph(graphs: &mut Vec<usize>, event: &HubEvent, graph: usize) -> Result<(), AllocError>
+    ensures { OnOk result ((rest : List ℕ) → graphs.new.items ++ rest ≡ graphs.old.items ++ submitted_in graph event.now rest) }
+{
+    match event {
+        HubEvent::Submit { .. } => {
+            graphs.push(graph)?;
+            Ok(())
+        }
+        _ => Ok(()),
+    }
+}
+
+// The graph of each call that was submitted.
+fn graphs_of_calls(alloc: Global, events: &[HubEvent]) -> Result<Vec<usize>, AllocError>
+    ensures { IfOk result (λ graphs. graphs.items ≡ graphs_from 1 events.now) }
+{
+    let mut graphs = Vec::new(alloc);
+    let mut graph = 1usize;
+    for event in events {
+        add_graph(&mut graphs, event, graph)?;
+        graph += switch_in(event);
+    }
+    Ok(graphs)
+}
+
+fn volfiles_of(alloc: Global, script: &Script, log: &Log) -> Result<Vec<u8>, AllocError>
+    ensures { IfOk result (λ volfiles. volfiles.items ≡ volfiles_in script.now log.now) }
+{
+    let mut volfiles = Vec::new(alloc);
+    volfiles.push(script.start)?;
+    for event in log.events.as_slice() {
+        match event {
+            HubEvent::Act(Action::Switch(volfile)) => volfiles.push(*volfile)?,
+            _ => {}
+        }
+    }
+    Ok(volfiles)
+}
+
+/// The graphs of a run.
+///
+/// # Errors
+/// Out of memory.
+pub(crate) fn call_graphs(
+    alloc: Global,
+    script: &Script,
+    log: &Log,
+) -> Result<CallGraphs, AllocError>
+    ensures { IfOk result (λ tables. AreGraphsOf script.now log.now tables) }
+{
+    let calls = graphs_of_calls(alloc, log.events.as_slice())?;
+    let volfiles = volfiles_of(alloc, script, log)?;
+    Ok(CallGraphs {
+        calls: Seq::from_vec(calls),
+        volfiles: Seq::from_vec(volfiles),
+    })
+}
+
+// ---- their use
+
+fn number_at(numbers: &[usize], k: usize) -> Option<usize>
+    ensures { result ≡ slice_get numbers.now k }
+{
+    numbers.get(k).copied()
+}
+
+fn byte_at(bytes: &[u8], k: usize) -> Option<u8>
+    ensures { result ≡ slice_get bytes.now k }
+{
+    bytes.get(k).copied()
+}
+
+/// The graph of a call.
+pub(crate) fn graph_of(tables: &CallGraphs, call: u32) -> Option<usize>
+    ensures { IfSome result (λ graph. HasGraph tables.now call graph) }
+{
+    if call == 0 {
+        return None;
+    }
+    let graph = number_at(tables.calls.as_slice(), call as usize - 1)?;
+    Some(graph)
+}
+
+fn volfile_of(tables: &CallGraphs, graph: usize) -> Option<u8>
+    ensures { IfSome result (λ volfile. slice_get tables.now.volfiles (graph - 1) ≡ Some volfile) }
+{
+    if graph == 0 {
+        return None;
+    }
+    let volfile = byte_at(tables.volfiles.as_slice(), graph - 1)?;
+    Some(volfile)
+}
+
+fn plan_at(plans: &[Plan], volfile: u8) -> Option<&Plan>
+    ensures { option_copied result ≡ slice_get plans.now volfile }
+{
+    plans.get(volfile as usize)
+}
+
+fn set_at(plan: &Plan, set: u8) -> Option<&SetPlan>
+    ensures { option_copied result ≡ slice_get plan.now.sets set }
+{
+    plan.sets.as_slice().get(set as usize)
+}
+
+fn set_of<'a>(plans: &'a [Plan], volfile: u8, set: u8) -> Option<&'a SetPlan>
+    ensures { option_copied result ≡ set_of_plan (slice_get plans.now volfile) set }
+{
+    match plan_at(plans, volfile) {
+        Some(plan) => set_at(plan, set),
+        None => None,
+    }
+}
+
+/// The set of a number in a graph.
+pub(crate) fn set_in<'a>(
+    plans: &'a [Plan],
+    tables: &CallGraphs,
+    graph: usize,
+    set: u8,
+) -> Option<&'a SetPlan>
+    ensures { IfSome result (λ plan. set_of_plan (plan_of_volfile plans.now (slice_get tables.now.volfiles (graph - 1))) set ≡ Some plan.now) }
+{
+    let volfile = volfile_of(tables, graph)?;
+    let plan = set_of(plans, volfile, set)?;
+    Some(plan)
+}
+
+// The number of the set that has the brick.
+fn set_among(plan: &Plan, brick: u8) -> Option<u8> {
+    for set in plan.sets.as_slice() {
+        if set.bricks.as_slice().contains(&brick) {
+            return Some(set.number);
+        }
+    }
+    None
+}
+
+/// The number of the set that has the brick in a graph.
+pub(crate) fn set_with(plans: &[Plan], tables: &CallGraphs, graph: usize, brick: u8) -> Option<u8> {
+    let volfile = volfile_of(tables, graph)?;
+    let plan = plan_at(plans, volfile)?;
+    set_among(plan, brick)
+}

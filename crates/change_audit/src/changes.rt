@@ -1,0 +1,204 @@
+//! The audit.
+ghost use Rattle.std.specs.Prelude.{◌≡◌, true, Some, option_copied, slice_get, IfOk, IfSome};
+ghost use Rattle.fop_types.specs.declared.history.Entry.{Entry as Made};
+ghost use Rattle.change_audit.specs.Borne.{IsBorne, IsAcknowledged, AreBorne};
+ghost use Rattle.change_audit.specs.CallGraphs.{AreGraphsOf};
+ghost use Rattle.change_audit.specs.Entries.{AreNotesOf, IsEntryBorne};
+
+use crate::acknowledged::{answered_well, is_marked};
+use crate::bearers::has_bearers;
+use crate::call_graphs::{CallGraphs, call_graphs, graph_of, set_in, set_with};
+use crate::finding::{Candidate, Candidates, find};
+use brick_machine::Brick;
+use fop_types::{Entry, FlatOp, Seq};
+use graph_build::Plan;
+use mount_log::Log;
+use script_lang::Script;
+use std::alloc::{AllocError, Global};
+
+/// What is known of a run before its history is gone through: the graphs of its calls, which calls were answered well, and
+/// which changes bricks are said to bear.
+#[derive(Drop)]
+pub struct Notes {
+    pub graphs: CallGraphs,
+    pub marks: Seq<bool>,
+    pub found: Candidates,
+}
+
+// Each call was submitted by an event of its own, so no call has a greater number than there are events.
+fn notes_of(
+    alloc: Global,
+    script: &Script,
+    log: &Log,
+    bricks: &[Brick],
+) -> Result<Option<Notes>, AllocError>
+    ensures { IfOk result (λ found. IfSome found (λ notes. AreNotesOf script.now log.now notes)) }
+{
+    let bound = log.events.len().saturating_add(1);
+    let Some(marks) = answered_well(alloc, log.replies.as_slice(), bound)? else {
+        return Ok(None);
+    };
+    let graphs = call_graphs(alloc, script, log)?;
+    let found = find(alloc, log.winds.as_slice(), bricks)?;
+    Ok(Some(Notes {
+        graphs,
+        marks,
+        found,
+    }))
+}
+
+// The number of the set that the first of the bearers is in.
+fn set_of(plans: &[Plan], graphs: &CallGraphs, graph: usize, change: &Candidate) -> Option<u8> {
+    let first = change.bearers.as_slice().first()?;
+    set_with(plans, graphs, graph, first.brick)
+}
+
+// Whether the bricks of a set bear this change of a call, and it makes the operation.
+fn is_borne_in(
+    alloc: Global,
+    script: &Script,
+    plans: &[Plan],
+    log: &Log,
+    bricks: &[Brick],
+    graphs: &CallGraphs,
+    call: u32,
+    operation: &FlatOp,
+    change: &Candidate,
+) -> Result<bool, AllocError>
+    requires { AreGraphsOf script.now log.now graphs.now }
+    ensures { IfOk result (λ yes. yes ≡ true → IsBorne script.now plans.now log.now bricks.now call operation.now) }
+{
+    let Some(graph) = graph_of(graphs, call) else {
+        return Ok(false);
+    };
+    let Some(set) = set_of(plans, graphs, graph, change) else {
+        return Ok(false);
+    };
+    let Some(plan) = set_in(plans, graphs, graph, set) else {
+        return Ok(false);
+    };
+    let bearers = change.bearers.as_slice();
+    let yes = has_bearers(
+        alloc,
+        bricks,
+        plan,
+        graph,
+        operation,
+        change.change,
+        bearers,
+    )?;
+    Ok(yes)
+}
+
+// Whether the bricks of a set bear a change of a call that makes the operation.
+fn is_borne(
+    alloc: Global,
+    script: &Script,
+    plans: &[Plan],
+    log: &Log,
+    bricks: &[Brick],
+    notes: &Notes,
+    call: u32,
+    operation: &FlatOp,
+) -> Result<bool, AllocError>
+    requires { AreGraphsOf script.now log.now notes.now.graphs }
+    ensures { IfOk result (λ yes. yes ≡ true → IsBorne script.now plans.now log.now bricks.now call operation.now) }
+{
+    let graphs = &notes.graphs;
+    for at in notes.found.begin(call)..notes.found.count() {
+        let Some(change) = notes.found.change(at, call) else {
+            return Ok(false);
+        };
+        if is_borne_in(
+            alloc, script, plans, log, bricks, graphs, call, operation, change,
+        )? {
+            return Ok(true);
+        }
+    }
+    Ok(false)
+}
+
+// Whether the operation of a call is borne, if the call was answered well.
+fn is_call_borne(
+    alloc: Global,
+    script: &Script,
+    plans: &[Plan],
+    log: &Log,
+    bricks: &[Brick],
+    notes: &Notes,
+    call: u32,
+    operation: &FlatOp,
+) -> Result<bool, AllocError>
+    requires { AreNotesOf script.now log.now notes.now }
+    ensures { IfOk result (λ yes. yes ≡ true → IsAcknowledged log.now call → IsBorne script.now plans.now log.now bricks.now call operation.now) }
+{
+    if !is_marked(notes.marks.as_slice(), call) {
+        return Ok(true);
+    }
+    let yes = is_borne(alloc, script, plans, log, bricks, notes, call, operation)?;
+    Ok(yes)
+}
+
+fn entry_at(log: &Log, k: usize) -> Option<Entry>
+    ensures { result ≡ slice_get log.now.history k }
+{
+    log.history.as_slice().get(k).copied()
+}
+
+fn op_at(ops: &[FlatOp], k: usize) -> Option<&FlatOp>
+    ensures { option_copied result ≡ slice_get ops.now k }
+{
+    ops.get(k)
+}
+
+// Whether the entry at a place is borne, if its call was answered well.
+fn is_entry_borne(
+    alloc: Global,
+    script: &Script,
+    plans: &[Plan],
+    log: &Log,
+    bricks: &[Brick],
+    ops: &[FlatOp],
+    notes: &Notes,
+    k: usize,
+) -> Result<bool, AllocError>
+    requires { AreNotesOf script.now log.now notes.now }
+    ensures { IfOk result (λ yes. yes ≡ true → (entry : Made) → slice_get log.now.history k ≡ Some entry → IsEntryBorne script.now plans.now log.now bricks.now ops.now k entry) }
+{
+    let Some(entry) = entry_at(log, k) else {
+        return Ok(false);
+    };
+    let Some(operation) = op_at(ops, k) else {
+        return Ok(false);
+    };
+    let call = entry.call;
+    let yes = is_call_borne(alloc, script, plans, log, bricks, notes, call, operation)?;
+    Ok(yes)
+}
+
+/// Whether each entry of the history whose call was answered well is borne: by a quorum of the bricks of one set, which have
+/// served the op of one change, which makes the entry's operation, and later its post, and have answered both Done. `ops` are
+/// the operations of the entries, in their order; where they are fewer than the entries, it is false.
+///
+/// # Errors
+/// Out of memory.
+pub fn changes_are_borne(
+    alloc: Global,
+    script: &Script,
+    plans: &[Plan],
+    log: &Log,
+    bricks: &[Brick],
+    ops: &[FlatOp],
+) -> Result<bool, AllocError>
+    ensures { IfOk result (λ yes. yes ≡ true → AreBorne script.now plans.now log.now bricks.now ops.now) }
+{
+    let Some(notes) = notes_of(alloc, script, log, bricks)? else {
+        return Ok(false);
+    };
+    for k in 0..log.history.len() {
+        if !is_entry_borne(alloc, script, plans, log, bricks, ops, &notes, k)? {
+            return Ok(false);
+        }
+    }
+    Ok(true)
+}

@@ -1,0 +1,268 @@
+//! Which bricks bear which changes, found in journals and outputs. Nothing is said of what is found.
+
+use crate::bearers::Bearer;
+use crate::served::{Served, done_wind, whole_input, whole_output};
+use brick_machine::Brick;
+use bytes::Bytes;
+use fop_types::{BrickReq, Input, Seq};
+use mount_log::WindLine;
+use std::alloc::{AllocError, Global};
+use std::collections::BTreeMap;
+
+/// A change of a call, and the bricks that are said to bear it, by rising numbers.
+#[derive(Drop)]
+pub struct Candidate {
+    pub call: u32,
+    pub change: u64,
+    pub bearers: Seq<Bearer>,
+}
+
+/// The changes that bricks are said to bear, by call, and where those of each call begin.
+#[derive(Drop)]
+pub struct Candidates {
+    changes: Vec<Candidate>,
+    begins: BTreeMap<u32, usize>,
+}
+
+// A change of a call, in the order of calls.
+#[derive(Clone, Copy, PartialEq, Eq, PartialOrd, Ord)]
+struct ChangeOf {
+    call: u32,
+    change: u64,
+}
+
+// The call of each wind.
+fn calls_of_winds(alloc: Global, winds: &[WindLine]) -> Result<BTreeMap<u64, u32>, AllocError> {
+    let mut calls = BTreeMap::new(alloc);
+    for line in winds {
+        if line.opened {
+            calls.insert(line.wind.number(), line.call)?;
+        }
+    }
+    Ok(calls)
+}
+
+// The wind of an output that is a Done with nothing.
+fn wind_done(alloc: Global, bytes: &[u8]) -> Result<Option<u64>, AllocError> {
+    match whole_output(alloc, bytes)? {
+        Some(output) => Ok(done_wind(&output.kind)),
+        None => Ok(None),
+    }
+}
+
+// The places of a brick's outputs that are a Done with nothing, by wind.
+fn answers_of(alloc: Global, outputs: &[Bytes]) -> Result<BTreeMap<u64, usize>, AllocError> {
+    let mut answers = BTreeMap::new(alloc);
+    for at in 0..outputs.len() {
+        let found = wind_done(alloc, outputs[at].as_slice())?;
+        if let Some(wind) = found {
+            answers.insert(wind, at)?;
+        }
+    }
+    Ok(answers)
+}
+
+// What a request has to do with a change.
+#[derive(Clone, Copy)]
+enum Part {
+    Op(u64),
+    Post(u64),
+}
+
+// An op or a post on its wind.
+#[derive(Clone, Copy)]
+struct Asked {
+    wind: u64,
+    part: Part,
+}
+
+fn part_of(req: &BrickReq) -> Option<Part> {
+    match req {
+        BrickReq::Op { change, .. } => Some(Part::Op(*change)),
+        BrickReq::Post { change, .. } => Some(Part::Post(*change)),
+        _ => None,
+    }
+}
+
+fn asked_by(input: &Input) -> Option<Asked> {
+    match input {
+        Input::Request { wind, req, .. } => {
+            let part = part_of(req)?;
+            Some(Asked { wind: *wind, part })
+        }
+        _ => None,
+    }
+}
+
+fn asked_in(alloc: Global, bytes: &[u8]) -> Result<Option<Asked>, AllocError> {
+    match whole_input(alloc, bytes)? {
+        Some(input) => Ok(asked_by(&input)),
+        None => Ok(None),
+    }
+}
+
+// The changes found so far.
+#[derive(Drop)]
+struct Search {
+    calls: BTreeMap<u64, u32>,
+    changes: BTreeMap<ChangeOf, Seq<Bearer>>,
+}
+
+// One brick's journal, as far as it was read: the ops that wait for their posts.
+#[derive(Drop)]
+struct Reading {
+    brick: u8,
+    answers: BTreeMap<u64, usize>,
+    ops: BTreeMap<u64, Served>,
+}
+
+impl Search {
+    fn add(&mut self, alloc: Global, key: ChangeOf, bearer: Bearer) -> Result<(), AllocError> {
+        let mut bearers = match self.changes.remove(&key) {
+            Some(bearers) => bearers,
+            None => Seq::new(alloc),
+        };
+        bearers.push(bearer)?;
+        self.changes.insert(key, bearers)?;
+        Ok(())
+    }
+
+    // A post was answered: its brick bears the change, if it has served the op.
+    fn post(
+        &mut self,
+        alloc: Global,
+        reading: &mut Reading,
+        wind: u64,
+        change: u64,
+        post: Served,
+    ) -> Result<(), AllocError> {
+        let Some(op) = reading.ops.remove(&change) else {
+            return Ok(());
+        };
+        let Some(call) = self.calls.get(&wind).copied() else {
+            return Ok(());
+        };
+        let bearer = Bearer {
+            brick: reading.brick,
+            op,
+            post,
+        };
+        self.add(alloc, ChangeOf { call, change }, bearer)
+    }
+
+    fn take(
+        &mut self,
+        alloc: Global,
+        reading: &mut Reading,
+        place: usize,
+        asked: Asked,
+    ) -> Result<(), AllocError> {
+        let Some(answer) = reading.answers.get(&asked.wind).copied() else {
+            return Ok(());
+        };
+        let served = Served { place, answer };
+        match asked.part {
+            Part::Op(change) => {
+                reading.ops.insert(change, served)?;
+                Ok(())
+            }
+            Part::Post(change) => self.post(alloc, reading, asked.wind, change, served),
+        }
+    }
+
+    fn read(&mut self, alloc: Global, brick: u8, at: &Brick) -> Result<(), AllocError> {
+        let answers = answers_of(alloc, at.outputs())?;
+        let mut reading = Reading {
+            brick,
+            answers,
+            ops: BTreeMap::new(alloc),
+        };
+        let journal = at.journal();
+        for place in 0..journal.len() {
+            let asked = asked_in(alloc, journal[place].as_slice())?;
+            if let Some(asked) = asked {
+                self.take(alloc, &mut reading, place, asked)?;
+            }
+        }
+        Ok(())
+    }
+
+    fn read_all(&mut self, alloc: Global, bricks: &[Brick]) -> Result<(), AllocError> {
+        let mut number = 0u8;
+        for brick in bricks {
+            self.read(alloc, number, brick)?;
+            number = number.saturating_add(1);
+        }
+        Ok(())
+    }
+}
+
+// The changes by call, and where those of each call begin.
+fn in_order(
+    alloc: Global,
+    changes: BTreeMap<ChangeOf, Seq<Bearer>>,
+) -> Result<Candidates, AllocError> {
+    let mut found = Candidates {
+        changes: Vec::new(alloc),
+        begins: BTreeMap::new(alloc),
+    };
+    for (key, bearers) in changes {
+        found.add(key, bearers)?;
+    }
+    Ok(found)
+}
+
+impl Candidates {
+    fn add(&mut self, key: ChangeOf, bearers: Seq<Bearer>) -> Result<(), AllocError> {
+        let at = self.changes.len();
+        if !self.begins.contains_key(&key.call) {
+            self.begins.insert(key.call, at)?;
+        }
+        self.changes.push(Candidate {
+            call: key.call,
+            change: key.change,
+            bearers,
+        })?;
+        Ok(())
+    }
+
+    /// The number of changes.
+    pub(crate) fn count(&self) -> usize {
+        self.changes.len()
+    }
+
+    /// The place of the first change of a call, and the number of changes where it has none.
+    pub(crate) fn begin(&self, call: u32) -> usize {
+        match self.begins.get(&call) {
+            Some(begin) => *begin,
+            None => self.changes.len(),
+        }
+    }
+
+    /// The change at a place, if it is one of the call.
+    pub(crate) fn change(&self, at: usize, call: u32) -> Option<&Candidate> {
+        let change = self.changes.get(at)?;
+        if change.call != call {
+            return None;
+        }
+        Some(change)
+    }
+}
+
+/// The changes that bricks bear.
+///
+/// # Errors
+/// Out of memory.
+pub(crate) fn find(
+    alloc: Global,
+    winds: &[WindLine],
+    bricks: &[Brick],
+) -> Result<Candidates, AllocError> {
+    let calls = calls_of_winds(alloc, winds)?;
+    let mut search = Search {
+        calls,
+        changes: BTreeMap::new(alloc),
+    };
+    search.read_all(alloc, bricks)?;
+    in_order(alloc, search.changes)
+}

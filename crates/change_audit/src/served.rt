@@ -1,0 +1,321 @@
+//! Requests that a brick has answered Done.
+ghost use Rattle.std.specs.Prelude.{◌≡◌, ◌+◌, ◌<◌, ◌^◌, true, Some, length, option_copied, slice_get, drop, IfOk, IfSome};
+ghost use Rattle.fop_types.specs.declared.messages.BrickRep.TheVariants.{Done};
+ghost use Rattle.fop_types.specs.declared.messages.DoneArm.TheVariants.{Nothing};
+ghost use Rattle.fop_types.specs.declared.messages.Input.TheVariants.{Request};
+ghost use Rattle.fop_types.specs.declared.messages.OutKind.TheVariants.{Reply};
+ghost use Rattle.wire_xdr.specs.WireText.{input_text};
+ghost use Rattle.wire_messages.specs.Messages.{output_in};
+ghost use Rattle.wire_messages.specs.declared.messages.Message.TheVariants.{Whole};
+ghost use Rattle.brick_machine.specs.Machine.{outputs_of};
+ghost use Rattle.change_audit.specs.Served.{IsAnswered, IsOnWind, IsOpOf, IsOpIn, IsOpText, IsPostOf, IsPostIn, IsPostOn, HasText, IsServed, IsPosted};
+
+use brick_machine::{Brick, outputs_are_encoded, outputs_are_in_order};
+use bytes::Bytes;
+use fop_types::{BrickRep, BrickReq, DoneArm, Input, OutKind, Output, StoreOp};
+use std::alloc::{AllocError, Global};
+use wire_messages::{Message, input_of, messages_read_back, output_of};
+
+/// A request in a brick's journal, and its answer among the brick's outputs, by their places from 0.
+#[derive(Clone, Copy)]
+pub struct Served {
+    pub place: usize,
+    pub answer: usize,
+}
+
+/// The bytes at a place.
+pub(crate) fn bytes_at(list: &[Bytes], at: usize) -> Option<&Bytes>
+    ensures { option_copied result ≡ slice_get list.now at }
+{
+    list.get(at)
+}
+
+// ---- outputs
+
+/// The output that the bytes are, if they are one.
+///
+/// # Errors
+/// Out of memory.
+pub(crate) fn whole_output(alloc: Global, bytes: &[u8]) -> Result<Option<Output>, AllocError>
+    ensures { IfOk result (λ found. IfSome found (λ x. output_in bytes.now ≡ Whole x)) }
+{
+    match output_of(alloc, bytes)? {
+        Message::Whole(output) => Ok(Some(output)),
+        Message::Wrong { place: _ } => Ok(None),
+    }
+}
+
+fn are_few(journal: &[Bytes]) -> bool
+    ensures { length journal.now < 2 ^ 64 }
+{
+    journal.is_empty()
+}
+
+// The output at a place.
+fn output_at(alloc: Global, brick: &Brick, at: usize) -> Result<Option<Output>, AllocError>
+    ensures { IfOk result (λ found. IfSome found (λ x. slice_get (outputs_of brick.now.journal) at ≡ Some x)) }
+{
+    outputs_are_encoded();
+    outputs_are_in_order();
+    messages_read_back();
+    are_few(brick.journal());
+    let Some(bytes) = bytes_at(brick.outputs(), at) else {
+        return Ok(None);
+    };
+    let Some(output) = whole_output(alloc, bytes.as_slice())? else {
+        return Ok(None);
+    };
+    Ok(Some(output))
+}
+
+fn is_nothing(arm: &DoneArm) -> bool
+    ensures { result ≡ true → arm.now ≡ Nothing }
+{
+    match arm {
+        DoneArm::Nothing => true,
+        _ => false,
+    }
+}
+
+fn is_done(rep: &BrickRep) -> bool
+    ensures { result ≡ true → rep.now ≡ Done Nothing }
+{
+    match rep {
+        BrickRep::Done(arm) => is_nothing(arm),
+        _ => false,
+    }
+}
+
+/// The wind of an output that is a Done with nothing.
+pub(crate) fn done_wind(kind: &OutKind) -> Option<u64>
+    ensures { IfSome result (λ wind. kind.now ≡ Reply wind (Done Nothing)) }
+{
+    match kind {
+        OutKind::Reply { wind, rep } => { if is_done(rep) { Some(*wind) } else { None } }
+        _ => None,
+    }
+}
+
+fn says_done(kind: &OutKind, wind: u64) -> bool
+    ensures { result ≡ true → kind.now ≡ Reply wind (Done Nothing) }
+{
+    match done_wind(kind) {
+        Some(found) => found == wind,
+        None => false,
+    }
+}
+
+fn is_caused_by(output: &Output, place: usize) -> bool
+    ensures { result ≡ true → output.now.taken ≡ place + 1 }
+{
+    output.taken > 0 && output.taken - 1 == place as u64
+}
+
+// Whether the output at a place is the Done of a wind, and the input at the other place caused it.
+fn is_answered(alloc: Global, brick: &Brick, at: Served, wind: u64) -> Result<bool, AllocError>
+    ensures { IfOk result (λ yes. yes ≡ true → IsAnswered brick.now.journal at.place at.answer wind) }
+{
+    let Some(output) = output_at(alloc, brick, at.answer)? else {
+        return Ok(false);
+    };
+    if !is_caused_by(&output, at.place) {
+        return Ok(false);
+    }
+    if !says_done(&output.kind, wind) {
+        return Ok(false);
+    }
+    Ok(true)
+}
+
+// ---- requests
+
+/// The input that the bytes are, if they are one.
+///
+/// # Errors
+/// Out of memory.
+pub(crate) fn whole_input(alloc: Global, bytes: &[u8]) -> Result<Option<Input>, AllocError>
+    ensures { IfOk result (λ found. IfSome found (λ x. bytes.now ≡ input_text x)) }
+{
+    match input_of(alloc, bytes)? {
+        Message::Whole(input) => Ok(Some(input)),
+        Message::Wrong { place: _ } => Ok(None),
+    }
+}
+
+// The kind of an input, a unit, and the number of a request's wind, a hyper.
+const BEFORE_TEXT: usize = 12;
+
+/// What bytes are behind the number of a wind.
+pub(crate) fn text_in(bytes: &[u8]) -> Option<&[u8]>
+    ensures { IfSome result (λ text. text.now ≡ drop 12 bytes.now) }
+{
+    if bytes.len() < BEFORE_TEXT {
+        return None;
+    }
+    let (_, text) = bytes.split_at(BEFORE_TEXT);
+    Some(text)
+}
+
+// The wind of bytes that are a request.
+fn wind_in(alloc: Global, bytes: &[u8]) -> Result<Option<u64>, AllocError>
+    ensures { IfOk result (λ found. IfSome found (λ wind. IsOnWind wind bytes.now)) }
+{
+    match whole_input(alloc, bytes)? {
+        Some(Input::Request { wind, .. }) => Ok(Some(wind)),
+        _ => Ok(None),
+    }
+}
+
+fn has_text(bytes: &[u8], text: &[u8]) -> bool
+    ensures { result ≡ true → drop 12 bytes.now ≡ text.now }
+{
+    match text_in(bytes) {
+        Some(found) => found == text,
+        None => false,
+    }
+}
+
+// The wind of bytes that are a request of this text.
+fn wind_before(alloc: Global, bytes: &[u8], text: &[u8]) -> Result<Option<u64>, AllocError>
+    ensures { IfOk result (λ found. IfSome found (λ wind. HasText wind text.now bytes.now)) }
+{
+    if !has_text(bytes, text) {
+        return Ok(None);
+    }
+    let found = wind_in(alloc, bytes)?;
+    Ok(found)
+}
+
+/// Whether the brick has answered Done to the request at a place, and this is the request's text.
+///
+/// # Errors
+/// Out of memory.
+pub(crate) fn is_served(
+    alloc: Global,
+    brick: &Brick,
+    at: Served,
+    text: &[u8],
+) -> Result<bool, AllocError>
+    ensures { IfOk result (λ yes. yes ≡ true → IsServed brick.now.journal at.place text.now) }
+{
+    let Some(bytes) = bytes_at(brick.journal(), at.place) else {
+        return Ok(false);
+    };
+    let Some(wind) = wind_before(alloc, bytes.as_slice(), text)? else {
+        return Ok(false);
+    };
+    let yes = is_answered(alloc, brick, at, wind)?;
+    Ok(yes)
+}
+
+// ---- ops
+
+fn op_of(req: BrickReq, change: u64) -> Option<StoreOp>
+    ensures { IfSome result (λ o. IsOpOf change o req) }
+{
+    match req {
+        BrickReq::Op { change: of, op, .. } => { if of == change { Some(op) } else { None } }
+        _ => None,
+    }
+}
+
+fn op_asked(input: Input, graph: usize, change: u64) -> Option<StoreOp>
+    ensures { IfSome result (λ o. IsOpIn graph change o input) }
+{
+    match input {
+        Input::Request { graph: of, req, .. } => {
+            if of as usize == graph {
+                op_of(req, change)
+            } else {
+                None
+            }
+        }
+        _ => None,
+    }
+}
+
+/// The store op of bytes that are the op of a change in a graph.
+///
+/// # Errors
+/// Out of memory.
+pub(crate) fn op_in(
+    alloc: Global,
+    bytes: &[u8],
+    graph: usize,
+    change: u64,
+) -> Result<Option<StoreOp>, AllocError>
+    ensures { IfOk result (λ found. IfSome found (λ o. IsOpText graph change o (drop 12 bytes.now))) }
+{
+    match whole_input(alloc, bytes)? {
+        Some(input) => Ok(op_asked(input, graph, change)),
+        None => Ok(None),
+    }
+}
+
+// ---- posts
+
+fn is_post(req: &BrickReq, change: u64) -> bool
+    ensures { result ≡ true → IsPostOf change req.now }
+{
+    match req {
+        BrickReq::Post { change: of, .. } => *of == change,
+        _ => false,
+    }
+}
+
+// The wind of an input that is the post of a change in a graph.
+fn post_asked(input: &Input, graph: usize, change: u64) -> Option<u64>
+    ensures { IfSome result (λ wind. IsPostIn wind graph change input.now) }
+{
+    match input {
+        Input::Request {
+            wind,
+            graph: of,
+            req,
+        } => {
+            if *of as usize == graph && is_post(req, change) {
+                Some(*wind)
+            } else {
+                None
+            }
+        }
+        _ => None,
+    }
+}
+
+fn post_in(
+    alloc: Global,
+    bytes: &[u8],
+    graph: usize,
+    change: u64,
+) -> Result<Option<u64>, AllocError>
+    ensures { IfOk result (λ found. IfSome found (λ wind. IsPostOn wind graph change bytes.now)) }
+{
+    match whole_input(alloc, bytes)? {
+        Some(input) => Ok(post_asked(&input, graph, change)),
+        None => Ok(None),
+    }
+}
+
+/// Whether the brick has answered Done to the post of a change in a graph, which is at a place.
+///
+/// # Errors
+/// Out of memory.
+pub(crate) fn is_posted(
+    alloc: Global,
+    brick: &Brick,
+    at: Served,
+    graph: usize,
+    change: u64,
+) -> Result<bool, AllocError>
+    ensures { IfOk result (λ yes. yes ≡ true → IsPosted brick.now.journal graph change at.place) }
+{
+    let Some(bytes) = bytes_at(brick.journal(), at.place) else {
+        return Ok(false);
+    };
+    let Some(wind) = post_in(alloc, bytes.as_slice(), graph, change)? else {
+        return Ok(false);
+    };
+    let yes = is_answered(alloc, brick, at, wind)?;
+    Ok(yes)
+}
