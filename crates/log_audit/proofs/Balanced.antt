@@ -35,17 +35,38 @@ even : (w : WindNo) (o : Option Turn) (lines : List WindLine) → is_closed o �
 even w None lines closed a = let b = a.0 in let c = a.1 in record { once = omega (arith, b); done = c ∙ sym b }
 even w (Some last) lines closed a = even_turn w last lines (not_open last.pending closed) (last.turn == w.turn) a
 
+-- ---- as far as the lines go
+
+record IsOnce (w : WindNo) (lines : List WindLine) : Type 0 where
+  pub opened : times_opened w lines ≤ 1
+  pub ended : times_ended w lines ≤ times_opened w lines
+
+at_most : (b : Bool) (n : ℕ) → n ≡ (if b then 0 else 1) → n ≤ 1
+at_most true n e = omega (arith, e)
+at_most false n e = omega (arith, e)
+
+once_turn : (w : WindNo) (last : Turn) (lines : List WindLine) → (b : Bool) → MatchBool b (IsLast w last lines) (IsOther w last lines) → IsOnce w lines
+once_turn w last lines true l =
+    let o = l.opened in let d : times_ended w lines ≤ 1 = at_most last.pending (times_ended w lines) l.ended in
+    record { opened = omega (arith, o); ended = omega (arith, d, o) }
+once_turn w last lines false o = let d = o.done in record { opened = o.once; ended = omega (arith, d) }
+
+once_of : (w : WindNo) (o : Option Turn) (lines : List WindLine) → Agrees w o lines → IsOnce w lines
+once_of w None lines a = let b = a.0 in let c = a.1 in record { opened = omega (arith, b); ended = omega (arith, b, c) }
+once_of w (Some last) lines a = once_turn w last lines (last.turn == w.turn) a
+
+pub once : (slots : List (Option Turn)) (lines : List WindLine) → Agree slots lines → WindsAreOnce lines
+once slots lines a =
+    let each : (w : WindNo) → IsOnce w lines = λ w. once_of w (slot_at slots w.slot) lines (a.winds w) in
+    record { opened_once = λ w. (each w).opened; ended_once = λ w. (each w).ended; ends = a.ends }
+
+-- ---- where each has ended
+
 pub balanced : (slots : List (Option Turn)) (lines : List WindLine) → Agree slots lines → are_closed slots ≡ true → WindsAreBalanced lines
-balanced slots lines a closed =
-    let each : (w : WindNo) → IsEven w lines = λ w. even w (slot_at slots w.slot) lines (each_closed slots w.slot closed) (a.winds w) in
-    record {
-      once = record {
-        opened_once = λ w. (each w).once;
-        ended_once = λ w. let d = (each w).done in omega (arith, d);
-        ends = a.ends;
-      };
-      all_ended = λ w. (each w).done;
-    }
+balanced slots lines a closed = record {
+  once = once slots lines a;
+  all_ended = λ w. (even w (slot_at slots w.slot) lines (each_closed slots w.slot closed) (a.winds w)).done;
+}
 
 pub none_yet : Agree [] []
 none_yet = record { winds = λ w. (refl, refl); ends = λ k line is ends. absurd cc }

@@ -2,6 +2,7 @@
 //!
 //! ```text
 //!   winds_are_balanced     the winds              each was opened once and ended once
+//!   winds_are_once         the winds              each was opened once and ended at most once
 //!   submits_are_in_order   the events, a script   each session submits its lines in order
 //!   is_finished            the replies, a script  each call has one reply
 //!   connects_are_caused    what was sent          connections, Downs and Ups have their causes
@@ -32,4 +33,4 @@ pub use connects::connects_are_caused;
 pub use ended::is_finished;
 pub use honest::arrivals_are_honest;
 pub use submits::submits_are_in_order;
-pub use winds::winds_are_balanced;
+pub use winds::{winds_are_balanced, winds_are_once};

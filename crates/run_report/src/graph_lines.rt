@@ -31,13 +31,13 @@ pub fn volfiles_of(alloc: Global, script: &Script, log: &Log) -> Result<Vec<u8>,
 
 // How many winds a graph has opened and ended.
 #[derive(Clone, Copy)]
-struct Winds {
-    opened: u64,
-    ended: u64,
+pub(crate) struct Winds {
+    pub opened: u64,
+    pub ended: u64,
 }
 
 // The counts of a graph with one line of it more.
-fn with_line(winds: Winds, opened: bool) -> Winds
+pub(crate) fn with_line(winds: Winds, opened: bool) -> Winds
     requires { (winds.opened < 2 ^ 64 - 1) × (winds.ended < 2 ^ 64 - 1) }
     ensures opened { result.opened ≡ winds.opened + (if opened then 1 else 0) }
     ensures ended { result.ended ≡ winds.ended + (if not opened then 1 else 0) }

@@ -3,9 +3,11 @@
 
 mod errors;
 mod graph_lines;
+mod limits;
 mod names;
 mod reports;
 mod summaries;
 
+pub use limits::has_report;
 pub use reports::report_of;
-pub use summaries::summary_line;
+pub use summaries::{opened_in, summary_line};

@@ -56,7 +56,8 @@ fn counted(counts: Counts, answer: &Answer) -> Counts
     }
 }
 
-fn opened_in(winds: &[WindLine]) -> u64
+/// How many winds lines open.
+pub fn opened_in(winds: &[WindLine]) -> u64
     ensures { result ≡ openings winds.now }
 {
     let mut count = 0;

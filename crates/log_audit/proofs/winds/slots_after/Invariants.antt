@@ -1,6 +1,6 @@
 use Rattle.std.proofs.Common.{take}
 use Rattle.log_audit.specs.Agreeing.{Agree}
-use Rattle.log_audit.proofs.winds.winds_are_balanced.Given as goal
+use Rattle.log_audit.proofs.winds.slots_after.Given as goal
 
 abbrev pub invariant-loop-line : goal.invariant-loop-line
 invariant-loop-line l = Agree l.slots (take l.line-index l.lines)
