@@ -1,8 +1,5 @@
-use Rattle.log_audit.proofs.Arming.{armed_begins, armed_next}
+use Rattle.log_audit.proofs.Arming.{armed_next}
 use Rattle.log_audit.proofs.armed_lines.armed_from.Goals as goal
-
-pub loop-stop-initial : goal.loop-stop-initial
-loop-stop-initial c = armed_begins c.args.sent.now c.args.from c.args.event c.args.brick
 
 pub loop-stop-preserved : goal.loop-stop-preserved
 loop-stop-preserved c =
