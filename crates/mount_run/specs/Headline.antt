@@ -39,8 +39,15 @@ pub record IsOneFileSystem (script : Script) (log : Log) (ops : List FlatOp) : T
   pub lawful : AreLawfulReplies (submissions_of script log) (replies_of log) ops log.history (length_since log) (length_until log) answered
   pub entered : length log.entered ≡ length log.history
 
--- a run of a script with the plans of its volfiles: its log, its bricks and its report
-pub record IsLawfulRun (script : Script) (plans : List Plan) (report : List ℕ) (rack : Rack) : Type 0 where
+-- there are operations of the history's entries by which the replies are those of one plain file system, and by which each
+-- acknowledged change is on a quorum of bricks
+pub record HasFiles (script : Script) (plans : List Plan) (rack : Rack) : Type 0 where
+  pub ops : List FlatOp
+  pub files : IsOneFileSystem script rack.log ops
+  pub borne : AreBorne script plans rack.log rack.bricks ops
+
+-- a run of a script with the plans of its volfiles: its log and its bricks
+pub record IsLawfulRun (script : Script) (plans : List Plan) (rack : Rack) : Type 0 where
   -- the log follows the script and is finished, what arrived in it is what the bricks made, and connections and controls are
   -- those of its events
   pub follows : FollowsScript script rack.log
@@ -48,18 +55,15 @@ pub record IsLawfulRun (script : Script) (plans : List Plan) (report : List ℕ)
   pub honest : HasHonestArrivals rack.log
   pub connections : ConnectsAreCaused rack.log
   pub bricks : AreBricksOf script rack.log rack.bricks
-  -- the bytes are the report of the log
-  pub written : report ≡ report_text (report_of script plans rack.log)
-  -- one legal history, lawful replies, each I/O error with its cause, each acknowledged change on a quorum of bricks
-  pub ops : List FlatOp
-  pub files : IsOneFileSystem script rack.log ops
+  -- one legal history, lawful replies, each acknowledged change on a quorum of bricks, each I/O error with its cause
+  pub files : HasFiles script plans rack
   pub causes : AreCaused script plans rack.log
-  pub borne : AreBorne script plans rack.log rack.bricks ops
   -- balanced winds
   pub winds : WindsAreBalanced rack.log.winds
 
--- the text is accepted, and its script was run lawfully
+-- the text is accepted, its script was run lawfully, and the bytes are the report of the run's log
 pub record Headline (text report : List ℕ) (rack : Rack) : Type 0 where
   pub read : Accepted
   pub accepted_as : accepted text ≡ Ok read
-  pub run : IsLawfulRun read.script read.plans report rack
+  pub run : IsLawfulRun read.script read.plans rack
+  pub written : report ≡ report_text (report_of read.script read.plans rack.log)

@@ -10,6 +10,8 @@ use Rattle.hub_calls.specs.declared.racks.Rack.{Rack}
 use Rattle.history_replay.specs.declared.judging.Verdict.{Verdict}
 use Rattle.mount_run.specs.Checks.{check_text}
 use Rattle.mount_run.specs.Headline.{Headline, IsLawfulRun, AreBricksOf}
+use Rattle.report_text.specs.ReportText.{report_text}
+use Rattle.run_report.specs.Reports.{report_of}
 use Rattle.mount_run.specs.Plans.{accepted}
 use Rattle.mount_run.specs.Refusals.{fault_of, fault_text}
 use Rattle.mount_run.specs.Replays.{status_of, verdict_text}
@@ -46,16 +48,18 @@ IsRefused known refusal = IfSome known (λ text. accepted text ≡ Err refusal)
 
 -- ---- a run
 
+-- the report of a run's log
+abbrev pub text_of : Script → List Plan → Rack → List ℕ
+text_of script plans rack = report_text (report_of script plans rack.log)
+
 -- the script was run, and its report was written: the whole of it, or a prefix and not all
 pub record IsWritten (script : Script) (plans : List Plan) (taken taken_after : Option (List ℕ)) (rack : Rack) : Type 0 where
-  pub report : List ℕ
-  pub run : IsLawfulRun script plans report rack
-  pub wrote : Appends taken taken_after report
+  pub run : IsLawfulRun script plans rack
+  pub wrote : Appends taken taken_after (text_of script plans rack)
 
 pub record IsCutShort (script : Script) (plans : List Plan) (taken taken_after : Option (List ℕ)) (rack : Rack) : Type 0 where
-  pub report : List ℕ
-  pub run : IsLawfulRun script plans report rack
-  pub wrote : WrotePrefix taken taken_after report
+  pub run : IsLawfulRun script plans rack
+  pub wrote : WrotePrefix taken taken_after (text_of script plans rack)
 
 -- a run that needed a further wind where none was left: the rack has its log and its bricks
 pub record IsStopped (script : Script) (rack : Rack) : Type 0 where
@@ -63,19 +67,23 @@ pub record IsStopped (script : Script) (rack : Rack) : Type 0 where
   pub once : WindsAreOnce rack.log.winds
   pub bricks : AreBricksOf script rack.log rack.bricks
 
--- a script was run, whatever was written
-pub record HasRun (script : Script) (plans : List Plan) (rack : Rack) : Type 0 where
-  pub report : List ℕ
-  pub run : IsLawfulRun script plans report rack
-
--- and the line that sums the run up was written: the whole of it, or a prefix and not all
+-- the script was run, and the line that sums the run up was written: the whole of it, or a prefix and not all
 pub record IsSummedUp (script : Script) (plans : List Plan) (number : ℕ) (taken taken_after : Option (List ℕ)) (rack : Rack) : Type 0 where
-  pub ran : HasRun script plans rack
+  pub run : IsLawfulRun script plans rack
   pub wrote : Appends taken taken_after (summary_text number rack.log)
 
 pub record IsSummedUpShort (script : Script) (plans : List Plan) (number : ℕ) (taken taken_after : Option (List ℕ)) (rack : Rack) : Type 0 where
-  pub ran : HasRun script plans rack
+  pub run : IsLawfulRun script plans rack
   pub wrote : WrotePrefix taken taken_after (summary_text number rack.log)
+
+-- the statuses of a script that is run
+abbrev pub IsRunStatus : ℕ → Type 0
+IsRunStatus status = (status ≡ 0) ⊎ ((status ≡ 4) ⊎ ((status ≡ 5) ⊎ ((status ≡ 6) ⊎ (status ≡ 7))))
+
+-- an audit refused what a run left: nothing was written
+pub record IsHeldBack (taken taken_after : Option (List ℕ)) (rack : Rack) : Type 0 where
+  pub nothing : taken_after ≡ taken
+  pub empty : rack ≡ empty_rack
 
 -- a script was run, and its whole report was written
 pub record Ran (known taken taken_after : Option (List ℕ)) (rack : Rack) : Type 0 where
@@ -97,9 +105,9 @@ pub record Checked (known taken taken_after : Option (List ℕ)) (rack : Rack) :
 -- the script that a number generates was run, and the line that sums it up was written
 pub record Generated (number : ℕ) (taken taken_after : Option (List ℕ)) (rack : Rack) : Type 0 where
   pub text : List ℕ
-  pub report : List ℕ
-  pub headline : Headline text report rack
-  pub wrote : Appends taken taken_after (summary_text number rack.log)
+  pub read : Accepted
+  pub accepted_as : accepted text ≡ Ok read
+  pub summed : IsSummedUp read.script read.plans number taken taken_after rack
 
 -- a report was judged, and the line that says so was written
 pub record Judged (status : ℕ) (taken taken_after : Option (List ℕ)) (rack : Rack) : Type 0 where
@@ -117,13 +125,13 @@ Succeeded (Some (Mount workers)) known taken taken_after rack = Ran known taken 
 Succeeded (Some (Generate number)) known taken taken_after rack = Generated number taken taken_after rack
 Succeeded (Some Replay) known taken taken_after rack = Judged 0 taken taken_after rack
 
--- only a replay finds a report unlawful
+-- a replay judges a report unlawful; what a run left is held back where it fails an audit
 abbrev pub IsUnlawful : Option Command → Option (List ℕ) → Option (List ℕ) → Rack → Type 0
 IsUnlawful None taken taken_after rack = ⊥
 IsUnlawful (Some Check) taken taken_after rack = ⊥
-IsUnlawful (Some (Run seed)) taken taken_after rack = ⊥
-IsUnlawful (Some (Mount workers)) taken taken_after rack = ⊥
-IsUnlawful (Some (Generate number)) taken taken_after rack = ⊥
+IsUnlawful (Some (Run seed)) taken taken_after rack = IsHeldBack taken taken_after rack
+IsUnlawful (Some (Mount workers)) taken taken_after rack = IsHeldBack taken taken_after rack
+IsUnlawful (Some (Generate number)) taken taken_after rack = IsHeldBack taken taken_after rack
 IsUnlawful (Some Replay) taken taken_after rack = Judged 6 taken taken_after rack
 
 -- ---- refusals
@@ -209,9 +217,9 @@ pub record CheckedUnwritten (known taken taken_after : Option (List ℕ)) (rack 
 
 pub record GeneratedUnwritten (number : ℕ) (taken taken_after : Option (List ℕ)) (rack : Rack) : Type 0 where
   pub text : List ℕ
-  pub report : List ℕ
-  pub headline : Headline text report rack
-  pub wrote : WrotePrefix taken taken_after (summary_text number rack.log)
+  pub read : Accepted
+  pub accepted_as : accepted text ≡ Ok read
+  pub summed : IsSummedUpShort read.script read.plans number taken taken_after rack
 
 pub record JudgedUnwritten (taken taken_after : Option (List ℕ)) (rack : Rack) : Type 0 where
   pub line : List ℕ

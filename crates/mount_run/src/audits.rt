@@ -1,27 +1,115 @@
 //! Whether what a run has left is as a run promises.
+ghost use Rattle.std.specs.Prelude.{◌≡◌, true, length, IfOk, IfSome};
+ghost use Rattle.brick_machine.specs.Journal.{Journal};
+ghost use Rattle.fop_types.specs.declared.flat.FlatOp.{FlatOp};
+ghost use Rattle.hub_calls.specs.Plans.{IsScript};
+ghost use Rattle.mount_log.specs.Connections.{ConnectsAreCaused};
+ghost use Rattle.mount_log.specs.Follows.{FollowsScript, IsFinished};
+ghost use Rattle.mount_log.specs.Winds.{WindsAreBalanced};
+ghost use Rattle.log_audit.specs.Honest.{HasHonestArrivals};
+ghost use Rattle.mount_run.specs.Headline.{AreBricksOf, HasFiles, IsLawfulRun};
+ghost use Rattle.mount_run.specs.Outcomes.{IsStopped};
+
+use graph_build::Plan;
 use hub_calls::Rack;
 use log_audit::{
-    arrivals_are_honest, connects_are_caused, is_finished, submits_are_in_order, winds_are_balanced,
+    arrivals_are_honest, changes_are_borne, connects_are_caused, controls_are_carried_out,
+    io_errors_are_caused, is_finished, submits_are_in_order, winds_are_balanced, winds_are_once,
 };
+use log_replay::one_file_system;
+use mount_log::Log;
+use run_report::opened_in;
 use script_lang::Script;
 use std::alloc::{AllocError, Global};
 
-/// Whether the log of a run, with its bricks, is as a run promises: sessions submit their lines in order, each call has its
-/// reply, what arrived is what the bricks make of what was sent, connections and Downs have their causes, and the winds are
-/// balanced.
+// Whether the log follows the script, and is finished.
+fn follows(alloc: Global, script: &Script, log: &Log) -> Result<bool, AllocError>
+    requires { IsAccepted script.now }
+    ensures follows { IfOk result (λ yes. yes ≡ true → FollowsScript script.now log.now) }
+    ensures finished { IfOk result (λ yes. yes ≡ true → IsFinished script.now log.now) }
+{
+    if !submits_are_in_order(alloc, script, log)? || !controls_are_carried_out(alloc, script, log)? {
+        return Ok(false);
+    }
+    is_finished(alloc, script, log)
+}
+
+// Whether there is a brick for each of the script's, each with what the log says of it.
+fn are_bricks(alloc: Global, script: &Script, left: &Rack) -> Result<bool, AllocError>
+    ensures honest { IfOk result (λ yes. yes ≡ true → HasHonestArrivals left.now.log) }
+    ensures bricks { IfOk result (λ yes. yes ≡ true → AreBricksOf script.now left.now.log left.now.bricks) }
+{
+    if left.bricks.len() != script.bricks.len() {
+        return Ok(false);
+    }
+    arrivals_are_honest(alloc, &left.log, left.bricks.as_slice())
+}
+
+// Whether the replies are those of one plain file system, and each acknowledged change is on a quorum of bricks.
+fn has_files(alloc: Global, script: &Script, plans: &[Plan], left: &Rack) -> Result<bool, AllocError>
+    requires { IsAccepted script.now }
+    ensures { IfOk result (λ yes. yes ≡ true → HasFiles script.now plans.now left.now) }
+{
+    match one_file_system(alloc, script, &left.log)? {
+        None => Ok(false),
+        Some(ops) => changes_are_borne(
+            alloc,
+            script,
+            plans,
+            &left.log,
+            left.bricks.as_slice(),
+            ops.as_slice(),
+        ),
+    }
+}
+
+// Whether winds, connections and I/O errors are as they should be.
+fn has_causes(alloc: Global, script: &Script, plans: &[Plan], log: &Log) -> Result<bool, AllocError>
+    ensures winds { IfOk result (λ yes. yes ≡ true → WindsAreBalanced log.now.winds) }
+    ensures connections { IfOk result (λ yes. yes ≡ true → ConnectsAreCaused log.now) }
+    ensures causes { IfOk result (λ yes. yes ≡ true → AreCaused script.now plans.now log.now) }
+{
+    if !winds_are_balanced(alloc, log.winds.as_slice())? || !connects_are_caused(alloc, log)? {
+        return Ok(false);
+    }
+    io_errors_are_caused(alloc, script, plans, log)
+}
+
+/// Whether the log of a run, with its bricks, is as a run promises: sessions submit their lines in order, each control is
+/// carried out, each call has its reply, what arrived is what the bricks make of what was sent, connections and I/O errors
+/// have their causes, the winds are balanced, the replies are those of one plain file system, and each acknowledged change is
+/// on a quorum of bricks.
 ///
 /// # Errors
 /// Out of memory.
-pub fn is_lawful(alloc: Global, script: &Script, left: &Rack) -> Result<bool, AllocError> {
-    let log = &left.log;
-    if !winds_are_balanced(alloc, log.winds.as_slice())? {
+pub fn is_lawful(
+    alloc: Global,
+    script: &Script,
+    plans: &[Plan],
+    left: &Rack,
+) -> Result<bool, AllocError>
+    requires { IsScript script.now plans.now }
+    ensures { IfOk result (λ yes. yes ≡ true → IsLawfulRun script.now plans.now left.now) }
+{
+    if !follows(alloc, script, &left.log)? || !are_bricks(alloc, script, left)? {
         return Ok(false);
     }
-    if !submits_are_in_order(alloc, script, log)? || !is_finished(alloc, script, log)? {
+    if !has_causes(alloc, script, plans, &left.log)? {
         return Ok(false);
     }
-    if !connects_are_caused(alloc, log)? {
+    has_files(alloc, script, plans, left)
+}
+
+/// Whether a log bears out that its run needed a further wind where none was left.
+///
+/// # Errors
+/// Out of memory.
+pub fn has_stopped(alloc: Global, script: &Script, left: &Rack) -> Result<bool, AllocError>
+    ensures { IfOk result (λ yes. yes ≡ true → IsStopped script.now left.now) }
+{
+    let winds = left.log.winds.as_slice();
+    if opened_in(winds) != 4294967295 || !winds_are_once(alloc, winds)? {
         return Ok(false);
     }
-    arrivals_are_honest(alloc, log, left.bricks.as_slice())
+    are_bricks(alloc, script, left)
 }

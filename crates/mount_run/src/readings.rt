@@ -1,6 +1,6 @@
-ghost use Rattle.std.specs.Prelude.{◌≡◌, ◌<◌, ◌-◌, ◌^◌, IfOk, IsErrOf};
+ghost use Rattle.std.specs.Prelude.{◌≡◌, ◌<◌, ◌≤◌, ◌-◌, ◌^◌, length, IfOk, IsErrOf};
 ghost use Rattle.hub_calls.specs.Plans.{IsScript};
-ghost use Rattle.mount_run.specs.Outcomes.{IsAccepted, IsRefused};
+ghost use Rattle.mount_run.specs.Outcomes.{IsRead, IsAccepted, IsRefused};
 ghost use Rattle.mount_run.specs.declared.readings.NotRead.TheVariants as not_read;
 ghost use Rattle.mount_run.specs.declared.refusals.Refusal.{Refusal};
 
@@ -32,6 +32,29 @@ impl From<AllocError> for NotRead {
     }
 }
 
+/// Reads a text to its end.
+///
+/// # Errors
+/// `Fault` only where the source's count of faults rose in this call; `Refused` where the text is too long; `Mem` is out of
+/// memory.
+pub fn read_text<S: Source>(alloc: Global, source: &mut S) -> Result<Vec<u8>, NotRead>
+    requires { S.faults source.old < 2 ^ 64 - 1 }
+    ensures text { IfOk result (λ text. IsRead (S.left source.old) text.items) }
+    ensures few { IfOk result (λ text. length text.items ≤ 2097152) }
+    ensures refused { (refusal : Refusal) → IsErrOf result (not_read.Refused refusal) → IsRefused (S.left source.old) refusal }
+    ensures fault { IsErrOf result not_read.Fault → S.faults source.old < S.faults source.new }
+{
+    match read_all(alloc, source, LIMIT) {
+        Ok(text) => Ok(text),
+        Err(ReadError::ReadFault) => Err(NotRead::Fault),
+        Err(ReadError::TooLong) => Err(NotRead::Refused(Refusal::OfScript {
+            line: 0,
+            kind: ScriptKind::TooLong,
+        })),
+        Err(ReadError::Mem) => Err(NotRead::Mem),
+    }
+}
+
 /// Reads a text to its end, and judges it.
 ///
 /// # Errors
@@ -43,13 +66,6 @@ pub fn read_script<S: Source>(alloc: Global, source: &mut S) -> Result<Accepted,
     ensures refused { (refusal : Refusal) → IsErrOf result (not_read.Refused refusal) → IsRefused (S.left source.old) refusal }
     ensures fault { IsErrOf result not_read.Fault → S.faults source.old < S.faults source.new }
 {
-    match read_all(alloc, source, LIMIT) {
-        Ok(text) => accept(alloc, text.as_slice()),
-        Err(ReadError::ReadFault) => Err(NotRead::Fault),
-        Err(ReadError::TooLong) => Err(NotRead::Refused(Refusal::OfScript {
-            line: 0,
-            kind: ScriptKind::TooLong,
-        })),
-        Err(ReadError::Mem) => Err(NotRead::Mem),
-    }
+    let text = read_text(alloc, source)?;
+    accept(alloc, text.as_slice())
 }

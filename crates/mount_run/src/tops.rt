@@ -1,33 +1,37 @@
-ghost use Rattle.std.specs.Prelude.{◌≡◌, ◌≢◌, ◌<◌, ◌≤◌, ◌-◌, ◌^◌, ◌↔◌, ◌⊎◌, Some, None, Err, map, IfOk, IsErrOf};
+ghost use Rattle.std.specs.Prelude.{◌≡◌, ◌≢◌, ◌<◌, ◌≤◌, ◌-◌, ◌^◌, ◌↔◌, ◌⊎◌, Some, None, Err, length, map, IfOk, IfSome, IfNone, IsErrOf};
 ghost use Rattle.std.specs.String.{string_bytes};
 ghost use Rattle.std.specs.Io.KnownBytes.{Appends};
 ghost use Rattle.xl_base.specs.Writes.{WrotePrefix};
 ghost use Rattle.hub_calls.specs.Plans.{IsScript};
+ghost use Rattle.mount_log.specs.Graphs.{volfiles_of as volfiles_in};
+ghost use Rattle.report_text.specs.ReportText.{report_text};
 ghost use Rattle.mount_run.specs.Checks.{calls_in, check_text};
 ghost use Rattle.mount_run.specs.Commands.{command_of, command_for, without_threads, mount_command};
 ghost use Rattle.mount_run.specs.Headline.{IsLawfulRun};
 ghost use Rattle.mount_run.specs.Refusals.{fault_of, fault_text};
-ghost use Rattle.mount_run.specs.Outcomes.{empty_rack, IsWritten, IsCutShort, IsStopped, Succeeded, IsUnlawful, RefusedBy, RefusedLine, Unwritten, JudgedUnwritten, Judged, IsSaying, IsRefusal, IsSummedUp, IsSummedUpShort, HasRun, RanOutOfWinds, Generated, GeneratedUnwritten, WindsRanOut};
+ghost use Rattle.mount_run.specs.Outcomes.{empty_rack, text_of, IsAccepted, IsRefused, IsRunStatus, IsWritten, IsCutShort, IsStopped, Succeeded, IsUnlawful, RefusedBy, RefusedLine, Unwritten, JudgedUnwritten, Judged, IsSaying, IsRefusal, IsSummedUp, IsSummedUpShort, RanOutOfWinds, Generated, GeneratedUnwritten, WindsRanOut};
+ghost use Rattle.run_report.specs.Reports.{AreFewWinds, report_of as report_of_log};
 ghost use Rattle.run_report.specs.Summaries.{summary_text};
 ghost use Rattle.mount_run.specs.declared.readings.NotRead.TheVariants as why;
 ghost use Rattle.mount_run.specs.declared.refusals.Refusal.{Refusal};
 
-use crate::audits::is_lawful;
+use crate::audits::{has_stopped, is_lawful};
 use crate::checks::check_line;
 use crate::commands::{Command, command_in};
 use crate::generator::generated;
 use crate::plans::{Accepted, accept};
-use crate::readings::{NotRead, read_script};
+use crate::readings::{NotRead, read_script, read_text};
 use crate::refusals::{Refusal, fault_line, report_fault};
 use crate::replaying::{Replayed, replay};
 use fop_types::Seq;
 use graph_build::Plan;
 use hub_calls::Rack;
-use hub_threads::{OpenGate, mount};
+use hub_threads::{OpenGate, Ran, mount};
+use mount_log::Log;
 use report_text::print;
-use run_report::{report_of, summary_line};
+use run_report::{has_report, report_of, summary_line};
 use script_lang::{Script, ScriptKind};
-use std::alloc::Global;
+use std::alloc::{AllocError, Global};
 use std::sync::Wait;
 use std::thread::Threads;
 use world_bricks::World;
@@ -40,8 +44,9 @@ use xlator_law::Stop;
 /// The words are those after the program's name. The result is the status: 0 the command was carried out and its text was
 /// written; 1 the script is refused and its one fault line was written; 2 the words are no command, and nothing was read or
 /// written; 3 the source failed, and nothing was written; 4 the sink failed, and a prefix of the text was written; 5 out of
-/// memory, and nothing was written; 6 the report is unlawful, and the line that says so was written; 7 the run needed a
-/// further wind where 4,294,967,295 were opened, and nothing was written. The rack must be empty; after a run, and where it
+/// memory, and nothing was written; 6 a replay judged the report unlawful, and the line that says so was written, or what a run
+/// left failed an audit, and nothing was written; 7 the run needed a further wind where 4,294,967,295 were opened, and nothing
+/// was written. The rack must be empty; after a run, and where it
 /// needed a wind too many, it holds the bricks and the log of the run, and else it is empty still.
 pub fn top<S: Source, K: Sink>(
     alloc: Global,
@@ -78,6 +83,9 @@ pub fn top<S: Source, K: Sink>(
 
 // The bytes of a text with its report, at most.
 const REPLAY_LIMIT: usize = 4294967295;
+
+// The bytes of a script, at most.
+const SCRIPT_LIMIT: usize = 2097152;
 
 // Reads a script with its report, and writes what comes of it.
 fn replay_read<S: Source, K: Sink>(alloc: Global, source: &mut S, sink: &mut K) -> u8
@@ -166,73 +174,83 @@ pub fn top_mount<R: Threads + Wait + Sync, S: Source, K: Sink>(
     let Some(Command::Mount(workers)) = command_in(words) else {
         return 2;
     };
-    match read_script(alloc, source) {
-        Ok(read) => mount_read(rt, alloc, read, workers, sink, rack),
+    match read_twice(alloc, source) {
+        Ok((read, again)) => mount_read(rt, alloc, read, again, workers, sink, rack),
         Err(not_read) => refuse_all(alloc, not_read, sink),
     }
+}
+
+// Reads a script, for the threads that run it and for the audits of what they leave: the mount shows nobody its script.
+fn read_twice<S: Source>(alloc: Global, source: &mut S) -> Result<(Accepted, Accepted), NotRead>
+    requires { S.faults source.old < 2 ^ 64 - 1 }
+    ensures accepted { IfOk result (λ two. IsAccepted (S.left source.old) two.1) }
+    ensures script { IfOk result (λ two. IsScript two.1.script two.1.plans) }
+    ensures refused { (refusal : Refusal) → IsErrOf result (why.Refused refusal) → IsRefused (S.left source.old) refusal }
+    ensures fault { IsErrOf result why.Fault → S.faults source.old < S.faults source.new }
+{
+    let text = read_text(alloc, source)?;
+    let read = accept(alloc, text.as_slice())?;
+    let again = accept(alloc, text.as_slice())?;
+    Ok((read, again))
 }
 
 fn mount_read<R: Threads + Wait + Sync, K: Sink>(
     rt: &R,
     alloc: Global,
     read: Accepted,
+    again: Accepted,
     workers: u8,
     sink: &mut K,
     rack: &mut Rack,
 ) -> u8
     requires sink { K.faults sink.old < 2 ^ 64 - 1 }
-    requires script { IsScript read.script read.plans }
-    ensures statuses { (result ≡ 0) ⊎ ((result ≡ 4) ⊎ ((result ≡ 5) ⊎ (result ≡ 7))) }
-    ensures ran { result ≡ 0 → IsWritten read.script read.plans (K.taken sink.old) (K.taken sink.new) rack.new }
-    ensures write_fault { result ≡ 4 → (K.faults sink.old < K.faults sink.new) × IsCutShort read.script read.plans (K.taken sink.old) (K.taken sink.new) rack.new }
+    requires script { IsScript again.script again.plans }
+    ensures statuses { IsRunStatus result }
+    ensures ran { result ≡ 0 → IsWritten again.script again.plans (K.taken sink.old) (K.taken sink.new) rack.new }
+    ensures write_fault { result ≡ 4 → (K.faults sink.old < K.faults sink.new) × IsCutShort again.script again.plans (K.taken sink.old) (K.taken sink.new) rack.new }
     ensures memory { result ≡ 5 → (sink.new ≡ sink.old) × (rack.new ≡ rack.old) }
-    ensures winds { result ≡ 7 → (sink.new ≡ sink.old) × IsStopped read.script rack.new }
+    ensures unlawful { result ≡ 6 → (sink.new ≡ sink.old) × (rack.new ≡ rack.old) }
+    ensures winds { result ≡ 7 → (sink.new ≡ sink.old) × IsStopped again.script rack.new }
 {
     let Accepted { script, plans } = read;
-    match mount_script(rt, alloc, script, plans, workers, rack) {
-        Ok(report) => write(sink, report.as_slice(), 0),
+    let mut left = Rack::new(alloc);
+    let ran = mount(rt, alloc, script, plans, workers, &OpenGate, &mut left);
+    match report_left(alloc, &again.script, again.plans.as_slice(), ran_well(ran), left, rack) {
+        Ok(Some(report)) => write(sink, report.as_slice(), 0),
+        Ok(None) => 6,
         Err(Stop::Mem) => 5,
         Err(Stop::Winds) => 7,
     }
 }
 
-// Runs a script by threads, leaves its bricks and its log in the rack, and gives the report's text.
-fn mount_script<R: Threads + Wait + Sync>(
-    rt: &R,
-    alloc: Global,
-    script: Script,
-    plans: Seq<Plan>,
-    workers: u8,
-    rack: &mut Rack,
-) -> Result<Vec<u8>, Stop>
-    requires { IsScript script plans }
-    ensures ran { IfOk result (λ report. IsLawfulRun script plans report.items rack.new) }
-    ensures winds { IsErrOf result Stop.Winds → IsStopped script rack.new }
-    ensures memory { IsErrOf result Stop.Mem → rack.new ≡ rack.old }
-{
-    let ran = mount(rt, alloc, script, plans, workers, &OpenGate, rack)?;
-    let report = report_of(alloc, &ran.script, ran.plans.as_slice(), &rack.log)?;
-    let text = print(alloc, &report)?;
-    Ok(text)
+fn ran_well(ran: Result<Ran, Stop>) -> Result<(), Stop> {
+    match ran {
+        Ok(_) => Ok(()),
+        Err(stop) => Err(stop),
+    }
 }
 
 // Runs the script that a number generates, with the number as its seed.
 fn generate<K: Sink>(alloc: Global, number: u64, sink: &mut K, rack: &mut Rack) -> u8
     requires sink { K.faults sink.old < 2 ^ 64 - 1 }
-    requires number { number < 4294967296 }
     requires rack { rack.old ≡ empty_rack }
-    ensures statuses { (result ≡ 0) ⊎ ((result ≡ 4) ⊎ ((result ≡ 5) ⊎ (result ≡ 7))) }
+    ensures statuses { IsRunStatus result }
     ensures generated { result ≡ 0 → Generated number (K.taken sink.old) (K.taken sink.new) rack.new }
     ensures write_fault { result ≡ 4 → (K.faults sink.old < K.faults sink.new) × GeneratedUnwritten number (K.taken sink.old) (K.taken sink.new) rack.new }
     ensures memory { result ≡ 5 → (sink.new ≡ sink.old) × (rack.new ≡ empty_rack) }
+    ensures unlawful { result ≡ 6 → (sink.new ≡ sink.old) × (rack.new ≡ empty_rack) }
     ensures winds { result ≡ 7 → (sink.new ≡ sink.old) × WindsRanOut None rack.new }
 {
     let Ok(text) = generated(alloc, number) else {
         return 5;
     };
+    if text.len() > SCRIPT_LIMIT {
+        return 6;
+    }
     match accept(alloc, text.as_slice()) {
         Ok(read) => generate_read(alloc, read, number, sink, rack),
-        Err(not_read) => refuse_all(alloc, not_read, sink),
+        Err(NotRead::Mem) => 5,
+        Err(_) => 6,
     }
 }
 
@@ -245,10 +263,11 @@ fn generate_read<K: Sink>(
 ) -> u8
     requires sink { K.faults sink.old < 2 ^ 64 - 1 }
     requires script { IsScript read.script read.plans }
-    ensures statuses { (result ≡ 0) ⊎ ((result ≡ 4) ⊎ ((result ≡ 5) ⊎ (result ≡ 7))) }
+    ensures statuses { IsRunStatus result }
     ensures ran { result ≡ 0 → IsSummedUp read.script read.plans number (K.taken sink.old) (K.taken sink.new) rack.new }
     ensures write_fault { result ≡ 4 → (K.faults sink.old < K.faults sink.new) × IsSummedUpShort read.script read.plans number (K.taken sink.old) (K.taken sink.new) rack.new }
     ensures memory { result ≡ 5 → (sink.new ≡ sink.old) × (rack.new ≡ rack.old) }
+    ensures unlawful { result ≡ 6 → (sink.new ≡ sink.old) × (rack.new ≡ rack.old) }
     ensures winds { result ≡ 7 → (sink.new ≡ sink.old) × IsStopped read.script rack.new }
 {
     let Accepted { script, plans } = read;
@@ -268,18 +287,19 @@ fn run_generated(
     rack: &mut Rack,
 ) -> Result<Option<Vec<u8>>, Stop>
     requires { IsScript script plans }
-    ensures ran { IfOk result (λ o. IfSome o (λ line. HasRun script plans rack.new)) }
+    ensures ran { IfOk result (λ o. IfSome o (λ line. IsLawfulRun script plans rack.new)) }
     ensures line { IfOk result (λ o. IfSome o (λ line. line.items ≡ summary_text number rack.new.log)) }
+    ensures unlawful { IfOk result (λ o. IfNone o (rack.new ≡ rack.old)) }
     ensures winds { IsErrOf result Stop.Winds → IsStopped script rack.new }
     ensures memory { IsErrOf result Stop.Mem → rack.new ≡ rack.old }
 {
     let mut world = World::new(alloc, script, plans)?;
     let ran = world.run(alloc, number);
-    let (script, _, left) = world.into_parts();
+    let (script, plans, left) = world.into_parts();
     if let Err(stop) = ran {
-        return stopped(left, stop, rack);
+        return stopped(alloc, &script, left, stop, rack);
     }
-    if !is_lawful(alloc, &script, &left)? {
+    if !is_lawful(alloc, &script, plans.as_slice(), &left)? {
         return Ok(None);
     }
     let line = summary_line(alloc, number, &left.log)?;
@@ -298,13 +318,14 @@ fn carry_out<S: Source, K: Sink>(
     requires sink { K.faults sink.old < 2 ^ 64 - 1 }
     requires rack { rack.old ≡ empty_rack }
 
-    ensures statuses { (result ≤ 5) ⊎ (result ≡ 7) }
+    ensures statuses { result ≤ 7 }
     ensures no_usage { result ≡ 2 → ⊥ }
     ensures succeeded { result ≡ 0 → Succeeded (Some (command_for seed)) (S.left source.old) (K.taken sink.old) (K.taken sink.new) rack.new }
     ensures refused { result ≡ 1 → RefusedBy (Some (command_for seed)) (S.left source.old) (K.taken sink.old) (K.taken sink.new) rack.new }
     ensures read_fault { result ≡ 3 → (S.faults source.old < S.faults source.new) × (sink.new ≡ sink.old) × (rack.new ≡ empty_rack) }
     ensures write_fault { result ≡ 4 → (K.faults sink.old < K.faults sink.new) × Unwritten (Some (command_for seed)) (S.left source.old) (K.taken sink.old) (K.taken sink.new) rack.new }
     ensures memory { result ≡ 5 → (sink.new ≡ sink.old) × (rack.new ≡ empty_rack) }
+    ensures unlawful { result ≡ 6 → IsUnlawful (Some (command_for seed)) (K.taken sink.old) (K.taken sink.new) rack.new }
     ensures winds { result ≡ 7 → (sink.new ≡ sink.old) × RanOutOfWinds (Some (command_for seed)) (S.left source.old) rack.new }
 {
     match read_script(alloc, source) {
@@ -378,10 +399,11 @@ fn check_read<K: Sink>(alloc: Global, script: &Script, sink: &mut K) -> u8
 fn run_read<K: Sink>(alloc: Global, read: Accepted, seed: u64, sink: &mut K, rack: &mut Rack) -> u8
     requires sink { K.faults sink.old < 2 ^ 64 - 1 }
     requires script { IsScript read.script read.plans }
-    ensures statuses { (result ≡ 0) ⊎ ((result ≡ 4) ⊎ ((result ≡ 5) ⊎ (result ≡ 7))) }
+    ensures statuses { IsRunStatus result }
     ensures ran { result ≡ 0 → IsWritten read.script read.plans (K.taken sink.old) (K.taken sink.new) rack.new }
     ensures write_fault { result ≡ 4 → (K.faults sink.old < K.faults sink.new) × IsCutShort read.script read.plans (K.taken sink.old) (K.taken sink.new) rack.new }
     ensures memory { result ≡ 5 → (sink.new ≡ sink.old) × (rack.new ≡ rack.old) }
+    ensures unlawful { result ≡ 6 → (sink.new ≡ sink.old) × (rack.new ≡ rack.old) }
     ensures winds { result ≡ 7 → (sink.new ≡ sink.old) × IsStopped read.script rack.new }
 {
     let Accepted { script, plans } = read;
@@ -393,20 +415,8 @@ fn run_read<K: Sink>(alloc: Global, read: Accepted, seed: u64, sink: &mut K, rac
     }
 }
 
-// A run that stopped. Where it needed a wind too many, its bricks and its log are left in the rack.
-fn stopped(left: Rack, stop: Stop, rack: &mut Rack) -> Result<Option<Vec<u8>>, Stop>
-    ensures err { result ≡ Err stop }
-    ensures winds { stop ≡ Stop.Winds → rack.new ≡ left }
-    ensures memory { stop ≡ Stop.Mem → rack.new ≡ rack.old }
-{
-    if stop == Stop::Winds {
-        *rack = left;
-    }
-    Err(stop)
-}
-
 // Runs a script by a seed's schedule, leaves its bricks and its log in the rack, and gives the report's text; `None` where
-// the log is not as a run promises.
+// what the run left fails an audit.
 fn run_script(
     alloc: Global,
     script: Script,
@@ -415,21 +425,78 @@ fn run_script(
     rack: &mut Rack,
 ) -> Result<Option<Vec<u8>>, Stop>
     requires { IsScript script plans }
-    ensures ran { IfOk result (λ o. IfSome o (λ report. IsLawfulRun script plans report.items rack.new)) }
+    ensures ran { IfOk result (λ o. IfSome o (λ report. IsLawfulRun script plans rack.new)) }
+    ensures report { IfOk result (λ o. IfSome o (λ report. report.items ≡ text_of script plans rack.new)) }
+    ensures unlawful { IfOk result (λ o. IfNone o (rack.new ≡ rack.old)) }
     ensures winds { IsErrOf result Stop.Winds → IsStopped script rack.new }
     ensures memory { IsErrOf result Stop.Mem → rack.new ≡ rack.old }
 {
     let mut world = World::new(alloc, script, plans)?;
     let ran = world.run(alloc, seed);
     let (script, plans, left) = world.into_parts();
+    report_left(alloc, &script, plans.as_slice(), ran, left, rack)
+}
+
+// What a run left goes into the rack, and its report is given, where it passes the audits.
+fn report_left(
+    alloc: Global,
+    script: &Script,
+    plans: &[Plan],
+    ran: Result<(), Stop>,
+    left: Rack,
+    rack: &mut Rack,
+) -> Result<Option<Vec<u8>>, Stop>
+    requires { IsScript script.now plans.now }
+    ensures ran { IfOk result (λ o. IfSome o (λ report. IsLawfulRun script.now plans.now rack.new)) }
+    ensures report { IfOk result (λ o. IfSome o (λ report. report.items ≡ text_of script.now plans.now rack.new)) }
+    ensures unlawful { IfOk result (λ o. IfNone o (rack.new ≡ rack.old)) }
+    ensures winds { IsErrOf result Stop.Winds → IsStopped script.now rack.new }
+    ensures memory { IsErrOf result Stop.Mem → rack.new ≡ rack.old }
+{
     if let Err(stop) = ran {
-        return stopped(left, stop, rack);
+        return stopped(alloc, script, left, stop, rack);
     }
-    if !is_lawful(alloc, &script, &left)? {
+    if !has_report(&left.log) || !is_lawful(alloc, script, plans, &left)? {
         return Ok(None);
     }
-    let report = report_of(alloc, &script, plans.as_slice(), &left.log)?;
-    let text = print(alloc, &report)?;
+    let text = report(alloc, script, plans, &left.log)?;
     *rack = left;
     Ok(Some(text))
+}
+
+fn report(
+    alloc: Global,
+    script: &Script,
+    plans: &[Plan],
+    log: &Log,
+) -> Result<Vec<u8>, AllocError>
+    requires winds { AreFewWinds log.now.winds }
+    requires graphs { length (volfiles_in script.now log.now) ≤ 4294967294 }
+    ensures { IfOk result (λ text. text.items ≡ report_text (report_of_log script.now plans.now log.now)) }
+{
+    let report = report_of(alloc, script, plans, log)?;
+    print(alloc, &report)
+}
+
+// A run that stopped. Where it needed a wind too many, its bricks and its log are left in the rack; `None` where the log
+// doesn't bear that out.
+fn stopped(
+    alloc: Global,
+    script: &Script,
+    left: Rack,
+    stop: Stop,
+    rack: &mut Rack,
+) -> Result<Option<Vec<u8>>, Stop>
+    ensures unlawful { IfOk result (λ o. (o ≡ None) × (rack.new ≡ rack.old)) }
+    ensures winds { IsErrOf result Stop.Winds → IsStopped script.now rack.new }
+    ensures memory { IsErrOf result Stop.Mem → rack.new ≡ rack.old }
+{
+    if stop == Stop::Mem {
+        return Err(Stop::Mem);
+    }
+    if !has_stopped(alloc, script, &left)? {
+        return Ok(None);
+    }
+    *rack = left;
+    Err(Stop::Winds)
 }
