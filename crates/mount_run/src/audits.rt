@@ -28,7 +28,9 @@ fn follows(alloc: Global, script: &Script, log: &Log) -> Result<bool, AllocError
     ensures follows { IfOk result (λ yes. yes ≡ true → FollowsScript script.now log.now) }
     ensures finished { IfOk result (λ yes. yes ≡ true → IsFinished script.now log.now) }
 {
-    if !submits_are_in_order(alloc, script, log)? || !controls_are_carried_out(alloc, script, log)? {
+    if !submits_are_in_order(alloc, script, log)?
+        || !controls_are_carried_out(alloc, script, log)?
+    {
         return Ok(false);
     }
     is_finished(alloc, script, log)
@@ -46,7 +48,12 @@ fn are_bricks(alloc: Global, script: &Script, left: &Rack) -> Result<bool, Alloc
 }
 
 // Whether the replies are those of one plain file system, and each acknowledged change is on a quorum of bricks.
-fn has_files(alloc: Global, script: &Script, plans: &[Plan], left: &Rack) -> Result<bool, AllocError>
+fn has_files(
+    alloc: Global,
+    script: &Script,
+    plans: &[Plan],
+    left: &Rack,
+) -> Result<bool, AllocError>
     requires { IsAccepted script.now }
     ensures { IfOk result (λ yes. yes ≡ true → HasFiles script.now plans.now left.now) }
 {

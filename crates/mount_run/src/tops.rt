@@ -215,7 +215,14 @@ fn mount_read<R: Threads + Wait + Sync, K: Sink>(
     let Accepted { script, plans } = read;
     let mut left = Rack::new(alloc);
     let ran = mount(rt, alloc, script, plans, workers, &OpenGate, &mut left);
-    match report_left(alloc, &again.script, again.plans.as_slice(), ran_well(ran), left, rack) {
+    match report_left(
+        alloc,
+        &again.script,
+        again.plans.as_slice(),
+        ran_well(ran),
+        left,
+        rack,
+    ) {
         Ok(Some(report)) => write(sink, report.as_slice(), 0),
         Ok(None) => 6,
         Err(Stop::Mem) => 5,
@@ -464,12 +471,7 @@ fn report_left(
     Ok(Some(text))
 }
 
-fn report(
-    alloc: Global,
-    script: &Script,
-    plans: &[Plan],
-    log: &Log,
-) -> Result<Vec<u8>, AllocError>
+fn report(alloc: Global, script: &Script, plans: &[Plan], log: &Log) -> Result<Vec<u8>, AllocError>
     requires winds { AreFewWinds log.now.winds }
     requires graphs { length (volfiles_in script.now log.now) ≤ 4294967294 }
     ensures { IfOk result (λ text. text.items ≡ report_text (report_of_log script.now plans.now log.now)) }
