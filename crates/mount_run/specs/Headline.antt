@@ -2,8 +2,6 @@
 -- written history that holds each acknowledged change once; an I/O error is written only with its cause; and every wind is
 -- ended once.
 use Rattle.std.specs.Prelude.{◌≡◌, ℕ, List, Ok, IfSome, length, slice_get, take}
-use Rattle.fop_types.specs.History.{IsLegalHistory}
-use Rattle.fop_types.specs.Replies.{AreLawfulReplies}
 use Rattle.fop_types.specs.declared.flat.FlatOp.{FlatOp}
 use Rattle.graph_build.specs.declared.plans.Plan.{Plan}
 use Rattle.script_lang.specs.declared.scripts.Script.{Script}
@@ -12,6 +10,7 @@ use Rattle.mount_log.specs.declared.logs.Log.{Log}
 use Rattle.hub_calls.specs.declared.racks.Rack.{Rack}
 use Rattle.report_text.specs.ReportText.{report_text}
 use Rattle.log_audit.specs.Honest.{HasHonestArrivals}
+use Rattle.log_replay.specs.Judged.{IsOneFileSystem}
 use Rattle.mount_log.specs.Arrivals.{inputs_to}
 use Rattle.change_audit.specs.Borne.{AreBorne}
 use Rattle.mount_log.specs.Causes.{AreCaused}
@@ -19,7 +18,7 @@ use Rattle.mount_log.specs.Connections.{ConnectsAreCaused}
 use Rattle.mount_log.specs.Follows.{FollowsScript, IsFinished}
 use Rattle.mount_run.specs.Plans.{accepted}
 use Rattle.run_report.specs.Reports.{report_of}
-use Rattle.mount_log.specs.Submissions.{submissions_of, replies_of, length_since, length_until}
+use Rattle.mount_log.specs.Ties.{AreTied}
 use Rattle.mount_log.specs.Winds.{WindsAreBalanced}
 use Rattle.mount_run.specs.declared.plans.Accepted.{Accepted}
 
@@ -28,16 +27,6 @@ use Rattle.mount_run.specs.declared.plans.Accepted.{Accepted}
 pub record AreBricksOf (script : Script) (log : Log) (bricks : List Journal) : Type 0 where
   pub many : length bricks ≡ length script.bricks
   pub journals : (brick : ℕ) → IfSome (slice_get bricks brick) (λ b. b.journal ≡ take (length b.journal) (inputs_to brick log.sent))
-
--- One history with the operations of its entries, and with the places of each call's fops, also of those that have no reply:
--- it is legal, and the replies are lawful. `answered` is how many fops of a call were answered by something else than an I/O
--- error.
-pub record IsOneFileSystem (script : Script) (log : Log) (ops : List FlatOp) : Type 0 where
-  pub places : ℕ → List ℕ
-  pub answered : ℕ → ℕ
-  pub legal : IsLegalHistory (submissions_of script log) (replies_of log) (length_since log) places ops log.history
-  pub lawful : AreLawfulReplies (submissions_of script log) (replies_of log) ops log.history (length_since log) (length_until log) answered
-  pub entered : length log.entered ≡ length log.history
 
 -- there are operations of the history's entries by which the replies are those of one plain file system, and by which each
 -- acknowledged change is on a quorum of bricks
@@ -48,12 +37,13 @@ pub record HasFiles (script : Script) (plans : List Plan) (rack : Rack) : Type 0
 
 -- a run of a script with the plans of its volfiles: its log and its bricks
 pub record IsLawfulRun (script : Script) (plans : List Plan) (rack : Rack) : Type 0 where
-  -- the log follows the script and is finished, what arrived in it is what the bricks made, and connections and controls are
-  -- those of its events
+  -- the log follows the script and is finished, what arrived in it is what the bricks made, connections have their causes, and
+  -- replies, winds and requests are of their calls, events and graphs
   pub follows : FollowsScript script rack.log
   pub finished : IsFinished script rack.log
   pub honest : HasHonestArrivals rack.log
   pub connections : ConnectsAreCaused rack.log
+  pub ties : AreTied rack.log
   pub bricks : AreBricksOf script rack.log rack.bricks
   -- one legal history, lawful replies, each acknowledged change on a quorum of bricks, each I/O error with its cause
   pub files : HasFiles script plans rack

@@ -1,20 +1,22 @@
 //! Whether what a run has left is as a run promises.
 ghost use Rattle.std.specs.Prelude.{◌≡◌, true, length, IfOk, IfSome};
-ghost use Rattle.brick_machine.specs.Journal.{Journal};
-ghost use Rattle.fop_types.specs.declared.flat.FlatOp.{FlatOp};
 ghost use Rattle.hub_calls.specs.Plans.{IsScript};
+ghost use Rattle.mount_log.specs.Causes.{AreCaused};
 ghost use Rattle.mount_log.specs.Connections.{ConnectsAreCaused};
 ghost use Rattle.mount_log.specs.Follows.{FollowsScript, IsFinished};
+ghost use Rattle.mount_log.specs.Ties.{AreTied};
 ghost use Rattle.mount_log.specs.Winds.{WindsAreBalanced};
+ghost use Rattle.script_lang.specs.Accepted.{IsAccepted};
 ghost use Rattle.log_audit.specs.Honest.{HasHonestArrivals};
 ghost use Rattle.mount_run.specs.Headline.{AreBricksOf, HasFiles, IsLawfulRun};
 ghost use Rattle.mount_run.specs.Outcomes.{IsStopped};
 
+use change_audit::changes_are_borne;
 use graph_build::Plan;
 use hub_calls::Rack;
 use log_audit::{
-    arrivals_are_honest, changes_are_borne, connects_are_caused, controls_are_carried_out,
-    io_errors_are_caused, is_finished, submits_are_in_order, winds_are_balanced, winds_are_once,
+    arrivals_are_honest, connects_are_caused, follows_script, io_errors_are_caused, is_finished,
+    lines_are_tied, winds_are_balanced, winds_are_once,
 };
 use log_replay::one_file_system;
 use mount_log::Log;
@@ -28,9 +30,7 @@ fn follows(alloc: Global, script: &Script, log: &Log) -> Result<bool, AllocError
     ensures follows { IfOk result (λ yes. yes ≡ true → FollowsScript script.now log.now) }
     ensures finished { IfOk result (λ yes. yes ≡ true → IsFinished script.now log.now) }
 {
-    if !submits_are_in_order(alloc, script, log)?
-        || !controls_are_carried_out(alloc, script, log)?
-    {
+    if !follows_script(alloc, script, log)? {
         return Ok(false);
     }
     is_finished(alloc, script, log)
@@ -82,10 +82,24 @@ fn has_causes(alloc: Global, script: &Script, plans: &[Plan], log: &Log) -> Resu
     io_errors_are_caused(alloc, script, plans, log)
 }
 
+// Whether the lines are tied to the events, and winds, connections and I/O errors are as they should be.
+fn is_sound(alloc: Global, script: &Script, plans: &[Plan], log: &Log) -> Result<bool, AllocError>
+    requires { IsAccepted script.now }
+    ensures ties { IfOk result (λ yes. yes ≡ true → AreTied log.now) }
+    ensures winds { IfOk result (λ yes. yes ≡ true → WindsAreBalanced log.now.winds) }
+    ensures connections { IfOk result (λ yes. yes ≡ true → ConnectsAreCaused log.now) }
+    ensures causes { IfOk result (λ yes. yes ≡ true → AreCaused script.now plans.now log.now) }
+{
+    if !lines_are_tied(alloc, script, log)? {
+        return Ok(false);
+    }
+    has_causes(alloc, script, plans, log)
+}
+
 /// Whether the log of a run, with its bricks, is as a run promises: sessions submit their lines in order, each control is
-/// carried out, each call has its reply, what arrived is what the bricks make of what was sent, connections and I/O errors
-/// have their causes, the winds are balanced, the replies are those of one plain file system, and each acknowledged change is
-/// on a quorum of bricks.
+/// carried out, each call has its reply, what arrived is what the bricks make of what was sent, replies, winds and requests are
+/// of their calls, events and graphs, connections and I/O errors have their causes, the winds are balanced, the replies are
+/// those of one plain file system, and each acknowledged change is on a quorum of bricks.
 ///
 /// # Errors
 /// Out of memory.
@@ -101,7 +115,7 @@ pub fn is_lawful(
     if !follows(alloc, script, &left.log)? || !are_bricks(alloc, script, left)? {
         return Ok(false);
     }
-    if !has_causes(alloc, script, plans, &left.log)? {
+    if !is_sound(alloc, script, plans, &left.log)? {
         return Ok(false);
     }
     has_files(alloc, script, plans, left)
