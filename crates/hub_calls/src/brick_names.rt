@@ -82,7 +82,7 @@ fn copy_names(alloc: Global, names: &[Seq<u8>]) -> Result<Seq<Seq<u8>>, AllocErr
 }
 
 fn client_names(alloc: Global, set: Option<&SetPlan>) -> Result<Seq<Seq<u8>>, AllocError>
-    ensures { IfOk result (λ names. names ≡ clients_of (option_copied set)) }
+    ensures { IfOk result (λ names. names ≡ clients_of (option_copied set.entry)) }
 {
     match set {
         Some(set) => copy_names(alloc, set.clients.as_slice()),
