@@ -8,7 +8,7 @@ use Rattle.fop_types.specs.Replies.{IsLawfulReply, AreLawfulReplies}
 use Rattle.fop_types.specs.declared.flat.FlatOp.{FlatOp}
 use Rattle.fop_types.specs.declared.history.Entry.{Entry}
 use Rattle.script_lang.specs.declared.scripts.Script.{Script}
-use Rattle.mount_log.specs.Submissions.{submissions_of, submissions_from, replies_of, count_below, submit_event, submitted_at, event_of_reply, replied_at, length_since, length_until}
+use Rattle.mount_log.specs.Submissions.{submissions_of, replies_of, count_below, submit_event, event_of_reply, length_since, length_until}
 use Rattle.mount_log.specs.declared.logs.HubEvent.{HubEvent}
 use Rattle.mount_log.specs.declared.logs.HubEvent.TheVariants as logged
 use Rattle.mount_log.specs.declared.logs.Log.{Log}

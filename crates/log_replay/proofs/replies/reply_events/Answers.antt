@@ -1,5 +1,3 @@
-use Rattle.std.proofs.Common.{◌≡◌, subst, sym}
-use Rattle.log_replay.specs.Events.{HasReplyEvents}
 use Rattle.log_replay.proofs.Replying.{replied_more}
 use Rattle.log_replay.proofs.replies.reply_events.Goals as goal
 
