@@ -1,3 +1,5 @@
+ghost use Rattle.hub_calls.specs.Plans.{IsScript};
+
 use crate::desk::Desk;
 use crate::gate::Gate;
 use crate::side::BrickSide;
@@ -32,7 +34,7 @@ struct Places {
 }
 
 // The places of a script's bricks and of so many workers.
-fn places(
+fn places_of(
     alloc: Global,
     script: &Script,
     plans: &[Plan],
@@ -154,13 +156,15 @@ pub fn mount<R: Threads + Wait + Sync, G: Gate + Sync>(
     workers: u8,
     gate: &G,
     rack: &mut Rack,
-) -> Result<Ran, Stop> {
-    let Places { ends, posts } = places(alloc, &script, plans.as_slice(), workers)?;
+) -> Result<Ran, Stop>
+    requires { IsScript script plans }
+{
+    let Places { ends, posts } = places_of(alloc, &script, plans.as_slice(), workers)?;
     let mut posts = posts;
     let hub = Hub::new(alloc, script, plans)?;
     let desk = Mutex::new(Desk::new(alloc, hub, ends)?);
     let ended = AtomicBool::new(false);
-    let count = posts.len();
+    let count = posts.len().max(1);
     thread::for_each_mut(
         rt,
         posts.as_mut_slice(),
