@@ -66,7 +66,7 @@ same_numbers last (logged.Act a) es other = refl
 same_numbers last (logged.Arm brick p count a) es other = refl
 
 -- the line of an event that submits one
-line_number : HubEvent → ℕ
+abbrev line_number : HubEvent → ℕ
 line_number (logged.Submit session line) = line
 line_number (logged.Arrive brick bytes) = 0
 line_number (logged.Run graph task) = 0
