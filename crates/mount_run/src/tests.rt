@@ -69,7 +69,7 @@ fn lines_of(volume: Volume) -> &'static [u8] {
 }
 
 // Calls on one brick, of one session and of several.
-const CALLS: [Row; 14] = [
+const CALLS: [Row; 13] = [
     Row {
         name: "a_script_without_calls_is_an_empty_run",
         words: &["run", "1"],
@@ -167,40 +167,6 @@ const CALLS: [Row; 14] = [
         written: b"report 1\ncall 1 session s1 line 13 places 1 ok\ncall 2 session s1 line 15 places 1,1 ok dir 0 0\nhistory 1\nentry 1 call 1 part 1\ngraph 1 g winds 35 ended 35 drained\nend\n",
     },
     Row {
-        name: "errors_of_rename",
-        words: &["run", "1"],
-        volume: Volume::One,
-        script: &[
-            (
-                b"phase\ndo s mkdir /d 755\ndo s create 1 /f 644\ndo s rename / /x\ndo s rename /f /\ndo s rename /f/x /y\ndo s rename /",
-                1,
-            ),
-            (b"n", 256),
-            (
-                b" /y\ndo s rename /none /y\ndo s rename /none/x /f/y\ndo s rename /d /f/y\ndo s rename /f /f/y\ndo s rename /f /",
-                1,
-            ),
-            (b"n", 256),
-            (
-                b"\ndo s rename /f /none/y\ndo s rename /f /d\ndo s list /\n",
-                1,
-            ),
-        ],
-        status: 0,
-        written: b"report 1\ncall 1 session s line 11 places 1 ok\ncall 2 session s line 12 places 2 ok\ncall 3 session s line 13 places - error 95 EOPNOTSUPP\ncall 4 session s line 14 places - error 21 EISDIR\ncall 5 session s line 15 places 2,2 error 20 ENOTDIR\ncall 6 session s line 16 places 2 error 36 ENAMETOOLONG\ncall 7 session s line 17 places 2 error 2 ENOENT\ncall 8 session s line 18 places 2 error 2 ENOENT\ncall 9 session s line 19 places 2,2 error 95 EOPNOTSUPP\ncall 10 session s line 20 places 2,2 error 20 ENOTDIR\ncall 11 session s line 21 places 2 error 36 ENAMETOOLONG\ncall 12 session s line 22 places 2 error 2 ENOENT\ncall 13 session s line 23 places 2 error 21 EISDIR\ncall 14 session s line 24 places 2 ok 2 d/dir f/file\nhistory 2\nentry 1 call 1 part 1\nentry 2 call 2 part 1\ngraph 1 g winds 135 ended 135 drained\nend\n",
-    },
-    Row {
-        name: "errors_of_calls_on_descriptors",
-        words: &["run", "1"],
-        volume: Volume::One,
-        script: &[(
-            b"phase\ndo s create 1 /f 644\ndo s read 2 1\ndo s write 2 t:a\ndo s write 2 t:\ndo s seek 2 65537\ndo s close 2\ndo s seek 1 65537\ndo s seek 1 65536\ndo s write 1 t:\ndo s write 1 t:a\ndo s read 1 1\ndo t read 1 1\n",
-            1,
-        )],
-        status: 0,
-        written: b"report 1\ncall 1 session s line 11 places 1 ok\ncall 2 session t line 22 places - error 9 EBADF\ncall 3 session s line 12 places - error 9 EBADF\ncall 4 session s line 13 places - error 9 EBADF\ncall 5 session s line 14 places - error 9 EBADF\ncall 6 session s line 15 places - error 9 EBADF\ncall 7 session s line 16 places - error 9 EBADF\ncall 8 session s line 17 places - error 22 EINVAL\ncall 9 session s line 18 places - ok 65536\ncall 10 session s line 19 places 1 ok 0\ncall 11 session s line 20 places 1 error 27 EFBIG\ncall 12 session s line 21 places 1 ok x:\nhistory 1\nentry 1 call 1 part 1\ngraph 1 g winds 29 ended 29 drained\nend\n",
-    },
-    Row {
         name: "a_name_has_255_bytes_at_most",
         words: &["run", "1"],
         volume: Volume::One,
@@ -239,6 +205,55 @@ const CALLS: [Row; 14] = [
         )],
         status: 0,
         written: b"report 1\ncall 1 session a line 11 places 1 ok\ncall 2 session b line 13 places 1,1 ok\ncall 3 session c line 17 places 1,2 ok file 644 8\ncall 4 session b line 16 places 1 ok x:\ncall 5 session a line 15 places 2 ok 8\nhistory 2\nentry 1 call 1 part 1\nentry 2 call 5 part 1\ngraph 1 g winds 69 ended 69 drained\nend\n",
+    },
+    Row {
+        name: "a_directory_that_was_removed_while_calls_waited_for_it",
+        words: &["run", "7"],
+        volume: Volume::One,
+        script: &[(
+            b"phase\ndo a mkdir /d 755\nphase\ndo a list /d\ndo b rmdir /d\ndo c mkdir /d/x 755\ndo e chmod /d 700\n",
+            1,
+        )],
+        status: 0,
+        written: b"report 1\ncall 1 session a line 11 places 1 ok\ncall 2 session e line 16 places 1,2 ok\ncall 3 session a line 13 places 1,3 error 2 ENOENT\ncall 4 session c line 15 places 1,3 error 2 ENOENT\ncall 5 session b line 14 places 3 ok\nhistory 3\nentry 1 call 1 part 1\nentry 2 call 2 part 1\nentry 3 call 5 part 1\ngraph 1 g winds 97 ended 97 drained\nend\n",
+    },
+];
+
+// Errors of calls, each in its order.
+const ERRORS: [Row; 2] = [
+    Row {
+        name: "errors_of_rename",
+        words: &["run", "1"],
+        volume: Volume::One,
+        script: &[
+            (
+                b"phase\ndo s mkdir /d 755\ndo s create 1 /f 644\ndo s rename / /x\ndo s rename /f /\ndo s rename /f/x /y\ndo s rename /",
+                1,
+            ),
+            (b"n", 256),
+            (
+                b" /y\ndo s rename /none /y\ndo s rename /none/x /f/y\ndo s rename /d /f/y\ndo s rename /f /f/y\ndo s rename /f /",
+                1,
+            ),
+            (b"n", 256),
+            (
+                b"\ndo s rename /f /none/y\ndo s rename /f /d\ndo s list /\n",
+                1,
+            ),
+        ],
+        status: 0,
+        written: b"report 1\ncall 1 session s line 11 places 1 ok\ncall 2 session s line 12 places 2 ok\ncall 3 session s line 13 places - error 95 EOPNOTSUPP\ncall 4 session s line 14 places - error 21 EISDIR\ncall 5 session s line 15 places 2,2 error 20 ENOTDIR\ncall 6 session s line 16 places 2 error 36 ENAMETOOLONG\ncall 7 session s line 17 places 2 error 2 ENOENT\ncall 8 session s line 18 places 2 error 2 ENOENT\ncall 9 session s line 19 places 2,2 error 95 EOPNOTSUPP\ncall 10 session s line 20 places 2,2 error 20 ENOTDIR\ncall 11 session s line 21 places 2 error 36 ENAMETOOLONG\ncall 12 session s line 22 places 2 error 2 ENOENT\ncall 13 session s line 23 places 2 error 21 EISDIR\ncall 14 session s line 24 places 2 ok 2 d/dir f/file\nhistory 2\nentry 1 call 1 part 1\nentry 2 call 2 part 1\ngraph 1 g winds 135 ended 135 drained\nend\n",
+    },
+    Row {
+        name: "errors_of_calls_on_descriptors",
+        words: &["run", "1"],
+        volume: Volume::One,
+        script: &[(
+            b"phase\ndo s create 1 /f 644\ndo s read 2 1\ndo s write 2 t:a\ndo s write 2 t:\ndo s seek 2 65537\ndo s close 2\ndo s seek 1 65537\ndo s seek 1 65536\ndo s write 1 t:\ndo s write 1 t:a\ndo s read 1 1\ndo t read 1 1\n",
+            1,
+        )],
+        status: 0,
+        written: b"report 1\ncall 1 session s line 11 places 1 ok\ncall 2 session t line 22 places - error 9 EBADF\ncall 3 session s line 12 places - error 9 EBADF\ncall 4 session s line 13 places - error 9 EBADF\ncall 5 session s line 14 places - error 9 EBADF\ncall 6 session s line 15 places - error 9 EBADF\ncall 7 session s line 16 places - error 9 EBADF\ncall 8 session s line 17 places - error 22 EINVAL\ncall 9 session s line 18 places - ok 65536\ncall 10 session s line 19 places 1 ok 0\ncall 11 session s line 20 places 1 error 27 EFBIG\ncall 12 session s line 21 places 1 ok x:\nhistory 1\nentry 1 call 1 part 1\ngraph 1 g winds 29 ended 29 drained\nend\n",
     },
 ];
 
@@ -345,8 +360,19 @@ const LIMITS: [Row; 12] = [
     },
 ];
 
-// Sets of replicas: losses, faults and heals.
-const LOSSES: [Row; 15] = [
+// Three replicas, a common mount, and a cache.
+const REPLICAS: [Row; 4] = [
+    Row {
+        name: "sessions_on_three_replicas",
+        words: &["run", "3"],
+        volume: Volume::Three,
+        script: &[(
+            b"phase\ndo a mkdir /x 755\ndo b mkdir /x 700\ndo c create 1 /f 644\nphase\ndo a list /\ndo b create 1 /x/f 600\ndo c write 1 t:abc\ndo a stat /f\n",
+            1,
+        )],
+        status: 0,
+        written: b"report 1\ncall 1 session b line 28 places 1 ok\ncall 2 session a line 27 places 1 error 17 EEXIST\ncall 3 session c line 29 places 2 ok\ncall 4 session b line 32 places 2,4 ok\ncall 5 session a line 31 places 2 ok 2 f/file x/dir\ncall 6 session c line 33 places 3 ok 3\ncall 7 session a line 34 places 2,4 ok file 644 3\nhistory 4\nentry 1 call 1 part 1\nentry 2 call 3 part 1\nentry 3 call 6 part 1\nentry 4 call 4 part 1\ngraph 1 g winds 255 ended 255 drained\nend\n",
+    },
     Row {
         name: "a_file_on_three_replicas",
         words: &["run", "1"],
@@ -369,6 +395,21 @@ const LOSSES: [Row; 15] = [
         status: 0,
         written: b"report 1\ncall 1 session s line 62 places 1 ok\ncall 2 session s line 63 places 1,2 ok\ncall 3 session s line 64 places 3 ok 5\ncall 4 session s line 65 places - ok 0\ncall 5 session s line 66 places 3 ok x:68656c6c6f\ncall 6 session s line 67 places 3,3,3 ok file 644 5\nhistory 3\nentry 1 call 1 part 1\nentry 2 call 2 part 1\nentry 3 call 3 part 1\ngraph 1 g winds 248 ended 248 drained\nend\n",
     },
+    Row {
+        name: "held_pages_answer_without_a_brick",
+        words: &["run", "1"],
+        volume: Volume::Cached,
+        script: &[(
+            b"phase\ndo s create 1 /f 644\ndo s write 1 t:abc\ndo s seek 1 0\ndo s read 1 3\ndo s seek 1 0\nphase\ncontrol down b0 0\nphase\ndo s read 1 3\nphase\ndo s write 1 t:d\n",
+            1,
+        )],
+        status: 0,
+        written: b"report 1\ncall 1 session s line 15 places 1 ok\ncall 2 session s line 16 places 2 ok 3\ncall 3 session s line 17 places - ok 0\ncall 4 session s line 18 places 2 ok x:616263\ncall 5 session s line 19 places - ok 0\ncall 6 session s line 23 places 2 ok x:616263\ncall 7 session s line 25 places - error 107 ENOTCONN quorum c0 lost b0:1\nhistory 2\nentry 1 call 1 part 1\nentry 2 call 2 part 1\ngraph 1 g winds 46 ended 46 drained\nend\n",
+    },
+];
+
+// Losses, faults, copies and heals.
+const LOSSES: [Row; 12] = [
     Row {
         name: "two_of_three_bricks_down_are_no_quorum",
         words: &["run", "1"],
@@ -500,17 +541,6 @@ const LOSSES: [Row; 15] = [
         )],
         status: 0,
         written: b"report 1\ncall 1 session s line 11 places 1 ok\ncall 2 session s line 14 places - error 107 ENOTCONN quorum c0 lost b0:1\ncall 3 session s line 18 places 2 ok x:61\nhistory 2\nentry 1 call 1 part 1\nentry 2 call 2 part 1\ngraph 1 g winds 41 ended 41 drained\nend\n",
-    },
-    Row {
-        name: "held_pages_answer_without_a_brick",
-        words: &["run", "1"],
-        volume: Volume::Cached,
-        script: &[(
-            b"phase\ndo s create 1 /f 644\ndo s write 1 t:abc\ndo s seek 1 0\ndo s read 1 3\ndo s seek 1 0\nphase\ncontrol down b0 0\nphase\ndo s read 1 3\nphase\ndo s write 1 t:d\n",
-            1,
-        )],
-        status: 0,
-        written: b"report 1\ncall 1 session s line 15 places 1 ok\ncall 2 session s line 16 places 2 ok 3\ncall 3 session s line 17 places - ok 0\ncall 4 session s line 18 places 2 ok x:616263\ncall 5 session s line 19 places - ok 0\ncall 6 session s line 23 places 2 ok x:616263\ncall 7 session s line 25 places - error 107 ENOTCONN quorum c0 lost b0:1\nhistory 2\nentry 1 call 1 part 1\nentry 2 call 2 part 1\ngraph 1 g winds 46 ended 46 drained\nend\n",
     },
 ];
 
@@ -816,7 +846,9 @@ fn rows_end_as_they_must(rt: HostRuntime) -> Result<(), Fail> {
     let alloc = rt.alloc();
     for rows in [
         CALLS.as_slice(),
+        ERRORS.as_slice(),
         LIMITS.as_slice(),
+        REPLICAS.as_slice(),
         LOSSES.as_slice(),
         SETS.as_slice(),
         CHECKED.as_slice(),
