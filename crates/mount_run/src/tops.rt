@@ -188,6 +188,7 @@ pub fn top_mount<R: Threads + Wait + Sync, S: Source, K: Sink>(
 fn read_twice<S: Source>(alloc: Global, source: &mut S) -> Result<(Accepted, Accepted), NotRead>
     requires { S.faults source.old < 2 ^ 64 - 1 }
     ensures accepted { IfOk result (λ two. IsAccepted (S.left source.old) two.1) }
+    ensures first { IfOk result (λ two. IsScript two.0.script two.0.plans) }
     ensures script { IfOk result (λ two. IsScript two.1.script two.1.plans) }
     ensures refused { (refusal : Refusal) → IsErrOf result (why.Refused refusal) → IsRefused (S.left source.old) refusal }
     ensures fault { IsErrOf result why.Fault → S.faults source.old < S.faults source.new }
@@ -208,6 +209,7 @@ fn mount_read<R: Threads + Wait + Sync, K: Sink>(
     rack: &mut Rack,
 ) -> u8
     requires sink { K.faults sink.old < 2 ^ 64 - 1 }
+    requires first { IsScript read.script read.plans }
     requires script { IsScript again.script again.plans }
     ensures statuses { IsRunStatus result }
     ensures ran { result ≡ 0 → IsWritten again.script again.plans (K.taken sink.old) (K.taken sink.new) rack.new }
@@ -304,18 +306,50 @@ fn run_generated(
     ensures winds { IsErrOf result Stop.Winds → IsStopped script rack.new }
     ensures memory { IsErrOf result Stop.Mem → rack.new ≡ rack.old }
 {
-    let mut world = World::new(alloc, script, plans)?;
+    let mut world = world_of(alloc, script, plans)?;
     let ran = world.run(alloc, number);
     let (script, plans, left) = world.into_parts();
+    line_left(alloc, number, &script, plans.as_slice(), ran, left, rack)
+}
+
+// What a run left goes into the rack, and the line that sums it up is given, where it passes the audits.
+fn line_left(
+    alloc: Global,
+    number: u64,
+    script: &Script,
+    plans: &[Plan],
+    ran: Result<(), Stop>,
+    left: Rack,
+    rack: &mut Rack,
+) -> Result<Option<Vec<u8>>, Stop>
+    requires { IsScript script.now plans.now }
+    ensures ran { IfOk result (λ o. IfSome o (λ line. IsLawfulRun script.now plans.now rack.new)) }
+    ensures line { IfOk result (λ o. IfSome o (λ line. line.items ≡ summary_text number rack.new.log)) }
+    ensures unlawful { IfOk result (λ o. IfNone o (rack.new ≡ rack.old)) }
+    ensures winds { IsErrOf result Stop.Winds → IsStopped script.now rack.new }
+    ensures memory { IsErrOf result Stop.Mem → rack.new ≡ rack.old }
+{
     if let Err(stop) = ran {
-        return stopped(alloc, &script, left, stop, rack);
+        return stopped(alloc, script, left, stop, rack);
     }
-    if !is_lawful(alloc, &script, plans.as_slice(), &left)? {
+    if !is_lawful(alloc, script, plans, &left)? {
         return Ok(None);
     }
     let line = summary_line(alloc, number, &left.log)?;
     *rack = left;
     Ok(Some(line))
+}
+
+// The world at the start of a script. Nothing winds there.
+fn world_of(alloc: Global, script: Script, plans: Seq<Plan>) -> Result<World, AllocError>
+    requires { IsScript script plans }
+    ensures script { IfOk result (λ w. w.script ≡ script) }
+    ensures plans { IfOk result (λ w. w.plans ≡ plans) }
+{
+    match World::new(alloc, script, plans) {
+        Ok(world) => Ok(world),
+        Err(_) => Err(AllocError),
+    }
 }
 
 fn carry_out<S: Source, K: Sink>(
@@ -442,7 +476,7 @@ fn run_script(
     ensures winds { IsErrOf result Stop.Winds → IsStopped script rack.new }
     ensures memory { IsErrOf result Stop.Mem → rack.new ≡ rack.old }
 {
-    let mut world = World::new(alloc, script, plans)?;
+    let mut world = world_of(alloc, script, plans)?;
     let ran = world.run(alloc, seed);
     let (script, plans, left) = world.into_parts();
     report_left(alloc, &script, plans.as_slice(), ran, left, rack)
