@@ -26,16 +26,26 @@ impl Desk {
     /// # Errors
     /// Out of memory.
     pub fn new(alloc: Global, hub: Hub, ends: Vec<HubEnd>) -> Result<Desk, AllocError> {
-        let mut desk = Desk {
+        let mut desk = Desk::of(alloc, hub, ends);
+        desk.send_first(alloc)?;
+        Ok(desk)
+    }
+
+    fn of(alloc: Global, hub: Hub, ends: Vec<HubEnd>) -> Desk {
+        Desk {
             hub,
             ends,
             inbox: VecDeque::new(alloc),
             queued: 0,
             stop: None,
-        };
-        desk.queue_sent(alloc)?;
-        desk.send();
-        Ok(desk)
+        }
+    }
+
+    // Sends what the hub has sent at the start.
+    fn send_first(&mut self, alloc: Global) -> Result<(), AllocError> {
+        self.queue_sent(alloc)?;
+        self.send();
+        Ok(())
     }
 
     // Puts what the hub has sent into the ends.
