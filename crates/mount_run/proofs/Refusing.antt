@@ -19,7 +19,7 @@ module _ (taken taken_after : Option (List ℕ)) where
   not_read_line not_read.Fault wrote = absurd wrote
   not_read_line not_read.Mem wrote = absurd wrote
 
-  pub judged_text : (status : ℕ) (known : Option (List ℕ)) (text : List ℕ) → IfSome known (λ bytes. text ≡ bytes) → Judged status (Some text) taken taken_after empty_rack
+  pub judged_text : (status : ℕ) (known : Option (List ℕ)) (text slice : List ℕ) → IfSome known (λ bytes. text ≡ bytes) → slice ≡ text → Judged status (Some slice) taken taken_after empty_rack
       → Judged status known taken taken_after empty_rack
-  judged_text status None text is j = record { text = j.text; line = j.line; is_text = record {}; judged = j.judged; wrote = j.wrote; empty = j.empty }
-  judged_text status (Some bytes) text is j = record { text = j.text; line = j.line; is_text = j.is_text ∙ is; judged = j.judged; wrote = j.wrote; empty = j.empty }
+  judged_text status None text slice is same j = record { text = j.text; line = j.line; is_text = record {}; judged = j.judged; wrote = j.wrote; empty = j.empty }
+  judged_text status (Some bytes) text slice is same j = record { text = j.text; line = j.line; is_text = j.is_text ∙ same ∙ is; judged = j.judged; wrote = j.wrote; empty = j.empty }
