@@ -47,6 +47,3 @@ pub use locals::{FopFrame, FopState, JobState, Local, PageRange, PageRead, SetFr
 pub use moved::{HoldAsk, Mount, Moved};
 pub use reading::Owner;
 pub use tree::cost;
-
-#[cfg(test)]
-mod tests;
