@@ -35,5 +35,5 @@ pub recorded_turn : (plan : SetPlan) (requests : ℕ) (old mid new : Context) (t
     → IsTurn (on_copy_done plan requests old txn done) step new
 recorded_turn plan requests old mid new txn done step bricks records is bricks_are records_are h =
     let from : mid ≡ recorded plan.bricks old done.records =
-        subst (λ (bs : List ℕ). mid ≡ recorded bs old done.records) bricks_are (subst (λ (rs : List CopyRecord). mid ≡ recorded bricks old rs) records_are is) in
+    subst (λ (bs : List ℕ). mid ≡ recorded bs old done.records) bricks_are (subst (λ (rs : List CopyRecord). mid ≡ recorded bricks old rs) records_are is) in
     subst (λ (c : Context). IsTurn (turned plan requests c (copied txn done c.ledger (live plan c.clients) (lasts plan c.clients))) step new) from h

@@ -7,12 +7,12 @@ ghost use Rattle.graph_nodes.specs.Nodes.{FopResumes, FopGoes, JobResumes};
 ghost use Rattle.graph_nodes.specs.Promises.{owns_by, unanswered_of, waits_of, promise_of};
 ghost use Rattle.graph_nodes.specs.Replicate.{IsBegun as IsJobBegun};
 
+pub mod caching;
 pub mod client;
 mod copies;
 pub mod distribute;
-pub mod io_cache;
-pub mod io_threads;
 pub mod pass;
+pub mod queuing;
 mod records;
 pub mod replicate;
 pub mod root;
@@ -326,7 +326,7 @@ impl Xlator<Down, Up, Context> for Node {
             Kind::Root => Ok(Step::Wait(local)),
             Kind::Pass => Ok(Step::Wait(local)),
             Kind::IoThreads(_) => {
-                let step = io_threads::go_on(alloc, local)?;
+                let step = queuing::go_on(alloc, local)?;
                 Ok(step)
             }
             Kind::IoCache(_) => Ok(Step::Wait(local)),

@@ -2,7 +2,7 @@
 use Rattle.std.proofs.Common.{◌≡◌, ◌-◌, ◌≤◌}
 use Rattle.std.specs.List.{range_with_len}
 use Rattle.graph_nodes.specs.IoCache.{kept}
-use Rattle.graph_nodes.proofs.nodes.io_cache.keep_pages.Given as goal
+use Rattle.graph_nodes.proofs.nodes.caching.keep_pages.Given as goal
 
 abbrev pub invariant-loop-page : goal.invariant-loop-page
 invariant-loop-page l =
