@@ -91,7 +91,7 @@ all_kept lists = record { many = refl; kept = λ call lock there. there }
 pub locks_there : (log : Log) (lists : List (List LockAt)) → ((k : ℕ) (line : SentLine) → slice_get log.sent k ≡ Some line → IsLineNoted lists k line) → HaveLocks log lists
 locks_there log lists all call at brick wind cells l =
     let noted : IsNoted lists (record { at = at; brick = l.line.brick }) (Whole (input.Request wind l.graph (req.Lock call l.shared cells))) =
-        subst (IsNoted lists (record { at = at; brick = l.line.brick })) l.read (all at l.line l.there) in
+    subst (IsNoted lists (record { at = at; brick = l.line.brick })) l.read (all at l.line l.there) in
     subst (λ (b : ℕ). HasLock lists call (record { at = at; brick = b })) l.brick_is noted
 
 -- ---- the order
@@ -106,7 +106,7 @@ pub in_order : (log : Log) (plan : SetPlan) (lists : List (List LockAt)) (call f
     → IsLastPhase log plan call from
 in_order log plan lists call from own have low is followed i k low_replica high_replica le lt one other =
     let at : (n replica : ℕ) (a : IsAsked log plan call n replica) → Contains own (record { at = n; brick = a.brick }) =
-        λ n replica a. subst (λ (l : List LockAt). Contains l (record { at = n; brick = a.brick })) (sym is) (have call n a.brick a.wind a.cells a.lock low) in
+    λ n replica a. subst (λ (l : List LockAt). Contains l (record { at = n; brick = a.brick })) (sym is) (have call n a.brick a.wind a.cells a.lock low) in
     let behind : AllByRecursion (IsBehind plan (record { at = i; brick = one.brick })) own = all_in (IsFollowed plan from own) own (record { at = i; brick = one.brick }) followed (at i low_replica one) le in
     all_in (IsBehind plan (record { at = i; brick = one.brick })) own (record { at = k; brick = other.brick }) behind (at k high_replica other) lt low_replica high_replica one.brick_is other.brick_is
 

@@ -159,11 +159,7 @@ fn has_failed(
 
 // The number as it is named, 0 where it has no name.
 fn number_of(count: usize) -> u32 {
-    if count <= 4294967295 {
-        count as u32
-    } else {
-        0
-    }
+    if count <= 4294967295 { count as u32 } else { 0 }
 }
 
 fn was_lost(
@@ -315,7 +311,9 @@ pub fn shown_in(
 {
     let mut shown = Vec::new(alloc);
     for brick in plan.bricks.as_slice() {
-        if !push_shown(alloc, log, tables, plan, reply, span, phase, rows, *brick, &mut shown)? {
+        if !push_shown(
+            alloc, log, tables, plan, reply, span, phase, rows, *brick, &mut shown,
+        )? {
             return Ok(None);
         }
     }

@@ -54,12 +54,7 @@ fn lock_of(sent: Input, call: u32) -> Option<Lock>
     }
 }
 
-fn lock_on(
-    alloc: Global,
-    line: &SentLine,
-    call: u32,
-    brick: u8,
-) -> Result<Option<Lock>, AllocError>
+fn lock_on(alloc: Global, line: &SentLine, call: u32, brick: u8) -> Result<Option<Lock>, AllocError>
     ensures brick { IfOk result (λ found. IfSome found (λ lock. line.now.brick ≡ brick)) }
     ensures lock { IfOk result (λ found. IfSome found (λ lock. IsLockOn call lock.wind lock.cells (input_in line.now.bytes))) }
 {

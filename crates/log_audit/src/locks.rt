@@ -54,11 +54,7 @@ fn note_request(
     }
 }
 
-fn note_input(
-    lists: &mut Vec<Vec<LockAt>>,
-    lock: LockAt,
-    sent: &Input,
-) -> Result<(), AllocError>
+fn note_input(lists: &mut Vec<Vec<LockAt>>, lock: LockAt, sent: &Input) -> Result<(), AllocError>
     ensures kept { OnOk result (AreKept (map (λ l. l.items) lists.old.items) (map (λ l. l.items) lists.new.items)) }
     ensures noted { OnOk result (IsInputNoted (map (λ l. l.items) lists.new.items) lock sent.now) }
 {

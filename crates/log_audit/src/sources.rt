@@ -59,10 +59,19 @@ fn sound_at(
 
 // ---- one cell
 
+fn have_none(masks: &[Mask]) -> bool
+    ensures { result ≡ true → (k : ℕ) → IsCommon masks.now k → ⊥ }
+{
+    if masks.is_empty() {
+        return false;
+    }
+    common_source(masks).is_none()
+}
+
 fn is_none(mask: Mask) -> bool
     ensures { result ≡ true → (k : ℕ) → Names mask k → ⊥ }
 {
-    common_source(&[mask]).is_none()
+    have_none(&[mask])
 }
 
 fn has_unsound_cell(
@@ -102,15 +111,6 @@ fn masks_at(
         masks.push(mask)?;
     }
     Ok(masks)
-}
-
-fn have_none(masks: &[Mask]) -> bool
-    ensures { result ≡ true → (k : ℕ) → IsCommon masks.now k → ⊥ }
-{
-    if masks.is_empty() {
-        return false;
-    }
-    common_source(masks).is_none()
 }
 
 fn have_no_common(

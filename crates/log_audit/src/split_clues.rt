@@ -81,12 +81,10 @@ pub fn places_of(
 }
 
 fn place_of(cells: &[Cell], cell: Cell) -> usize {
-    let mut place = 0usize;
-    for one in cells {
-        if *one == cell {
+    for place in 0..cells.len() {
+        if cells[place] == cell {
             return place;
         }
-        place += 1;
     }
-    place
+    cells.len()
 }

@@ -45,7 +45,14 @@ fn is_answered(
     }
     let cells = phase.cells.as_slice();
     let places = places_of(alloc, rows, cells)?;
-    if !are_rows(alloc, rows, plan.bricks.as_slice(), shown, cells, places.as_slice())? {
+    if !are_rows(
+        alloc,
+        rows,
+        plan.bricks.as_slice(),
+        shown,
+        cells,
+        places.as_slice(),
+    )? {
         return Ok(false);
     }
     let marks = tables.clues.marks_of(cells);
@@ -76,7 +83,16 @@ fn is_split_in(
     let found = shown_in(alloc, log, tables, plan, reply, span, phase, rows)?;
     match found {
         Some(shown) => {
-            let yes = is_answered(alloc, log, tables, plan, reply, phase, shown.as_slice(), rows)?;
+            let yes = is_answered(
+                alloc,
+                log,
+                tables,
+                plan,
+                reply,
+                phase,
+                shown.as_slice(),
+                rows,
+            )?;
             Ok(yes)
         }
         None => Ok(false),
