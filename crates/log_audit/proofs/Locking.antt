@@ -117,3 +117,7 @@ lock_there log call at brick wind cells line there brick_is on = by (input_in li
   by : (m : Message Input) → input_in line.bytes ≡ m → IsLockOn call wind cells m → IsLock log call at brick wind cells
   by (Whole x) e l = record { line = line; there = there; brick_is = brick_is; graph = l.graph; shared = l.shared; read = e ∙ ap Whole l.is }
   by (Wrong place) e l = absurd l
+
+-- the same lists, as they are read
+pub same_locks : {V : Type 0} (log : Log) (f : V → List LockAt) (qs rs : List V) → rs ≡ qs → HaveLocks log (map f qs) → HaveLocks log (map f rs)
+same_locks {V = V} log f qs rs same have = subst (λ (l : List V). HaveLocks log (map f l)) (sym same) have
