@@ -1,12 +1,12 @@
 -- What bricks showed, from what the tests find.
-use Rattle.std.proofs.Common.{◌≡◌, refl, sym, ap, subst, ◌∙◌, arith, get_or}
-use Rattle.std.specs.Prelude.{ℕ, zero, suc, ◌+◌, ◌<◌, ◌≤◌, List, [], ◌∷◌, ◌++◌, length, take, slice_get}
+use Rattle.std.proofs.Common.{◌≡◌, sym, subst, get_or}
+use Rattle.std.specs.Prelude.{ℕ, ◌+◌, ◌<◌, ◌≤◌, List, [], ◌∷◌, ◌++◌, length, take}
 use Rattle.std.specs.List.{AllZip}
 use Rattle.std.proofs.lemmas.List.{take_more}
 use Rattle.fop_types.specs.declared.cells.Cell.{Cell}
 use Rattle.fop_types.specs.declared.contents.Row.{Row}
 use Rattle.fop_types.specs.declared.messages.Output.{Output}
-use Rattle.mount_log.specs.Causes.{IsGranted, IsRepliedBy}
+use Rattle.mount_log.specs.Causes.{IsGranted}
 use Rattle.mount_log.specs.Locks.{IsLock}
 use Rattle.mount_log.specs.declared.logs.Log.{Log}
 use Rattle.log_audit.specs.Evidence.{IsArrived}

@@ -1,6 +1,6 @@
 -- The locks of each call, with one more; and the order of a lock phase.
 use Rattle.std.proofs.Common.{◌≡◌, refl, sym, ap, subst, ◌∙◌, arith, inl, inr, length-set}
-use Rattle.std.specs.Prelude.{ℕ, zero, suc, ◌<◌, ◌≤◌, ◌⊎◌, List, [], ◌∷◌, ◌++◌, Some, Contains, length, map, slice_get, slice_index_or, slice_set}
+use Rattle.std.specs.Prelude.{ℕ, zero, suc, ◌<◌, ◌⊎◌, List, [], ◌∷◌, ◌++◌, Some, Contains, length, map, slice_get, slice_index_or, slice_set}
 use Rattle.std.specs.List.{AllByRecursion}
 use Rattle.std.proofs.lemmas.Bool.{cases_eq}
 use Rattle.std.proofs.lemmas.List.{map-set, get_or-set_same, get_or-set_other, get_or-map, length-map}
@@ -14,11 +14,10 @@ use Rattle.fop_types.specs.declared.messages.Input.TheVariants as input
 use Rattle.wire_messages.specs.Messages.{input_in}
 use Rattle.wire_messages.specs.declared.messages.Message.{Message}
 use Rattle.wire_messages.specs.declared.messages.Message.TheVariants.{Whole, Wrong}
-use Rattle.mount_log.proofs.Items.{some_is}
 use Rattle.mount_log.specs.Locks.{IsLock, IsAsked, IsLastPhase}
 use Rattle.mount_log.specs.declared.logs.Log.{Log}
 use Rattle.mount_log.specs.declared.logs.SentLine.{SentLine}
-use Rattle.log_audit.specs.LockTable.{locks_at, HasLock, AreKept, IsRequestNoted, IsInputNoted, IsNoted, IsLineNoted, HaveLocks, IsBehind, IsFollowed, IsLockOf, IsLockOn}
+use Rattle.log_audit.specs.LockTable.{locks_at, HasLock, AreKept, IsRequestNoted, IsInputNoted, IsNoted, IsLineNoted, HaveLocks, IsBehind, IsFollowed, IsLockOn}
 use Rattle.log_audit.specs.declared.locks.LockAt.{LockAt}
 
 -- ---- one more

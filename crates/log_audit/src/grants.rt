@@ -1,9 +1,9 @@
 //! What the bricks of a set showed in the last lock phase of a call, and which of them were out.
-ghost use Rattle.std.specs.Prelude.{◌≡◌, ◌≤◌, ◌++◌, [], true, Some, None, map, IfOk, IfSome};
+ghost use Rattle.std.specs.Prelude.{◌≡◌, true, Some, None, map, IfOk, IfSome};
 ghost use Rattle.std.specs.List.{AllZip};
 ghost use Rattle.fop_types.specs.declared.messages.BrickRep.TheVariants as rep;
 ghost use Rattle.fop_types.specs.declared.messages.DoneArm.TheVariants as done;
-ghost use Rattle.mount_log.specs.Causes.{IsGranted, IsOut, IsLost, IsFaulted, HasShown};
+ghost use Rattle.mount_log.specs.Causes.{IsGranted, IsOut, HasShown};
 ghost use Rattle.mount_log.specs.Connections.{graph_of_call};
 ghost use Rattle.mount_log.specs.Submissions.{submitted_at};
 ghost use Rattle.log_audit.specs.Evidence.{HaveNumbers};

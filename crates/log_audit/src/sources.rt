@@ -1,5 +1,5 @@
 //! Whether the rows of a lock phase leave no source.
-ghost use Rattle.std.specs.Prelude.{◌≡◌, ◌+◌, ◌/◌, ◌%◌, ◌<◌, ◌≤◌, ◌↔◌, ℕ, true, Contains, length, map, IfOk, IfSome, OnOk};
+ghost use Rattle.std.specs.Prelude.{◌≡◌, ◌+◌, ◌/◌, ◌%◌, ◌<◌, ◌↔◌, ℕ, true, Contains, length, IfOk};
 ghost use Rattle.afr_changelog.specs.Masks.{Names, IsCommon};
 ghost use Rattle.afr_changelog.specs.Soundness.{IsSound};
 ghost use Rattle.fop_types.specs.declared.messages.Input.TheVariants as input;

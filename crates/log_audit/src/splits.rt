@@ -1,5 +1,5 @@
 //! Whether a call was answered by the rows of its last lock phase, where they leave no source.
-ghost use Rattle.std.specs.Prelude.{◌≡◌, ◌≤◌, true, is_some, map, length, IfOk};
+ghost use Rattle.std.specs.Prelude.{◌≡◌, ◌≤◌, true, is_some, map, IfOk};
 ghost use Rattle.std.specs.List.{AllZip, count_by};
 ghost use Rattle.mount_log.specs.Causes.{HasShown, IsSplit};
 ghost use Rattle.mount_log.specs.Connections.{graph_of_call};
