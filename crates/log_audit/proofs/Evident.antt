@@ -7,9 +7,7 @@ use Rattle.std.specs.Cmp.Lexicographic.{pointwise}
 use Rattle.std.proofs.lemmas.Bool.{eq-eqb, eqb-true, or_cases}
 use Rattle.std.proofs.lemmas.List.Folds.{list_any_at}
 use Rattle.std.proofs.lemmas.Option.{get_or_from_slice_get, slice_get_within}
-use Rattle.fop_types.specs.declared.answers.SplitRow.{SplitRow}
 use Rattle.fop_types.specs.declared.jobs.SetPlan.{SetPlan}
-use Rattle.fop_types.specs.declared.contents.Row.{Row}
 use Rattle.fop_types.specs.declared.messages.BrickRep.{BrickRep}
 use Rattle.fop_types.specs.declared.messages.BrickRep.TheVariants as rep
 use Rattle.fop_types.specs.declared.messages.Input.{Input}
@@ -18,12 +16,12 @@ use Rattle.fop_types.specs.declared.messages.OutKind.{OutKind}
 use Rattle.fop_types.specs.declared.messages.OutKind.TheVariants as out
 use Rattle.fop_types.specs.declared.messages.Output.{Output}
 use Rattle.wire_xdr.specs.WireText.{input_text}
-use Rattle.mount_log.specs.Causes.{IsWindOf, IsRepliedBy, IsLost, IsFaulted, IsShown}
+use Rattle.mount_log.specs.Causes.{IsWindOf, IsRepliedBy, IsLost, IsFaulted}
 use Rattle.mount_log.specs.Connections.{is_sent_in, was_sent, is_open_after, last_connection, graph_of_call}
 use Rattle.mount_log.specs.Submissions.{submitted_at}
 use Rattle.mount_log.specs.declared.logs.Log.{Log}
 use Rattle.mount_log.specs.declared.logs.SentLine.{SentLine}
-use Rattle.log_audit.specs.Evidence.{IsSentTo, HasNumbers, IsArrived, IsFaultOf, HasRow, IsRowOf}
+use Rattle.log_audit.specs.Evidence.{IsSentTo, HasNumbers, IsArrived, IsFaultOf}
 use Rattle.log_audit.specs.Opened.{openings_to}
 use Rattle.log_audit.specs.declared.connections.Opening.{Opening}
 use Rattle.log_audit.proofs.Different.{behind}
@@ -64,30 +62,8 @@ faulted log plan call until pair output member came taken f = record {
   place = sym taken;
 }
 
-pub shown : (log : Log) (plan : SetPlan) (call until : ℕ) (row : SplitRow) (output : Output) → Contains plan.bricks row.brick → IsArrived log until row.brick output → IsRowOf log call output.kind row.row
-    → IsShown log plan call until row
-shown log plan call until row output member came r = record {
-  member = member;
-  wind = r.wind;
-  output = output;
-  rows = r.has.rows;
-  answered = record {
-    place = came.place;
-    bytes = came.bytes;
-    arrives = came.arrives;
-    by_then = came.by_then;
-    read = came.read;
-    reply = r.is ∙ ap (out.Reply r.wind) r.has.is;
-    of_call = r.of_call;
-  };
-  among = r.has.among;
-}
-
 pub fault_of : (log : Log) (call wind : ℕ) (kind : OutKind) (answer : BrickRep) → kind ≡ out.Reply wind answer → answer ≡ rep.Fault → IsWindOf log call wind → IsFaultOf log call kind
 fault_of log call wind kind answer is fault of_call = record { wind = wind; is = is ∙ ap (out.Reply wind) fault; of_call = of_call }
-
-pub row_of : (log : Log) (call wind : ℕ) (kind : OutKind) (answer : BrickRep) (row : Row) → kind ≡ out.Reply wind answer → HasRow answer row → IsWindOf log call wind → IsRowOf log call kind row
-row_of log call wind kind answer row is has of_call = record { wind = wind; answer = answer; is = is; of_call = of_call; has = has }
 
 -- a loss, in the words of a call's graph
 pub lost : (log : Log) (plan : SetPlan) (call until graph since moment found : ℕ) (pair : ℕ × ℕ) (openings : List Opening) → HasNumbers log graph pair.0 openings → graph ≡ graph_of_call log call → since ≡ submitted_at log call

@@ -1,9 +1,6 @@
 -- What the evidence of an I/O error is made of: lines that were sent, numbers of connections, and what arrived from a brick.
-use Rattle.std.specs.Prelude.{◌≡◌, ℕ, ◌<◌, List, Some, Contains, slice_get}
-use Rattle.fop_types.specs.declared.contents.Row.{Row}
-use Rattle.fop_types.specs.declared.messages.BrickRep.{BrickRep}
+use Rattle.std.specs.Prelude.{◌≡◌, ℕ, ◌<◌, List, Some, slice_get}
 use Rattle.fop_types.specs.declared.messages.BrickRep.TheVariants as rep
-use Rattle.fop_types.specs.declared.messages.DoneArm.TheVariants as done
 use Rattle.fop_types.specs.declared.messages.Input.{Input}
 use Rattle.fop_types.specs.declared.messages.OutKind.{OutKind}
 use Rattle.fop_types.specs.declared.messages.OutKind.TheVariants as out
@@ -45,17 +42,3 @@ pub record IsFaultOf (log : Log) (call : ℕ) (kind : OutKind) : Type 0 where
   pub wind : ℕ
   pub is : kind ≡ out.Reply wind rep.Fault
   pub of_call : IsWindOf log call wind
-
--- the row is among those of the answer
-pub record HasRow (r : BrickRep) (row : Row) : Type 0 where
-  pub rows : List Row
-  pub is : r ≡ rep.Done (done.Rows rows)
-  pub among : Contains rows row
-
--- the row was shown with a lock of the call
-pub record IsRowOf (log : Log) (call : ℕ) (kind : OutKind) (row : Row) : Type 0 where
-  pub wind : ℕ
-  pub answer : BrickRep
-  pub is : kind ≡ out.Reply wind answer
-  pub of_call : IsWindOf log call wind
-  pub has : HasRow answer row

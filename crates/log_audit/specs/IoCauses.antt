@@ -6,6 +6,7 @@ use Rattle.script_lang.specs.declared.scripts.Script.{Script}
 use Rattle.mount_log.specs.Graphs.{volfiles_of}
 use Rattle.mount_log.specs.declared.logs.Log.{Log}
 use Rattle.log_audit.specs.CallGraphs.{calls_from}
+use Rattle.log_audit.specs.LockTable.{HaveLocks}
 use Rattle.log_audit.specs.Opened.{openings_of, AreByBrick}
 use Rattle.log_audit.specs.declared.io_causes.Tables.{Tables}
 
@@ -13,6 +14,7 @@ pub record AreTables (script : Script) (log : Log) (tables : Tables) : Type 0 wh
   pub calls : tables.calls.items ≡ calls_from 0 1 log.events
   pub volfiles : tables.volfiles.items ≡ volfiles_of script log
   pub openings : AreByBrick (openings_of log.sent) (map (λ l. l.items) tables.openings.items)
+  pub locks : HaveLocks log (map (λ l. l.items) tables.locks.items)
 
 abbrev pub IsPlain : Answer → Type 0
 IsPlain (answer.Io error) = ⊥

@@ -1,5 +1,5 @@
 -- In reading order: the last wind of each slot; what it says of the winds so far; prefixes; timely arrivals; lines
--- that can be armed; causes of what was sent; calls with their graphs, connections, and the evidence of I/O errors;
+-- that can be armed; causes of what was sent; calls with their graphs, connections, and the evidence of I/O errors; locks, and what was shown with them;
 -- notes of a run; requests by their numbers; controls; calls; ends of winds; ties.
 pub mod Slots
 pub mod Agreeing
@@ -13,6 +13,8 @@ pub mod Caused
 pub mod CallGraphs
 pub mod Opened
 pub mod Evidence
+pub mod LockTable
+pub mod Showing
 pub mod IoCauses
 pub mod Noted
 pub mod Numbered

@@ -1,15 +1,13 @@
-//! Whether a brick answered a request of a call by a fault, or showed a row with a lock of the call.
-ghost use Rattle.std.specs.Prelude.{◌≡◌, ◌<◌, ◌⊎◌, true, Some, Contains, option_copied, slice_get, IfOk, IfSome};
+//! What arrived from a brick, and whether it answered a request of a call by a fault.
+ghost use Rattle.std.specs.Prelude.{◌≡◌, ◌<◌, ◌⊎◌, true, Some, option_copied, slice_get, IfOk, IfSome};
 ghost use Rattle.fop_types.specs.declared.messages.BrickRep.TheVariants as rep;
-ghost use Rattle.fop_types.specs.declared.messages.DoneArm.TheVariants as done;
-ghost use Rattle.fop_types.specs.declared.messages.OutKind.TheVariants as out;
 ghost use Rattle.xlator_law.specs.Numbers.{wind_number, open_before};
-ghost use Rattle.mount_log.specs.Causes.{IsWindOf, IsFaulted, IsShown};
+ghost use Rattle.mount_log.specs.Causes.{IsWindOf, IsFaulted};
 ghost use Rattle.mount_log.specs.declared.logs.HubEvent.TheVariants as logged;
-ghost use Rattle.log_audit.specs.Evidence.{IsArrived, IsFaultOf, HasRow, IsRowOf};
+ghost use Rattle.log_audit.specs.Evidence.{IsArrived, IsFaultOf};
 
 use crate::losses::{event_at, has_brick};
-use fop_types::{BrickRep, DoneArm, OutKind, Output, Row, SetPlan, SplitRow};
+use fop_types::{BrickRep, OutKind, Output, SetPlan};
 use mount_log::{HubEvent, Log, ReplyLine, WindLine};
 use std::alloc::{AllocError, Global};
 use wire_messages::{Message, output_of};
@@ -39,8 +37,11 @@ fn bytes_from(event: &HubEvent, brick: u8) -> Option<&[u8]>
     }
 }
 
-// The output that arrived from a brick in the event at this place, before the event of a number ended.
-fn arrived(
+/// The output that arrived from a brick in the event at this place, before the event of a number ended.
+///
+/// # Errors
+/// Out of memory.
+pub fn arrived(
     alloc: Global,
     log: &Log,
     place: usize,
@@ -94,8 +95,8 @@ fn is_line_of(line: &WindLine, call: u32, number: u64) -> bool
     is_number(line.wind, number)
 }
 
-// Whether the wind line at a place is of the call, and of the wind with this number or of the request behind it.
-fn is_wind_of(log: &Log, place: usize, call: u32, number: u64) -> bool
+/// Whether the wind line at a place is of the call, and of the wind with this number or of the request behind it.
+pub fn is_wind_of(log: &Log, place: usize, call: u32, number: u64) -> bool
     ensures { result ≡ true → IsWindOf log.now call number }
 {
     match wind_at(log, place) {
@@ -165,93 +166,4 @@ pub fn is_faulted(
         return Ok(false);
     }
     Ok(is_fault_of(log, &output.kind, reply.call, at.wind))
-}
-
-// ---- a row
-
-fn is_row(row: &Row, other: &Row) -> bool
-    ensures { result ≡ true → row.now ≡ other.now }
-{
-    *row == *other
-}
-
-fn contains_row(rows: &[Row], row: &Row) -> bool
-    ensures { result ≡ true → Contains rows.now row.now }
-{
-    for one in rows {
-        if is_row(one, row) {
-            return true;
-        }
-    }
-    false
-}
-
-fn rows_in(arm: &DoneArm) -> Option<&[Row]>
-    ensures { IfSome result (λ rows. arm.now ≡ done.Rows rows.now) }
-{
-    match arm {
-        DoneArm::Rows(rows) => Some(rows.as_slice()),
-        _ => None,
-    }
-}
-
-fn rows_of(answer: &BrickRep) -> Option<&[Row]>
-    ensures { IfSome result (λ rows. answer.now ≡ rep.Done (done.Rows rows.now)) }
-{
-    match answer {
-        BrickRep::Done(arm) => rows_in(arm),
-        _ => None,
-    }
-}
-
-fn has_row(answer: &BrickRep, row: &Row) -> bool
-    ensures { result ≡ true → HasRow answer.now row.now }
-{
-    match rows_of(answer) {
-        Some(rows) => contains_row(rows, row),
-        None => false,
-    }
-}
-
-fn shows(log: &Log, answer: &BrickRep, call: u32, place: usize, wind: u64, row: &Row) -> bool
-    ensures row { result ≡ true → HasRow answer.now row.now }
-    ensures wind { result ≡ true → IsWindOf log.now call wind }
-{
-    if !has_row(answer, row) {
-        return false;
-    }
-    is_wind_of(log, place, call, wind)
-}
-
-fn is_row_of(log: &Log, kind: &OutKind, call: u32, place: usize, row: &Row) -> bool
-    ensures { result ≡ true → IsRowOf log.now call kind.now row.now }
-{
-    match kind {
-        OutKind::Reply { wind, rep } => shows(log, rep, call, place, *wind, row),
-        _ => false,
-    }
-}
-
-/// Whether a brick of a set showed a row with a lock of a call.
-///
-/// # Errors
-/// Out of memory.
-pub fn is_shown(
-    alloc: Global,
-    log: &Log,
-    plan: &SetPlan,
-    reply: &ReplyLine,
-    row: &SplitRow,
-    at: ReplyAt,
-) -> Result<bool, AllocError>
-    ensures { IfOk result (λ yes. yes ≡ true → IsShown log.now plan.now reply.now.call reply.now.event row.now) }
-{
-    if !has_brick(plan, row.brick) {
-        return Ok(false);
-    }
-    let found = arrived(alloc, log, at.event, row.brick, reply.event)?;
-    let Some(output) = found else {
-        return Ok(false);
-    };
-    Ok(is_row_of(log, &output.kind, reply.call, at.wind, &row.row))
 }

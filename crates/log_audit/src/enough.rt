@@ -1,9 +1,9 @@
 //! Bricks that differ from one another, as many as an I/O error needs.
-ghost use Rattle.std.specs.Prelude.{◌≡◌, ◌++◌, ◌==◌, ◌+◌, ◌-◌, ◌≤◌, ℕ, List, [], ◌∷◌, true, Contains, map, length, IfOk, OnOk};
-ghost use Rattle.std.specs.List.{AllByRecursion, IsDistinct};
-ghost use Rattle.mount_log.specs.Causes.{brick_of, shower_of};
+ghost use Rattle.std.specs.Prelude.{◌≡◌, ◌++◌, ◌==◌, ◌+◌, ◌-◌, ◌≤◌, [], ◌∷◌, true, map, length, IfOk};
+ghost use Rattle.std.specs.List.{IsDistinct};
+ghost use Rattle.mount_log.specs.Causes.{brick_of};
 
-use fop_types::{SetPlan, SplitRow};
+use fop_types::SetPlan;
 use std::alloc::{AllocError, Global};
 
 // One brick more, which is none of the others. It is false where it is one of them.
@@ -55,32 +55,4 @@ pub fn are_enough(plan: &SetPlan, bricks: &[u8]) -> bool
     ensures { result ≡ true → length plan.now.bricks - plan.now.q + 1 ≤ length bricks.now }
 {
     plan.bricks.len().saturating_sub(plan.q as usize) < bricks.len()
-}
-
-// A brick more, unless it is one of the others.
-#[tactic(auto, using(crate::proofs::Different::all_push))]
-fn push_once(bricks: &mut Vec<u8>, brick: u8) -> Result<(), AllocError>
-    ensures differ { OnOk result (IsDistinct ◌==◌ bricks.old.items → IsDistinct ◌==◌ bricks.new.items) }
-    ensures all { OnOk result ((among : List ℕ) → Contains among brick → AllByRecursion (Contains among) bricks.old.items → AllByRecursion (Contains among) bricks.new.items) }
-{
-    if bricks.as_slice().contains(&brick) {
-        return Ok(());
-    }
-    bricks.push(brick)?;
-    Ok(())
-}
-
-/// The bricks that showed these rows, each once.
-///
-/// # Errors
-/// Out of memory.
-pub fn showers_of(alloc: Global, rows: &[SplitRow]) -> Result<Vec<u8>, AllocError>
-    ensures differ { IfOk result (λ bricks. IsDistinct ◌==◌ bricks.items) }
-    ensures all { IfOk result (λ bricks. AllByRecursion (Contains (map shower_of rows.now)) bricks.items) }
-{
-    let mut bricks = Vec::new(alloc);
-    for row in rows {
-        push_once(&mut bricks, row.brick)?;
-    }
-    Ok(bricks)
 }

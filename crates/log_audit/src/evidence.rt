@@ -3,8 +3,8 @@
 use crate::brick_replies::ReplyAt;
 use crate::connections::Opening;
 use crate::losses::{End, Loss, Sent, Span};
-use fop_types::{Answer, BrickRep, DoneArm, Input, IoError, OutKind, Output};
-use mount_log::{HubEvent, Log, ReplyLine, WindLine};
+use fop_types::{Answer, BrickRep, BrickReq, Cell, DoneArm, Input, IoError, OutKind, Output};
+use mount_log::{HubEvent, Log, ReplyLine, SentLine, WindLine};
 use std::alloc::{AllocError, Global};
 use std::collections::BTreeMap;
 use wire_messages::{Message, input_of, output_of};
@@ -20,12 +20,13 @@ pub struct Found {
     pub at: ReplyAt,
 }
 
-/// The ends of each brick's connections, by the brick's number, and the replies of bricks to each call by a fault or with
-/// rows, by the call's number.
+/// The ends of each brick's connections, by the brick's number; the replies of bricks to each call by a fault or with rows, by
+/// the call's number; and where changes were marked, by the first cell of each.
 #[derive(Drop)]
 pub struct Clues {
     ends: Vec<Vec<End>>,
     replies: Vec<Vec<Found>>,
+    marks: BTreeMap<Cell, Vec<usize>>,
 }
 
 // A call of which replies are looked for, by the number of a wind of it, with the place of the wind's opening.
@@ -200,19 +201,68 @@ fn note_arrivals(
     Ok(())
 }
 
-fn note_disconnects(alloc: Global, clues: &mut Clues, log: &Log) -> Result<(), AllocError> {
+fn note_mark(
+    alloc: Global,
+    clues: &mut Clues,
+    cells: &[Cell],
+    place: usize,
+) -> Result<(), AllocError> {
+    let Some(cell) = cells.first() else {
+        return Ok(());
+    };
+    if let Some(places) = clues.marks.get_mut(cell) {
+        places.push(place)?;
+        return Ok(());
+    }
+    let mut places = Vec::new(alloc);
+    places.push(place)?;
+    clues.marks.insert(*cell, places)?;
+    Ok(())
+}
+
+fn note_request(
+    alloc: Global,
+    clues: &mut Clues,
+    req: &BrickReq,
+    place: usize,
+) -> Result<(), AllocError> {
+    match req {
+        BrickReq::Mark { cells, .. } => note_mark(alloc, clues, cells.as_slice(), place),
+        _ => Ok(()),
+    }
+}
+
+fn note_input(
+    alloc: Global,
+    clues: &mut Clues,
+    line: &SentLine,
+    sent: &Input,
+    place: usize,
+) -> Result<(), AllocError> {
+    match sent {
+        Input::Disconnect { graph } => {
+            let end = End {
+                event: line.event,
+                by: Some(Sent {
+                    graph: *graph,
+                    place,
+                }),
+            };
+            put(&mut clues.ends, line.brick as usize, end)
+        }
+        Input::Request { req, .. } => note_request(alloc, clues, req, place),
+        _ => Ok(()),
+    }
+}
+
+fn note_sent(alloc: Global, clues: &mut Clues, log: &Log) -> Result<(), AllocError> {
     let sent = log.sent.as_slice();
     for place in 0..sent.len() {
         let line = &sent[place];
-        let Message::Whole(Input::Disconnect { graph }) = input_of(alloc, line.bytes.as_slice())?
-        else {
+        let Message::Whole(found) = input_of(alloc, line.bytes.as_slice())? else {
             continue;
         };
-        let end = End {
-            event: line.event,
-            by: Some(Sent { graph, place }),
-        };
-        put(&mut clues.ends, line.brick as usize, end)?;
+        note_input(alloc, clues, line, &found, place)?;
     }
     Ok(())
 }
@@ -227,9 +277,10 @@ pub fn clues_of(alloc: Global, log: &Log) -> Result<Clues, AllocError> {
     let mut clues = Clues {
         ends: empty_lists(alloc, BRICKS)?,
         replies: empty_lists(alloc, wanted.len())?,
+        marks: BTreeMap::new(alloc),
     };
     note_arrivals(alloc, &mut clues, &winds, log.events.as_slice())?;
-    note_disconnects(alloc, &mut clues, log)?;
+    note_sent(alloc, &mut clues, log)?;
     Ok(clues)
 }
 
@@ -238,6 +289,17 @@ impl Clues {
     pub fn of(&self, call: u32) -> &[Found] {
         match self.replies.get(call as usize) {
             Some(found) => found.as_slice(),
+            None => &[],
+        }
+    }
+
+    /// The places at which a change of these cells may have been marked, by the first of them.
+    pub fn marks_of(&self, cells: &[Cell]) -> &[usize] {
+        let Some(cell) = cells.first() else {
+            return &[];
+        };
+        match self.marks.get(cell) {
+            Some(places) => places.as_slice(),
             None => &[],
         }
     }
@@ -309,4 +371,26 @@ pub fn find_loss(
         None => found,
     };
     Loss { moment, found, end }
+}
+
+/// How a brick was lost to a graph up to an event, by the last moment at which it was without a connection.
+pub fn find_out(openings: &[Opening], clues: &Clues, span: Span, until: u64, brick: u8) -> Loss {
+    match clues.last_end(span.graph, brick, until) {
+        Some(end) => {
+            let moment = closed_until(openings, span.graph, brick, end.event, until);
+            Loss {
+                moment,
+                found: moment,
+                end: Some(end),
+            }
+        }
+        None => {
+            let moment = last_with(openings, span.graph, brick, 0, until);
+            Loss {
+                moment,
+                found: moment,
+                end: None,
+            }
+        }
+    }
 }

@@ -1,32 +1,36 @@
 //! Whether each I/O error has its cause.
 ghost use Rattle.std.specs.Prelude.{◌≡◌, ◌≢◌, ◌<◌, ◌≤◌, ◌^◌, [], true, map, option_copied, IfOk, IfSome};
 ghost use Rattle.std.specs.List.{AllByRecursion};
-ghost use Rattle.mount_log.specs.Causes.{IsLost, IsFaulted, IsShown, IsQuorumLost, IsFault, IsSplit, set_of_call, set_named, HasEvidence, HasCause, IsCaused, AreCaused};
+ghost use Rattle.mount_log.specs.Causes.{IsLost, IsFaulted, IsQuorumLost, IsFault, set_of_call, set_named, HasEvidence, HasCause, IsCaused, AreCaused};
 ghost use Rattle.mount_log.specs.Connections.{graph_of_call};
 ghost use Rattle.mount_log.specs.Submissions.{submitted_at};
 ghost use Rattle.log_audit.specs.Evidence.{HaveNumbers};
 ghost use Rattle.log_audit.specs.IoCauses.{AreTables, IsPlain};
+ghost use Rattle.log_audit.specs.LockTable.{HaveLocks};
 
-use crate::brick_replies::{is_faulted, is_shown};
+use crate::brick_replies::is_faulted;
 use crate::call_graphs::{CallAt, call_at, calls_of, graphs_of, set_of};
 use crate::connections::{Opening, by_brick, openings_at, openings_of};
-use crate::enough::{are_enough, push_failed, push_lost, showers_of};
+use crate::enough::{are_enough, push_failed, push_lost};
 use crate::evidence::{Clues, Found, clues_of, find_loss};
+use crate::locks::{LockAt, locks_of};
 use crate::losses::{Span, is_lost};
-use fop_types::{Answer, IoError, SetPlan, SplitRow};
+use crate::splits::is_split;
+use fop_types::{Answer, IoError, SetPlan};
 use graph_build::Plan;
 use mount_log::{Log, ReplyLine};
 use script_lang::Script;
 use std::alloc::{AllocError, Global};
 use wire_messages::messages_read_back;
 
-/// What is looked up in a log: its calls, the volfiles of its graphs, the connections that were opened, and clues to where the
-/// evidence is.
+/// What is looked up in a log: its calls, the volfiles of its graphs, the connections that were opened, the locks of each
+/// call, and clues to where the evidence is.
 #[derive(Drop)]
 pub struct Tables {
     pub calls: Vec<CallAt>,
     pub volfiles: Vec<u8>,
     pub openings: Vec<Vec<Opening>>,
+    pub locks: Vec<Vec<LockAt>>,
     pub clues: Clues,
 }
 
@@ -37,11 +41,13 @@ fn tables_of(alloc: Global, script: &Script, log: &Log) -> Result<Tables, AllocE
     let volfiles = graphs_of(alloc, script, log)?;
     let all = openings_of(alloc, log.sent.as_slice())?;
     let openings = by_brick(alloc, all.as_slice())?;
+    let locks = locks_of(alloc, log, calls.len().saturating_add(1))?;
     let clues = clues_of(alloc, log)?;
     Ok(Tables {
         calls,
         volfiles,
         openings,
+        locks,
         clues,
     })
 }
@@ -188,65 +194,6 @@ fn is_fault(
     Ok(yes)
 }
 
-// ---- rows
-
-fn is_row_found(
-    alloc: Global,
-    log: &Log,
-    plan: &SetPlan,
-    reply: &ReplyLine,
-    row: &SplitRow,
-    found: &[Found],
-) -> Result<bool, AllocError>
-    ensures { IfOk result (λ yes. yes ≡ true → IsShown log.now plan.now reply.now.call reply.now.event row.now) }
-{
-    for one in found {
-        if one.brick != row.brick {
-            continue;
-        }
-        if is_shown(alloc, log, plan, reply, row, one.at)? {
-            return Ok(true);
-        }
-    }
-    Ok(false)
-}
-
-fn are_shown(
-    alloc: Global,
-    log: &Log,
-    plan: &SetPlan,
-    reply: &ReplyLine,
-    found: &[Found],
-    rows: &[SplitRow],
-) -> Result<bool, AllocError>
-    ensures { IfOk result (λ yes. yes ≡ true → AllByRecursion (IsShown log.now plan.now reply.now.call reply.now.event) rows.now) }
-{
-    for row in rows {
-        if !is_row_found(alloc, log, plan, reply, row, found)? {
-            return Ok(false);
-        }
-    }
-    Ok(true)
-}
-
-fn is_split(
-    alloc: Global,
-    log: &Log,
-    plan: &SetPlan,
-    reply: &ReplyLine,
-    found: &[Found],
-    rows: &[SplitRow],
-) -> Result<bool, AllocError>
-    ensures { IfOk result (λ yes. yes ≡ true → IsSplit log.now plan.now reply.now.call reply.now.event rows.now) }
-{
-    let bricks = showers_of(alloc, rows)?;
-    if bricks.len() < plan.q as usize {
-        return Ok(false);
-    }
-    let yes = are_shown(alloc, log, plan, reply, found, rows)?;
-    Ok(yes)
-}
-
 // ---- all
 
 fn set_named(error: &IoError) -> u8
@@ -269,6 +216,7 @@ fn has_evidence(
     error: &IoError,
 ) -> Result<bool, AllocError>
     requires numbers { HaveNumbers log.now span.graph (map (λ l. l.items) tables.now.openings.items) }
+    requires locks { HaveLocks log.now (map (λ l. l.items) tables.now.locks.items) }
     requires graph { span.graph ≡ graph_of_call log.now reply.now.call }
     requires since { span.since ≡ submitted_at log.now reply.now.call }
     ensures { IfOk result (λ yes. yes ≡ true → HasEvidence log.now plan.now reply.now.call reply.now.event error.now) }
@@ -280,8 +228,7 @@ fn has_evidence(
             Ok(yes)
         }
         IoError::Split { rows, .. } => {
-            let found = tables.clues.of(reply.call);
-            let yes = is_split(alloc, log, plan, reply, found, rows.as_slice())?;
+            let yes = is_split(alloc, log, tables, plan, reply, span, rows.as_slice())?;
             Ok(yes)
         }
         IoError::Fault { faults, lost, .. } => {
@@ -463,7 +410,8 @@ fn have_none(script: &Script, plans: &[Plan], log: &Log) -> bool
 }
 
 /// Whether each reply that is an I/O error has its cause: bricks that were lost to the call's graph, bricks that answered a
-/// request of the call by a fault, or rows that bricks showed with its locks. `plans` are those of the script's volfiles.
+/// request of the call by a fault, or rows that bricks showed in its last lock phase, by which there is no source. `plans` are
+/// those of the script's volfiles.
 ///
 /// # Errors
 /// Out of memory.

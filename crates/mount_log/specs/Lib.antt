@@ -1,5 +1,5 @@
 -- In reading order: the log; lines of a script; submissions and replies; the graphs of a run; winds; the procedure of a
--- request; when a log follows its script; connections; causes of I/O errors; how lines are tied to events.
+-- request; when a log follows its script; connections; locks; causes of I/O errors; how lines are tied to events.
 pub mod Logs
 pub mod Lines
 pub mod Submissions
@@ -9,5 +9,6 @@ pub mod Arrivals
 pub mod Procedures
 pub mod Follows
 pub mod Connections
+pub mod Locks
 pub mod Causes
 pub mod Ties
