@@ -1,5 +1,6 @@
 -- In reading order: the log; lines of a script; submissions and replies; the graphs of a run; winds; the procedure of a
--- request; when a log follows its script; connections; causes of I/O errors; how lines are tied to events.
+-- request; when a log follows its script; connections; causes of I/O errors; how lines are tied to events; what is sent to
+-- connect graphs and for controls.
 pub mod Logs
 pub mod Lines
 pub mod Submissions
@@ -11,3 +12,4 @@ pub mod Follows
 pub mod Connections
 pub mod Causes
 pub mod Ties
+pub mod Connects
