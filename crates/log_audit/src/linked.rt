@@ -1,0 +1,349 @@
+//! Whether graphs connect and disconnect in each event exactly as they are to.
+ghost use Rattle.std.specs.Prelude.{◌≡◌, ◌<◌, ◌≤◌, ◌+◌, ◌||◌, ℕ, [], true, length, map, option_copied, slice_get, IfOk, IfSome};
+ghost use Rattle.std.specs.List.{AllByRecursion};
+ghost use Rattle.wire_messages.specs.Messages.{MessagesReadBack};
+ghost use Rattle.log_audit.specs.declared.effects.Effect.TheVariants.{Started};
+ghost use Rattle.log_audit.specs.Linked.{IsDueAs, IsItemDue, AreCut, HasDue, IsLinkedAs, due_as, has_link, has_connect, items_of, in_event, AreByEvent, IsEffectAt, IsKnown, AreGraphTables, IsLinked, AreLinked};
+
+use crate::call_graphs::graphs_of;
+use crate::due::{GraphTables, Moment, is_due, is_lost};
+use crate::effects::{Effect, effect_of, newest_after};
+use crate::last_uses::last_uses;
+use crate::lines_sent::{Item, What, by_event, has_connect, items_at};
+use crate::links::{all_cut, has_link};
+use crate::known::Known;
+use graph_build::Plan;
+use mount_log::{HubEvent, Log};
+use script_lang::Script;
+use std::alloc::{AllocError, Global};
+use wire_messages::messages_read_back;
+
+// ---- what is sent is due
+
+fn has_connection(known: &Known, items: &[Item], graph: u32, brick: u8) -> bool
+    ensures { result ≡ (has_link graph brick known.now.links.items || has_connect graph brick items.now) }
+{
+    has_link(known.links.as_slice(), graph, brick) || has_connect(items, graph, brick)
+}
+
+fn is_item_due(
+    log: &Log,
+    plans: &[Plan],
+    tables: &GraphTables,
+    known: &Known,
+    now: Moment,
+    items: &[Item],
+    brick: u8,
+    what: What,
+) -> bool
+    ensures { result ≡ true → IsDueAs log.now plans.now tables.now known.now now items.now brick what }
+{
+    match what {
+        What::Connect(graph) => is_due(plans, tables, known, now, graph, brick),
+        What::Disconnect(graph) => is_lost(log, plans, tables, known, now, graph, brick),
+        What::Request(graph) => has_connection(known, items, graph, brick),
+        What::Other => true,
+        What::Wrong => false,
+    }
+}
+
+fn are_due(
+    log: &Log,
+    plans: &[Plan],
+    tables: &GraphTables,
+    known: &Known,
+    now: Moment,
+    items: &[Item],
+) -> bool
+    ensures { result ≡ true → AllByRecursion (IsItemDue log.now plans.now tables.now known.now now items.now) items.now }
+{
+    for item in items {
+        if !is_item_due(log, plans, tables, known, now, items, item.brick, item.what) {
+            return false;
+        }
+    }
+    true
+}
+
+// ---- what is due is sent
+
+fn is_met(
+    plans: &[Plan],
+    tables: &GraphTables,
+    known: &Known,
+    now: Moment,
+    items: &[Item],
+    graph: u32,
+    brick: u8,
+) -> bool
+    ensures { result ≡ true → due_as plans.now tables.now known.now now graph brick ≡ true → has_connect graph brick items.now ≡ true }
+{
+    if !is_due(plans, tables, known, now, graph, brick) {
+        return true;
+    }
+    has_connect(items, graph, brick)
+}
+
+// The newest graph connects to each brick that it is to.
+fn newest_is_met(
+    plans: &[Plan],
+    tables: &GraphTables,
+    known: &Known,
+    now: Moment,
+    items: &[Item],
+) -> bool
+    ensures { result ≡ true → (brick : ℕ) → brick < 256 → due_as plans.now tables.now known.now now now.newest brick ≡ true → has_connect now.newest brick items.now ≡ true }
+{
+    for brick in 0..255u8 {
+        if !is_met(plans, tables, known, now, items, now.newest, brick) {
+            return false;
+        }
+    }
+    is_met(plans, tables, known, now, items, now.newest, 255)
+}
+
+// Each graph connects to a brick to which it is to.
+fn opened_is_met(
+    plans: &[Plan],
+    tables: &GraphTables,
+    known: &Known,
+    now: Moment,
+    items: &[Item],
+    brick: u8,
+) -> bool
+    ensures { result ≡ true → (graph : ℕ) → graph ≤ now.newest → due_as plans.now tables.now known.now now graph brick ≡ true → has_connect graph brick items.now ≡ true }
+{
+    for graph in 0..now.newest {
+        if !is_met(plans, tables, known, now, items, graph, brick) {
+            return false;
+        }
+    }
+    is_met(plans, tables, known, now, items, now.newest, brick)
+}
+
+// At the making graph 1 is the newest.
+fn has_due(plans: &[Plan], tables: &GraphTables, known: &Known, now: Moment, items: &[Item]) -> bool
+    requires { now.effect ≡ Started → now.newest ≡ 1 }
+    ensures { result ≡ true → HasDue plans.now tables.now known.now now items.now }
+{
+    match now.effect {
+        Effect::Started => newest_is_met(plans, tables, known, now, items),
+        Effect::Switched => newest_is_met(plans, tables, known, now, items),
+        Effect::Opened(brick) => opened_is_met(plans, tables, known, now, items, brick),
+        _ => true,
+    }
+}
+
+fn are_cut(known: &Known, effect: Effect, items: &[Item]) -> bool
+    ensures { result ≡ true → AreCut items.now known.now.links.items effect }
+{
+    match effect {
+        Effect::Cut(brick) => all_cut(known.links.as_slice(), items, brick),
+        _ => true,
+    }
+}
+
+// ---- an event
+
+fn is_linked(
+    log: &Log,
+    plans: &[Plan],
+    tables: &GraphTables,
+    known: &Known,
+    now: Moment,
+    items: &[Item],
+) -> bool
+    requires { now.effect ≡ Started → now.newest ≡ 1 }
+    ensures { result ≡ true → IsLinkedAs log.now plans.now tables.now known.now now items.now }
+{
+    if !are_due(log, plans, tables, known, now, items) || !has_due(plans, tables, known, now, items) {
+        return false;
+    }
+    are_cut(known, now.effect, items)
+}
+
+// The start: graph 1 is made and connected.
+fn starts(
+    alloc: Global,
+    script: &Script,
+    plans: &[Plan],
+    log: &Log,
+    tables: &GraphTables,
+    known: &mut Known,
+    items: &[Item],
+) -> Result<bool, AllocError>
+    requires read { MessagesReadBack }
+    requires tables { AreGraphTables script.now log.now tables.now }
+    requires items { items.now ≡ in_event 0 (items_of log.now.sent) }
+    requires links { known.old.links.items ≡ [] }
+    requires closed { known.old.closed.items ≡ [] }
+    requires newest { known.old.newest ≡ 1 }
+    ensures linked { IfOk result (λ yes. yes ≡ true → IsLinked script.now plans.now log.now 0) }
+    ensures known { IfOk result (λ yes. yes ≡ true → IsKnown log.now 0 known.new) }
+{
+    let _ = script;
+    let now = Moment {
+        number: 0,
+        newest: 1,
+        effect: Effect::Started,
+    };
+    if !is_linked(log, plans, tables, known, now, items) {
+        return Ok(false);
+    }
+    known.pass(alloc, Effect::Started, 1, items)?;
+    Ok(true)
+}
+
+// The event at a place, behind what is known.
+fn passes(
+    alloc: Global,
+    script: &Script,
+    plans: &[Plan],
+    log: &Log,
+    tables: &GraphTables,
+    known: &mut Known,
+    k: usize,
+    effect: Effect,
+    items: &[Item],
+) -> Result<bool, AllocError>
+    requires read { MessagesReadBack }
+    requires tables { AreGraphTables script.now log.now tables.now }
+    requires items { items.now ≡ in_event (k + 1) (items_of log.now.sent) }
+    requires effect { IsEffectAt log.now k effect }
+    requires low { k < length log.now.events }
+    requires known { IsKnown log.now k known.old }
+    ensures linked { IfOk result (λ yes. yes ≡ true → IsLinked script.now plans.now log.now (k + 1)) }
+    ensures known { IfOk result (λ yes. yes ≡ true → IsKnown log.now (k + 1) known.new) }
+{
+    let _ = script;
+    let Some(newest) = newest_after(known.newest, effect) else {
+        return Ok(false);
+    };
+    let now = Moment {
+        number: k as u64 + 1,
+        newest,
+        effect,
+    };
+    if !is_linked(log, plans, tables, known, now, items) {
+        return Ok(false);
+    }
+    known.pass(alloc, effect, newest, items)?;
+    Ok(true)
+}
+
+fn event_in(log: &Log, k: usize) -> Option<&HubEvent>
+    ensures { option_copied result ≡ slice_get log.now.events k }
+{
+    log.events.as_slice().get(k)
+}
+
+fn effect_at(alloc: Global, log: &Log, k: usize) -> Result<Option<Effect>, AllocError>
+    ensures { IfOk result (λ found. IfSome found (λ e. IsEffectAt log.now k e)) }
+{
+    match event_in(log, k) {
+        Some(event) => {
+            let effect = effect_of(alloc, event)?;
+            Ok(Some(effect))
+        }
+        None => Ok(None),
+    }
+}
+
+fn next_passes(
+    alloc: Global,
+    script: &Script,
+    plans: &[Plan],
+    log: &Log,
+    tables: &GraphTables,
+    known: &mut Known,
+    k: usize,
+    items: &[Item],
+) -> Result<bool, AllocError>
+    requires read { MessagesReadBack }
+    requires tables { AreGraphTables script.now log.now tables.now }
+    requires items { items.now ≡ in_event (k + 1) (items_of log.now.sent) }
+    requires low { k < length log.now.events }
+    requires known { IsKnown log.now k known.old }
+    ensures linked { IfOk result (λ yes. yes ≡ true → IsLinked script.now plans.now log.now (k + 1)) }
+    ensures known { IfOk result (λ yes. yes ≡ true → IsKnown log.now (k + 1) known.new) }
+{
+    let Some(effect) = effect_at(alloc, log, k)? else {
+        return Ok(false);
+    };
+    let yes = passes(alloc, script, plans, log, tables, known, k, effect, items)?;
+    Ok(yes)
+}
+
+// ---- all events
+
+fn tables_of(alloc: Global, script: &Script, log: &Log) -> Result<Option<GraphTables>, AllocError>
+    ensures { IfOk result (λ found. IfSome found (AreGraphTables script.now log.now)) }
+{
+    let volfiles = graphs_of(alloc, script, log)?;
+    if volfiles.len() == usize::MAX {
+        return Ok(None);
+    }
+    match last_uses(alloc, log, volfiles.len() + 1)? {
+        Some(until) => Ok(Some(GraphTables { volfiles, until })),
+        None => Ok(None),
+    }
+}
+
+fn all_pass(
+    alloc: Global,
+    script: &Script,
+    plans: &[Plan],
+    log: &Log,
+    tables: &GraphTables,
+    lists: &[Vec<Item>],
+) -> Result<bool, AllocError>
+    requires tables { AreGraphTables script.now log.now tables.now }
+    requires lists { AreByEvent (items_of log.now.sent) (map (λ l. l.items) lists.now) }
+    ensures { IfOk result (λ yes. yes ≡ true → (number : ℕ) → number ≤ length log.now.events → IsLinked script.now plans.now log.now number) }
+{
+    messages_read_back();
+    let mut known = Known::new(alloc);
+    if !starts(
+        alloc,
+        script,
+        plans,
+        log,
+        tables,
+        &mut known,
+        items_at(lists, 0),
+    )? {
+        return Ok(false);
+    }
+    for k in 0..log.events.len() {
+        let items = items_at(lists, k + 1);
+        if !next_passes(alloc, script, plans, log, tables, &mut known, k, items)? {
+            return Ok(false);
+        }
+    }
+    Ok(true)
+}
+
+/// Whether graphs connect and disconnect in each event exactly as they are to.
+///
+/// # Errors
+/// Out of memory.
+pub fn are_linked(
+    alloc: Global,
+    script: &Script,
+    plans: &[Plan],
+    log: &Log,
+) -> Result<bool, AllocError>
+    ensures { IfOk result (λ yes. yes ≡ true → AreLinked script.now plans.now log.now) }
+{
+    let Some(tables) = tables_of(alloc, script, log)? else {
+        return Ok(false);
+    };
+    let Some(lists) = by_event(alloc, log)? else {
+        return Ok(false);
+    };
+    if lists.len() != log.events.len() + 1 {
+        return Ok(false);
+    }
+    let yes = all_pass(alloc, script, plans, log, &tables, lists.as_slice())?;
+    Ok(yes)
+}
