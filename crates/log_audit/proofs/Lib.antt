@@ -23,3 +23,8 @@ pub mod Running
 pub mod Tying
 pub mod Numbering
 pub mod Ending
+pub mod Linking
+pub mod Effecting
+pub mod Passing
+pub mod Wanting
+pub mod Lasting

@@ -27,7 +27,10 @@ pub fn connects_are_caused(
     ensures { IfOk result (λ yes. yes ≡ true → ConnectsAreCaused script.now plans.now log.now) }
 {
     messages_read_back();
-    if !lines_are_caused(alloc, log)? || !downs_are_carried(alloc, log)? {
+    if !lines_are_caused(alloc, log)? {
+        return Ok(false);
+    }
+    if !downs_are_carried(alloc, log)? {
         return Ok(false);
     }
     let linked = are_linked(alloc, script, plans, log)?;

@@ -18,7 +18,7 @@ use Rattle.script_lang.specs.declared.scripts.Script.{Script}
 use Rattle.wire_messages.specs.Messages.{input_in, output_in}
 use Rattle.wire_messages.specs.declared.messages.Message.{Message}
 use Rattle.wire_messages.specs.declared.messages.Message.TheVariants.{Whole, Wrong}
-use Rattle.wire_xdr.specs.WireText.{input_text}
+use Rattle.wire_xdr.specs.WireText.{input_text, IsInput}
 use Rattle.wire_xdr.specs.Xdr.{IsUnit}
 use Rattle.mount_log.specs.declared.logs.HubEvent.{HubEvent}
 use Rattle.mount_log.specs.declared.logs.HubEvent.TheVariants as logged
@@ -164,11 +164,18 @@ control_input (action.Switch volfile) = None
 
 -- ---- the log
 
+-- the bytes are an input's
+pub record IsInputText (bytes : List ℕ) : Type 0 where
+  pub sent : Input
+  pub legal : IsInput sent
+  pub text : bytes ≡ input_text sent
+
 -- Bricks, graphs and numbers are those that lines and inputs have: below 256, and below 2^32.
 pub record ConnectsAreCaused (script : Script) (plans : List Plan) (log : Log) : Type 0 where
-  -- a Connect is sent exactly where it is due, and is of version 1
+  -- each line is an input: a Connect is of the version that there is
+  pub inputs : (k : ℕ) (line : SentLine) → slice_get log.sent k ≡ Some line → IsInputText line.bytes
+  -- a Connect is sent exactly where it is due
   pub connects : (graph brick number : ℕ) → IsUnit graph → brick < 256 → was_sent log number brick (input.Connect graph 1) ≡ is_connect_due script plans log graph brick number
-  pub versions : (k graph version : ℕ) (line : SentLine) → slice_get log.sent k ≡ Some line → IsUnit graph → IsUnit version → line.bytes ≡ input_text (input.Connect graph version) → version ≡ 1
   -- a Disconnect has a cause, and a cut disconnects each graph that has a connection
   pub disconnects : (k graph : ℕ) (line : SentLine) → slice_get log.sent k ≡ Some line → IsUnit graph → line.bytes ≡ input_text (input.Disconnect graph) → IsDisconnected script plans log line graph
   pub cuts : (graph brick number : ℕ) → IsUnit graph → IsEvent log number (logged.Act (action.Cut brick)) → is_open_after log graph brick (number - 1) ≡ true
