@@ -76,10 +76,11 @@ module _ (back : MessagesReadBack) (script : Script) (plans : List Plan) (log : 
   found : (graph brick number : ℕ) → IsUnit graph → (lines : List SentLine) → ((k : ℕ) (line : SentLine) → slice_get lines k ≡ Some line → IsLineDue script plans log line (what_of (input_in line.bytes)))
       → list_any (is_sent_in number brick (input.Connect graph 1)) lines ≡ true → is_connect_due script plans log graph brick number ≡ true
   found graph brick number fits [] each sent = absurd cc
-  found graph brick number fits (line ∷ lines) each sent = by (is_sent_in number brick (input.Connect graph 1) line) refl sent where
-    by : (b : Bool) → is_sent_in number brick (input.Connect graph 1) line ≡ b → (b || list_any (is_sent_in number brick (input.Connect graph 1)) lines) ≡ true → is_connect_due script plans log graph brick number ≡ true
-    by false is rest = found graph brick number fits lines (λ k l there. each (suc k) l there) rest
-    by true is rest =
+  found graph brick number fits (line ∷ lines) each sent = by (is_sent_in number brick (input.Connect graph 1) line) refl sent (found graph brick number fits lines (λ k l there. each (suc k) l there)) where
+    by : (b : Bool) → is_sent_in number brick (input.Connect graph 1) line ≡ b → (b || list_any (is_sent_in number brick (input.Connect graph 1)) lines) ≡ true
+        → (list_any (is_sent_in number brick (input.Connect graph 1)) lines ≡ true → is_connect_due script plans log graph brick number ≡ true) → is_connect_due script plans log graph brick number ≡ true
+    by false is rest behind = behind rest
+    by true is rest behind =
         let p = both (line.event == number) ((line.brick == brick) && pointwise ◌==◌ line.bytes (input_text (input.Connect graph 1))) is in
         let q = both (line.brick == brick) (pointwise ◌==◌ line.bytes (input_text (input.Connect graph 1))) p.1 in
         let bytes = same_list line.bytes (input_text (input.Connect graph 1)) q.1 in
@@ -114,7 +115,7 @@ module _ (back : MessagesReadBack) (script : Script) (plans : List Plan) (log : 
       inputs = λ k line there. whole line (input_in line.bytes) refl (line_due k line there);
       connects = connect_due;
       disconnects = λ k graph line there fits bytes. read_due k line (input.Disconnect graph) there fits bytes;
-      cuts = λ graph brick number fits event open. cut graph brick number fits event open;
+      cuts = λ graph brick number fits event opened. cut graph brick number fits event opened;
       requests = λ k wind graph line request there is. subst (λ (m : Message Input). IsLineDue script plans log line (what_of m)) is (line_due k line there);
       downs = λ k serve line there fits bytes.
           subst (λ m. IsCaused log line m) (ap input_in bytes ∙ back.0.0 (input.Down serve) fits) (caused.each k line there);
@@ -128,6 +129,6 @@ module _ (back : MessagesReadBack) (script : Script) (plans : List Plan) (log : 
           subst (λ (i : ℕ). IsActionCarried log i a) n (carried.each (number - 1) (logged.Act a) event.there)
 
       cut : (graph brick number : ℕ) → IsUnit graph → IsEvent log number (logged.Act (action.Cut brick)) → is_open_after log graph brick (number - 1) ≡ true → was_sent log number brick (input.Disconnect graph) ≡ true
-      cut graph brick number fits event open =
+      cut graph brick number fits event opened =
           let from = event.from_one in let lt = slice_get_within log.events (number - 1) (logged.Act (action.Cut brick)) event.there in
-          (linked.each number (omega (arith, from, lt))).cuts graph brick fits event open
+          (linked.each number (omega (arith, from, lt))).cuts graph brick fits event opened

@@ -172,16 +172,16 @@ newest_next log k e there =
 -- ---- a cut
 
 pub cut_is : (brick : ℕ) (e : HubEvent) → cut_as brick (effect_of e) ≡ true → e ≡ logged.Act (action.Cut brick)
-cut_is brick (logged.Arrive from bytes) yes = absurd (by_message (λ (f : Effect). cut_as brick f ≡ true → ⊥) from (λ no. absurd cc) (λ no. absurd cc) (λ no. absurd cc) (λ wind no. absurd cc) (output_in bytes) yes)
-cut_is brick (logged.Act (action.Switch volfile)) yes = absurd cc
-cut_is brick (logged.Act (action.Cut b)) yes = ap (λ (n : ℕ). logged.Act (action.Cut n)) (eqb-true b brick yes)
-cut_is brick (logged.Act (action.Down b serve)) yes = absurd cc
-cut_is brick (logged.Act (action.Up b)) yes = absurd cc
-cut_is brick (logged.Act (action.Fault b p n)) yes = absurd cc
-cut_is brick (logged.Act action.Heal) yes = absurd cc
-cut_is brick (logged.Submit session line) yes = absurd cc
-cut_is brick (logged.Run graph task) yes = absurd cc
-cut_is brick (logged.Arm at p count a) yes = absurd cc
+cut_is brick (logged.Arrive from bytes) hits_it = absurd (by_message (λ (f : Effect). cut_as brick f ≡ true → ⊥) from (λ no. absurd cc) (λ no. absurd cc) (λ no. absurd cc) (λ wind no. absurd cc) (output_in bytes) hits_it)
+cut_is brick (logged.Act (action.Switch volfile)) hits_it = absurd cc
+cut_is brick (logged.Act (action.Cut b)) hits_it = ap (λ (n : ℕ). logged.Act (action.Cut n)) (eqb-true b brick hits_it)
+cut_is brick (logged.Act (action.Down b serve)) hits_it = absurd cc
+cut_is brick (logged.Act (action.Up b)) hits_it = absurd cc
+cut_is brick (logged.Act (action.Fault b p n)) hits_it = absurd cc
+cut_is brick (logged.Act action.Heal) hits_it = absurd cc
+cut_is brick (logged.Submit session line) hits_it = absurd cc
+cut_is brick (logged.Run graph task) hits_it = absurd cc
+cut_is brick (logged.Arm at p count a) hits_it = absurd cc
 
 pub cuts_it : (brick : ℕ) (e : HubEvent) → e ≡ logged.Act (action.Cut brick) → cut_as brick (effect_of e) ≡ true
 cuts_it brick e is = ap (λ (x : HubEvent). cut_as brick (effect_of x)) is ∙ eq-eqb brick brick refl

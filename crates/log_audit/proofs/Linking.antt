@@ -42,8 +42,8 @@ disconnect_goes graph brick (i ∷ is) = ap (λ (b : Bool). ((i.brick == brick) 
 module _ (back : MessagesReadBack) (x : Input) (legal : IsInput x) (hit : What → Bool) (hits : hit (what_in x) ≡ true) (none : hit what.Wrong ≡ false)
     (only : (y : Input) → IsInput y → hit (what_in y) ≡ true → y ≡ x) where
   to_text : (bytes : List ℕ) (m : Message Input) → input_in bytes ≡ m → hit (what_of m) ≡ true → bytes ≡ input_text x
-  to_text bytes (Whole y) is yes = let own = back.0.1 bytes y is in own.1 ∙ ap input_text (only y own.0 yes)
-  to_text bytes (Wrong place) is yes = let no : true ≡ false = sym yes ∙ none in absurd cc
+  to_text bytes (Whole y) is hits_it = let own = back.0.1 bytes y is in own.1 ∙ ap input_text (only y own.0 hits_it)
+  to_text bytes (Wrong place) is hits_it = let no : true ≡ false = sym hits_it ∙ none in absurd cc
 
   text_is : (bytes : List ℕ) → pointwise ◌==◌ bytes (input_text x) ≡ hit (what_of (input_in bytes))
   text_is bytes = same_bool (pointwise ◌==◌ bytes (input_text x)) (hit (what_of (input_in bytes)))
@@ -62,21 +62,21 @@ module _ (back : MessagesReadBack) (x : Input) (legal : IsInput x) (hit : What �
 
 module _ (back : MessagesReadBack) (log : Log) (graph : ℕ) (fits : IsUnit graph) where
   same_connect : (y : Input) → IsInput y → connects graph (what_in y) ≡ true → y ≡ input.Connect graph 1
-  same_connect (input.Connect g version) legal yes =
-      ap (λ (n : ℕ). input.Connect n version) (eqb-true g graph yes) ∙ ap (λ (n : ℕ). input.Connect graph n) legal.1
-  same_connect (input.Disconnect g) legal yes = absurd cc
-  same_connect (input.Request wind g req) legal yes = absurd cc
-  same_connect (input.Down serve) legal yes = absurd cc
-  same_connect input.Up legal yes = absurd cc
-  same_connect (input.FaultAt p number) legal yes = absurd cc
+  same_connect (input.Connect g version) legal hits_it =
+      ap (λ (n : ℕ). input.Connect n version) (eqb-true g graph hits_it) ∙ ap (λ (n : ℕ). input.Connect graph n) legal.1
+  same_connect (input.Disconnect g) legal hits_it = absurd cc
+  same_connect (input.Request wind g req) legal hits_it = absurd cc
+  same_connect (input.Down serve) legal hits_it = absurd cc
+  same_connect input.Up legal hits_it = absurd cc
+  same_connect (input.FaultAt p number) legal hits_it = absurd cc
 
   same_disconnect : (y : Input) → IsInput y → disconnects graph (what_in y) ≡ true → y ≡ input.Disconnect graph
-  same_disconnect (input.Connect g version) legal yes = absurd cc
-  same_disconnect (input.Disconnect g) legal yes = ap (λ (n : ℕ). input.Disconnect n) (eqb-true g graph yes)
-  same_disconnect (input.Request wind g req) legal yes = absurd cc
-  same_disconnect (input.Down serve) legal yes = absurd cc
-  same_disconnect input.Up legal yes = absurd cc
-  same_disconnect (input.FaultAt p number) legal yes = absurd cc
+  same_disconnect (input.Connect g version) legal hits_it = absurd cc
+  same_disconnect (input.Disconnect g) legal hits_it = ap (λ (n : ℕ). input.Disconnect n) (eqb-true g graph hits_it)
+  same_disconnect (input.Request wind g req) legal hits_it = absurd cc
+  same_disconnect (input.Down serve) legal hits_it = absurd cc
+  same_disconnect input.Up legal hits_it = absurd cc
+  same_disconnect (input.FaultAt p number) legal hits_it = absurd cc
 
   pub connect_sent : (number brick : ℕ) → was_sent log number brick (input.Connect graph 1) ≡ has_connect graph brick (in_event number (items_of log.sent))
   connect_sent number brick =
@@ -98,10 +98,10 @@ at_line P (l ∷ lines) zero number line is same all = first (l.event == number)
   first : (b : Bool) → b ≡ true → AllByRecursion P (if b then item_of l ∷ in_event number (items_of lines) else in_event number (items_of lines)) → P (item_of line)
   first true e found = subst (λ (z : SentLine). P (item_of z)) l_is found.0
   first false e found = absurd cc
-at_line P (l ∷ lines) (suc k) number line is same all = rest (l.event == number) all where
-  rest : (b : Bool) → AllByRecursion P (if b then item_of l ∷ in_event number (items_of lines) else in_event number (items_of lines)) → P (item_of line)
-  rest true found = at_line P lines k number line is same found.1
-  rest false found = at_line P lines k number line is same found
+at_line P (l ∷ lines) (suc k) number line is same all = rest (l.event == number) all (at_line P lines k number line is same) where
+  rest : (b : Bool) → AllByRecursion P (if b then item_of l ∷ in_event number (items_of lines) else in_event number (items_of lines)) → (AllByRecursion P (in_event number (items_of lines)) → P (item_of line)) → P (item_of line)
+  rest true found behind = behind found.1
+  rest false found behind = behind found
 
 -- ---- by event
 

@@ -155,11 +155,11 @@ module _ (script : Script) (plans : List Plan) (log : Log) (tables : GraphTables
     event_linked linked = record {
       lines = λ i line there same. line_due line same (input_in line.bytes) refl (at_line (IsItemDue log plans tables known now items) log.sent i (k + 1) line there same (subst (AllByRecursion (IsItemDue log plans tables known now items)) items_are linked.each));
       due = λ graph brick fits low wanted. connect_sent back log graph fits (k + 1) brick ∙ ap (has_connect graph brick) (sym items_are) ∙ linked.due graph brick low (due_is graph brick fits ∙ wanted);
-      cuts = λ graph brick fits acts open.
+      cuts = λ graph brick fits acts opened.
           let same : Some at.event ≡ Some (logged.Act (action.Cut brick)) = sym event.there ∙ acts.there in
           let is : at.event ≡ logged.Act (action.Cut brick) = cc in
           disconnect_sent back log graph fits (k + 1) brick ∙ ap (has_disconnect graph brick) (sym items_are)
-          ∙ cut_each graph brick items known.links.items (linked.cuts brick (ap (cut_as brick) at.is ∙ cuts_it brick at.event is)) (is_known.links graph brick fits ∙ ap (is_open_after log graph brick) (sym less) ∙ open);
+          ∙ cut_each graph brick items known.links.items (linked.cuts brick (ap (cut_as brick) at.is ∙ cuts_it brick at.event is)) (is_known.links graph brick fits ∙ ap (is_open_after log graph brick) (sym less) ∙ opened);
     }
 
   -- ---- the making
@@ -209,5 +209,5 @@ module _ (script : Script) (plans : List Plan) (log : Log) (tables : GraphTables
     start_linked linked = record {
       lines = λ i line there same. start_line line same (input_in line.bytes) refl (at_line (IsItemDue log plans tables known now items) log.sent i 0 line there same (subst (AllByRecursion (IsItemDue log plans tables known now items)) items_are linked.each));
       due = λ graph brick fits low wanted. connect_sent back log graph fits 0 brick ∙ ap (has_connect graph brick) (sym items_are) ∙ linked.due graph brick low (start_due graph brick ∙ wanted);
-      cuts = λ graph brick fits acts open. let from = acts.from_one in let no : 1 ≤ 0 = from in absurd (omega (arith, no));
+      cuts = λ graph brick fits acts opened. let from = acts.from_one in let no : 1 ≤ 0 = from in absurd (omega (arith, no));
     }
