@@ -2,7 +2,7 @@
 use Rattle.std.proofs.Common.{◌≡◌, refl, sym, ap, subst, ◌∙◌, arith, inl, inr}
 use Rattle.std.specs.Prelude.{ℕ, zero, suc, ◌+◌, ◌-◌, ◌<◌, ◌≤◌, ◌==◌, nat_lt, ◌&&◌, ◌||◌, ◌⊎◌, not, Bool, true, false, List, [], ◌∷◌, Option, Some, length, slice_get}
 use Rattle.std.specs.List.{list_any, AllByRecursion}
-use Rattle.std.proofs.lemmas.Bool.{eqb-true}
+use Rattle.std.proofs.lemmas.Bool.{eqb-true, ltb-true, ltb-false}
 use Rattle.fop_types.specs.declared.messages.Input.{Input}
 use Rattle.fop_types.specs.declared.messages.Input.TheVariants as input
 use Rattle.graph_build.specs.declared.plans.Plan.{Plan}
@@ -46,6 +46,20 @@ or_parts_true false b e = inr e
 not_true : (b : Bool) → not b ≡ true → b ≡ false
 not_true true e = absurd cc
 not_true false e = refl
+
+-- ---- the numbers below the next one
+
+pub below_next : (P : ℕ → Type 0) (n : ℕ) → P n → ((m : ℕ) → m < n → P m) → (m : ℕ) → m < n + 1 → P m
+below_next P n own before m lt = by (nat_lt m n) refl where
+  by : (b : Bool) → nat_lt m n ≡ b → P m
+  by true e = before m (ltb-true m n e)
+  by false e = let le = ltb-false m n e in let same : n ≡ m = omega (arith, lt, le) in subst (λ (i : ℕ). P i) same own
+
+pub up_to_next : (P : ℕ → Type 0) (n : ℕ) → P (n + 1) → ((m : ℕ) → m ≤ n → P m) → (m : ℕ) → m ≤ n + 1 → P m
+up_to_next P n own before m le = by (nat_lt n m) refl where
+  by : (b : Bool) → nat_lt n m ≡ b → P m
+  by false e = before m (ltb-false n m e)
+  by true e = let lt = ltb-true n m e in let same : n + 1 ≡ m = omega (arith, lt, le) in subst (λ (i : ℕ). P i) same own
 
 -- ---- each link is cut
 

@@ -203,10 +203,12 @@ fn passes(
     tables: &GraphTables,
     known: &mut Known,
     k: usize,
+    number: u64,
     effect: Effect,
     items: &[Item],
 ) -> Result<bool, AllocError>
     requires read { MessagesReadBack }
+    requires number { number ≡ k + 1 }
     requires tables { AreGraphTables script.now log.now tables.now }
     requires items { items.now ≡ in_event (k + 1) (items_of log.now.sent) }
     requires effect { IsEffectAt log.now k effect }
@@ -216,11 +218,12 @@ fn passes(
     ensures known { IfOk result (λ yes. yes ≡ true → IsKnown log.now (k + 1) known.new) }
 {
     let _ = script;
+    let _ = k;
     let Some(newest) = newest_after(known.newest, effect) else {
         return Ok(false);
     };
     let now = Moment {
-        number: k as u64 + 1,
+        number,
         newest,
         effect,
     };
@@ -257,9 +260,11 @@ fn next_passes(
     tables: &GraphTables,
     known: &mut Known,
     k: usize,
+    number: u64,
     items: &[Item],
 ) -> Result<bool, AllocError>
     requires read { MessagesReadBack }
+    requires number { number ≡ k + 1 }
     requires tables { AreGraphTables script.now log.now tables.now }
     requires items { items.now ≡ in_event (k + 1) (items_of log.now.sent) }
     requires low { k < length log.now.events }
@@ -270,7 +275,9 @@ fn next_passes(
     let Some(effect) = effect_at(alloc, log, k)? else {
         return Ok(false);
     };
-    let yes = passes(alloc, script, plans, log, tables, known, k, effect, items)?;
+    let yes = passes(
+        alloc, script, plans, log, tables, known, k, number, effect, items,
+    )?;
     Ok(yes)
 }
 
@@ -316,7 +323,10 @@ fn all_pass(
     }
     for k in 0..log.events.len() {
         let items = items_at(lists, k + 1);
-        if !next_passes(alloc, script, plans, log, tables, &mut known, k, items)? {
+        let number = k as u64 + 1;
+        if !next_passes(
+            alloc, script, plans, log, tables, &mut known, k, number, items,
+        )? {
             return Ok(false);
         }
     }
@@ -341,7 +351,7 @@ pub fn are_linked(
     let Some(lists) = by_event(alloc, log)? else {
         return Ok(false);
     };
-    if lists.len() != log.events.len() + 1 {
+    if lists.is_empty() || lists.len() - 1 != log.events.len() {
         return Ok(false);
     }
     let yes = all_pass(alloc, script, plans, log, &tables, lists.as_slice())?;
