@@ -1,6 +1,6 @@
 -- What is known of connections behind an event, by what is known before it.
 use Rattle.std.proofs.Common.{◌≡◌, refl, sym, ap, subst, ◌∙◌, arith}
-use Rattle.std.specs.Prelude.{ℕ, zero, suc, ◌+◌, ◌==◌, ◌&&◌, ◌||◌, not, Bool, true, false, List, [], ◌∷◌, ◌++◌, Some, slice_get, if◌then◌else◌}
+use Rattle.std.specs.Prelude.{ℕ, zero, suc, ◌+◌, ◌-◌, ◌==◌, ◌&&◌, ◌||◌, not, Bool, true, false, List, [], ◌∷◌, ◌++◌, Some, slice_get, if◌then◌else◌}
 use Rattle.std.specs.List.{list_any}
 use Rattle.std.proofs.lemmas.Bool.{eq-eqb, eqb-true, eqb-false, ne_eqb}
 use Rattle.std.proofs.lemmas.List.Folds.{list_any-append}
@@ -230,9 +230,9 @@ module _ (back : MessagesReadBack) (log : Log) where
         links = λ graph brick fits.
             ap (has_link graph brick) links ∙ links_next graph brick f items old.links.items
             ∙ same_next (has_connect graph brick items) (was_sent log (suc k) brick (input.Connect graph 1)) (has_link graph brick old.links.items) (is_open_after log graph brick k)
-              (closed_as brick f) (closes_by brick (slice_get log.events k)) (has_disconnect graph brick items) (was_sent log (suc k) brick (input.Disconnect graph))
+              (closed_as brick f) (closes_by brick (slice_get log.events (suc k - 1))) (has_disconnect graph brick items) (was_sent log (suc k) brick (input.Disconnect graph))
               (ap (has_connect graph brick) items_are ∙ sym (connect_sent back log graph fits (suc k) brick)) (known.links graph brick fits)
-              (ap (closed_as brick) at.is ∙ sym (closes_is brick at.event) ∙ ap (closes_by brick) (sym at.there))
+              (ap (closed_as brick) at.is ∙ sym (closes_is brick at.event) ∙ ap (closes_by brick) (sym at.there ∙ ap (slice_get log.events) (sym less)))
               (ap (has_disconnect graph brick) items_are ∙ sym (disconnect_sent back log graph fits (suc k) brick));
         closed = λ brick.
             ap (λ (xs : List ℕ). list_any (λ b. b == brick) xs) closed ∙ closed_next brick f old.closed.items
@@ -243,6 +243,9 @@ module _ (back : MessagesReadBack) (log : Log) where
       }) where
     one : suc k ≡ k + 1
     one = omega arith
+
+    less : suc k - 1 ≡ k
+    less = omega arith
 
     items_are : items ≡ in_event (suc k) (items_of log.sent)
     items_are = is ∙ ap (λ (n : ℕ). in_event n (items_of log.sent)) (sym one)

@@ -65,16 +65,15 @@ up_to_next P n own before m le = by (nat_lt n m) refl where
 
 pub cut_each : (graph brick : ℕ) (items : List Item) (ls : List Link) → all_cut brick items ls ≡ true → has_link graph brick ls ≡ true → has_disconnect graph brick items ≡ true
 cut_each graph brick items [] all has = absurd cc
-cut_each graph brick items (l ∷ ls) all has = by (or_parts_true ((l.graph == graph) && (l.brick == brick)) (has_link graph brick ls) has) where
-  parts : ((not (l.brick == brick) || has_disconnect l.graph brick items) ≡ true) × (all_cut brick items ls ≡ true)
-  parts = both (not (l.brick == brick) || has_disconnect l.graph brick items) (all_cut brick items ls) all
-
-  by : (((l.graph == graph) && (l.brick == brick)) ≡ true) ⊎ (has_link graph brick ls ≡ true) → has_disconnect graph brick items ≡ true
-  by (inl own) =
+cut_each graph brick items (l ∷ ls) all has =
+    by (or_parts_true ((l.graph == graph) && (l.brick == brick)) (has_link graph brick ls) has) (both (not (l.brick == brick) || has_disconnect l.graph brick items) (all_cut brick items ls) all) (cut_each graph brick items ls) where
+  by : (((l.graph == graph) && (l.brick == brick)) ≡ true) ⊎ (has_link graph brick ls ≡ true) → ((not (l.brick == brick) || has_disconnect l.graph brick items) ≡ true) × (all_cut brick items ls ≡ true)
+      → (all_cut brick items ls ≡ true → has_link graph brick ls ≡ true → has_disconnect graph brick items ≡ true) → has_disconnect graph brick items ≡ true
+  by (inl own) parts behind =
       let p = both (l.graph == graph) (l.brick == brick) own in
       let cut : (not true || has_disconnect l.graph brick items) ≡ true = ap (λ (b : Bool). not b || has_disconnect l.graph brick items) (sym p.1) ∙ parts.0 in
       ap (λ (g : ℕ). has_disconnect g brick items) (sym (eqb-true l.graph graph p.0)) ∙ cut
-  by (inr rest) = cut_each graph brick items ls parts.1 rest
+  by (inr rest) parts behind = behind parts.1 rest
 
 -- ---- graphs
 
@@ -137,9 +136,7 @@ module _ (script : Script) (plans : List Plan) (log : Log) (tables : GraphTables
           (subst (λ (e : HubEvent). IsEvent log (k + 1) e) (cut_is line.brick at.event (ap (cut_as line.brick) (sym at.is) ∙ cut)) event))
     lost line graph same fits (GoneAs has gone) =
         ByGone (open_is graph line.brick line.event same fits has)
-        (gone_is log now graph line.brick line.event at.event (number ∙ sym same) (subst (λ (n : ℕ). IsEvent log n at.event) (sym same) event) (subst (λ (f : Effect). IsGoneIn f) at.is gone)) where
-      abbrev IsGoneIn : Effect → Type 0
-      IsGoneIn f = IsGoneAs log now graph line.brick f
+        (gone_is log now graph line.brick line.event at.event (number ∙ sym same) (subst (λ (n : ℕ). IsEvent log n at.event) (sym same) event) (subst (λ (f : Effect). IsGoneAs log now graph line.brick f) at.is gone))
     lost line graph same fits (EndAs ended) =
         let p = both (live_as tables.until.items known.newest graph (now.number - 1) && not (live_as tables.until.items now.newest graph now.number)) (uses_as plans tables graph line.brick) ended in
         let q = both (live_as tables.until.items known.newest graph (now.number - 1)) (not (live_as tables.until.items now.newest graph now.number)) p.0 in
@@ -154,7 +151,7 @@ module _ (script : Script) (plans : List Plan) (log : Log) (tables : GraphTables
         ap (is_connect_due script plans log graph line.brick) same ∙ sym (due_is graph line.brick (back.0.1 line.bytes (input.Connect graph version) is).0.0) ∙ due
     line_due line same (Whole (input.Disconnect graph)) is due = lost line graph same (back.0.1 line.bytes (input.Disconnect graph) is).0 due
     line_due line same (Whole (input.Request wind graph req)) is due =
-        let fits : IsUnit graph = (back.0.1 line.bytes (input.Request wind graph req) is).0.1.0 in
+        let fits : IsUnit graph = (back.0.1 line.bytes (input.Request wind graph req) is).0.1 in
         by fits (or_parts_true (has_link graph line.brick known.links.items) (has_connect graph line.brick items) due) where
       by : IsUnit graph → (has_link graph line.brick known.links.items ≡ true) ⊎ (has_connect graph line.brick items ≡ true)
           → (is_open_after log graph line.brick (line.event - 1) ≡ true) ⊎ (was_sent log line.event line.brick (input.Connect graph 1) ≡ true)
@@ -211,7 +208,7 @@ module _ (script : Script) (plans : List Plan) (log : Log) (tables : GraphTables
     start_line line same (Whole (input.Connect graph version)) is due = ap (is_connect_due script plans log graph line.brick) same ∙ sym (start_due graph line.brick) ∙ due
     start_line line same (Whole (input.Disconnect graph)) is due = absurd (none_lost graph line.brick due)
     start_line line same (Whole (input.Request wind graph req)) is due =
-        let fits : IsUnit graph = (back.0.1 line.bytes (input.Request wind graph req) is).0.1.0 in
+        let fits : IsUnit graph = (back.0.1 line.bytes (input.Request wind graph req) is).0.1 in
         let has : has_connect graph line.brick items ≡ true = ap (λ (b : Bool). b || has_connect graph line.brick items) (sym (no_link graph line.brick)) ∙ due in
         inr (ap (λ (n : ℕ). was_sent log n line.brick (input.Connect graph 1)) same ∙ connect_sent back log graph fits 0 line.brick ∙ ap (has_connect graph line.brick) (sym items_are) ∙ has)
     start_line line same (Whole (input.Down serve)) is due = due
