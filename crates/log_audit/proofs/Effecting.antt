@@ -1,13 +1,12 @@
 -- What an event does to connections, by what it is.
 use Rattle.std.proofs.Common.{◌≡◌, refl, sym, ap, subst, ◌∙◌, arith}
-use Rattle.std.specs.Prelude.{ℕ, zero, suc, ◌+◌, ◌-◌, ◌<◌, ◌≤◌, ◌==◌, ◌&&◌, Bool, true, false, List, [], ◌∷◌, ◌++◌, Option, None, Some, length, take, slice_get}
+use Rattle.std.specs.Prelude.{ℕ, ◌+◌, ◌-◌, ◌==◌, ◌&&◌, true, false, List, Some, length, take, slice_get}
 use Rattle.std.proofs.lemmas.Bool.{eq-eqb, eqb-true}
 use Rattle.fop_types.specs.declared.messages.BrickRep.{BrickRep}
 use Rattle.fop_types.specs.declared.messages.BrickRep.TheVariants as rep
 use Rattle.fop_types.specs.declared.messages.OutKind.{OutKind}
 use Rattle.fop_types.specs.declared.messages.OutKind.TheVariants as out
 use Rattle.fop_types.specs.declared.messages.Output.{Output}
-use Rattle.script_lang.specs.declared.scripts.Action.{Action}
 use Rattle.script_lang.specs.declared.scripts.Action.TheVariants as action
 use Rattle.wire_messages.specs.Messages.{output_in}
 use Rattle.wire_messages.specs.declared.messages.Message.{Message}
@@ -19,7 +18,7 @@ use Rattle.mount_log.specs.Graphs.{switches_in, switched_by}
 use Rattle.mount_log.specs.declared.logs.HubEvent.{HubEvent}
 use Rattle.mount_log.specs.declared.logs.HubEvent.TheVariants as logged
 use Rattle.mount_log.specs.declared.logs.Log.{Log}
-use Rattle.log_audit.specs.Linked.{replies, puts_out, arrives, acts, effect_of, is_started, is_switched, opened_as, closed_as, cut_as, newest_after, IsGoneAs}
+use Rattle.log_audit.specs.Linked.{replies, puts_out, arrives, effect_of, is_started, is_switched, opened_as, closed_as, cut_as, newest_after, IsGoneAs}
 use Rattle.log_audit.specs.declared.due.Moment.{Moment}
 use Rattle.log_audit.specs.declared.effects.Effect.{Effect}
 use Rattle.log_audit.specs.declared.effects.Effect.TheVariants as effect

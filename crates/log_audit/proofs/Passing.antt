@@ -1,17 +1,15 @@
 -- What is known of connections behind an event, by what is known before it.
 use Rattle.std.proofs.Common.{◌≡◌, refl, sym, ap, subst, ◌∙◌, arith}
-use Rattle.std.specs.Prelude.{ℕ, zero, suc, ◌+◌, ◌-◌, ◌==◌, ◌&&◌, ◌||◌, not, Bool, true, false, List, [], ◌∷◌, ◌++◌, Some, slice_get, if◌then◌else◌}
+use Rattle.std.specs.Prelude.{ℕ, suc, ◌+◌, ◌-◌, ◌==◌, ◌&&◌, ◌||◌, not, Bool, true, false, List, [], ◌∷◌, ◌++◌, slice_get, if◌then◌else◌}
 use Rattle.std.specs.List.{list_any}
-use Rattle.std.proofs.lemmas.Bool.{eq-eqb, eqb-true, eqb-false, ne_eqb}
+use Rattle.std.proofs.lemmas.Bool.{eqb-true, eqb-false, ne_eqb}
 use Rattle.std.proofs.lemmas.List.Folds.{list_any-append}
 use Rattle.fop_types.specs.declared.messages.Input.TheVariants as input
-use Rattle.wire_xdr.specs.Xdr.{IsUnit}
 use Rattle.wire_messages.specs.Messages.{MessagesReadBack}
-use Rattle.mount_log.specs.Connections.{was_sent, closes_by, ends_in, is_open_after}
+use Rattle.mount_log.specs.Connections.{was_sent, closes_by, is_open_after}
 use Rattle.mount_log.specs.Connects.{newest_graph, opens_by, is_closed_after}
-use Rattle.mount_log.specs.declared.logs.HubEvent.{HubEvent}
 use Rattle.mount_log.specs.declared.logs.Log.{Log}
-use Rattle.log_audit.specs.Linked.{items_of, in_event, connects, disconnects, has_connect, has_disconnect, effect_of, opened_as, closed_as, newest_after, has_link, without_brick, without_link, closed_by, dropped_as, dropped, added_as, added, links_after, without_number, closed_after, IsEffectAt, IsKnown}
+use Rattle.log_audit.specs.Linked.{items_of, in_event, connects, disconnects, has_connect, has_disconnect, opened_as, closed_as, newest_after, has_link, without_brick, without_link, closed_by, dropped_as, dropped, added_as, added, links_after, without_number, closed_after, IsEffectAt, IsKnown}
 use Rattle.log_audit.specs.declared.effects.Effect.{Effect}
 use Rattle.log_audit.specs.declared.effects.Effect.TheVariants as effect
 use Rattle.log_audit.specs.declared.known.Known.{Known}

@@ -1,6 +1,6 @@
 -- What is due in an event, by what is known before it, is what is due by the log.
 use Rattle.std.proofs.Common.{◌≡◌, refl, sym, ap, subst, ◌∙◌, arith, inl, inr}
-use Rattle.std.specs.Prelude.{ℕ, zero, suc, ◌+◌, ◌-◌, ◌<◌, ◌≤◌, ◌==◌, nat_lt, ◌&&◌, ◌||◌, ◌⊎◌, not, Bool, true, false, List, [], ◌∷◌, Option, Some, length, slice_get}
+use Rattle.std.specs.Prelude.{ℕ, suc, ◌+◌, ◌-◌, ◌<◌, ◌≤◌, ◌==◌, nat_lt, ◌&&◌, ◌||◌, ◌⊎◌, not, Bool, true, false, List, [], ◌∷◌, Some, slice_get}
 use Rattle.std.specs.List.{list_any, AllByRecursion}
 use Rattle.std.proofs.lemmas.Bool.{eqb-true, ltb-true, ltb-false}
 use Rattle.fop_types.specs.declared.messages.Input.{Input}
@@ -14,24 +14,23 @@ use Rattle.wire_messages.specs.declared.messages.Message.{Message}
 use Rattle.wire_messages.specs.declared.messages.Message.TheVariants.{Whole, Wrong}
 use Rattle.mount_log.specs.Causes.{plan_of_volfile}
 use Rattle.mount_log.specs.Connections.{was_sent, is_open_after}
-use Rattle.mount_log.specs.Connects.{plan_uses, uses_brick, newest_graph, is_used_behind, is_live, opens_by, is_closed_after, is_switch, is_made_at, is_opened_for, is_connect_due, IsDisconnected, ByCut, ByGone, AtEnd}
+use Rattle.mount_log.specs.Connects.{plan_uses, uses_brick, newest_graph, is_live, opens_by, is_closed_after, is_switch, is_made_at, is_opened_for, is_connect_due, IsDisconnected, ByCut, ByGone, AtEnd}
 use Rattle.mount_log.specs.Follows.{IsEvent}
 use Rattle.mount_log.specs.declared.logs.HubEvent.{HubEvent}
 use Rattle.mount_log.specs.declared.logs.HubEvent.TheVariants as logged
 use Rattle.mount_log.specs.declared.logs.Log.{Log}
 use Rattle.mount_log.specs.declared.logs.SentLine.{SentLine}
-use Rattle.log_audit.specs.Linked.{what_in, what_of, item_of, items_of, in_event, has_connect, has_disconnect, effect_of, is_started, is_switched, opened_as, cut_as, newest_after, has_link, until_at, live_as, uses_as, started_as, made_as, opened_for_as, due_as, end_as, IsGoneAs, IsLostAs, CutAs, GoneAs, EndAs, IsDueAs, IsItemDue, all_cut, IsLinkedAs, IsEffectAt, IsKnown, AreGraphTables, IsLineDue, IsLinked}
+use Rattle.log_audit.specs.Linked.{what_of, items_of, in_event, has_connect, has_disconnect, is_started, is_switched, opened_as, cut_as, newest_after, has_link, until_at, live_as, uses_as, started_as, made_as, opened_for_as, due_as, IsGoneAs, IsLostAs, CutAs, GoneAs, EndAs, IsDueAs, IsItemDue, all_cut, IsLinkedAs, IsEffectAt, IsKnown, AreGraphTables, IsLineDue, IsLinked}
 use Rattle.log_audit.specs.declared.due.GraphTables.{GraphTables}
 use Rattle.log_audit.specs.declared.due.Moment.{Moment}
 use Rattle.log_audit.specs.declared.effects.Effect.{Effect}
 use Rattle.log_audit.specs.declared.effects.Effect.TheVariants as effect
 use Rattle.log_audit.specs.declared.known.Known.{Known}
 use Rattle.log_audit.specs.declared.lines_sent.Item.{Item}
-use Rattle.log_audit.specs.declared.lines_sent.What.TheVariants as what
 use Rattle.log_audit.specs.declared.links.Link.{Link}
 use Rattle.log_audit.proofs.Effecting.{opens_is, switch_is, none_starts, newest_next, cut_is, cuts_it, gone_is}
 use Rattle.log_audit.proofs.Linking.{connect_sent, disconnect_sent, at_line}
-use Rattle.log_audit.proofs.Openings.{both, and_false}
+use Rattle.log_audit.proofs.Openings.{both}
 
 and_same : (a a' b b' : Bool) → a ≡ a' → b ≡ b' → (a && b) ≡ (a' && b')
 and_same a a' b b' p q = cc
