@@ -2,6 +2,7 @@
 use Rattle.std.proofs.Common.{◌≡◌, ℕ, List, length, subst}
 use Rattle.fop_types.specs.declared.contents.Mask.{Mask}
 use Rattle.fop_types.specs.declared.copy_jobs.CopyDone.{CopyDone}
+use Rattle.fop_types.specs.declared.copy_jobs.CopyRecord.{CopyRecord}
 use Rattle.fop_types.specs.declared.jobs.Job.{Job}
 use Rattle.fop_types.specs.declared.jobs.SetPlan.{SetPlan}
 use Rattle.afr_transaction.specs.Answers.{copied}
@@ -28,9 +29,11 @@ job_begun plan old new call requests j step txn need at_live at_last begun live_
   turn = subst (λ (n : ℕ). IsTurn (went plan txn n old need) step new) count turn;
 }
 
-pub recorded_turn : (plan : SetPlan) (requests : ℕ) (old mid new : Context) (txn : Txn) (done : CopyDone) (step : Step Down Up Local)
-    → mid ≡ recorded plan.bricks old done.records
+pub recorded_turn : (plan : SetPlan) (requests : ℕ) (old mid new : Context) (txn : Txn) (done : CopyDone) (step : Step Down Up Local) (bricks : List ℕ) (records : List CopyRecord)
+    → mid ≡ recorded bricks old records → bricks ≡ plan.bricks → records ≡ done.records
     → IsTurn (turned plan requests mid (copied txn done mid.ledger (live plan mid.clients) (lasts plan mid.clients))) step new
     → IsTurn (on_copy_done plan requests old txn done) step new
-recorded_turn plan requests old mid new txn done step is h =
-    subst (λ (c : Context). IsTurn (turned plan requests c (copied txn done c.ledger (live plan c.clients) (lasts plan c.clients))) step new) is h
+recorded_turn plan requests old mid new txn done step bricks records is bricks_are records_are h =
+    let from : mid ≡ recorded plan.bricks old done.records =
+        subst (λ (bs : List ℕ). mid ≡ recorded bs old done.records) bricks_are (subst (λ (rs : List CopyRecord). mid ≡ recorded bricks old rs) records_are is) in
+    subst (λ (c : Context). IsTurn (turned plan requests c (copied txn done c.ledger (live plan c.clients) (lasts plan c.clients))) step new) from h

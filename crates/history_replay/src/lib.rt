@@ -12,6 +12,9 @@
 //! [`lawful_ops`] is the check of any trace, and gives the operations of its entries: a program can run it over its own log.
 //! [`judge`] is the check of a report of a script. What `find` gives is believed by nobody: a wrong finding makes a claim that
 //! does not hold.
+//!
+//! What is lawful is said in `specs/Traces`, of any trace, and in `specs/Reports`, of a report. `specs/code` follows the code.
+//! That [`judge`] names the first entry or call that fails is not proved: its contract speaks of [`Verdict::Lawful`] alone.
 #![tactic(auto)]
 
 mod cases;

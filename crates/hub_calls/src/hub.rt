@@ -15,7 +15,6 @@ use script_lang::{Action, Script};
 use std::alloc::Global;
 use std::collections::VecDeque;
 use std::marker::Model;
-use std::mem;
 use xlator_law::Stop;
 
 /// The hub: it submits the calls of a script, sends their fops down the graphs, takes the outputs of the bricks, carries
@@ -43,11 +42,7 @@ fn begun(alloc: Global, on: &Planned) -> Result<Parts, Stop>
     requires { IsAccepted on.now.script }
 {
     let mut parts = Parts::new(alloc, on)?;
-    parts.make_graph(alloc, on, on.script().start)?;
-    let mut lines = mem::replace(&mut parts.turn, Log::new(alloc));
-    parts.log.add(alloc, &mut lines)?;
-    parts.begin_phase(alloc, on)?;
-    parts.move_on(alloc, on)?;
+    parts.begin_script(alloc, on)?;
     Ok(parts)
 }
 

@@ -19,6 +19,18 @@ const NOTHING_DRAWN: Gfid = Gfid { hi: 0, lo: 0 };
 const ITEMS: u64 = 18446744073709551615;
 
 impl Parts {
+    /// Makes the first graph, writes down what it sends, and begins the first phase that has something left.
+    ///
+    /// # Errors
+    /// Out of memory.
+    pub(crate) fn begin_script(&mut self, alloc: Global, on: &Planned) -> Result<(), Stop> {
+        self.make_graph(alloc, on, on.script().start)?;
+        self.log.add(alloc, &mut self.turn)?;
+        self.begin_phase(alloc, on)?;
+        self.move_on(alloc, on)?;
+        Ok(())
+    }
+
     /// Begins an event.
     pub(crate) fn open_event(&mut self) {
         self.event = (self.log.events.len() as u64).saturating_add(1);

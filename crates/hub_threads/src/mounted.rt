@@ -1,3 +1,5 @@
+ghost use Rattle.hub_calls.specs.Plans.{IsScript};
+
 use crate::desk::Desk;
 use crate::gate::Gate;
 use crate::side::BrickSide;
@@ -31,25 +33,51 @@ struct Places {
     posts: Vec<Post>,
 }
 
+impl Places {
+    // A brick has an owner, and a link to it.
+    fn add_owner(&mut self, alloc: Global, number: u8, brick: Brick) -> Result<(), AllocError> {
+        let (hub_end, brick_end) = pair(alloc, ROOM)?;
+        let side = BrickSide::new(number, brick, brick_end);
+        self.ends.push(hub_end)?;
+        self.posts.push(Post::Owner(side))?;
+        Ok(())
+    }
+
+    fn add_owners(
+        &mut self,
+        alloc: Global,
+        script: &Script,
+        plans: &[Plan],
+    ) -> Result<(), AllocError> {
+        for number in 0..script.bricks.len() as u8 {
+            let brick = named_brick(alloc, script, plans, number)?;
+            self.add_owner(alloc, number, brick)?;
+        }
+        Ok(())
+    }
+
+    fn add_workers(&mut self, workers: u8) -> Result<(), AllocError> {
+        for _ in 0..workers {
+            self.posts.push(Post::Worker)?;
+        }
+        Ok(())
+    }
+}
+
 // The places of a script's bricks and of so many workers.
-fn places(
+fn places_of(
     alloc: Global,
     script: &Script,
     plans: &[Plan],
     workers: u8,
 ) -> Result<Places, AllocError> {
-    let mut posts = Vec::new(alloc);
-    let mut ends: Vec<HubEnd> = Vec::new(alloc);
-    for brick in 0..script.bricks.len() as u8 {
-        let made = named_brick(alloc, script, plans, brick)?;
-        let (hub_end, brick_end) = pair(alloc, ROOM)?;
-        ends.push(hub_end)?;
-        posts.push(Post::Owner(BrickSide::new(brick, made, brick_end)))?;
-    }
-    for _ in 0..workers {
-        posts.push(Post::Worker)?;
-    }
-    Ok(Places { ends, posts })
+    let mut places = Places {
+        ends: Vec::new(alloc),
+        posts: Vec::new(alloc),
+    };
+    places.add_owners(alloc, script, plans)?;
+    places.add_workers(workers)?;
+    Ok(places)
 }
 
 // Takes the hub's turns until the log is finished, or somebody stopped.
@@ -140,6 +168,74 @@ fn bricks_of(alloc: Global, posts: Vec<Post>) -> Result<Seq<Brick>, AllocError> 
     Ok(Seq::from_vec(bricks))
 }
 
+// The hub of a script, with its ends of the links.
+fn desk_of(alloc: Global, script: Script, plans: Seq<Plan>, ends: Vec<HubEnd>) -> Result<Desk, Stop>
+    requires { IsScript script plans }
+{
+    let hub = Hub::new(alloc, script, plans)?;
+    let desk = Desk::new(alloc, hub, ends)?;
+    Ok(desk)
+}
+
+// A thread does what its post is.
+fn take_post<R: Wait, G: Gate>(
+    rt: &R,
+    alloc: Global,
+    post: &mut Post,
+    desk: &Mutex<Desk>,
+    gate: &G,
+    ended: &AtomicBool,
+) {
+    match post {
+        Post::Worker => work(rt, alloc, desk, ended),
+        Post::Owner(side) => own(rt, alloc, side, gate, ended),
+    }
+}
+
+// Each post has a thread, until the log is finished or somebody stopped.
+fn run_threads<R: Threads + Wait + Sync, G: Gate + Sync>(
+    rt: &R,
+    alloc: Global,
+    desk: Desk,
+    posts: &mut [Post],
+    gate: &G,
+) -> Desk {
+    let desk = Mutex::new(desk);
+    let ended = AtomicBool::new(false);
+    let count = posts.len().max(1);
+    thread::for_each_mut(
+        rt,
+        posts,
+        count,
+        &|_, post: &mut Post| { take_post(rt, alloc, post, &desk, gate, &ended) },
+    );
+    desk.into_inner()
+}
+
+// Why a run did not come to its end, if it did not.
+fn came_to_end(stop: Option<Stop>, whole: bool) -> Result<(), Stop> {
+    match stop {
+        Some(stop) => Err(stop),
+        None => { if whole { Ok(()) } else { Err(Stop::Mem) } }
+    }
+}
+
+// What a run has left goes into the rack.
+fn leave(
+    alloc: Global,
+    desk: Desk,
+    posts: Vec<Post>,
+    whole: bool,
+    rack: &mut Rack,
+) -> Result<Ran, Stop> {
+    let (hub, stop) = desk.into_hub();
+    let bricks = bricks_of(alloc, posts)?;
+    let (script, plans, log) = hub.into_log();
+    *rack = Rack { bricks, log };
+    came_to_end(stop, whole)?;
+    Ok(Ran { script, plans })
+}
+
 /// Runs a script, which is one that `script_lang::parse` gives, with the plans of its volfiles, by one thread for each
 /// brick and so many that take the hub's turns, at least one. The rack, which is empty, has the bricks and the log
 /// afterwards.
@@ -154,36 +250,13 @@ pub fn mount<R: Threads + Wait + Sync, G: Gate + Sync>(
     workers: u8,
     gate: &G,
     rack: &mut Rack,
-) -> Result<Ran, Stop> {
-    let Places { ends, posts } = places(alloc, &script, plans.as_slice(), workers)?;
+) -> Result<Ran, Stop>
+    requires { IsScript script plans }
+{
+    let Places { ends, posts } = places_of(alloc, &script, plans.as_slice(), workers)?;
     let mut posts = posts;
-    let hub = Hub::new(alloc, script, plans)?;
-    let desk = Mutex::new(Desk::new(alloc, hub, ends)?);
-    let ended = AtomicBool::new(false);
-    let count = posts.len();
-    thread::for_each_mut(
-        rt,
-        posts.as_mut_slice(),
-        count,
-        &|_, post: &mut Post| match post {
-            Post::Worker => work(rt, alloc, &desk, &ended),
-            Post::Owner(side) => own(rt, alloc, side, gate, &ended),
-        },
-    );
-    let mut desk = desk.into_inner();
+    let desk = desk_of(alloc, script, plans, ends)?;
+    let mut desk = run_threads(rt, alloc, desk, posts.as_mut_slice(), gate);
     let whole = go_on_alone(rt, alloc, &mut desk, posts.as_mut_slice(), gate);
-    let (hub, stop) = desk.into_hub();
-    let (script, plans, log) = hub.into_log();
-    let bricks = bricks_of(alloc, posts)?;
-    *rack = Rack { bricks, log };
-    match stop {
-        Some(stop) => Err(stop),
-        None => {
-            if whole {
-                Ok(Ran { script, plans })
-            } else {
-                Err(Stop::Mem)
-            }
-        }
-    }
+    leave(alloc, desk, posts, whole, rack)
 }

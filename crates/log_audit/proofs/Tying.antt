@@ -33,7 +33,7 @@ pub reply_next : (log : Log) (calls : List CallMade) (n : ℕ) (r : ReplyLine) �
 reply_next log calls n r there own before = each_next (λ (k : ℕ) (y : ReplyLine). IsReplyFound log calls y) log.replies n r there own before
 
 pub wind_next : (log : Log) (calls : List CallMade) (n : ℕ) (line : WindLine) (passed : Switched) → slice_get log.winds n ≡ Some line → IsCounted log.events passed → passed.next ≡ line.event → line.graph ≤ passed.count + 1
-    → IsWindOf calls line → ((k : ℕ) (y : WindLine) → k < n → slice_get log.winds k ≡ Some y → IsWindFound log calls y)
+    → IsWindOf log calls line → ((k : ℕ) (y : WindLine) → k < n → slice_get log.winds k ≡ Some y → IsWindFound log calls y)
     → (k : ℕ) (y : WindLine) → k < n + 1 → slice_get log.winds k ≡ Some y → IsWindFound log calls y
 wind_next log calls n line passed there counted next made own before = each_next (λ (k : ℕ) (y : WindLine). IsWindFound log calls y) log.winds n line there found before where
   found : IsWindFound log calls line
@@ -78,6 +78,7 @@ module _ (script : Script) (log : Log) (calls : List CallMade) (are : AreCalls s
     of_call : 1 ≤ line.call → IsWindOfCall log line
     of_call one = record {
       later = let c = found.of_call one in let e = event line.call c.call c.there in let l = c.later in omega (arith, e, l);
+      earlier = let c = found.of_call one in c.earlier;
       graph_is = let c = found.of_call one in let g = graph line.call c.call c.there in let i = c.graph_is in omega (arith, g, i);
     }
 

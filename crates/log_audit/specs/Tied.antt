@@ -6,7 +6,7 @@ use Rattle.wire_messages.specs.Messages.{input_in}
 use Rattle.wire_messages.specs.declared.messages.Message.{Message}
 use Rattle.wire_messages.specs.declared.messages.Message.TheVariants.{Whole, Wrong}
 use Rattle.mount_log.specs.Graphs.{switches_in}
-use Rattle.mount_log.specs.Ties.{NumbersRise, IsAnsweredBy, HasWind}
+use Rattle.mount_log.specs.Ties.{NumbersRise, IsAnsweredBy, IsBeforeReply, HasWind}
 use Rattle.mount_log.specs.declared.logs.Log.{Log}
 use Rattle.mount_log.specs.declared.logs.ReplyLine.{ReplyLine}
 use Rattle.mount_log.specs.declared.logs.SentLine.{SentLine}
@@ -34,18 +34,19 @@ AreRepliesTied log calls = (k : ℕ) (reply : ReplyLine) → slice_get log.repli
 
 -- ---- winds
 
-pub record IsCallsWind (calls : List CallMade) (line : WindLine) : Type 0 where
+pub record IsCallsWind (log : Log) (calls : List CallMade) (line : WindLine) : Type 0 where
   pub call : CallMade
   pub there : call_by calls line.call ≡ Some call
   pub later : call.event ≤ line.event
+  pub earlier : IsBeforeReply log line
   pub graph_is : line.graph ≡ call.switches + 1
 
-abbrev pub IsWindOf : List CallMade → WindLine → Type 0
-IsWindOf calls line = 1 ≤ line.call → IsCallsWind calls line
+abbrev pub IsWindOf : Log → List CallMade → WindLine → Type 0
+IsWindOf log calls line = 1 ≤ line.call → IsCallsWind log calls line
 
 pub record IsWindFound (log : Log) (calls : List CallMade) (line : WindLine) : Type 0 where
   pub made : line.graph ≤ 1 + length (switches_in (take line.event log.events))
-  pub of_call : IsWindOf calls line
+  pub of_call : IsWindOf log calls line
 
 abbrev pub AreWindsTied : Log → List CallMade → Type 0
 AreWindsTied log calls = (k : ℕ) (line : WindLine) → slice_get log.winds k ≡ Some line → IsWindFound log calls line

@@ -10,11 +10,12 @@ use std::collections::BTreeMap;
 use wire_messages::{Message, input_of};
 use xlator_law::WindNo;
 
-/// For each reply the place of the end of a wind of its call; for each line that was sent, if it is a request, the place of
+/// For each reply the place of the end of a wind of its call, and for each call that of its reply; for each line that was sent, if it is a request, the place of
 /// its wind's opening and where that ends; and, by the place of the opening, where the request is and the open before it.
 #[derive(Drop)]
 pub struct TieNotes {
     pub ends: Vec<usize>,
+    pub replied: Vec<usize>,
     pub openings: Vec<usize>,
     pub ended: Vec<EndedAt>,
     pub sent_for: Vec<SentFor>,
@@ -219,6 +220,28 @@ const NOT_SENT: SentFor = SentFor {
     open: 0,
 };
 
+// Where the reply of each call is.
+fn replied_in(alloc: Global, log: &Log) -> Result<Vec<usize>, AllocError> {
+    let mut replied = Vec::new(alloc);
+    for _ in 0..log.replies.len() {
+        replied.push(0)?;
+    }
+    for k in 0..log.replies.len() {
+        if let Some(reply) = log.replies.as_slice().get(k)
+            && reply.call != 0
+        {
+            note_reply(&mut replied, reply.call as usize - 1, k);
+        }
+    }
+    Ok(replied)
+}
+
+fn note_reply(replied: &mut Vec<usize>, call: usize, k: usize) {
+    if let Some(place) = replied.get_mut(call) {
+        *place = k;
+    }
+}
+
 /// The notes of a log.
 ///
 /// # Errors
@@ -227,6 +250,7 @@ pub fn tie_notes_of(alloc: Global, log: &Log) -> Result<TieNotes, AllocError> {
     let winds = winds_of(alloc, log)?;
     let mut notes = TieNotes {
         ends: Vec::new(alloc),
+        replied: replied_in(alloc, log)?,
         openings: Vec::new(alloc),
         ended: Vec::new(alloc),
         sent_for: Vec::new(alloc),

@@ -1,7 +1,7 @@
 //! Whether replies are tied to their calls and their events.
-ghost use Rattle.std.specs.Prelude.{◌≡◌, false, true, option_copied, slice_get};
+ghost use Rattle.std.specs.Prelude.{◌≡◌, ◌≢◌, false, true, [], option_copied, slice_get};
 ghost use Rattle.fop_types.specs.declared.answers.Answer.TheVariants as answer;
-ghost use Rattle.fop_types.specs.declared.answers.AppError.TheVariants as error;
+ghost use Rattle.fop_types.specs.declared.answers.IoError.{IoError};
 ghost use Rattle.mount_log.specs.Follows.{IsEvent};
 ghost use Rattle.mount_log.specs.Ties.{EndsIn, IsAnsweredBy};
 ghost use Rattle.mount_log.specs.declared.logs.HubEvent.TheVariants as logged;
@@ -9,7 +9,7 @@ ghost use Rattle.log_audit.specs.Tied.{IsReplyOf, AreRepliesTied};
 
 use crate::calls_made::{CallMade, call_of};
 use crate::causes::event_at;
-use fop_types::{Answer, AppError};
+use fop_types::Answer;
 use mount_log::{HubEvent, Log, ReplyLine, WindLine};
 
 /// The wind line at this place.
@@ -46,7 +46,7 @@ fn submits(event: &HubEvent, by: u8, at: u32) -> bool
     }
 }
 
-fn is_at_once(log: &Log, reply: &ReplyLine) -> bool
+fn is_submitted_in(log: &Log, reply: &ReplyLine) -> bool
     ensures { result ≡ true → IsEvent log.now reply.now.event (logged.Submit reply.now.session reply.now.line) }
 {
     match event_at(log, reply.event) {
@@ -55,26 +55,32 @@ fn is_at_once(log: &Log, reply: &ReplyLine) -> bool
     }
 }
 
-fn is_refused(found: &Answer) -> bool
-    ensures { result ≡ true → found.now ≡ answer.App error.Enoent }
+fn is_no_io_error(found: &Answer) -> bool
+    ensures { result ≡ true → (error : IoError) → found.now ≢ answer.Io error }
 {
     match found {
-        Answer::App(why) => *why == AppError::Enoent,
-        _ => false,
+        Answer::Io(_) => false,
+        _ => true,
     }
+}
+
+fn has_no_place(reply: &ReplyLine) -> bool
+    ensures { result ≡ true → reply.now.places ≡ [] }
+{
+    reply.places.is_empty()
+}
+
+fn is_at_once(log: &Log, reply: &ReplyLine) -> bool
+    ensures { result ≡ true → IsAnsweredBy log.now reply.now }
+{
+    has_no_place(reply) && is_no_io_error(&reply.answer) && is_submitted_in(log, reply)
 }
 
 // Whether a reply has its cause in its event; the place may be that of a wind's end.
 fn is_answered(log: &Log, reply: &ReplyLine, at: usize) -> bool
     ensures { result ≡ true → IsAnsweredBy log.now reply.now }
 {
-    if ends_in(log, at, reply.call, reply.event) {
-        return true;
-    }
-    if is_at_once(log, reply) {
-        return true;
-    }
-    is_refused(&reply.answer)
+    ends_in(log, at, reply.call, reply.event) || is_at_once(log, reply)
 }
 
 fn is_reply_of(calls: &[CallMade], reply: &ReplyLine) -> bool
@@ -88,16 +94,16 @@ fn is_reply_of(calls: &[CallMade], reply: &ReplyLine) -> bool
     }
 }
 
-// The place that is noted for a reply; 0 where none is.
-fn place_for(ends: &[usize], k: usize) -> usize {
+/// The place that is noted at this place; 0 where none is.
+pub fn place_for(ends: &[usize], k: usize) -> usize {
     match ends.get(k) {
         Some(at) => *at,
         None => 0,
     }
 }
 
-// The reply at this place.
-fn reply_at(log: &Log, k: usize) -> Option<&ReplyLine>
+/// The reply at this place.
+pub fn reply_at(log: &Log, k: usize) -> Option<&ReplyLine>
     ensures { option_copied result ≡ slice_get log.now.replies k }
 {
     log.replies.as_slice().get(k)

@@ -1,11 +1,12 @@
 //! Whether winds are of their calls and graphs.
 ghost use Rattle.std.specs.Prelude.{◌≡◌, ◌+◌, ◌≤◌, true};
+ghost use Rattle.mount_log.specs.Ties.{IsBeforeReply};
 ghost use Rattle.log_audit.specs.Tied.{IsWindOf, AreWindsTied};
 
 use crate::calls_made::{CallMade, call_of};
 use crate::causes::{Switched, passed_to};
-use crate::tied_replies::wind_at;
-use mount_log::{Log, WindLine};
+use crate::tied_replies::{place_for, reply_at, wind_at};
+use mount_log::{Log, ReplyLine, WindLine};
 
 // Whether the graph was made by an event, where its events were passed.
 fn is_made(line: &WindLine, passed: Switched) -> bool
@@ -24,22 +25,55 @@ fn is_graph_of(call: &CallMade, graph: u32) -> bool
     graph != 0 && graph as usize - 1 == call.switches
 }
 
-// Whether a line is of no call, or of a call that was submitted, and of its graph.
-fn is_wind_of(calls: &[CallMade], line: &WindLine) -> bool
-    ensures { result ≡ true → IsWindOf calls.now line.now }
+fn is_before(line: &WindLine, reply: &ReplyLine) -> bool
+    ensures call { result ≡ true → reply.now.call ≡ line.now.call }
+    ensures earlier { result ≡ true → line.now.event ≤ reply.now.event }
+{
+    reply.call == line.call && line.event <= reply.event
+}
+
+// Whether the reply at a place is that of the line's call, and does not come before it.
+fn is_before_reply(log: &Log, line: &WindLine, at: usize) -> bool
+    ensures { result ≡ true → IsBeforeReply log.now line.now }
+{
+    match reply_at(log, at) {
+        Some(reply) => is_before(line, reply),
+        None => false,
+    }
+}
+
+fn is_of(call: &CallMade, line: &WindLine) -> bool
+    ensures later { result ≡ true → call.now.event ≤ line.now.event }
+    ensures graph { result ≡ true → line.now.graph ≡ call.now.switches + 1 }
+{
+    call.event <= line.event && is_graph_of(call, line.graph)
+}
+
+// Whether a line is of no call, or of a call that was submitted, of its graph, and not behind its reply, the place of which
+// is given.
+fn is_wind_of(log: &Log, calls: &[CallMade], line: &WindLine, at: usize) -> bool
+    ensures { result ≡ true → IsWindOf log.now calls.now line.now }
 {
     if line.call == 0 {
         return true;
     }
     match call_of(calls, line.call) {
-        Some(call) => call.event <= line.event && is_graph_of(call, line.graph),
+        Some(call) => is_of(call, line) && is_before_reply(log, line, at),
         None => false,
     }
 }
 
+// The place that is noted for the reply of a line's call.
+fn reply_for(replied: &[usize], line: &WindLine) -> usize {
+    if line.call == 0 {
+        return 0;
+    }
+    place_for(replied, line.call as usize - 1)
+}
+
 /// Whether each wind line is of a graph that was made by then, and one of a call of the call's graph, not before its
-/// submission.
-pub fn winds_are_tied(log: &Log, calls: &[CallMade]) -> bool
+/// submission and not behind its reply. `replied` has, for a call, the place of its reply.
+pub fn winds_are_tied(log: &Log, calls: &[CallMade], replied: &[usize]) -> bool
     ensures { result ≡ true → AreWindsTied log.now calls.now }
 {
     let mut passed = Switched { next: 0, count: 0 };
@@ -48,7 +82,7 @@ pub fn winds_are_tied(log: &Log, calls: &[CallMade]) -> bool
             return false;
         };
         passed = passed_to(log, line.event, passed);
-        if !is_made(line, passed) || !is_wind_of(calls, line) {
+        if !is_made(line, passed) || !is_wind_of(log, calls, line, reply_for(replied, line)) {
             return false;
         }
     }

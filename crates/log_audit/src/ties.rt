@@ -19,10 +19,13 @@ use std::alloc::{AllocError, Global};
 fn lines_tie(alloc: Global, log: &Log, calls: &[CallMade]) -> Result<bool, AllocError>
     ensures { IfOk result (λ yes. yes ≡ true → AreLinesTied log.now calls.now) }
 {
-    if !all_numbers_rise(log) || !winds_are_tied(log, calls) {
+    if !all_numbers_rise(log) {
         return Ok(false);
     }
     let notes = tie_notes_of(alloc, log)?;
+    if !winds_are_tied(log, calls, notes.replied.as_slice()) {
+        return Ok(false);
+    }
     if !replies_are_tied(log, calls, notes.ends.as_slice()) {
         return Ok(false);
     }

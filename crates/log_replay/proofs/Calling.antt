@@ -6,8 +6,8 @@ use Rattle.std.proofs.lemmas.List.{take_more, drop_more, drop_all, length_push}
 use Rattle.fop_types.specs.Calls.{Submission}
 use Rattle.script_lang.specs.declared.scripts.CallLine.{CallLine}
 use Rattle.script_lang.specs.declared.scripts.Script.{Script}
-use Rattle.mount_log.specs.Lines.{queue_of, places_from, line_of, TakesLine}
-use Rattle.mount_log.specs.Submissions.{session_line, line_by, place_of_line, submits_of, is_submit_of, with_submission, submitted_by, submissions_from}
+use Rattle.mount_log.specs.Lines.{queue_of, places_from, TakesLine}
+use Rattle.mount_log.specs.Submissions.{session_line, line_by, submits_of, is_submit_of, with_submission, submissions_from}
 use Rattle.mount_log.specs.declared.logs.HubEvent.{HubEvent}
 use Rattle.mount_log.specs.declared.logs.HubEvent.TheVariants as logged
 use Rattle.mount_log.specs.declared.places.LineAt.{LineAt}
@@ -66,7 +66,7 @@ same_numbers last (logged.Act a) es other = refl
 same_numbers last (logged.Arm brick p count a) es other = refl
 
 -- the line of an event that submits one
-line_number : HubEvent → ℕ
+abbrev line_number : HubEvent → ℕ
 line_number (logged.Submit session line) = line
 line_number (logged.Arrive brick bytes) = 0
 line_number (logged.Run graph task) = 0

@@ -1,9 +1,9 @@
 -- How many numbers of a rising list are below a bound.
-use Rattle.std.proofs.Common.{◌≡◌, refl, sym, ap, subst, ◌∙◌, ℕ, ◌+◌, ◌-◌, ◌<◌, ◌≤◌, zero, suc, ◌⊎◌, inl, inr, List, [], ◌∷◌, length, get_or, arith}
+use Rattle.std.proofs.Common.{◌≡◌, refl, sym, ap, subst, ◌∙◌, ℕ, ◌+◌, ◌-◌, ◌<◌, ◌≤◌, zero, suc, ◌⊎◌, inl, inr, List, [], ◌∷◌, get_or, arith}
 use Rattle.std.specs.Prelude.{Bool, true, false, nat_lt, if◌then◌else◌}
 use Rattle.std.proofs.lemmas.Bool.{cases_eq, lt-ltb, le-ltb}
 use Rattle.mount_log.specs.Submissions.{count_below}
-use Rattle.log_replay.specs.Events.{AreRising, IsCut}
+use Rattle.log_replay.specs.Events.{IsCut}
 
 pub rises_on : (numbers : List ℕ) (at : ℕ) → 1 ≤ at → get_or numbers (at - 1) 0 ≤ get_or numbers at 0
     → ((i j : ℕ) → i ≤ j → j < at → get_or numbers i 0 ≤ get_or numbers j 0)

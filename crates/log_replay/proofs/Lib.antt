@@ -1,4 +1,4 @@
 pub mod Calling
 pub mod Counting
-pub mod Judging
+pub mod Judged
 pub mod Replying

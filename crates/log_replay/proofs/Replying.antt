@@ -1,5 +1,5 @@
 -- The events of replies, from the last reply to the first.
-use Rattle.std.proofs.Common.{◌≡◌, refl, sym, ap, subst, ◌∙◌, ℕ, ◌+◌, ◌-◌, ◌<◌, ◌≤◌, ◌==◌, zero, suc, ◌⊎◌, inl, inr, List, [], ◌∷◌, length, drop, get_or, replicate, arith}
+use Rattle.std.proofs.Common.{◌≡◌, refl, sym, ap, subst, ◌∙◌, ℕ, ◌+◌, ◌-◌, ◌<◌, ◌==◌, zero, suc, ◌⊎◌, inl, inr, List, [], ◌∷◌, length, drop, get_or, replicate, arith}
 use Rattle.std.specs.Prelude.{Bool, true, false, slice_set, if◌then◌else◌}
 use Rattle.std.proofs.lemmas.Bool.{cases_eq, eq-eqb, ne_eqb}
 use Rattle.std.proofs.lemmas.List.{drop_more, drop_all, length-replicate, get_or-replicate}

@@ -104,6 +104,7 @@ impl<'a> Gathered<'a> {
 ///
 /// # Errors
 /// Out of memory.
+#[tactic(auto, using(crate::proofs::Calling::gathered_none, crate::proofs::Calling::calls_all, crate::proofs::Calling::numbers_all))]
 pub(crate) fn calls_in<'a>(
     alloc: Global,
     script: &'a Script,

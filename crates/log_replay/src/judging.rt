@@ -73,6 +73,7 @@ fn ops_of<'a>(
 ///
 /// # Errors
 /// Out of memory.
+#[tactic(auto, using(crate::proofs::Judged::one_if))]
 pub fn one_file_system(
     alloc: Global,
     script: &Script,

@@ -36,7 +36,6 @@ fn cut(bound: u64, numbers: &[u64]) -> usize
     low
 }
 
-#[tactic(auto, using(crate::proofs::Counting::counted))]
 fn count_below(bound: u64, numbers: &[u64]) -> usize
     requires { AreRising numbers.now }
     ensures { result ≡ count_below_of bound numbers.now }

@@ -54,7 +54,7 @@ fn put_event(events: &mut Vec<u64>, call: u32, event: u64)
 ///
 /// # Errors
 /// Out of memory.
-#[tactic(auto, using(crate::proofs::Replying::none_replied, crate::proofs::Replying::replied_more))]
+#[tactic(auto, using(crate::proofs::Replying::none_replied))]
 pub(crate) fn reply_events(
     alloc: Global,
     count: usize,

@@ -1,10 +1,10 @@
 -- How the lines of a log are tied to its events: numbers of events rise; a reply is to the call that its session submitted by
 -- its line, and comes as a wind of that call ends, or at once; a wind is of a graph that was made by then, that of a call of
--- the call's graph; each request was sent for a wind that was opened in its event, each wind having at most one request and
+-- the call's graph, and ends before the call's reply; each request was sent for a wind that was opened in its event, each wind having at most one request and
 -- one open before it; and such a wind ends by what arrives from the brick, or with its connection.
-use Rattle.std.specs.Prelude.{◌≡◌, ℕ, ◌+◌, ◌≤◌, nat_le, ◌&&◌, ◌⊎◌, Bool, true, false, List, [], ◌∷◌, Some, length, map, slice_get, take}
-use Rattle.fop_types.specs.declared.answers.Answer.TheVariants.{App}
-use Rattle.fop_types.specs.declared.answers.AppError.TheVariants.{Enoent}
+use Rattle.std.specs.Prelude.{◌≡◌, ◌≢◌, ℕ, ◌+◌, ◌≤◌, nat_le, ◌&&◌, ◌⊎◌, Bool, true, false, List, [], ◌∷◌, Some, length, map, slice_get, take}
+use Rattle.fop_types.specs.declared.answers.Answer.TheVariants.{Io}
+use Rattle.fop_types.specs.declared.answers.IoError.{IoError}
 use Rattle.fop_types.specs.declared.messages.BrickReq.{BrickReq}
 use Rattle.fop_types.specs.declared.messages.BrickReq.TheVariants as req
 use Rattle.fop_types.specs.declared.messages.Input.TheVariants.{Request, Disconnect}
@@ -53,12 +53,11 @@ pub record EndsIn (winds : List WindLine) (call number : ℕ) : Type 0 where
   pub same_call : line.call ≡ call
   pub same_event : line.event ≡ number
 
--- A call is answered in the event in which a wind of it ends; or as it is submitted; or, where its file was gone as its turn
--- came, in the event in which another call let it in.
+-- A call is answered in the event in which a wind of it ends; or as it is submitted, without a fop: at no place, and with no
+-- I/O error.
 pub data IsAnsweredBy (log : Log) (reply : ReplyLine) : Type 0 where
   AtEnd : EndsIn log.winds reply.call reply.event → IsAnsweredBy log reply
-  AtOnce : IsEvent log reply.event (logged.Submit reply.session reply.line) → IsAnsweredBy log reply
-  Refused : reply.answer ≡ App Enoent → IsAnsweredBy log reply
+  AtOnce : IsEvent log reply.event (logged.Submit reply.session reply.line) → reply.places ≡ [] → ((error : IoError) → reply.answer ≢ Io error) → IsAnsweredBy log reply
 
 pub record IsReplyTied (log : Log) (reply : ReplyLine) : Type 0 where
   pub submitted : IsEvent log (submitted_at log reply.call) (logged.Submit reply.session reply.line)
@@ -67,9 +66,18 @@ pub record IsReplyTied (log : Log) (reply : ReplyLine) : Type 0 where
 
 -- ---- winds
 
--- a line of a call's wind is of the call's graph, and not before the call's submission
+-- the call has its reply in the event of a line of its wind, or behind it
+pub record IsBeforeReply (log : Log) (line : WindLine) : Type 0 where
+  pub place : ℕ
+  pub reply : ReplyLine
+  pub there : slice_get log.replies place ≡ Some reply
+  pub same_call : reply.call ≡ line.call
+  pub earlier : line.event ≤ reply.event
+
+-- a line of a call's wind is of the call's graph, not before the call's submission, and not behind its reply
 pub record IsWindOfCall (log : Log) (line : WindLine) : Type 0 where
   pub later : submitted_at log line.call ≤ line.event
+  pub earlier : IsBeforeReply log line
   pub graph_is : line.graph ≡ graph_of_call log line.call
 
 pub record IsWindTied (log : Log) (line : WindLine) : Type 0 where

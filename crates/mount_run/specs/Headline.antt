@@ -1,7 +1,7 @@
 -- The headline: for every script, the replies written are those of one plain file system at the written places of one
 -- written history that holds each acknowledged change once; an I/O error is written only with its cause; and every wind is
 -- ended once.
-use Rattle.std.specs.Prelude.{◌≡◌, ℕ, List, Ok, IfSome, length, slice_get, take}
+use Rattle.std.specs.Prelude.{◌≡◌, ℕ, List, Ok, length}
 use Rattle.fop_types.specs.declared.flat.FlatOp.{FlatOp}
 use Rattle.graph_build.specs.declared.plans.Plan.{Plan}
 use Rattle.script_lang.specs.declared.scripts.Script.{Script}
@@ -9,9 +9,8 @@ use Rattle.brick_machine.specs.Journal.{Journal}
 use Rattle.mount_log.specs.declared.logs.Log.{Log}
 use Rattle.hub_calls.specs.declared.racks.Rack.{Rack}
 use Rattle.report_text.specs.ReportText.{report_text}
-use Rattle.log_audit.specs.Honest.{HasHonestArrivals}
+use Rattle.log_audit.specs.Honest.{HasHonestArrivals, HasJournals}
 use Rattle.log_replay.specs.Judged.{IsOneFileSystem}
-use Rattle.mount_log.specs.Arrivals.{inputs_to}
 use Rattle.change_audit.specs.Borne.{AreBorne}
 use Rattle.mount_log.specs.Causes.{AreCaused}
 use Rattle.mount_log.specs.Connects.{ConnectsAreCaused}
@@ -22,11 +21,10 @@ use Rattle.mount_log.specs.Ties.{AreTied}
 use Rattle.mount_log.specs.Winds.{WindsAreBalanced}
 use Rattle.mount_run.specs.declared.plans.Accepted.{Accepted}
 
--- there is a brick for each of the script's, whose journal is a prefix of what the log sent to it; its outputs are a function
--- of the journal
+-- there is a brick for each of the script's, with a journal of what the log sent to it, and what arrived is its outputs
 pub record AreBricksOf (script : Script) (log : Log) (bricks : List Journal) : Type 0 where
   pub many : length bricks ≡ length script.bricks
-  pub journals : (brick : ℕ) → IfSome (slice_get bricks brick) (λ b. b.journal ≡ take (length b.journal) (inputs_to brick log.sent))
+  pub journals : HasJournals log bricks
 
 -- there are operations of the history's entries by which the replies are those of one plain file system, and by which each
 -- acknowledged change is on a quorum of bricks

@@ -7,15 +7,15 @@ use Rattle.graph_build.specs.declared.plans.Plan.{Plan}
 use Rattle.script_lang.specs.declared.scripts.Script.{Script}
 use Rattle.mount_log.specs.Logs.{empty_log}
 use Rattle.hub_calls.specs.declared.racks.Rack.{Rack}
-use Rattle.history_replay.specs.declared.judging.Verdict.{Verdict}
 use Rattle.mount_run.specs.Checks.{check_text}
 use Rattle.mount_run.specs.Headline.{Headline, IsLawfulRun, AreBricksOf}
 use Rattle.report_text.specs.ReportText.{report_text}
 use Rattle.run_report.specs.Reports.{report_of}
 use Rattle.mount_run.specs.Plans.{accepted}
 use Rattle.mount_run.specs.Refusals.{fault_of, fault_text}
-use Rattle.mount_run.specs.Replays.{status_of, verdict_text}
+use Rattle.mount_run.specs.Replays.{IsVerdictOf}
 use Rattle.run_report.specs.Summaries.{summary_text}
+use Rattle.log_audit.specs.Honest.{HasHonestArrivals}
 use Rattle.mount_log.specs.Winds.{WindsAreOnce, NoWindIsLeft}
 use Rattle.mount_run.specs.declared.commands.Command.{Command}
 use Rattle.mount_run.specs.declared.commands.Command.TheVariants.{Check, Run, Mount, Generate, Replay}
@@ -65,6 +65,7 @@ pub record IsCutShort (script : Script) (plans : List Plan) (taken taken_after :
 pub record IsStopped (script : Script) (rack : Rack) : Type 0 where
   pub none_left : NoWindIsLeft rack.log.winds
   pub once : WindsAreOnce rack.log.winds
+  pub honest : HasHonestArrivals rack.log
   pub bricks : AreBricksOf script rack.log rack.bricks
 
 -- the script was run, and the line that sums the run up was written: the whole of it, or a prefix and not all
@@ -109,11 +110,13 @@ pub record Generated (number : ℕ) (taken taken_after : Option (List ℕ)) (rac
   pub accepted_as : accepted text ≡ Ok read
   pub summed : IsSummedUp read.script read.plans number taken taken_after rack
 
--- a report was judged, and the line that says so was written
-pub record Judged (status : ℕ) (taken taken_after : Option (List ℕ)) (rack : Rack) : Type 0 where
-  pub verdict : Verdict
-  pub status_is : status ≡ status_of verdict
-  pub wrote : Appends taken taken_after (verdict_text verdict)
+-- a script with its report was judged, and the line of the verdict was written
+pub record Judged (status : ℕ) (known taken taken_after : Option (List ℕ)) (rack : Rack) : Type 0 where
+  pub text : List ℕ
+  pub line : List ℕ
+  pub is_text : IsRead known text
+  pub judged : IsVerdictOf text line status
+  pub wrote : Appends taken taken_after line
   pub empty : rack ≡ empty_rack
 
 -- what each command did, where it ended well
@@ -123,24 +126,18 @@ Succeeded (Some Check) known taken taken_after rack = Checked known taken taken_
 Succeeded (Some (Run seed)) known taken taken_after rack = Ran known taken taken_after rack
 Succeeded (Some (Mount workers)) known taken taken_after rack = Ran known taken taken_after rack
 Succeeded (Some (Generate number)) known taken taken_after rack = Generated number taken taken_after rack
-Succeeded (Some Replay) known taken taken_after rack = Judged 0 taken taken_after rack
+Succeeded (Some Replay) known taken taken_after rack = Judged 0 known taken taken_after rack
 
 -- a replay judges a report unlawful; what a run left is held back where it fails an audit
-abbrev pub IsUnlawful : Option Command → Option (List ℕ) → Option (List ℕ) → Rack → Type 0
-IsUnlawful None taken taken_after rack = ⊥
-IsUnlawful (Some Check) taken taken_after rack = ⊥
-IsUnlawful (Some (Run seed)) taken taken_after rack = IsHeldBack taken taken_after rack
-IsUnlawful (Some (Mount workers)) taken taken_after rack = IsHeldBack taken taken_after rack
-IsUnlawful (Some (Generate number)) taken taken_after rack = IsHeldBack taken taken_after rack
-IsUnlawful (Some Replay) taken taken_after rack = Judged 6 taken taken_after rack
+abbrev pub IsUnlawful : Option Command → Option (List ℕ) → Option (List ℕ) → Option (List ℕ) → Rack → Type 0
+IsUnlawful None known taken taken_after rack = ⊥
+IsUnlawful (Some Check) known taken taken_after rack = ⊥
+IsUnlawful (Some (Run seed)) known taken taken_after rack = IsHeldBack taken taken_after rack
+IsUnlawful (Some (Mount workers)) known taken taken_after rack = IsHeldBack taken taken_after rack
+IsUnlawful (Some (Generate number)) known taken taken_after rack = IsHeldBack taken taken_after rack
+IsUnlawful (Some Replay) known taken taken_after rack = Judged 6 known taken taken_after rack
 
 -- ---- refusals
-
--- the line and the status of a verdict
-pub record IsVerdictLine (line : List ℕ) (status : ℕ) : Type 0 where
-  pub verdict : Verdict
-  pub line_is : line ≡ verdict_text verdict
-  pub status_is : status ≡ status_of verdict
 
 -- the text was refused, by its first refusal, and its one line was written
 pub record Refused (known taken taken_after : Option (List ℕ)) (rack : Rack) : Type 0 where
@@ -162,13 +159,13 @@ IsRefusal (not_read.Refused refusal) Wrote = Wrote (fault_text refusal)
 IsRefusal not_read.Fault Wrote = ⊥
 IsRefusal not_read.Mem Wrote = ⊥
 
--- what a replay says is a verdict with its status, or a line; a source that failed is none of it
-abbrev pub IsSaying : Replayed → Type 0
-IsSaying (replayed.Says line status) = IsVerdictLine line.items status
-IsSaying (replayed.NoReport line) = Unit {0}
-IsSaying (replayed.BadReport line) = Unit {0}
-IsSaying (replayed.NotRead why) = why ≢ not_read.Fault
-IsSaying replayed.Mem = Unit {0}
+-- what a replay says is a verdict with its line and status, or another line; a source that failed is none of it
+abbrev pub IsSaying : (List ℕ → ℕ → Type 0) → Replayed → Type 0
+IsSaying Verdict (replayed.Says line status) = Verdict line.items status
+IsSaying Verdict (replayed.NoReport line) = Unit {0}
+IsSaying Verdict (replayed.BadReport line) = Unit {0}
+IsSaying Verdict (replayed.NotRead why) = why ≢ not_read.Fault
+IsSaying Verdict replayed.Mem = Unit {0}
 
 -- no generated script is refused
 abbrev pub RefusedBy : Option Command → Option (List ℕ) → Option (List ℕ) → Option (List ℕ) → Rack → Type 0
@@ -221,6 +218,7 @@ pub record GeneratedUnwritten (number : ℕ) (taken taken_after : Option (List �
   pub accepted_as : accepted text ≡ Ok read
   pub summed : IsSummedUpShort read.script read.plans number taken taken_after rack
 
+-- of the line of a verdict, or of that which says where the text has no report or a script that is refused
 pub record JudgedUnwritten (taken taken_after : Option (List ℕ)) (rack : Rack) : Type 0 where
   pub line : List ℕ
   pub wrote : WrotePrefix taken taken_after line

@@ -9,7 +9,7 @@ pub struct Meaning {
     pub part: &'static str,
 }
 
-const MEANINGS: [Meaning; 37] = [
+const MEANINGS: [Meaning; 38] = [
     Meaning {
         kind: "VolBadByte",
         wrong: "a byte outside 32 to 126 that is no tab or carriage return, outside a comment",
@@ -161,10 +161,16 @@ const MEANINGS: [Meaning; 37] = [
         part: "The script",
     },
     Meaning {
-        kind: "Later",
-        wrong: "`check` accepts the script, and `run` does not serve this line yet",
-        expected: "one brick, volfiles of one client, one session, the calls `mkdir` and `stat`, no control",
+        kind: "NoReport",
+        wrong: "the text ends without a report",
+        expected: "a script, and behind it a report, which begins with the line `report 1`",
         part: "Refusals",
+    },
+    Meaning {
+        kind: "BadReport",
+        wrong: "no report has this line after the lines before it",
+        expected: "the lines of a report, in their order, as a run writes them",
+        part: "The report",
     },
     Meaning {
         kind: "PlanUnknownKind",

@@ -126,7 +126,7 @@ fn follow_phases(plans: &[Plan], first: u8, phases: &[Phase]) -> Result<u8, u32>
 }
 
 // A script with its plans, if its switches follow.
-#[tactic(auto, using(crate::proofs::Limits::all_small))]
+#[tactic(auto, using(crate::proofs::Limits::all_small, crate::proofs::Planning::script_planned))]
 fn plan(alloc: Global, script: Script) -> Result<Accepted, NotRead>
     requires { KeepsLimits script }
     ensures accepted { IfOk result (λ a. with_plans script (plans_of [] script.volfiles script.bricks) ≡ Ok a) }

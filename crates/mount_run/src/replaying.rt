@@ -1,14 +1,15 @@
 //! A script with the report of a run behind it, which is judged.
 ghost use Rattle.std.specs.Prelude.{◌≡◌, ◌≤◌, length, IfOk};
 ghost use Rattle.mount_run.specs.Outcomes.{IsSaying};
-ghost use Rattle.mount_run.specs.Replays.{verdict_text, status_of as status_by};
+ghost use Rattle.mount_run.specs.Replays.{verdict_text, status_of as status_by, IsVerdictOn, IsVerdictOnText, IsVerdictOf};
 
-use crate::plans::{Accepted, accept};
+use crate::plans::accept;
 use crate::readings::NotRead;
 use crate::refusals::Refusal;
 use history_replay::{Verdict, judge};
 use report_reader::{ReportError, read};
-use script_lang::ScriptKind;
+use report_text::Report;
+use script_lang::{Script, ScriptKind};
 use std::alloc::{AllocError, Global};
 
 // The bytes of a script, at most.
@@ -89,28 +90,39 @@ fn status_of(verdict: Verdict) -> u8
     }
 }
 
-fn judged(alloc: Global, read: &Accepted, bytes: &[u8], before: u32) -> Result<Replayed, AllocError>
-    ensures { IfOk result (λ replayed. IsSaying replayed) }
+// What is said of a report of a script.
+fn said(alloc: Global, script: &Script, report: &Report) -> Result<Replayed, AllocError>
+    ensures { IfOk result (λ replayed. IsSaying (IsVerdictOn script.now report.now) replayed) }
 {
-    match read_report(alloc, bytes) {
-        Ok(report) => {
-            let verdict = judge(alloc, &read.script, &report)?;
-            let line = verdict_line(alloc, verdict)?;
-            Ok(Replayed::Says(line, status_of(verdict)))
-        }
+    let verdict = judge(alloc, script, report)?;
+    let line = verdict_line(alloc, verdict)?;
+    Ok(Replayed::Says(line, status_of(verdict)))
+}
+
+// What is said of the bytes behind a script, which begin behind so many lines.
+fn judged(alloc: Global, script: &Script, bytes: &[u8], before: u32) -> Result<Replayed, AllocError>
+    ensures { IfOk result (λ replayed. IsSaying (IsVerdictOnText script.now bytes.now) replayed) }
+{
+    match read(alloc, bytes) {
+        Ok(report) => said(alloc, script, &report),
         Err(ReportError::At { line }) => Ok(Replayed::BadReport(before.saturating_add(line))),
         Err(ReportError::Mem) => Ok(Replayed::Mem),
     }
 }
 
-fn read_report(alloc: Global, bytes: &[u8]) -> Result<report_text::Report, ReportError> {
-    read(alloc, bytes)
+fn said_of(alloc: Global, script: &Script, bytes: &[u8], before: u32) -> Replayed
+    ensures { IsSaying (IsVerdictOnText script.now bytes.now) result }
+{
+    match judged(alloc, script, bytes, before) {
+        Ok(replayed) => replayed,
+        Err(_) => Replayed::Mem,
+    }
 }
 
 /// Judges a text: a script, and behind it the report from the first line on that is `report 1`.
 pub fn replay(alloc: Global, text: &[u8]) -> Replayed
     requires { length text.now ≤ 4294967295 }
-    ensures { IsSaying result }
+    ensures { IsSaying (IsVerdictOf text.now) result }
 {
     let found = match find_report(text) {
         Ok(found) => found,
@@ -123,10 +135,7 @@ pub fn replay(alloc: Global, text: &[u8]) -> Replayed
         }));
     }
     match accept(alloc, &text[..found.at]) {
-        Ok(accepted) => match judged(alloc, &accepted, &text[found.at..], found.line) {
-            Ok(replayed) => replayed,
-            Err(_) => Replayed::Mem,
-        },
+        Ok(read) => said_of(alloc, &read.script, &text[found.at..], found.line),
         Err(not_read) => Replayed::NotRead(not_read),
     }
 }

@@ -9,6 +9,7 @@ ghost use Rattle.mount_run.specs.Checks.{calls_in, check_text};
 ghost use Rattle.mount_run.specs.Commands.{command_of, command_for, without_threads, mount_command};
 ghost use Rattle.mount_run.specs.Headline.{IsLawfulRun};
 ghost use Rattle.mount_run.specs.Refusals.{fault_of, fault_text};
+ghost use Rattle.mount_run.specs.Replays.{IsVerdictOf};
 ghost use Rattle.mount_run.specs.Outcomes.{empty_rack, text_of, IsAccepted, IsRefused, IsRunStatus, IsWritten, IsCutShort, IsStopped, Succeeded, IsUnlawful, RefusedBy, RefusedLine, Unwritten, JudgedUnwritten, Judged, IsSaying, IsRefusal, IsSummedUp, IsSummedUpShort, RanOutOfWinds, Generated, GeneratedUnwritten, WindsRanOut};
 ghost use Rattle.run_report.specs.Reports.{AreFewWinds, report_of as report_of_log};
 ghost use Rattle.run_report.specs.Summaries.{summary_text};
@@ -68,7 +69,7 @@ pub fn top<S: Source, K: Sink>(
     ensures read_fault { result ≡ 3 → (S.faults source.old < S.faults source.new) × (sink.new ≡ sink.old) × (rack.new ≡ empty_rack) }
     ensures write_fault { result ≡ 4 → (K.faults sink.old < K.faults sink.new) × Unwritten (without_threads (command_of (map string_bytes words.now))) (S.left source.old) (K.taken sink.old) (K.taken sink.new) rack.new }
     ensures memory { result ≡ 5 → (sink.new ≡ sink.old) × (rack.new ≡ empty_rack) }
-    ensures unlawful { result ≡ 6 → IsUnlawful (without_threads (command_of (map string_bytes words.now))) (K.taken sink.old) (K.taken sink.new) rack.new }
+    ensures unlawful { result ≡ 6 → IsUnlawful (without_threads (command_of (map string_bytes words.now))) (S.left source.old) (K.taken sink.old) (K.taken sink.new) rack.new }
     ensures winds { result ≡ 7 → (sink.new ≡ sink.old) × RanOutOfWinds (without_threads (command_of (map string_bytes words.now))) (S.left source.old) rack.new }
 {
     match command_in(words) {
@@ -92,14 +93,17 @@ fn replay_read<S: Source, K: Sink>(alloc: Global, source: &mut S, sink: &mut K) 
     requires source { S.faults source.old < 2 ^ 64 - 1 }
     requires sink { K.faults sink.old < 2 ^ 64 - 1 }
     ensures statuses { (result ≡ 0) ⊎ ((result ≡ 1) ⊎ ((result ≡ 3) ⊎ ((result ≡ 4) ⊎ ((result ≡ 5) ⊎ (result ≡ 6))))) }
-    ensures judged { (result ≡ 0) ⊎ (result ≡ 6) → Judged result (K.taken sink.old) (K.taken sink.new) empty_rack }
+    ensures judged { (result ≡ 0) ⊎ (result ≡ 6) → Judged result (S.left source.old) (K.taken sink.old) (K.taken sink.new) empty_rack }
     ensures refused { result ≡ 1 → RefusedLine (K.taken sink.old) (K.taken sink.new) empty_rack }
     ensures read_fault { result ≡ 3 → (S.faults source.old < S.faults source.new) × (sink.new ≡ sink.old) }
     ensures write_fault { result ≡ 4 → (K.faults sink.old < K.faults sink.new) × JudgedUnwritten (K.taken sink.old) (K.taken sink.new) empty_rack }
     ensures memory { result ≡ 5 → sink.new ≡ sink.old }
 {
     match read_all(alloc, source, REPLAY_LIMIT) {
-        Ok(text) => write_replayed(alloc, replay(alloc, text.as_slice()), sink),
+        Ok(text) => {
+            let said = replay(alloc, text.as_slice());
+            write_replayed(alloc, text.as_slice(), said, sink)
+        }
         Err(ReadError::ReadFault) => 3,
         Err(ReadError::TooLong) => refuse(
             alloc,
@@ -113,11 +117,11 @@ fn replay_read<S: Source, K: Sink>(alloc: Global, source: &mut S, sink: &mut K) 
     }
 }
 
-fn write_replayed<K: Sink>(alloc: Global, replayed: Replayed, sink: &mut K) -> u8
+fn write_replayed<K: Sink>(alloc: Global, text: &[u8], replayed: Replayed, sink: &mut K) -> u8
     requires sink { K.faults sink.old < 2 ^ 64 - 1 }
-    requires said { IsSaying replayed }
+    requires said { IsSaying (IsVerdictOf text.now) replayed }
     ensures statuses { (result ≡ 0) ⊎ ((result ≡ 1) ⊎ ((result ≡ 3) ⊎ ((result ≡ 4) ⊎ ((result ≡ 5) ⊎ (result ≡ 6))))) }
-    ensures judged { (result ≡ 0) ⊎ (result ≡ 6) → Judged result (K.taken sink.old) (K.taken sink.new) empty_rack }
+    ensures judged { (result ≡ 0) ⊎ (result ≡ 6) → Judged result (Some text.now) (K.taken sink.old) (K.taken sink.new) empty_rack }
     ensures refused { result ≡ 1 → RefusedLine (K.taken sink.old) (K.taken sink.new) empty_rack }
     ensures no_fault { result ≡ 3 → ⊥ }
     ensures write_fault { result ≡ 4 → (K.faults sink.old < K.faults sink.new) × JudgedUnwritten (K.taken sink.old) (K.taken sink.new) empty_rack }
@@ -168,7 +172,7 @@ pub fn top_mount<R: Threads + Wait + Sync, S: Source, K: Sink>(
     ensures read_fault { result ≡ 3 → (S.faults source.old < S.faults source.new) × (sink.new ≡ sink.old) × (rack.new ≡ empty_rack) }
     ensures write_fault { result ≡ 4 → (K.faults sink.old < K.faults sink.new) × Unwritten (mount_command (command_of (map string_bytes words.now))) (S.left source.old) (K.taken sink.old) (K.taken sink.new) rack.new }
     ensures memory { result ≡ 5 → (sink.new ≡ sink.old) × (rack.new ≡ empty_rack) }
-    ensures unlawful { result ≡ 6 → IsUnlawful (mount_command (command_of (map string_bytes words.now))) (K.taken sink.old) (K.taken sink.new) rack.new }
+    ensures unlawful { result ≡ 6 → IsUnlawful (mount_command (command_of (map string_bytes words.now))) (S.left source.old) (K.taken sink.old) (K.taken sink.new) rack.new }
     ensures winds { result ≡ 7 → (sink.new ≡ sink.old) × RanOutOfWinds (mount_command (command_of (map string_bytes words.now))) (S.left source.old) rack.new }
 {
     let Some(Command::Mount(workers)) = command_in(words) else {
@@ -332,7 +336,7 @@ fn carry_out<S: Source, K: Sink>(
     ensures read_fault { result ≡ 3 → (S.faults source.old < S.faults source.new) × (sink.new ≡ sink.old) × (rack.new ≡ empty_rack) }
     ensures write_fault { result ≡ 4 → (K.faults sink.old < K.faults sink.new) × Unwritten (Some (command_for seed)) (S.left source.old) (K.taken sink.old) (K.taken sink.new) rack.new }
     ensures memory { result ≡ 5 → (sink.new ≡ sink.old) × (rack.new ≡ empty_rack) }
-    ensures unlawful { result ≡ 6 → IsUnlawful (Some (command_for seed)) (K.taken sink.old) (K.taken sink.new) rack.new }
+    ensures unlawful { result ≡ 6 → IsUnlawful (Some (command_for seed)) (S.left source.old) (K.taken sink.old) (K.taken sink.new) rack.new }
     ensures winds { result ≡ 7 → (sink.new ≡ sink.old) × RanOutOfWinds (Some (command_for seed)) (S.left source.old) rack.new }
 {
     match read_script(alloc, source) {

@@ -44,14 +44,33 @@ impl World {
         requires { IsScript script plans }
         ensures { IfOk result (λ w. w ≡ record { script = script; plans = plans; stop = None }) }
     {
-        let mut lines = Lines::new(alloc, &script, plans.as_slice())?;
+        let lines = Lines::new(alloc, &script, plans.as_slice())?;
+        World::of_lines(alloc, script, plans, lines)
+    }
+
+    fn of_lines(
+        alloc: Global,
+        script: Script,
+        plans: Seq<Plan>,
+        lines: Lines,
+    ) -> Result<World, Stop>
+        requires { IsScript script plans }
+        ensures { IfOk result (λ w. w ≡ record { script = script; plans = plans; stop = None }) }
+    {
         let hub = Hub::new(alloc, script, plans)?;
-        lines.deliver(hub.log().sent.as_slice())?;
-        Ok(World {
+        World::of_hub(hub, lines)
+    }
+
+    fn of_hub(hub: Hub, lines: Lines) -> Result<World, Stop>
+        ensures { IfOk result (λ w. w ≡ record { script = hub.script; plans = hub.plans; stop = None }) }
+    {
+        let mut world = World {
             hub,
             lines,
             stop: None,
-        })
+        };
+        world.deliver()?;
+        Ok(world)
     }
 
     // Puts what the hub has sent into the bricks' lines.

@@ -1,5 +1,5 @@
 -- What is said of a trace by lists of lengths, one for each call, said of its log.
-use Rattle.std.proofs.Common.{◌≡◌, refl, sym, ap, subst, ◌∙◌, ℕ, ◌+◌, ◌-◌, ◌<◌, ◌≤◌, ◌==◌, zero, suc, List, [], ◌∷◌, length, map, get_or, arith, length-map}
+use Rattle.std.proofs.Common.{◌≡◌, refl, sym, ap, subst, ◌∙◌, ℕ, ◌+◌, ◌-◌, ◌<◌, ◌==◌, zero, suc, List, [], ◌∷◌, length, map, get_or, arith}
 use Rattle.std.specs.Prelude.{Bool, true, false, Option, Some, None, IfSome, slice_get, if◌then◌else◌}
 use Rattle.std.proofs.lemmas.Option.{slice_get_within}
 use Rattle.fop_types.specs.Calls.{Submission, call_numbered}
@@ -8,7 +8,7 @@ use Rattle.fop_types.specs.Replies.{IsLawfulReply, AreLawfulReplies}
 use Rattle.fop_types.specs.declared.flat.FlatOp.{FlatOp}
 use Rattle.fop_types.specs.declared.history.Entry.{Entry}
 use Rattle.script_lang.specs.declared.scripts.Script.{Script}
-use Rattle.mount_log.specs.Submissions.{submissions_of, submissions_from, replies_of, count_below, submit_event, submitted_at, event_of_reply, replied_at, length_since, length_until}
+use Rattle.mount_log.specs.Submissions.{submissions_of, replies_of, count_below, submit_event, event_of_reply, length_since, length_until}
 use Rattle.mount_log.specs.declared.logs.HubEvent.{HubEvent}
 use Rattle.mount_log.specs.declared.logs.HubEvent.TheVariants as logged
 use Rattle.mount_log.specs.declared.logs.Log.{Log}
@@ -50,10 +50,13 @@ IndexOf calls number = (k : ℕ) × (number ≡ suc k) × (k < length calls)
 
 index_of : (calls : List Submission) (number : ℕ) (s : Submission) → call_numbered calls number ≡ Some s → IndexOf calls number
 index_of calls zero s there = absurd cc
-index_of calls (suc k) s there =
-    let same : suc k - 1 ≡ k = omega arith in
-    let at : slice_get calls k ≡ Some s = ap (slice_get calls) (sym same) ∙ there in
-    (k, refl, slice_get_within calls k s at)
+index_of calls (suc k) s there = by (suc k == 0) refl there where
+  by : (b : Bool) → (suc k == 0) ≡ b → (if b then None else slice_get calls (suc k - 1)) ≡ Some s → IndexOf calls (suc k)
+  by true none is = absurd cc
+  by false one is =
+      let same : suc k - 1 ≡ k = omega arith in
+      let at : slice_get calls k ≡ Some s = ap (slice_get calls) (sym same) ∙ is in
+      (k, refl, slice_get_within calls k s at)
 
 get_map : (f : ℕ → ℕ) (xs : List ℕ) (k : ℕ) → k < length xs → get_or (map f xs) k 0 ≡ f (get_or xs k 0)
 get_map f [] k l = absurd (omega (arith, l))
