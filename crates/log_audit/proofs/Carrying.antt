@@ -1,10 +1,10 @@
 -- What was sent to connect and disconnect graphs and for controls, from what an audit finds.
 use Rattle.std.proofs.Common.{◌≡◌, refl, sym, ap, subst, ◌∙◌, arith}
-use Rattle.std.specs.Prelude.{ℕ, zero, suc, ◌<◌, ◌==◌, ◌+◌, ◌-◌, nat_lt, ◌&&◌, ◌||◌, not, Bool, true, false, List, [], ◌∷◌, Option, None, Some, length, slice_get}
+use Rattle.std.specs.Prelude.{ℕ, zero, suc, ◌<◌, ◌≤◌, ◌==◌, ◌+◌, ◌-◌, nat_lt, ◌&&◌, ◌||◌, not, Bool, true, false, List, [], ◌∷◌, Option, None, Some, length, slice_get, if◌then◌else◌}
 use Rattle.std.specs.List.{list_any, AllByRecursion}
 use Rattle.std.specs.Cmp.Derive.{both_true}
 use Rattle.std.specs.Cmp.Lexicographic.{pointwise}
-use Rattle.std.proofs.lemmas.Bool.{eq-eqb, eqb-true, ltb-true, ltb-false}
+use Rattle.std.proofs.lemmas.Bool.{eq-eqb, eqb-true, ltb-true, ltb-false, or_parts}
 use Rattle.std.proofs.lemmas.List.Folds.{list_any_at}
 use Rattle.std.proofs.lemmas.Option.{get_or_from_slice_get, slice_get_within, slice_get_past}
 use Rattle.fop_types.specs.declared.messages.Input.{Input}
@@ -19,14 +19,14 @@ use Rattle.wire_messages.specs.Messages.{input_in, MessagesReadBack}
 use Rattle.wire_messages.specs.declared.messages.Message.{Message}
 use Rattle.wire_messages.specs.declared.messages.Message.TheVariants.{Whole, Wrong}
 use Rattle.mount_log.specs.Connections.{is_sent_in, was_sent, is_open_after}
-use Rattle.mount_log.specs.Connects.{uses_brick, newest_graph, is_live, opens_by, is_closed_after, is_switch, is_connect_due, control_input, IsInputText, ConnectsAreCaused}
+use Rattle.mount_log.specs.Connects.{sent_among, times_sent, uses_brick, newest_graph, is_live, opens_by, is_closed_after, is_switch, is_connect_due, control_input, IsInputText, ConnectsAreCaused}
 use Rattle.mount_log.specs.Follows.{IsEvent}
 use Rattle.mount_log.specs.declared.logs.HubEvent.{HubEvent}
 use Rattle.mount_log.specs.declared.logs.HubEvent.TheVariants as logged
 use Rattle.mount_log.specs.declared.logs.Log.{Log}
 use Rattle.mount_log.specs.declared.logs.SentLine.{SentLine}
 use Rattle.log_audit.specs.Caused.{IsSentFor, WasSentFor, IsActionCarried, AreCarried, IsCaused, AreCaused}
-use Rattle.log_audit.specs.Linked.{what_of, IsLineDue, AreLinked}
+use Rattle.log_audit.specs.Linked.{what_of, IsConnectDue, IsLineDue, AreLinked}
 use Rattle.log_audit.proofs.Linking.{at_line}
 use Rattle.log_audit.proofs.Openings.{both, lists_same, same_bool, same_list}
 
@@ -74,19 +74,33 @@ module _ (back : MessagesReadBack) (script : Script) (plans : List Plan) (log : 
 
   -- a Connect that was sent is among the lines
   found : (graph brick number : ℕ) → IsUnit graph → (lines : List SentLine) → ((k : ℕ) (line : SentLine) → slice_get lines k ≡ Some line → IsLineDue script plans log line (what_of (input_in line.bytes)))
-      → list_any (is_sent_in number brick (input.Connect graph 1)) lines ≡ true → is_connect_due script plans log graph brick number ≡ true
+      → list_any (is_sent_in number brick (input.Connect graph 1)) lines ≡ true → IsConnectDue script plans log graph brick number
   found graph brick number fits [] each sent = absurd cc
   found graph brick number fits (line ∷ lines) each sent = by (is_sent_in number brick (input.Connect graph 1) line) refl sent (found graph brick number fits lines (λ k l there. each (suc k) l there)) where
     by : (b : Bool) → is_sent_in number brick (input.Connect graph 1) line ≡ b → (b || list_any (is_sent_in number brick (input.Connect graph 1)) lines) ≡ true
-        → (list_any (is_sent_in number brick (input.Connect graph 1)) lines ≡ true → is_connect_due script plans log graph brick number ≡ true) → is_connect_due script plans log graph brick number ≡ true
+        → (list_any (is_sent_in number brick (input.Connect graph 1)) lines ≡ true → IsConnectDue script plans log graph brick number) → IsConnectDue script plans log graph brick number
     by false is rest behind = behind rest
     by true is rest behind =
         let p = both (line.event == number) ((line.brick == brick) && pointwise ◌==◌ line.bytes (input_text (input.Connect graph 1))) is in
         let q = both (line.brick == brick) (pointwise ◌==◌ line.bytes (input_text (input.Connect graph 1))) p.1 in
         let bytes = same_list line.bytes (input_text (input.Connect graph 1)) q.1 in
-        let due : is_connect_due script plans log graph line.brick line.event ≡ true =
+        let due : IsConnectDue script plans log graph line.brick line.event =
         subst (λ (m : Message Input). IsLineDue script plans log line (what_of m)) (ap input_in bytes ∙ back.0.0 (input.Connect graph 1) (fits, refl)) (each 0 line refl) in
-        ap (λ (n : ℕ). is_connect_due script plans log graph n number) (sym (eqb-true line.brick brick q.0)) ∙ ap (is_connect_due script plans log graph line.brick) (sym (eqb-true line.event number p.0)) ∙ due
+        subst (λ (n : ℕ). IsConnectDue script plans log graph n number) (eqb-true line.brick brick q.0) (subst (IsConnectDue script plans log graph line.brick) (eqb-true line.event number p.0) due)
+
+  none_sent : (number brick : ℕ) (x : Input) (lines : List SentLine) → list_any (is_sent_in number brick x) lines ≡ false → sent_among number brick x lines ≡ 0
+  none_sent number brick x [] none = refl
+  none_sent number brick x (line ∷ lines) none =
+      let p = or_parts (is_sent_in number brick x line) (list_any (is_sent_in number brick x) lines) none in
+      let own : (if is_sent_in number brick x line then 1 else 0) ≡ 0 = ap (λ (b : Bool). if b then 1 else 0) p.0 in
+      let rest = none_sent number brick x lines p.1 in
+      omega (arith, own, rest)
+
+  sent_once : (graph brick number : ℕ) → IsUnit graph → times_sent log number brick (input.Connect graph 1) ≤ 1
+  sent_once graph brick number fits = by (was_sent log number brick (input.Connect graph 1)) refl where
+    by : (b : Bool) → was_sent log number brick (input.Connect graph 1) ≡ b → times_sent log number brick (input.Connect graph 1) ≤ 1
+    by true is = (found graph brick number fits log.sent line_due is).once
+    by false is = let none = none_sent number brick (input.Connect graph 1) log.sent is in omega (arith, none)
 
   -- what has a cause is of an event
   none_later : (graph brick number : ℕ) → length log.events < number → is_connect_due script plans log graph brick number ≡ false
@@ -94,16 +108,16 @@ module _ (back : MessagesReadBack) (script : Script) (plans : List Plan) (log : 
   none_later graph brick (suc n) later =
       let none : slice_get log.events n ≡ None = slice_get_past log.events n (omega (arith, later)) in
       ap (λ (e : Option HubEvent).
-        ((is_switch e && ((graph == newest_graph log (suc n)) && not (is_closed_after log brick n)))
-          || (opens_by brick e && (is_live log graph (suc n) && not (is_open_after log graph brick n)))) && uses_brick script plans log graph brick) none
+      ((is_switch e && ((graph == newest_graph log (suc n)) && not (is_closed_after log brick n)))
+      || (opens_by brick e && (is_live log graph (suc n) && not (is_open_after log graph brick n)))) && uses_brick script plans log graph brick) none
 
   connect_due : (graph brick number : ℕ) → IsUnit graph → brick < 256 → was_sent log number brick (input.Connect graph 1) ≡ is_connect_due script plans log graph brick number
   connect_due graph brick number fits low =
       same_bool (was_sent log number brick (input.Connect graph 1)) (is_connect_due script plans log graph brick number)
-      (λ sent. found graph brick number fits log.sent line_due sent) (λ due. by (nat_lt (length log.events) number) refl due) where
-    by : (b : Bool) → nat_lt (length log.events) number ≡ b → is_connect_due script plans log graph brick number ≡ true → was_sent log number brick (input.Connect graph 1) ≡ true
-    by false e due = (linked.each number (ltb-false (length log.events) number e)).due graph brick fits low due
-    by true e due = let no : true ≡ false = sym due ∙ none_later graph brick number (ltb-true (length log.events) number e) in absurd cc
+      (λ sent. (found graph brick number fits log.sent line_due sent).due) (λ due. by (nat_lt (length log.events) number) refl due) where
+        by : (b : Bool) → nat_lt (length log.events) number ≡ b → is_connect_due script plans log graph brick number ≡ true → was_sent log number brick (input.Connect graph 1) ≡ true
+        by false e due = (linked.each number (ltb-false (length log.events) number e)).due graph brick fits low due
+        by true e due = let no : true ≡ false = sym due ∙ none_later graph brick number (ltb-true (length log.events) number e) in absurd cc
 
   whole : (line : SentLine) (m : Message Input) → input_in line.bytes ≡ m → IsLineDue script plans log line (what_of m) → IsInputText line.bytes
   whole line (Whole x) is due = let own = back.0.1 line.bytes x is in record { sent = x; legal = own.0; text = own.1 }
@@ -114,6 +128,7 @@ module _ (back : MessagesReadBack) (script : Script) (plans : List Plan) (log : 
     inputs_caused = record {
       inputs = λ k line there. whole line (input_in line.bytes) refl (line_due k line there);
       connects = connect_due;
+      once = sent_once;
       disconnects = λ k graph line there fits bytes. read_due k line (input.Disconnect graph) there fits bytes;
       cuts = λ graph brick number fits event opened. cut graph brick number fits event opened;
       requests = λ k wind graph line request there is. subst (λ (m : Message Input). IsLineDue script plans log line (what_of m)) is (line_due k line there);

@@ -111,7 +111,7 @@ module _ (log : Log) where
       noted g n ∙ ap (λ (b : Bool). b || is_reply_behind log g n reply) (are g n)
       ∙ or_more (list_any (is_wind_behind g n) log.winds) (list_any (is_reply_behind log g n) (take k replies)) (is_reply_behind log g n reply)
       ∙ ap (λ (b : Bool). list_any (is_wind_behind g n) log.winds || b)
-        (ap (λ (r : ReplyLine). list_any (is_reply_behind log g n) (take k replies) || is_reply_behind log g n r) is ∙ sym (list_any_more (is_reply_behind log g n) replies k d lt))
+      (ap (λ (r : ReplyLine). list_any (is_reply_behind log g n) (take k replies) || is_reply_behind log g n r) is ∙ sym (list_any_more (is_reply_behind log g n) replies k d lt))
 
   pub replies_all : (replies : List ReplyLine) (k : ℕ) (until : List ℕ) → length replies ≤ k → AreUsesNoted log (take k replies) until → AreUsesNoted log replies until
   replies_all replies k until le are = subst (λ (l : List ReplyLine). AreUsesNoted log l until) (take_all k replies le) are

@@ -15,9 +15,10 @@ use Rattle.wire_messages.specs.declared.messages.Message.{Message}
 use Rattle.wire_messages.specs.declared.messages.Message.TheVariants.{Whole, Wrong}
 use Rattle.mount_log.proofs.Items.{some_is}
 use Rattle.mount_log.specs.Connections.{is_sent_in, was_sent}
+use Rattle.mount_log.specs.Connects.{sent_among, times_sent}
 use Rattle.mount_log.specs.declared.logs.Log.{Log}
 use Rattle.mount_log.specs.declared.logs.SentLine.{SentLine}
-use Rattle.log_audit.specs.Linked.{what_in, what_of, item_of, items_of, in_event, items_at, IsPutIn, AreByEvent, connects, disconnects, has_connect, has_disconnect}
+use Rattle.log_audit.specs.Linked.{what_in, what_of, item_of, items_of, in_event, items_at, IsPutIn, AreByEvent, connects, disconnects, has_connect, has_disconnect, count_connects}
 use Rattle.log_audit.specs.declared.lines_sent.Item.{Item}
 use Rattle.log_audit.specs.declared.lines_sent.What.{What}
 use Rattle.log_audit.specs.declared.lines_sent.What.TheVariants as what
@@ -39,6 +40,15 @@ disconnect_goes : (graph brick : ℕ) (items : List Item) → goes (disconnects 
 disconnect_goes graph brick [] = refl
 disconnect_goes graph brick (i ∷ is) = ap (λ (b : Bool). ((i.brick == brick) && disconnects graph i.what) || b) (disconnect_goes graph brick is)
 
+-- how many lines of this kind go to the brick
+abbrev often : (What → Bool) → ℕ → List Item → ℕ
+often hit brick [] = 0
+often hit brick (i ∷ is) = (if (i.brick == brick) && hit i.what then 1 else 0) + often hit brick is
+
+connect_often : (graph brick : ℕ) (items : List Item) → often (connects graph) brick items ≡ count_connects graph brick items
+connect_often graph brick [] = refl
+connect_often graph brick (i ∷ is) = ap (λ (n : ℕ). (if (i.brick == brick) && connects graph i.what then 1 else 0) + n) (connect_often graph brick is)
+
 module _ (back : MessagesReadBack) (x : Input) (legal : IsInput x) (hit : What → Bool) (hits : hit (what_in x) ≡ true) (none : hit what.Wrong ≡ false)
     (only : (y : Input) → IsInput y → hit (what_in y) ≡ true → y ≡ x) where
   to_text : (bytes : List ℕ) (m : Message Input) → input_in bytes ≡ m → hit (what_of m) ≡ true → bytes ≡ input_text x
@@ -55,10 +65,20 @@ module _ (back : MessagesReadBack) (x : Input) (legal : IsInput x) (hit : What �
   sent_goes number brick (line ∷ lines) = by (line.event == number) (sent_goes number brick lines) where
     by : (b : Bool) → list_any (is_sent_in number brick x) lines ≡ goes hit brick (in_event number (items_of lines))
         → ((b && ((line.brick == brick) && pointwise ◌==◌ line.bytes (input_text x))) || list_any (is_sent_in number brick x) lines)
-          ≡ goes hit brick (if b then item_of line ∷ in_event number (items_of lines) else in_event number (items_of lines))
+        ≡ goes hit brick (if b then item_of line ∷ in_event number (items_of lines) else in_event number (items_of lines))
     by true rest = ap (λ (p : Bool). ((line.brick == brick) && p) || list_any (is_sent_in number brick x) lines) (text_is line.bytes)
         ∙ ap (λ (r : Bool). ((line.brick == brick) && hit (what_of (input_in line.bytes))) || r) rest
     by false rest = rest
+
+  sent_often : (number brick : ℕ) (lines : List SentLine) → sent_among number brick x lines ≡ often hit brick (in_event number (items_of lines))
+  sent_often number brick [] = refl
+  sent_often number brick (line ∷ lines) = by (line.event == number) (sent_often number brick lines) where
+    by : (b : Bool) → sent_among number brick x lines ≡ often hit brick (in_event number (items_of lines))
+        → (if b && ((line.brick == brick) && pointwise ◌==◌ line.bytes (input_text x)) then 1 else 0) + sent_among number brick x lines
+        ≡ often hit brick (if b then item_of line ∷ in_event number (items_of lines) else in_event number (items_of lines))
+    by true rest = ap (λ (p : Bool). (if (line.brick == brick) && p then 1 else 0) + sent_among number brick x lines) (text_is line.bytes)
+        ∙ ap (λ (r : ℕ). (if (line.brick == brick) && hit (what_of (input_in line.bytes)) then 1 else 0) + r) rest
+    by false rest = let none : 0 + sent_among number brick x lines ≡ sent_among number brick x lines = omega arith in none ∙ rest
 
 module _ (back : MessagesReadBack) (log : Log) (graph : ℕ) (fits : IsUnit graph) where
   same_connect : (y : Input) → IsInput y → connects graph (what_in y) ≡ true → y ≡ input.Connect graph 1
@@ -82,6 +102,11 @@ module _ (back : MessagesReadBack) (log : Log) (graph : ℕ) (fits : IsUnit grap
   connect_sent number brick =
       sent_goes back (input.Connect graph 1) (fits, refl) (connects graph) (eq-eqb graph graph refl) refl same_connect number brick log.sent
       ∙ connect_goes graph brick (in_event number (items_of log.sent))
+
+  pub connect_times : (number brick : ℕ) → times_sent log number brick (input.Connect graph 1) ≡ count_connects graph brick (in_event number (items_of log.sent))
+  connect_times number brick =
+      sent_often back (input.Connect graph 1) (fits, refl) (connects graph) (eq-eqb graph graph refl) refl same_connect number brick log.sent
+      ∙ connect_often graph brick (in_event number (items_of log.sent))
 
   pub disconnect_sent : (number brick : ℕ) → was_sent log number brick (input.Disconnect graph) ≡ has_disconnect graph brick (in_event number (items_of log.sent))
   disconnect_sent number brick =
@@ -110,7 +135,7 @@ in_event_push number [] line = refl
 in_event_push number (l ∷ lines) line = by (l.event == number) (in_event_push number lines line) where
   by : (b : Bool) → in_event number (items_of (lines ++ line ∷ [])) ≡ in_event number (items_of lines) ++ in_event number (item_of line ∷ [])
       → (if b then item_of l ∷ in_event number (items_of (lines ++ line ∷ [])) else in_event number (items_of (lines ++ line ∷ [])))
-        ≡ (if b then item_of l ∷ in_event number (items_of lines) else in_event number (items_of lines)) ++ in_event number (item_of line ∷ [])
+      ≡ (if b then item_of l ∷ in_event number (items_of lines) else in_event number (items_of lines)) ++ in_event number (item_of line ∷ [])
   by true rest = ap (λ (is : List Item). item_of l ∷ is) rest
   by false rest = rest
 

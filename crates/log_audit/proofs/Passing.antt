@@ -130,10 +130,10 @@ module _ (graph brick : ℕ) where
   all_dropped (i ∷ is) ls =
       all_dropped is (dropped_as i.brick i.what ls) ∙ ap (λ (x : Bool). x && not (has_disconnect graph brick is)) (one_dropped i.brick i.what ls)
       ∙ joined (has_link graph brick ls) ((i.brick == brick) && disconnects graph i.what) (has_disconnect graph brick is) where
-    joined : (h x d : Bool) → ((h && not x) && not d) ≡ (h && not (x || d))
-    joined true true d = refl
-    joined true false d = refl
-    joined false x d = refl
+        joined : (h x d : Bool) → ((h && not x) && not d) ≡ (h && not (x || d))
+        joined true true d = refl
+        joined true false d = refl
+        joined false x d = refl
 
   -- behind the Connects
   one_added : (c : ℕ) (w : What) (ls : List Link) → has_link graph brick (added_as c w ls) ≡ (((c == brick) && connects graph w) || has_link graph brick ls)
@@ -153,22 +153,22 @@ module _ (graph brick : ℕ) where
   all_added (i ∷ is) ls =
       all_added is (added_as i.brick i.what ls) ∙ ap (λ (x : Bool). has_connect graph brick is || x) (one_added i.brick i.what ls)
       ∙ joined (has_connect graph brick is) ((i.brick == brick) && connects graph i.what) (has_link graph brick ls) where
-    joined : (c x h : Bool) → (c || (x || h)) ≡ ((x || c) || h)
-    joined true true h = refl
-    joined true false h = refl
-    joined false true h = refl
-    joined false false h = refl
+        joined : (c x h : Bool) → (c || (x || h)) ≡ ((x || c) || h)
+        joined true true h = refl
+        joined true false h = refl
+        joined false true h = refl
+        joined false false h = refl
 
   pub links_next : (f : Effect) (items : List Item) (ls : List Link)
       → has_link graph brick (links_after f items ls) ≡ (has_connect graph brick items || (has_link graph brick ls && not (closed_as brick f || has_disconnect graph brick items)))
   links_next f items ls =
       all_added items (dropped items (closed_by f ls))
       ∙ ap (λ (x : Bool). has_connect graph brick items || x)
-        (all_dropped items (closed_by f ls) ∙ ap (λ (x : Bool). x && not (has_disconnect graph brick items)) (closed_gone f ls) ∙ joined (has_link graph brick ls) (closed_as brick f) (has_disconnect graph brick items)) where
-    joined : (h x d : Bool) → ((h && not x) && not d) ≡ (h && not (x || d))
-    joined true true d = refl
-    joined true false d = refl
-    joined false x d = refl
+      (all_dropped items (closed_by f ls) ∙ ap (λ (x : Bool). x && not (has_disconnect graph brick items)) (closed_gone f ls) ∙ joined (has_link graph brick ls) (closed_as brick f) (has_disconnect graph brick items)) where
+        joined : (h x d : Bool) → ((h && not x) && not d) ≡ (h && not (x || d))
+        joined true true d = refl
+        joined true false d = refl
+        joined false x d = refl
 
 -- ---- closed bricks
 
@@ -228,28 +228,28 @@ module _ (back : MessagesReadBack) (log : Log) where
         links = λ graph brick fits.
             ap (has_link graph brick) links ∙ links_next graph brick f items old.links.items
             ∙ same_next (has_connect graph brick items) (was_sent log (suc k) brick (input.Connect graph 1)) (has_link graph brick old.links.items) (is_open_after log graph brick k)
-              (closed_as brick f) (closes_by brick (slice_get log.events (suc k - 1))) (has_disconnect graph brick items) (was_sent log (suc k) brick (input.Disconnect graph))
-              (ap (has_connect graph brick) items_are ∙ sym (connect_sent back log graph fits (suc k) brick)) (known.links graph brick fits)
-              (ap (closed_as brick) at.is ∙ sym (closes_is brick at.event) ∙ ap (closes_by brick) (sym at.there ∙ ap (slice_get log.events) (sym less)))
-              (ap (has_disconnect graph brick) items_are ∙ sym (disconnect_sent back log graph fits (suc k) brick));
+            (closed_as brick f) (closes_by brick (slice_get log.events (suc k - 1))) (has_disconnect graph brick items) (was_sent log (suc k) brick (input.Disconnect graph))
+            (ap (has_connect graph brick) items_are ∙ sym (connect_sent back log graph fits (suc k) brick)) (known.links graph brick fits)
+            (ap (closed_as brick) at.is ∙ sym (closes_is brick at.event) ∙ ap (closes_by brick) (sym at.there ∙ ap (slice_get log.events) (sym less)))
+            (ap (has_disconnect graph brick) items_are ∙ sym (disconnect_sent back log graph fits (suc k) brick));
         closed = λ brick.
             ap (λ (xs : List ℕ). list_any (λ b. b == brick) xs) closed ∙ closed_next brick f old.closed.items
             ∙ shut (closed_as brick f) (closes_by brick (slice_get log.events k)) (list_any (λ b. b == brick) old.closed.items) (is_closed_after log brick k) (opened_as brick f) (opens_by brick (slice_get log.events k))
-              (ap (closed_as brick) at.is ∙ sym (closes_is brick at.event) ∙ ap (closes_by brick) (sym at.there)) (known.closed brick)
-              (ap (opened_as brick) at.is ∙ sym (opens_is brick at.event) ∙ ap (opens_by brick) (sym at.there));
+            (ap (closed_as brick) at.is ∙ sym (closes_is brick at.event) ∙ ap (closes_by brick) (sym at.there)) (known.closed brick)
+            (ap (opened_as brick) at.is ∙ sym (opens_is brick at.event) ∙ ap (opens_by brick) (sym at.there));
         newest = newest_is ∙ next ∙ ap (λ (n : ℕ). newest_after n f) known.newest ∙ ap (newest_after (newest_graph log k)) at.is ∙ sym (newest_next log k at.event at.there) ∙ ap (newest_graph log) (sym one);
       }) where
-    one : suc k ≡ k + 1
-    one = omega arith
+        one : suc k ≡ k + 1
+        one = omega arith
 
-    less : suc k - 1 ≡ k
-    less = omega arith
+        less : suc k - 1 ≡ k
+        less = omega arith
 
-    items_are : items ≡ in_event (suc k) (items_of log.sent)
-    items_are = is ∙ ap (λ (n : ℕ). in_event n (items_of log.sent)) (sym one)
+        items_are : items ≡ in_event (suc k) (items_of log.sent)
+        items_are = is ∙ ap (λ (n : ℕ). in_event n (items_of log.sent)) (sym one)
 
-    shut : (c c' h h' o o' : Bool) → c ≡ c' → h ≡ h' → o ≡ o' → (c || (h && not o)) ≡ (c' || (h' && not o'))
-    shut c c' h h' o o' p q r = cc
+        shut : (c c' h h' o o' : Bool) → c ≡ c' → h ≡ h' → o ≡ o' → (c || (h && not o)) ≡ (c' || (h' && not o'))
+        shut c c' h h' o o' p q r = cc
 
   -- behind the making
   pub known_first : (items : List Item) (old new : Known) → items ≡ in_event 0 (items_of log.sent) → old.links.items ≡ [] → old.closed.items ≡ [] → new.links.items ≡ links_after effect.Started items old.links.items

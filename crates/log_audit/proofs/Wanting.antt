@@ -14,13 +14,13 @@ use Rattle.wire_messages.specs.declared.messages.Message.{Message}
 use Rattle.wire_messages.specs.declared.messages.Message.TheVariants.{Whole, Wrong}
 use Rattle.mount_log.specs.Causes.{plan_of_volfile}
 use Rattle.mount_log.specs.Connections.{was_sent, is_open_after}
-use Rattle.mount_log.specs.Connects.{plan_uses, uses_brick, newest_graph, is_live, opens_by, is_closed_after, is_switch, is_made_at, is_opened_for, is_connect_due, IsDisconnected, ByCut, ByGone, AtEnd}
+use Rattle.mount_log.specs.Connects.{times_sent, plan_uses, uses_brick, newest_graph, is_live, opens_by, is_closed_after, is_switch, is_made_at, is_opened_for, is_connect_due, IsDisconnected, ByCut, ByGone, AtEnd}
 use Rattle.mount_log.specs.Follows.{IsEvent}
 use Rattle.mount_log.specs.declared.logs.HubEvent.{HubEvent}
 use Rattle.mount_log.specs.declared.logs.HubEvent.TheVariants as logged
 use Rattle.mount_log.specs.declared.logs.Log.{Log}
 use Rattle.mount_log.specs.declared.logs.SentLine.{SentLine}
-use Rattle.log_audit.specs.Linked.{what_of, items_of, in_event, has_connect, has_disconnect, is_started, is_switched, opened_as, cut_as, newest_after, has_link, until_at, live_as, uses_as, started_as, made_as, opened_for_as, due_as, IsGoneAs, IsLostAs, CutAs, GoneAs, EndAs, IsDueAs, IsItemDue, all_cut, IsLinkedAs, IsEffectAt, IsKnown, AreGraphTables, IsLineDue, IsLinked}
+use Rattle.log_audit.specs.Linked.{what_of, items_of, in_event, has_connect, has_disconnect, count_connects, is_started, is_switched, opened_as, cut_as, newest_after, has_link, until_at, live_as, uses_as, started_as, made_as, opened_for_as, due_as, IsGoneAs, IsLostAs, CutAs, GoneAs, EndAs, IsDueAs, IsItemDue, all_cut, IsLinkedAs, IsEffectAt, IsKnown, AreGraphTables, IsLineDue, IsLinked}
 use Rattle.log_audit.specs.declared.due.GraphTables.{GraphTables}
 use Rattle.log_audit.specs.declared.due.Moment.{Moment}
 use Rattle.log_audit.specs.declared.effects.Effect.{Effect}
@@ -29,7 +29,7 @@ use Rattle.log_audit.specs.declared.known.Known.{Known}
 use Rattle.log_audit.specs.declared.lines_sent.Item.{Item}
 use Rattle.log_audit.specs.declared.links.Link.{Link}
 use Rattle.log_audit.proofs.Effecting.{opens_is, switch_is, none_starts, newest_next, cut_is, cuts_it, gone_is}
-use Rattle.log_audit.proofs.Linking.{connect_sent, disconnect_sent, at_line}
+use Rattle.log_audit.proofs.Linking.{connect_sent, connect_times, disconnect_sent, at_line}
 use Rattle.log_audit.proofs.Openings.{both}
 
 and_same : (a a' b b' : Bool) → a ≡ a' → b ≡ b' → (a && b) ≡ (a' && b')
@@ -66,13 +66,13 @@ pub cut_each : (graph brick : ℕ) (items : List Item) (ls : List Link) → all_
 cut_each graph brick items [] all has = absurd cc
 cut_each graph brick items (l ∷ ls) all has =
     by (or_parts_true ((l.graph == graph) && (l.brick == brick)) (has_link graph brick ls) has) (both (not (l.brick == brick) || has_disconnect l.graph brick items) (all_cut brick items ls) all) (cut_each graph brick items ls) where
-  by : (((l.graph == graph) && (l.brick == brick)) ≡ true) ⊎ (has_link graph brick ls ≡ true) → ((not (l.brick == brick) || has_disconnect l.graph brick items) ≡ true) × (all_cut brick items ls ≡ true)
-      → (all_cut brick items ls ≡ true → has_link graph brick ls ≡ true → has_disconnect graph brick items ≡ true) → has_disconnect graph brick items ≡ true
-  by (inl own) parts behind =
-      let p = both (l.graph == graph) (l.brick == brick) own in
-      let cut : (not true || has_disconnect l.graph brick items) ≡ true = ap (λ (b : Bool). not b || has_disconnect l.graph brick items) (sym p.1) ∙ parts.0 in
-      ap (λ (g : ℕ). has_disconnect g brick items) (sym (eqb-true l.graph graph p.0)) ∙ cut
-  by (inr rest) parts behind = behind parts.1 rest
+      by : (((l.graph == graph) && (l.brick == brick)) ≡ true) ⊎ (has_link graph brick ls ≡ true) → ((not (l.brick == brick) || has_disconnect l.graph brick items) ≡ true) × (all_cut brick items ls ≡ true)
+          → (all_cut brick items ls ≡ true → has_link graph brick ls ≡ true → has_disconnect graph brick items ≡ true) → has_disconnect graph brick items ≡ true
+      by (inl own) parts behind =
+          let p = both (l.graph == graph) (l.brick == brick) own in
+          let cut : (not true || has_disconnect l.graph brick items) ≡ true = ap (λ (b : Bool). not b || has_disconnect l.graph brick items) (sym p.1) ∙ parts.0 in
+          ap (λ (g : ℕ). has_disconnect g brick items) (sym (eqb-true l.graph graph p.0)) ∙ cut
+      by (inr rest) parts behind = behind parts.1 rest
 
 -- ---- graphs
 
@@ -109,20 +109,20 @@ module _ (script : Script) (plans : List Plan) (log : Log) (tables : GraphTables
         and_same (is_switched now.effect) (is_switch (slice_get log.events k)) ((graph == now.newest) && not (list_any (λ b. b == brick) known.closed.items)) ((graph == newest_graph log (suc k)) && not (is_closed_after log brick k))
         (ap is_switched at.is ∙ sym (switch_is at.event) ∙ ap is_switch (sym at.there))
         (and_same (graph == now.newest) (graph == newest_graph log (suc k)) (not (list_any (λ b. b == brick) known.closed.items)) (not (is_closed_after log brick k))
-          (ap (λ (n : ℕ). graph == n) newest_is) (ap not (is_known.closed brick)))
+        (ap (λ (n : ℕ). graph == n) newest_is) (ap not (is_known.closed brick)))
 
     opened_is : (graph brick : ℕ) → IsUnit graph → opened_for_as tables known now graph brick ≡ is_opened_for log graph brick k
     opened_is graph brick fits =
         and_same (opened_as brick now.effect) (opens_by brick (slice_get log.events k)) (live_as tables.until.items now.newest graph now.number && not (has_link graph brick known.links.items)) (is_live log graph (suc k) && not (is_open_after log graph brick k))
         (ap (opened_as brick) at.is ∙ sym (opens_is brick at.event) ∙ ap (opens_by brick) (sym at.there))
         (and_same (live_as tables.until.items now.newest graph now.number) (is_live log graph (suc k)) (not (has_link graph brick known.links.items)) (not (is_open_after log graph brick k))
-          (ap (live_as tables.until.items now.newest graph) (number ∙ sym one) ∙ live_is now.newest graph (suc k) newest_is) (ap not (is_known.links graph brick fits)))
+        (ap (live_as tables.until.items now.newest graph) (number ∙ sym one) ∙ live_is now.newest graph (suc k) newest_is) (ap not (is_known.links graph brick fits)))
 
     due_is : (graph brick : ℕ) → IsUnit graph → due_as plans tables known now graph brick ≡ is_connect_due script plans log graph brick (k + 1)
     due_is graph brick fits =
         and_same (started_as now graph || (made_as known now graph brick || opened_for_as tables known now graph brick)) (is_made_at log graph brick k || is_opened_for log graph brick k) (uses_as plans tables graph brick) (uses_brick script plans log graph brick)
         (or_same (started_as now graph) false (made_as known now graph brick || opened_for_as tables known now graph brick) (is_made_at log graph brick k || is_opened_for log graph brick k) (not_started graph)
-          (or_same (made_as known now graph brick) (is_made_at log graph brick k) (opened_for_as tables known now graph brick) (is_opened_for log graph brick k) (made_is graph brick) (opened_is graph brick fits)))
+        (or_same (made_as known now graph brick) (is_made_at log graph brick k) (opened_for_as tables known now graph brick) (is_opened_for log graph brick k) (made_is graph brick) (opened_is graph brick fits)))
         (uses_is graph brick) ∙ ap (is_connect_due script plans log graph brick) one
 
     open_is : (graph brick event : ℕ) → event ≡ k + 1 → IsUnit graph → has_link graph brick known.links.items ≡ true → is_open_after log graph brick (event - 1) ≡ true
@@ -132,7 +132,7 @@ module _ (script : Script) (plans : List Plan) (log : Log) (tables : GraphTables
     lost line graph same fits (CutAs has cut) =
         ByCut (open_is graph line.brick line.event same fits has)
         (subst (λ (n : ℕ). IsEvent log n (logged.Act (action.Cut line.brick))) (sym same)
-          (subst (λ (e : HubEvent). IsEvent log (k + 1) e) (cut_is line.brick at.event (ap (cut_as line.brick) (sym at.is) ∙ cut)) event))
+        (subst (λ (e : HubEvent). IsEvent log (k + 1) e) (cut_is line.brick at.event (ap (cut_as line.brick) (sym at.is) ∙ cut)) event))
     lost line graph same fits (GoneAs has gone) =
         ByGone (open_is graph line.brick line.event same fits has)
         (gone_is log now graph line.brick line.event at.event (number ∙ sym same) (subst (λ (n : ℕ). IsEvent log n at.event) (sym same) event) (subst (λ (f : Effect). IsGoneAs log now graph line.brick f) at.is gone))
@@ -143,19 +143,23 @@ module _ (script : Script) (plans : List Plan) (log : Log) (tables : GraphTables
         AtEnd (sym (uses_is graph line.brick) ∙ p.1)
         (ap (λ (n : ℕ). is_live log graph (n - 1)) same ∙ ap (is_live log graph) less ∙ sym (live_is known.newest graph k is_known.newest) ∙ ap (live_as tables.until.items known.newest graph) (sym before) ∙ q.0)
         (ap (is_live log graph) (same ∙ sym one) ∙ sym (live_is now.newest graph (suc k) newest_is) ∙ ap (live_as tables.until.items now.newest graph) (one ∙ sym number)
-          ∙ not_true (live_as tables.until.items now.newest graph now.number) q.1)
+        ∙ not_true (live_as tables.until.items now.newest graph now.number) q.1)
 
     line_due : (line : SentLine) → line.event ≡ k + 1 → (m : Message Input) → input_in line.bytes ≡ m → IsDueAs log plans tables known now items line.brick (what_of m) → IsLineDue script plans log line (what_of m)
-    line_due line same (Whole (input.Connect graph version)) is due =
-        ap (is_connect_due script plans log graph line.brick) same ∙ sym (due_is graph line.brick (back.0.1 line.bytes (input.Connect graph version) is).0.0) ∙ due
+    line_due line same (Whole (input.Connect graph version)) is wanted =
+        let fits : IsUnit graph = (back.0.1 line.bytes (input.Connect graph version) is).0.0 in
+        record {
+          due = ap (is_connect_due script plans log graph line.brick) same ∙ sym (due_is graph line.brick fits) ∙ wanted.due;
+          once = subst (λ (n : ℕ). n ≤ 1) (ap (count_connects graph line.brick) items_are ∙ sym (connect_times back log graph fits (k + 1) line.brick) ∙ ap (λ (n : ℕ). times_sent log n line.brick (input.Connect graph 1)) (sym same)) wanted.once;
+        }
     line_due line same (Whole (input.Disconnect graph)) is due = lost line graph same (back.0.1 line.bytes (input.Disconnect graph) is).0 due
     line_due line same (Whole (input.Request wind graph req)) is due =
         let fits : IsUnit graph = (back.0.1 line.bytes (input.Request wind graph req) is).0.1 in
         by fits (or_parts_true (has_link graph line.brick known.links.items) (has_connect graph line.brick items) due) where
-      by : IsUnit graph → (has_link graph line.brick known.links.items ≡ true) ⊎ (has_connect graph line.brick items ≡ true)
-          → (is_open_after log graph line.brick (line.event - 1) ≡ true) ⊎ (was_sent log line.event line.brick (input.Connect graph 1) ≡ true)
-      by fits (inl has) = inl (open_is graph line.brick line.event same fits has)
-      by fits (inr has) = inr (ap (λ (n : ℕ). was_sent log n line.brick (input.Connect graph 1)) same ∙ connect_sent back log graph fits (k + 1) line.brick ∙ ap (has_connect graph line.brick) (sym items_are) ∙ has)
+          by : IsUnit graph → (has_link graph line.brick known.links.items ≡ true) ⊎ (has_connect graph line.brick items ≡ true)
+              → (is_open_after log graph line.brick (line.event - 1) ≡ true) ⊎ (was_sent log line.event line.brick (input.Connect graph 1) ≡ true)
+          by fits (inl has) = inl (open_is graph line.brick line.event same fits has)
+          by fits (inr has) = inr (ap (λ (n : ℕ). was_sent log n line.brick (input.Connect graph 1)) same ∙ connect_sent back log graph fits (k + 1) line.brick ∙ ap (has_connect graph line.brick) (sym items_are) ∙ has)
     line_due line same (Whole (input.Down serve)) is due = due
     line_due line same (Whole input.Up) is due = due
     line_due line same (Whole (input.FaultAt p n)) is due = due
@@ -180,13 +184,13 @@ module _ (script : Script) (plans : List Plan) (log : Log) (tables : GraphTables
     start_due graph brick =
         and_same (started_as now graph || (made_as known now graph brick || opened_for_as tables known now graph brick)) (graph == 1) (uses_as plans tables graph brick) (uses_brick script plans log graph brick)
         (ap (λ (f : Effect).
-          (is_started f && (graph == 1))
-          || ((is_switched f && ((graph == now.newest) && not (list_any (λ b. b == brick) known.closed.items)))
-            || (opened_as brick f && (live_as tables.until.items now.newest graph now.number && not (has_link graph brick known.links.items))))) starts ∙ or_false (graph == 1))
+        (is_started f && (graph == 1))
+        || ((is_switched f && ((graph == now.newest) && not (list_any (λ b. b == brick) known.closed.items)))
+        || (opened_as brick f && (live_as tables.until.items now.newest graph now.number && not (has_link graph brick known.links.items))))) starts ∙ or_false (graph == 1))
         (uses_is graph brick) where
-      or_false : (b : Bool) → (b || (false || false)) ≡ b
-      or_false true = refl
-      or_false false = refl
+          or_false : (b : Bool) → (b || (false || false)) ≡ b
+          or_false true = refl
+          or_false false = refl
 
     no_link : (graph brick : ℕ) → has_link graph brick known.links.items ≡ false
     no_link graph brick = ap (has_link graph brick) no_links
@@ -204,7 +208,12 @@ module _ (script : Script) (plans : List Plan) (log : Log) (tables : GraphTables
         absurd cc
 
     start_line : (line : SentLine) → line.event ≡ 0 → (m : Message Input) → input_in line.bytes ≡ m → IsDueAs log plans tables known now items line.brick (what_of m) → IsLineDue script plans log line (what_of m)
-    start_line line same (Whole (input.Connect graph version)) is due = ap (is_connect_due script plans log graph line.brick) same ∙ sym (start_due graph line.brick) ∙ due
+    start_line line same (Whole (input.Connect graph version)) is wanted =
+        let fits : IsUnit graph = (back.0.1 line.bytes (input.Connect graph version) is).0.0 in
+        record {
+          due = ap (is_connect_due script plans log graph line.brick) same ∙ sym (start_due graph line.brick) ∙ wanted.due;
+          once = subst (λ (n : ℕ). n ≤ 1) (ap (count_connects graph line.brick) items_are ∙ sym (connect_times back log graph fits 0 line.brick) ∙ ap (λ (n : ℕ). times_sent log n line.brick (input.Connect graph 1)) (sym same)) wanted.once;
+        }
     start_line line same (Whole (input.Disconnect graph)) is due = absurd (none_lost graph line.brick due)
     start_line line same (Whole (input.Request wind graph req)) is due =
         let fits : IsUnit graph = (back.0.1 line.bytes (input.Request wind graph req) is).0.1 in

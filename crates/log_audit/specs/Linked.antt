@@ -20,7 +20,7 @@ use Rattle.wire_messages.specs.declared.messages.Message.{Message}
 use Rattle.wire_messages.specs.declared.messages.Message.TheVariants.{Whole, Wrong}
 use Rattle.mount_log.specs.Causes.{plan_of_volfile}
 use Rattle.mount_log.specs.Connections.{was_sent, is_open_after}
-use Rattle.mount_log.specs.Connects.{plan_uses, newest_graph, is_wind_behind, is_reply_behind, is_closed_after, is_connect_due, IsEndIn, IsDisconnected}
+use Rattle.mount_log.specs.Connects.{times_sent, plan_uses, newest_graph, is_wind_behind, is_reply_behind, is_closed_after, is_connect_due, IsEndIn, IsDisconnected}
 use Rattle.mount_log.specs.Follows.{IsEvent}
 use Rattle.mount_log.specs.Graphs.{volfiles_of}
 use Rattle.mount_log.specs.declared.logs.HubEvent.{HubEvent}
@@ -96,6 +96,11 @@ has_connect graph brick (i ∷ is) = ((i.brick == brick) && connects graph i.wha
 abbrev pub has_disconnect : ℕ → ℕ → List Item → Bool
 has_disconnect graph brick [] = false
 has_disconnect graph brick (i ∷ is) = ((i.brick == brick) && disconnects graph i.what) || has_disconnect graph brick is
+
+-- how many Connects of the graph go to the brick
+abbrev pub count_connects : ℕ → ℕ → List Item → ℕ
+count_connects graph brick [] = 0
+count_connects graph brick (i ∷ is) = (if (i.brick == brick) && connects graph i.what then 1 else 0) + count_connects graph brick is
 
 -- ---- what an event does
 
@@ -259,9 +264,13 @@ pub data IsLostAs (log : Log) (plans : List Plan) (tables : GraphTables) (known 
   GoneAs : has_link graph brick known.links.items ≡ true → IsGoneAs log now graph brick now.effect → IsLostAs log plans tables known now graph brick
   EndAs : end_as plans tables known now graph brick ≡ true → IsLostAs log plans tables known now graph brick
 
+pub record IsDueOnce (plans : List Plan) (tables : GraphTables) (known : Known) (now : Moment) (items : List Item) (graph brick : ℕ) : Type 0 where
+  pub due : due_as plans tables known now graph brick ≡ true
+  pub once : count_connects graph brick items ≤ 1
+
 -- what is sent to a brick is due
 abbrev pub IsDueAs : Log → List Plan → GraphTables → Known → Moment → List Item → ℕ → What → Type 0
-IsDueAs log plans tables known now items brick (what.Connect graph) = due_as plans tables known now graph brick ≡ true
+IsDueAs log plans tables known now items brick (what.Connect graph) = IsDueOnce plans tables known now items graph brick
 IsDueAs log plans tables known now items brick (what.Disconnect graph) = IsLostAs log plans tables known now graph brick
 IsDueAs log plans tables known now items brick (what.Request graph) = (has_link graph brick known.links.items || has_connect graph brick items) ≡ true
 IsDueAs log plans tables known now items brick what.Other = Unit {0}
@@ -315,9 +324,13 @@ pub record AreGraphTables (script : Script) (log : Log) (tables : GraphTables) :
   pub volfiles : tables.volfiles.items ≡ volfiles_of script log
   pub until : AreUsesNoted log log.replies tables.until.items
 
+pub record IsConnectDue (script : Script) (plans : List Plan) (log : Log) (graph brick number : ℕ) : Type 0 where
+  pub due : is_connect_due script plans log graph brick number ≡ true
+  pub once : times_sent log number brick (input.Connect graph 1) ≤ 1
+
 -- a line that was sent has its cause, as far as connections go
 abbrev pub IsLineDue : Script → List Plan → Log → SentLine → What → Type 0
-IsLineDue script plans log line (what.Connect graph) = is_connect_due script plans log graph line.brick line.event ≡ true
+IsLineDue script plans log line (what.Connect graph) = IsConnectDue script plans log graph line.brick line.event
 IsLineDue script plans log line (what.Disconnect graph) = IsDisconnected script plans log line graph
 IsLineDue script plans log line (what.Request graph) =
     (is_open_after log graph line.brick (line.event - 1) ≡ true) ⊎ (was_sent log line.event line.brick (input.Connect graph 1) ≡ true)

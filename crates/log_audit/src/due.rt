@@ -7,8 +7,8 @@ ghost use Rattle.log_audit.specs.Linked.{until_at, live_as, uses_as, started_as,
 
 use crate::call_graphs::plan_of;
 use crate::effects::{Effect, cut_as, is_started, is_switched, opened_as};
-use crate::links::has_link;
 use crate::known::Known;
+use crate::links::has_link;
 use crate::tied_ends::is_number_of;
 use fop_types::SetPlan;
 use graph_build::Plan;

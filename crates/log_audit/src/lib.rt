@@ -34,6 +34,7 @@ mod due;
 mod effects;
 mod ended;
 mod enough;
+mod event_links;
 mod evidence;
 mod finished;
 mod honest;

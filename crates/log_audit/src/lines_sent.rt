@@ -1,7 +1,7 @@
 //! What was sent, by the events that sent it, as far as connections go.
 ghost use Rattle.std.specs.Prelude.{◌≡◌, [], true, map, length, option_copied, slice_get, IfOk, IfSome, OnOk};
 ghost use Rattle.wire_messages.specs.Messages.{input_in};
-ghost use Rattle.log_audit.specs.Linked.{what_in, what_of, item_of, items_of, items_at, IsPutIn, AreByEvent, connects, disconnects, has_connect, has_disconnect};
+ghost use Rattle.log_audit.specs.Linked.{what_in, what_of, item_of, items_of, items_at, IsPutIn, AreByEvent, connects, disconnects, has_connect, has_disconnect, count_connects};
 
 use crate::causes::line_at;
 use fop_types::Input;
@@ -162,4 +162,18 @@ pub fn has_disconnect(items: &[Item], graph: u32, brick: u8) -> bool
         }
     }
     false
+}
+
+/// How many Connects of a graph go to a brick.
+pub fn count_connects(items: &[Item], graph: u32, brick: u8) -> usize
+    ensures { result ≡ count_connects graph brick items.now }
+{
+    let mut count = 0usize;
+    for item in items {
+        if item.brick != brick || !connects(item.what, graph) {
+            continue;
+        }
+        count += 1;
+    }
+    count
 }

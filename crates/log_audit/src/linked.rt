@@ -1,166 +1,22 @@
 //! Whether graphs connect and disconnect in each event exactly as they are to.
-ghost use Rattle.std.specs.Prelude.{◌≡◌, ◌<◌, ◌≤◌, ◌+◌, ◌||◌, ℕ, [], true, length, map, option_copied, slice_get, IfOk, IfSome};
-ghost use Rattle.std.specs.List.{AllByRecursion};
+ghost use Rattle.std.specs.Prelude.{◌≡◌, ◌<◌, ◌≤◌, ◌+◌, ℕ, [], true, length, map, option_copied, slice_get, IfOk, IfSome};
 ghost use Rattle.wire_messages.specs.Messages.{MessagesReadBack};
-ghost use Rattle.log_audit.specs.declared.effects.Effect.TheVariants.{Started};
-ghost use Rattle.log_audit.specs.Linked.{IsDueAs, IsItemDue, AreCut, HasDue, IsLinkedAs, due_as, has_link, has_connect, items_of, in_event, AreByEvent, IsEffectAt, IsKnown, AreGraphTables, IsLinked, AreLinked};
+ghost use Rattle.log_audit.specs.Linked.{items_of, in_event, AreByEvent, IsEffectAt, IsKnown, AreGraphTables, IsLinked, AreLinked};
 
 use crate::call_graphs::graphs_of;
-use crate::due::{GraphTables, Moment, is_due, is_lost};
+use crate::due::{GraphTables, Moment};
 use crate::effects::{Effect, effect_of, newest_after};
-use crate::last_uses::last_uses;
-use crate::lines_sent::{Item, What, by_event, has_connect, items_at};
-use crate::links::{all_cut, has_link};
+use crate::event_links::is_linked;
 use crate::known::Known;
+use crate::last_uses::last_uses;
+use crate::lines_sent::{Item, by_event, items_at};
 use graph_build::Plan;
 use mount_log::{HubEvent, Log};
 use script_lang::Script;
 use std::alloc::{AllocError, Global};
 use wire_messages::messages_read_back;
 
-// ---- what is sent is due
-
-fn has_connection(known: &Known, items: &[Item], graph: u32, brick: u8) -> bool
-    ensures { result ≡ (has_link graph brick known.now.links.items || has_connect graph brick items.now) }
-{
-    has_link(known.links.as_slice(), graph, brick) || has_connect(items, graph, brick)
-}
-
-fn is_item_due(
-    log: &Log,
-    plans: &[Plan],
-    tables: &GraphTables,
-    known: &Known,
-    now: Moment,
-    items: &[Item],
-    brick: u8,
-    what: What,
-) -> bool
-    ensures { result ≡ true → IsDueAs log.now plans.now tables.now known.now now items.now brick what }
-{
-    match what {
-        What::Connect(graph) => is_due(plans, tables, known, now, graph, brick),
-        What::Disconnect(graph) => is_lost(log, plans, tables, known, now, graph, brick),
-        What::Request(graph) => has_connection(known, items, graph, brick),
-        What::Other => true,
-        What::Wrong => false,
-    }
-}
-
-fn are_due(
-    log: &Log,
-    plans: &[Plan],
-    tables: &GraphTables,
-    known: &Known,
-    now: Moment,
-    items: &[Item],
-) -> bool
-    ensures { result ≡ true → AllByRecursion (IsItemDue log.now plans.now tables.now known.now now items.now) items.now }
-{
-    for item in items {
-        if !is_item_due(log, plans, tables, known, now, items, item.brick, item.what) {
-            return false;
-        }
-    }
-    true
-}
-
-// ---- what is due is sent
-
-fn is_met(
-    plans: &[Plan],
-    tables: &GraphTables,
-    known: &Known,
-    now: Moment,
-    items: &[Item],
-    graph: u32,
-    brick: u8,
-) -> bool
-    ensures { result ≡ true → due_as plans.now tables.now known.now now graph brick ≡ true → has_connect graph brick items.now ≡ true }
-{
-    if !is_due(plans, tables, known, now, graph, brick) {
-        return true;
-    }
-    has_connect(items, graph, brick)
-}
-
-// The newest graph connects to each brick that it is to.
-fn newest_is_met(
-    plans: &[Plan],
-    tables: &GraphTables,
-    known: &Known,
-    now: Moment,
-    items: &[Item],
-) -> bool
-    ensures { result ≡ true → (brick : ℕ) → brick < 256 → due_as plans.now tables.now known.now now now.newest brick ≡ true → has_connect now.newest brick items.now ≡ true }
-{
-    for brick in 0..255u8 {
-        if !is_met(plans, tables, known, now, items, now.newest, brick) {
-            return false;
-        }
-    }
-    is_met(plans, tables, known, now, items, now.newest, 255)
-}
-
-// Each graph connects to a brick to which it is to.
-fn opened_is_met(
-    plans: &[Plan],
-    tables: &GraphTables,
-    known: &Known,
-    now: Moment,
-    items: &[Item],
-    brick: u8,
-) -> bool
-    ensures { result ≡ true → (graph : ℕ) → graph ≤ now.newest → due_as plans.now tables.now known.now now graph brick ≡ true → has_connect graph brick items.now ≡ true }
-{
-    for graph in 0..now.newest {
-        if !is_met(plans, tables, known, now, items, graph, brick) {
-            return false;
-        }
-    }
-    is_met(plans, tables, known, now, items, now.newest, brick)
-}
-
-// At the making graph 1 is the newest.
-fn has_due(plans: &[Plan], tables: &GraphTables, known: &Known, now: Moment, items: &[Item]) -> bool
-    requires { now.effect ≡ Started → now.newest ≡ 1 }
-    ensures { result ≡ true → HasDue plans.now tables.now known.now now items.now }
-{
-    match now.effect {
-        Effect::Started => newest_is_met(plans, tables, known, now, items),
-        Effect::Switched => newest_is_met(plans, tables, known, now, items),
-        Effect::Opened(brick) => opened_is_met(plans, tables, known, now, items, brick),
-        _ => true,
-    }
-}
-
-fn are_cut(known: &Known, effect: Effect, items: &[Item]) -> bool
-    ensures { result ≡ true → AreCut items.now known.now.links.items effect }
-{
-    match effect {
-        Effect::Cut(brick) => all_cut(known.links.as_slice(), items, brick),
-        _ => true,
-    }
-}
-
 // ---- an event
-
-fn is_linked(
-    log: &Log,
-    plans: &[Plan],
-    tables: &GraphTables,
-    known: &Known,
-    now: Moment,
-    items: &[Item],
-) -> bool
-    requires { now.effect ≡ Started → now.newest ≡ 1 }
-    ensures { result ≡ true → IsLinkedAs log.now plans.now tables.now known.now now items.now }
-{
-    if !are_due(log, plans, tables, known, now, items) || !has_due(plans, tables, known, now, items) {
-        return false;
-    }
-    are_cut(known, now.effect, items)
-}
 
 // The start: graph 1 is made and connected.
 fn starts(

@@ -1,6 +1,6 @@
 -- What is sent to connect graphs to bricks, to disconnect them, and for controls: exactly what has a cause, and all that has
 -- one. Event 0 is the hub's making. The field calls a graph drained once nothing of it is left; the hub then disconnects it.
-use Rattle.std.specs.Prelude.{◌≡◌, ℕ, ◌+◌, ◌-◌, ◌<◌, ◌==◌, nat_lt, zero, suc, Bool, true, false, ◌&&◌, ◌||◌, not, ◌⊎◌, List, Option, None, Some, length, slice_get, take}
+use Rattle.std.specs.Prelude.{◌≡◌, ℕ, ◌+◌, ◌-◌, ◌<◌, ◌≤◌, ◌==◌, nat_lt, zero, suc, Bool, true, false, ◌&&◌, ◌||◌, not, ◌⊎◌, List, [], ◌∷◌, Option, None, Some, length, slice_get, take, if◌then◌else◌}
 use Rattle.std.specs.List.{list_any}
 use Rattle.fop_types.specs.declared.jobs.SetPlan.{SetPlan}
 use Rattle.fop_types.specs.declared.messages.BrickRep.TheVariants as rep
@@ -27,7 +27,7 @@ use Rattle.mount_log.specs.declared.logs.ReplyLine.{ReplyLine}
 use Rattle.mount_log.specs.declared.logs.SentLine.{SentLine}
 use Rattle.mount_log.specs.declared.logs.WindLine.{WindLine}
 use Rattle.mount_log.specs.Causes.{plan_of_volfile}
-use Rattle.mount_log.specs.Connections.{was_sent, closes_by, is_open_after, graph_of_call}
+use Rattle.mount_log.specs.Connections.{is_sent_in, was_sent, closes_by, is_open_after, graph_of_call}
 use Rattle.mount_log.specs.Follows.{IsEvent, IsSentBefore}
 use Rattle.mount_log.specs.Graphs.{switches_in, volfiles_of}
 use Rattle.mount_log.specs.Ties.{IsNumberOf}
@@ -111,6 +111,14 @@ is_made_at log graph brick n = is_switch (slice_get log.events n) && ((graph == 
 abbrev pub is_opened_for : Log → ℕ → ℕ → ℕ → Bool
 is_opened_for log graph brick n = opens_by brick (slice_get log.events n) && (is_live log graph (suc n) && not (is_open_after log graph brick n))
 
+abbrev pub sent_among : ℕ → ℕ → Input → List SentLine → ℕ
+sent_among number brick x [] = 0
+sent_among number brick x (line ∷ lines) = (if is_sent_in number brick x line then 1 else 0) + sent_among number brick x lines
+
+-- how often the input was sent to the brick in the event
+abbrev pub times_sent : Log → ℕ → ℕ → Input → ℕ
+times_sent log number brick x = sent_among number brick x log.sent
+
 -- In the event of this number a graph connects to a brick that it uses: graph 1 at the start; the graph that a switch makes;
 -- and as the brick opens, a live graph that has no connection.
 abbrev pub is_connect_due : Script → List Plan → Log → (graph brick number : ℕ) → Bool
@@ -174,8 +182,9 @@ pub record IsInputText (bytes : List ℕ) : Type 0 where
 pub record ConnectsAreCaused (script : Script) (plans : List Plan) (log : Log) : Type 0 where
   -- each line is an input: a Connect is of the version that there is
   pub inputs : (k : ℕ) (line : SentLine) → slice_get log.sent k ≡ Some line → IsInputText line.bytes
-  -- a Connect is sent exactly where it is due
+  -- a Connect is sent exactly where it is due, and once
   pub connects : (graph brick number : ℕ) → IsUnit graph → brick < 256 → was_sent log number brick (input.Connect graph 1) ≡ is_connect_due script plans log graph brick number
+  pub once : (graph brick number : ℕ) → IsUnit graph → times_sent log number brick (input.Connect graph 1) ≤ 1
   -- a Disconnect has a cause, and a cut disconnects each graph that has a connection
   pub disconnects : (k graph : ℕ) (line : SentLine) → slice_get log.sent k ≡ Some line → IsUnit graph → line.bytes ≡ input_text (input.Disconnect graph) → IsDisconnected script plans log line graph
   pub cuts : (graph brick number : ℕ) → IsUnit graph → IsEvent log number (logged.Act (action.Cut brick)) → is_open_after log graph brick (number - 1) ≡ true

@@ -1,7 +1,7 @@
 use Rattle.std.proofs.Common.{◌≡◌, ℕ, true}
 use Rattle.log_audit.specs.Linked.{due_as, has_connect}
 use Rattle.log_audit.proofs.Wanting.{below_next}
-use Rattle.log_audit.proofs.linked.opened_is_met.Goals as goal
+use Rattle.log_audit.proofs.event_links.opened_is_met.Goals as goal
 
 pub loop-graph-preserved : goal.loop-graph-preserved
 loop-graph-preserved c =
