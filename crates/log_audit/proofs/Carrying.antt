@@ -92,7 +92,7 @@ module _ (back : MessagesReadBack) (script : Script) (plans : List Plan) (log : 
   none_sent number brick x [] none = refl
   none_sent number brick x (line ∷ lines) none =
       let p = or_parts (is_sent_in number brick x line) (list_any (is_sent_in number brick x) lines) none in
-      let own : (if is_sent_in number brick x line then 1 else 0) ≡ 0 = ap (λ (b : Bool). if b then 1 else 0) p.0 in
+      let own : ◌≡◌ {A = ℕ} (if is_sent_in number brick x line then 1 else 0) 0 = ap (λ (b : Bool). if b then 1 else 0) p.0 in
       let rest = none_sent number brick x lines p.1 in
       omega (arith, own, rest)
 
