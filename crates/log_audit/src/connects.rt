@@ -11,10 +11,10 @@ use script_lang::Script;
 use std::alloc::{AllocError, Global};
 use wire_messages::messages_read_back;
 
-/// Whether each Connect, Disconnect, Down and Up was sent for a cause, and each that has one was sent; and whether requests
-/// went to connected bricks. It is false, too, where lines do not stand in the order of their events, the first line of the
-/// event of an action that has an input is not that input, a line or a reply is of no graph or call that there is, or there
-/// are 4,294,967,295 graphs.
+/// Whether each Connect, Disconnect, Down and Up was sent for a cause, each Connect and each input of an action that has a
+/// cause was sent, each cut disconnects, and requests went to connected bricks. It is false, too, where the first line of the
+/// event of an action that has an input is not that input, a line is of no event, a wind of no graph, or a reply of no call
+/// that there is, or where there are 4,294,967,295 graphs.
 ///
 /// # Errors
 /// Out of memory.
