@@ -74,9 +74,9 @@ const CASES: [(Of, usize, &[u32], &[u8]); 32] = [
     (Of::Events, 12, &[1, 1, 0, 5, 3, 1, 1], b"a"),
     (Of::Events, 12, &[1, 0, 0, 5, 3, 2, 1], b"a"),
     (Of::Sent, 1, &[3, 0, 0, 0, 0, 1, 10], b"a"),
-    // Inputs that were served and not sent.
+    // Inputs that were served and not sent; the other line is no input.
     (Of::Served, 4, &[3, 2, 1], b"a"),
-    (Of::Sent, 1, &[1, 0, 0, 0, 0, 1, 11], b"a"),
+    (Of::Sent, 1, &[1, 0, 0, 0, 0, 1, 11], b"ac"),
     // A line before its time, one that is none, and a session that is none.
     (Of::Events, 0, &[0, 0, 10], b"s"),
     (Of::Events, 10, &[0, 0, 11], b"s"),
