@@ -1,18 +1,14 @@
 -- The causes of what was sent, from what an audit finds.
 use Rattle.std.proofs.Common.{◌≡◌, refl, sym, ap, subst, ◌∙◌, arith, get_or}
 use Rattle.std.specs.Prelude.{ℕ, zero, suc, ◌≢◌, ◌<◌, ◌≤◌, ◌+◌, ◌-◌, ◌==◌, if◌then◌else◌, nat_lt, Bool, true, false, List, [], ◌∷◌, ◌++◌, Option, None, Some, is_some, Result, Ok, Err, IfOk, length, take, slice_get}
-use Rattle.std.proofs.lemmas.Bool.{ltb-true, ltb-false, eqb-true, eqb-false}
+use Rattle.std.proofs.lemmas.Bool.{ltb-true, ltb-false, eqb-false}
 use Rattle.std.proofs.lemmas.List.{take_more}
 use Rattle.fop_types.specs.declared.messages.Input.TheVariants as input
-use Rattle.fop_types.specs.declared.messages.Output.{Output}
 use Rattle.fop_types.specs.declared.messages.Proc.{Proc}
 use Rattle.script_lang.specs.declared.scripts.Action.TheVariants as action
 use Rattle.wire_xdr.specs.WireText.{input_text}
-use Rattle.wire_messages.specs.Messages.{output_in}
-use Rattle.wire_messages.specs.declared.messages.Message.{Message}
-use Rattle.wire_messages.specs.declared.messages.Message.TheVariants.{Whole, Wrong}
 use Rattle.mount_log.proofs.Items.{some_is}
-use Rattle.mount_log.specs.Connections.{IsConnected, AtSwitch, AtOpened, IsForDown, ByArmed}
+use Rattle.mount_log.specs.Connects.{IsForDown, ByArmed}
 use Rattle.mount_log.specs.Follows.{IsEvent, IsArmedLine}
 use Rattle.mount_log.specs.Graphs.{switches_in, switched_by}
 use Rattle.mount_log.specs.Procedures.{proc_in}
@@ -20,7 +16,7 @@ use Rattle.mount_log.specs.declared.logs.HubEvent.{HubEvent}
 use Rattle.mount_log.specs.declared.logs.HubEvent.TheVariants as logged
 use Rattle.mount_log.specs.declared.logs.Log.{Log}
 use Rattle.mount_log.specs.declared.logs.SentLine.{SentLine}
-use Rattle.log_audit.specs.Caused.{event_of, IsOpening, IsConnecting, IsCounted, IsBeforeRequest}
+use Rattle.log_audit.specs.Caused.{event_of, IsCounted, IsBeforeRequest}
 use Rattle.log_audit.specs.Armed.{AreArmedFrom}
 use Rattle.log_audit.specs.declared.causes.Switched.{Switched}
 use Rattle.log_audit.specs.declared.armed_lines.ArmedLines.{ArmedLines}
@@ -42,7 +38,7 @@ event_there log number e is = by (number == 0) refl is where
 
 -- ---- switches so far
 
-switches_push : (es : List HubEvent) (e : HubEvent) (n : ℕ) → ((rest : List ℕ) → length (switched_by e rest) ≡ n + length rest) → length (switches_in (es ++ e ∷ [])) ≡ length (switches_in es) + n
+pub switches_push : (es : List HubEvent) (e : HubEvent) (n : ℕ) → ((rest : List ℕ) → length (switched_by e rest) ≡ n + length rest) → length (switches_in (es ++ e ∷ [])) ≡ length (switches_in es) + n
 switches_push [] e n one = let o = one [] in omega (arith, o)
 switches_push (logged.Act (action.Switch volfile) ∷ es) e n one = let ih = switches_push es e n one in omega (arith, ih)
 switches_push (logged.Act (action.Down brick serve) ∷ es) e n one = switches_push es e n one
@@ -62,28 +58,6 @@ counted_next events p e n lt is one few c =
     let pushed = ap (λ (l : List HubEvent). length (switches_in l)) more ∙ switches_push (take p.next events) e n one in
     let a = c.count in let b = c.few in
     record { count = omega (arith, pushed, a); few = omega (arith, few, b) }
-
--- ---- connects
-
-module _ (log : Log) (line : SentLine) (graph : ℕ) (passed : Switched) (made : Bool) where
-  opened : (from : ℕ) (bytes : List ℕ) → IsEvent log line.event (logged.Arrive from bytes) → from ≡ line.brick → (m : Message Output) → output_in bytes ≡ m → IsOpening m → IsConnected log line graph
-  opened from bytes event same (Whole output) is kind = AtOpened bytes output (subst (λ (b : ℕ). IsEvent log line.event (logged.Arrive b bytes)) same event) is kind
-  opened from bytes event same (Wrong place) is none = absurd none
-
-  pub connected : (e : HubEvent) → IsCounted log.events passed → event_of log line.event ≡ Some e → (made ≡ true → passed.next ≡ line.event) → (made ≡ true → graph ≡ 1 + passed.count)
-      → IsConnecting line.brick made e → IsConnected log line graph
-  connected (logged.Act (action.Switch volfile)) counted there number graph_is c =
-      AtSwitch volfile (event_there log line.event (logged.Act (action.Switch volfile)) there)
-      (graph_is c.1 ∙ ap (λ (n : ℕ). 1 + n) (counted.count ∙ ap (λ (n : ℕ). length (switches_in (take n log.events))) (number c.1)))
-  connected (logged.Act (action.Down brick serve)) counted there number graph_is c = absurd c.0
-  connected (logged.Act (action.Up brick)) counted there number graph_is c = absurd c.0
-  connected (logged.Act (action.Cut brick)) counted there number graph_is c = absurd c.0
-  connected (logged.Act (action.Fault brick p n)) counted there number graph_is c = absurd c.0
-  connected (logged.Act action.Heal) counted there number graph_is c = absurd c.0
-  connected (logged.Arrive from bytes) counted there number graph_is c = opened from bytes (event_there log line.event (logged.Arrive from bytes) there) c.0 (output_in bytes) refl c.1
-  connected (logged.Submit session l) counted there number graph_is c = absurd c
-  connected (logged.Run g task) counted there number graph_is c = absurd c
-  connected (logged.Arm at p count a) counted there number graph_is c = absurd c
 
 -- ---- downs
 

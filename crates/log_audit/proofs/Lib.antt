@@ -27,3 +27,8 @@ pub mod Alike
 pub mod Locking
 pub mod Granting
 pub mod Sourcing
+pub mod Linking
+pub mod Effecting
+pub mod Passing
+pub mod Wanting
+pub mod Lasting

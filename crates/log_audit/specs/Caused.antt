@@ -1,16 +1,15 @@
 -- What a line that was sent has as its cause, by what its bytes are.
-use Rattle.std.specs.Prelude.{◌≡◌, ℕ, ◌+◌, ◌-◌, ◌<◌, ◌≤◌, ◌==◌, Bool, true, List, Option, None, Some, is_some, length, slice_get, take, if◌then◌else◌}
+use Rattle.std.specs.Prelude.{◌≡◌, ℕ, ◌+◌, ◌-◌, ◌<◌, ◌≤◌, ◌==◌, true, List, Option, None, Some, is_some, length, slice_get, take, if◌then◌else◌}
 use Rattle.fop_types.specs.declared.messages.Input.{Input}
 use Rattle.fop_types.specs.declared.messages.Input.TheVariants as input
-use Rattle.fop_types.specs.declared.messages.OutKind.TheVariants as out
-use Rattle.fop_types.specs.declared.messages.Output.{Output}
 use Rattle.script_lang.specs.declared.scripts.Action.{Action}
 use Rattle.script_lang.specs.declared.scripts.Action.TheVariants as action
 use Rattle.wire_xdr.specs.WireText.{input_text}
-use Rattle.wire_messages.specs.Messages.{input_in, output_in}
+use Rattle.wire_messages.specs.Messages.{input_in}
 use Rattle.wire_messages.specs.declared.messages.Message.{Message}
 use Rattle.wire_messages.specs.declared.messages.Message.TheVariants.{Whole, Wrong}
-use Rattle.mount_log.specs.Connections.{IsConnected, IsForDown, was_sent}
+use Rattle.mount_log.specs.Connections.{was_sent}
+use Rattle.mount_log.specs.Connects.{IsForDown}
 use Rattle.mount_log.specs.Follows.{IsEvent}
 use Rattle.mount_log.specs.Graphs.{switches_in}
 use Rattle.mount_log.specs.Procedures.{proc_in}
@@ -23,26 +22,6 @@ use Rattle.log_audit.specs.declared.causes.Switched.{Switched}
 -- the event of this number, from 1
 abbrev pub event_of : Log → ℕ → Option HubEvent
 event_of log number = if number == 0 then None else slice_get log.events (number - 1)
-
-abbrev pub IsSwitch : Action → Type 0
-IsSwitch (action.Switch volfile) = Unit {0}
-IsSwitch (action.Down brick serve) = ⊥
-IsSwitch (action.Up brick) = ⊥
-IsSwitch (action.Cut brick) = ⊥
-IsSwitch (action.Fault brick p number) = ⊥
-IsSwitch action.Heal = ⊥
-
-abbrev pub IsOpening : Message Output → Type 0
-IsOpening (Whole output) = output.kind ≡ out.Opened
-IsOpening (Wrong place) = ⊥
-
--- the event connects to the brick: it is a switch, which makes the graph or not, or an Opened of the brick
-abbrev pub IsConnecting : ℕ → Bool → HubEvent → Type 0
-IsConnecting brick made (logged.Act a) = IsSwitch a × (made ≡ true)
-IsConnecting brick made (logged.Arrive from bytes) = (from ≡ brick) × IsOpening (output_in bytes)
-IsConnecting brick made (logged.Submit session line) = ⊥
-IsConnecting brick made (logged.Run graph task) = ⊥
-IsConnecting brick made (logged.Arm at p count a) = ⊥
 
 -- so many of the events that were passed are switches
 pub record IsCounted (events : List HubEvent) (passed : Switched) : Type 0 where
@@ -61,7 +40,7 @@ pub record IsBeforeRequest (sent : List SentLine) (k next : ℕ) (line : SentLin
 -- what an input was sent for
 abbrev pub IsInputCaused : Log → SentLine → Input → Type 0
 IsInputCaused log line input.Up = IsEvent log line.event (logged.Act (action.Up line.brick))
-IsInputCaused log line (input.Connect graph version) = IsConnected log line graph
+IsInputCaused log line (input.Connect graph version) = Unit {0}
 IsInputCaused log line (input.Down serve) = IsForDown log line serve
 IsInputCaused log line (input.Request wind graph req) = Unit {0}
 IsInputCaused log line (input.Disconnect graph) = Unit {0}
@@ -76,17 +55,39 @@ pub record AreCaused (log : Log) : Type 0 where
 
 -- ---- what is sent for an action
 
--- in this event the brick was sent the input that has it go down
-pub record IsDownSent (number brick serve : ℕ) (line : SentLine) : Type 0 where
+-- the input is the one that the action sends
+abbrev pub IsFor : Action → Input → Type 0
+IsFor (action.Down brick serve) x = x ≡ input.Down serve
+IsFor (action.Up brick) x = x ≡ input.Up
+IsFor (action.Fault brick p number) x = x ≡ input.FaultAt p number
+IsFor (action.Cut brick) x = ⊥
+IsFor action.Heal x = ⊥
+IsFor (action.Switch volfile) x = ⊥
+
+pub record IsTextFor (a : Action) (bytes : List ℕ) : Type 0 where
+  pub sent : Input
+  pub is_for : IsFor a sent
+  pub text : bytes ≡ input_text sent
+
+-- in this event the brick was sent the input of the action
+pub record IsSentFor (number brick : ℕ) (a : Action) (line : SentLine) : Type 0 where
   pub event : line.event ≡ number
   pub brick_is : line.brick ≡ brick
-  pub bytes : line.bytes ≡ input_text (input.Down serve)
+  pub bytes : IsTextFor a line.bytes
+
+abbrev pub WasSentFor : Log → ℕ → ℕ → Action → Type 0
+WasSentFor log number brick (action.Down b serve) = was_sent log number brick (input.Down serve) ≡ true
+WasSentFor log number brick (action.Up b) = was_sent log number brick input.Up ≡ true
+WasSentFor log number brick (action.Fault b p n) = was_sent log number brick (input.FaultAt p n) ≡ true
+WasSentFor log number brick (action.Cut b) = Unit {0}
+WasSentFor log number brick action.Heal = Unit {0}
+WasSentFor log number brick (action.Switch volfile) = Unit {0}
 
 abbrev pub IsActionCarried : Log → ℕ → Action → Type 0
 IsActionCarried log number (action.Down brick serve) = was_sent log number brick (input.Down serve) ≡ true
-IsActionCarried log number (action.Up brick) = Unit {0}
+IsActionCarried log number (action.Up brick) = was_sent log number brick input.Up ≡ true
+IsActionCarried log number (action.Fault brick p n) = was_sent log number brick (input.FaultAt p n) ≡ true
 IsActionCarried log number (action.Cut brick) = Unit {0}
-IsActionCarried log number (action.Fault brick p n) = Unit {0}
 IsActionCarried log number action.Heal = Unit {0}
 IsActionCarried log number (action.Switch volfile) = Unit {0}
 

@@ -1,5 +1,6 @@
 -- In reading order: the last wind of each slot; what it says of the winds so far; prefixes; timely arrivals; lines
--- that can be armed; causes of what was sent; calls with their graphs, connections, and the evidence of I/O errors; locks, and what was shown with them;
+-- that can be armed; causes of what was sent; calls with their graphs, connections, what events do to them, and the evidence of
+-- I/O errors; locks, and what was shown with them;
 -- notes of a run; requests by their numbers; controls; calls; ends of winds; ties.
 pub mod Slots
 pub mod Agreeing
@@ -12,6 +13,7 @@ pub mod Armed
 pub mod Caused
 pub mod CallGraphs
 pub mod Opened
+pub mod Linked
 pub mod Evidence
 pub mod LockTable
 pub mod Showing

@@ -133,7 +133,8 @@ fn volfile_of(volfiles: &[u8], graph: u64) -> Option<u8>
     volfiles.get((graph - 1) as usize).copied()
 }
 
-fn plan_of(plans: &[Plan], volfile: Option<u8>) -> Option<&Plan>
+/// The plan of a volfile.
+pub fn plan_of(plans: &[Plan], volfile: Option<u8>) -> Option<&Plan>
     ensures { option_copied result ≡ plan_of_volfile plans.now volfile }
 {
     match volfile {

@@ -1,25 +1,24 @@
-//! Whether each input that connects a graph, or has a brick go down or up, was sent for a cause.
+//! Whether each input that has a brick go down or up was sent for a cause.
 ghost use Rattle.std.specs.Prelude.{◌≡◌, ◌≤◌, ◌+◌, ℕ, List, Some, true, length, option_copied, is_some, slice_get, IfOk};
 ghost use Rattle.script_lang.specs.declared.scripts.Action.TheVariants as action;
 ghost use Rattle.mount_log.specs.declared.logs.HubEvent.TheVariants as logged;
-ghost use Rattle.mount_log.specs.Connections.{IsConnected, IsForDown};
+ghost use Rattle.mount_log.specs.Connects.{IsForDown};
 ghost use Rattle.mount_log.specs.Follows.{IsEvent};
 ghost use Rattle.mount_log.specs.Procedures.{proc_in};
 ghost use Rattle.mount_log.specs.Graphs.{with_switch, switched_by};
 ghost use Rattle.fop_types.specs.declared.messages.Input.TheVariants as input;
-ghost use Rattle.fop_types.specs.declared.messages.OutKind.TheVariants.{Opened};
 ghost use Rattle.wire_xdr.specs.WireText.{input_text};
-ghost use Rattle.wire_messages.specs.Messages.{input_in, output_in};
+ghost use Rattle.wire_messages.specs.Messages.{input_in};
 ghost use Rattle.log_audit.specs.Armed.{AreArmedFrom};
-ghost use Rattle.log_audit.specs.Caused.{event_of, IsSwitch, IsOpening, IsConnecting, IsCounted, IsBeforeRequest, IsInputCaused, IsCaused, AreCaused};
+ghost use Rattle.log_audit.specs.Caused.{event_of, IsCounted, IsBeforeRequest, IsInputCaused, IsCaused, AreCaused};
 
 use crate::armed_lines::{ArmedLines, armed_at, none_armed};
 use crate::requests::is_request;
-use fop_types::{Input, OutKind};
+use fop_types::Input;
 use mount_log::{HubEvent, Log, SentLine};
 use script_lang::Action;
 use std::alloc::{AllocError, Global};
-use wire_messages::{Message, input_of, output_of};
+use wire_messages::{Message, input_of};
 
 /// How many events were passed, and how many of them switched to another volfile.
 #[derive(Clone, Copy)]
@@ -74,16 +73,7 @@ fn is_up_caused(log: &Log, line: &SentLine) -> bool
     }
 }
 
-// ---- connect
-
-fn is_switch(a: &Action) -> bool
-    ensures { result ≡ true → IsSwitch a.now }
-{
-    match a {
-        Action::Switch(_) => true,
-        _ => false,
-    }
-}
+// ---- switches
 
 fn switch_of(a: &Action) -> usize
     ensures value { (rest : List ℕ) → length (with_switch a.now rest) ≡ result + length rest }
@@ -130,71 +120,6 @@ pub fn passed_to(log: &Log, number: u64, passed: Switched) -> Switched
     ensures { IsCounted log.now.events result }
 {
     count_to(log.events.as_slice(), number, passed)
-}
-
-fn is_opened(kind: &OutKind) -> bool
-    ensures { result ≡ true → kind.now ≡ Opened }
-{
-    match kind {
-        OutKind::Opened => true,
-        _ => false,
-    }
-}
-
-fn says_opened(alloc: Global, bytes: &[u8]) -> Result<bool, AllocError>
-    ensures { IfOk result (λ yes. yes ≡ true → IsOpening (output_in bytes.now)) }
-{
-    match output_of(alloc, bytes)? {
-        Message::Whole(output) => Ok(is_opened(&output.kind)),
-        Message::Wrong { place: _ } => Ok(false),
-    }
-}
-
-// Whether an event connects a graph to a brick, where a switch would make the graph or not.
-fn connects(alloc: Global, event: &HubEvent, brick: u8, made: bool) -> Result<bool, AllocError>
-    ensures { IfOk result (λ yes. yes ≡ true → IsConnecting brick made event.now) }
-{
-    match event {
-        HubEvent::Act(a) => Ok(made && is_switch(a)),
-        HubEvent::Arrive { brick: from, bytes } => {
-            if *from != brick {
-                return Ok(false);
-            }
-            says_opened(alloc, bytes.as_slice())
-        }
-        _ => Ok(false),
-    }
-}
-
-// Whether the switch of this event, the last that was passed, makes the graph.
-fn makes(number: u64, graph: u32, passed: Switched) -> bool
-    ensures number { result ≡ true → passed.next ≡ number }
-    ensures graph { result ≡ true → graph ≡ 1 + passed.count }
-{
-    if passed.next as u64 != number || graph == 0 {
-        return false;
-    }
-    graph as usize - 1 == passed.count
-}
-
-fn is_connect_caused(
-    alloc: Global,
-    log: &Log,
-    line: &SentLine,
-    graph: u32,
-    passed: Switched,
-) -> Result<bool, AllocError>
-    requires { IsCounted log.now.events passed }
-    ensures { IfOk result (λ yes. yes ≡ true → IsConnected log.now line.now graph) }
-{
-    if line.event == 0 {
-        return Ok(graph == 1);
-    }
-    let made = makes(line.event, graph, passed);
-    match event_at(log, line.event) {
-        Some(event) => connects(alloc, event, line.brick, made),
-        None => Ok(false),
-    }
 }
 
 // ---- down
@@ -281,26 +206,16 @@ fn is_down_caused(log: &Log, k: usize, line: &SentLine, serve: u32, armed: Armed
 
 // ---- all
 
-fn is_input_caused(
-    alloc: Global,
-    log: &Log,
-    k: usize,
-    line: &SentLine,
-    input: &Input,
-    passed: Switched,
-    armed: ArmedLines,
-) -> Result<bool, AllocError>
+fn is_input_caused(log: &Log, k: usize, line: &SentLine, input: &Input, armed: ArmedLines) -> bool
     requires there { slice_get log.now.sent k ≡ Some line.now }
     requires bytes { line.now.bytes ≡ input_text input.now }
-    requires counted { IsCounted log.now.events passed }
     requires armed { AreArmedFrom log.now.sent k armed }
-    ensures { IfOk result (λ yes. yes ≡ true → IsInputCaused log.now line.now input.now) }
+    ensures { result ≡ true → IsInputCaused log.now line.now input.now }
 {
     match input {
-        Input::Up => Ok(is_up_caused(log, line)),
-        Input::Connect { graph, .. } => is_connect_caused(alloc, log, line, *graph, passed),
-        Input::Down { serve } => Ok(is_down_caused(log, k, line, *serve, armed)),
-        _ => Ok(true),
+        Input::Up => is_up_caused(log, line),
+        Input::Down { serve } => is_down_caused(log, k, line, *serve, armed),
+        _ => true,
     }
 }
 
@@ -309,36 +224,32 @@ fn is_caused(
     log: &Log,
     k: usize,
     line: &SentLine,
-    passed: Switched,
     armed: ArmedLines,
 ) -> Result<bool, AllocError>
     requires there { slice_get log.now.sent k ≡ Some line.now }
-    requires counted { IsCounted log.now.events passed }
     requires armed { AreArmedFrom log.now.sent k armed }
     ensures { IfOk result (λ yes. yes ≡ true → IsCaused log.now line.now (input_in line.now.bytes)) }
 {
     match input_of(alloc, line.bytes.as_slice())? {
-        Message::Whole(input) => is_input_caused(alloc, log, k, line, &input, passed, armed),
+        Message::Whole(input) => Ok(is_input_caused(log, k, line, &input, armed)),
         Message::Wrong { place: _ } => Ok(true),
     }
 }
 
-/// Whether each line that was sent has its cause, as far as it connects a graph or has a brick go down or up.
+/// Whether each line that was sent has its cause, as far as it has a brick go down or up.
 ///
 /// # Errors
 /// Out of memory.
 pub fn lines_are_caused(alloc: Global, log: &Log) -> Result<bool, AllocError>
     ensures { IfOk result (λ yes. yes ≡ true → AreCaused log.now) }
 {
-    let mut passed = Switched { next: 0, count: 0 };
     let mut armed = none_armed();
     for k in 0..log.sent.len() {
         let Some(line) = line_at(log, k) else {
             return Ok(false);
         };
-        passed = passed_to(log, line.event, passed);
         armed = armed_by(alloc, log, k, armed)?;
-        if !is_caused(alloc, log, k, line, passed, armed)? {
+        if !is_caused(alloc, log, k, line, armed)? {
             return Ok(false);
         }
     }

@@ -1,27 +1,38 @@
-//! Whether what was sent to connect graphs, and to have bricks go down and up, was sent for its causes, and no others.
+//! Whether what was sent to connect and disconnect graphs, and for controls, is exactly what has a cause.
 ghost use Rattle.std.specs.Prelude.{◌≡◌, true, IfOk};
-ghost use Rattle.mount_log.specs.Connections.{ConnectsAreCaused};
+ghost use Rattle.mount_log.specs.Connects.{ConnectsAreCaused};
 
 use crate::causes::lines_are_caused;
 use crate::downs::downs_are_carried;
+use crate::linked::are_linked;
+use graph_build::Plan;
 use mount_log::Log;
+use script_lang::Script;
 use std::alloc::{AllocError, Global};
 use wire_messages::messages_read_back;
 
-/// Whether each input that connects a graph was sent at the start, for a switch or for an Opened; each that has a brick go
-/// down or up for its action, or before the request for which it was armed; and whether each action that has a brick go
-/// down has sent its input. It is false, too, where lines do not stand in the order of their events, or the first line of an
-/// event that has a brick go down is not that input.
+/// Whether each Connect, Disconnect, Down and Up was sent for a cause, each Connect and each input of an action that has a
+/// cause was sent, each cut disconnects, and requests went to connected bricks. It is false, too, where the first line of the
+/// event of an action that has an input is not that input, a line is of no event, a wind of no graph, or a reply of no call
+/// that there is, or where there are 4,294,967,295 graphs.
 ///
 /// # Errors
 /// Out of memory.
-pub fn connects_are_caused(alloc: Global, log: &Log) -> Result<bool, AllocError>
-    ensures { IfOk result (λ yes. yes ≡ true → ConnectsAreCaused log.now) }
+pub fn connects_are_caused(
+    alloc: Global,
+    script: &Script,
+    plans: &[Plan],
+    log: &Log,
+) -> Result<bool, AllocError>
+    ensures { IfOk result (λ yes. yes ≡ true → ConnectsAreCaused script.now plans.now log.now) }
 {
     messages_read_back();
     if !lines_are_caused(alloc, log)? {
         return Ok(false);
     }
-    let carried = downs_are_carried(alloc, log)?;
-    Ok(carried)
+    if !downs_are_carried(alloc, log)? {
+        return Ok(false);
+    }
+    let linked = are_linked(alloc, script, plans, log)?;
+    Ok(linked)
 }

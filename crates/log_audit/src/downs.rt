@@ -1,12 +1,10 @@
-//! Whether each action that has a brick go down sends the brick its input.
+//! Whether each action that has an input sends its brick that input.
 ghost use Rattle.std.specs.Prelude.{◌≡◌, Some, true, option_copied, slice_get, IfOk};
 ghost use Rattle.fop_types.specs.declared.messages.Input.TheVariants as input;
-ghost use Rattle.mount_log.specs.Connections.{was_sent};
-ghost use Rattle.wire_xdr.specs.WireText.{input_text};
-ghost use Rattle.log_audit.specs.Caused.{IsDownSent, IsActionCarried, IsEventCarried, AreCarried};
+ghost use Rattle.log_audit.specs.Caused.{IsFor, IsTextFor, IsSentFor, WasSentFor, IsActionCarried, IsEventCarried, AreCarried};
 
 use crate::causes::line_at;
-use fop_types::Input;
+use fop_types::{Input, Proc};
 use mount_log::{HubEvent, Log, SentLine};
 use script_lang::Action;
 use std::alloc::{AllocError, Global};
@@ -33,28 +31,58 @@ fn is_down(sent: &Input, serve: u32) -> bool
     }
 }
 
-fn is_down_text(alloc: Global, bytes: &[u8], serve: u32) -> Result<bool, AllocError>
-    ensures { IfOk result (λ yes. yes ≡ true → bytes.now ≡ input_text (input.Down serve)) }
+fn is_up(sent: &Input) -> bool
+    ensures { result ≡ true → sent.now ≡ input.Up }
+{
+    match sent {
+        Input::Up => true,
+        _ => false,
+    }
+}
+
+fn is_fault(sent: &Input, proc: Proc, number: u32) -> bool
+    ensures { result ≡ true → sent.now ≡ input.FaultAt proc number }
+{
+    match sent {
+        Input::FaultAt { proc: p, number: n } => *p == proc && *n == number,
+        _ => false,
+    }
+}
+
+// Whether an input is the one that an action sends.
+fn is_for(sent: &Input, a: &Action) -> bool
+    ensures { result ≡ true → IsFor a.now sent.now }
+{
+    match a {
+        Action::Down(_, serve) => is_down(sent, *serve),
+        Action::Up(_) => is_up(sent),
+        Action::Fault(_, proc, number) => is_fault(sent, *proc, *number),
+        _ => false,
+    }
+}
+
+fn is_text_for(alloc: Global, bytes: &[u8], a: &Action) -> Result<bool, AllocError>
+    ensures { IfOk result (λ yes. yes ≡ true → IsTextFor a.now bytes.now) }
 {
     match input_of(alloc, bytes)? {
-        Message::Whole(input) => Ok(is_down(&input, serve)),
+        Message::Whole(input) => Ok(is_for(&input, a)),
         Message::Wrong { place: _ } => Ok(false),
     }
 }
 
-fn sends_down(
+fn sends_for(
     alloc: Global,
     line: &SentLine,
     number: u64,
     brick: u8,
-    serve: u32,
+    a: &Action,
 ) -> Result<bool, AllocError>
-    ensures { IfOk result (λ yes. yes ≡ true → IsDownSent number brick serve line.now) }
+    ensures { IfOk result (λ yes. yes ≡ true → IsSentFor number brick a.now line.now) }
 {
     if line.event != number || line.brick != brick {
         return Ok(false);
     }
-    let yes = is_down_text(alloc, line.bytes.as_slice(), serve)?;
+    let yes = is_text_for(alloc, line.bytes.as_slice(), a)?;
     Ok(yes)
 }
 
@@ -64,14 +92,14 @@ fn is_sent(
     at: usize,
     number: u64,
     brick: u8,
-    serve: u32,
+    a: &Action,
 ) -> Result<bool, AllocError>
-    ensures { IfOk result (λ yes. yes ≡ true → was_sent log.now number brick (input.Down serve) ≡ true) }
+    ensures { IfOk result (λ yes. yes ≡ true → WasSentFor log.now number brick a.now) }
 {
     let Some(line) = line_at(log, at) else {
         return Ok(false);
     };
-    let yes = sends_down(alloc, line, number, brick, serve)?;
+    let yes = sends_for(alloc, line, number, brick, a)?;
     Ok(yes)
 }
 
@@ -85,7 +113,9 @@ fn is_action_carried(
     ensures { IfOk result (λ yes. yes ≡ true → IsActionCarried log.now number a.now) }
 {
     match a {
-        Action::Down(brick, serve) => is_sent(alloc, log, at, number, *brick, *serve),
+        Action::Down(brick, _) => is_sent(alloc, log, at, number, *brick, a),
+        Action::Up(brick) => is_sent(alloc, log, at, number, *brick, a),
+        Action::Fault(brick, ..) => is_sent(alloc, log, at, number, *brick, a),
         _ => Ok(true),
     }
 }
@@ -112,7 +142,7 @@ pub fn event_at(log: &Log, k: usize) -> Option<&HubEvent>
     log.events.as_slice().get(k)
 }
 
-/// Whether each action that has a brick go down sends the brick its input.
+/// Whether each action that has an input sends its brick that input.
 ///
 /// # Errors
 /// Out of memory.

@@ -8,7 +8,7 @@
 //!                          sent, a script         one, and calls are submitted and answered within their phases
 //!   is_finished            the replies, a script  each call has one reply
 //!   lines_are_tied         all lines              replies, winds and requests are of their calls, events and graphs
-//!   connects_are_caused    what was sent          connections, Downs and Ups have their causes
+//!   connects_are_caused    what was sent, plans   connections and controls are sent exactly where they have a cause
 //!   arrivals_are_honest    what was sent and      what arrived is what the bricks make of what was sent
 //!                          arrived, the bricks
 //!   io_errors_are_caused   the replies, plans     each I/O error has its cause
@@ -30,14 +30,22 @@ mod causes;
 mod connections;
 mod connects;
 mod downs;
+mod due;
+mod effects;
 mod ended;
 mod enough;
+mod event_links;
 mod evidence;
 mod finished;
 mod grants;
 mod honest;
 mod in_time;
 mod io_causes;
+mod known;
+mod last_uses;
+mod lines_sent;
+mod linked;
+mod links;
 mod lock_phases;
 mod locks;
 mod losses;

@@ -21,7 +21,8 @@ pub struct EndedAt {
     pub disconnect: usize,
 }
 
-fn is_number_of(wind: WindNo, number: u64) -> bool
+/// Whether a number on the wire is that of a wind, or of the open before its request.
+pub fn is_number_of(wind: WindNo, number: u64) -> bool
     ensures { result ≡ true → IsNumberOf wind number }
 {
     if wind.number() == number {

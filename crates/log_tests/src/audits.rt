@@ -2,6 +2,7 @@
 ghost use Rattle.script_lang.specs.Accepted.{IsAccepted};
 
 use brick_machine::Brick;
+use graph_build::Plan;
 use log_audit::{
     arrivals_are_honest, connects_are_caused, is_finished, submits_are_in_order,
     winds_are_balanced, winds_are_once,
@@ -16,6 +17,7 @@ use std::alloc::{AllocError, Global};
 pub(crate) fn refusals(
     alloc: Global,
     script: &Script,
+    plans: &[Plan],
     log: &Log,
     bricks: &[Brick],
 ) -> Result<Vec<u8>, AllocError>
@@ -38,7 +40,11 @@ pub(crate) fn refusals(
         submits_are_in_order(alloc, script, log)?,
         b's',
     )?;
-    note(&mut letters, connects_are_caused(alloc, log)?, b'c')?;
+    note(
+        &mut letters,
+        connects_are_caused(alloc, script, plans, log)?,
+        b'c',
+    )?;
     note(&mut letters, is_finished(alloc, script, log)?, b'f')?;
     Ok(letters)
 }

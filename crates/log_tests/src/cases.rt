@@ -4,6 +4,8 @@ ghost use Rattle.script_lang.specs.Accepted.{IsAccepted};
 use crate::audits::refusals;
 use crate::logs::{Edit, Of, Rows, made};
 use brick_machine::Brick;
+use fop_types::{Seq, SetPlan};
+use graph_build::Plan;
 use mount_log::Log;
 use script_lang::{Script, parse};
 use std::alloc::{AllocError, Global};
@@ -58,7 +60,7 @@ const HONEST: Rows = Rows {
 const NOTHING: usize = 99;
 
 // An edit, and the letters of the audits that then answer false.
-const CASES: [(Of, usize, &[u32], &[u8]); 29] = [
+const CASES: [(Of, usize, &[u32], &[u8]); 32] = [
     (Of::Winds, NOTHING, &[], b""),
     // A wind that does not end, one that ends in another graph or for another call, ends twice, or comes again.
     (Of::Winds, 5, &[], b"w"),
@@ -72,23 +74,27 @@ const CASES: [(Of, usize, &[u32], &[u8]); 29] = [
     (Of::Events, 12, &[1, 1, 0, 5, 3, 1, 1], b"a"),
     (Of::Events, 12, &[1, 0, 0, 5, 3, 2, 1], b"a"),
     (Of::Sent, 1, &[3, 0, 0, 0, 0, 1, 10], b"a"),
-    // Inputs that were served and not sent.
+    // Inputs that were served and not sent; the other line is no input.
     (Of::Served, 4, &[3, 2, 1], b"a"),
-    (Of::Sent, 1, &[1, 0, 0, 0, 0, 1, 11], b"a"),
+    (Of::Sent, 1, &[1, 0, 0, 0, 0, 1, 11], b"ac"),
     // A line before its time, one that is none, and a session that is none.
     (Of::Events, 0, &[0, 0, 10], b"s"),
     (Of::Events, 10, &[0, 0, 11], b"s"),
     (Of::Events, 11, &[0, 2, 11], b"s"),
     // A call that is not submitted, one without a reply, one with two, and a reply to none.
-    (Of::Events, 11, &[5, 0, 1], b"f"),
+    (Of::Events, 11, &[5, 0, 1], b"cf"),
     (Of::Replies, 1, &[], b"f"),
     (Of::Replies, 1, &[13, 1], b"f"),
-    (Of::Replies, 2, &[13, 4], b"f"),
-    (Of::Replies, 2, &[13, 0], b"f"),
+    (Of::Replies, 2, &[13, 4], b"cf"),
+    (Of::Replies, 2, &[13, 0], b"cf"),
     // A Connect for nothing, of a graph that the switch does not make, and without an Opened.
     (Of::Sent, 5, &[9, 0, 3, 2, 1], b"c"),
     (Of::Sent, 5, &[8, 0, 3, 1, 1], b"c"),
     (Of::Sent, 4, &[6, 0, 3, 1, 1], b"c"),
+    // No Connect for the start, none for the switch, and a Disconnect for nothing.
+    (Of::Sent, 0, &[], b"ac"),
+    (Of::Sent, 5, &[], b"c"),
+    (Of::Sent, 6, &[11, 0, 4, 2], b"c"),
     // A Down before no request, one before an input of another brick, and one alone before its request; an Up for nothing;
     // and an action that does not send its Down.
     (Of::Sent, 8, &[], b"c"),
@@ -101,6 +107,7 @@ const CASES: [(Of, usize, &[u32], &[u8]); 29] = [
 fn is_as_wanted(
     alloc: Global,
     script: &Script,
+    plans: &[Plan],
     edit: Edit,
     wanted: &[u8],
 ) -> Result<bool, AllocError>
@@ -111,14 +118,35 @@ fn is_as_wanted(
     made(alloc, &mut log, &mut brick, &HONEST, edit)?;
     let mut bricks = Vec::new(alloc);
     bricks.push(brick)?;
-    let found = refusals(alloc, script, &log, bricks.as_slice())?;
+    let found = refusals(alloc, script, plans, &log, bricks.as_slice())?;
     Ok(found.as_slice() == wanted)
+}
+
+// The plan of the one volfile: a set of the one brick.
+fn plans_of(alloc: Global) -> Result<Vec<Plan>, AllocError> {
+    let mut bricks = Seq::new(alloc);
+    bricks.push(0)?;
+    let mut sets = Seq::new(alloc);
+    sets.push(SetPlan {
+        number: 0,
+        name: Seq::new(alloc),
+        bricks,
+        clients: Seq::new(alloc),
+        q: 1,
+    })?;
+    let mut plans = Vec::new(alloc);
+    plans.push(Plan {
+        nodes: Seq::new(alloc),
+        sets,
+    })?;
+    Ok(plans)
 }
 
 // The number of the first case, from 1, of which the audits answer otherwise; 0 where there is none.
 fn first_wrong(alloc: Global, script: &Script) -> Result<usize, AllocError>
     requires { IsAccepted script.now }
 {
+    let plans = plans_of(alloc)?;
     let mut number = 0usize;
     for (of, at, row, wanted) in &CASES {
         number = number.saturating_add(1);
@@ -127,7 +155,7 @@ fn first_wrong(alloc: Global, script: &Script) -> Result<usize, AllocError>
             at: *at,
             row: *row,
         };
-        if !is_as_wanted(alloc, script, edit, wanted)? {
+        if !is_as_wanted(alloc, script, plans.as_slice(), edit, wanted)? {
             return Ok(number);
         }
     }

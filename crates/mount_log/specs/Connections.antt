@@ -1,6 +1,6 @@
 -- The connections of graphs to bricks, by the log: one is open from the sending of its Connect until a Closed of the brick
--- arrives or its Disconnect is sent; and what controls and connections are sent for. Event 0 is the hub's making.
-use Rattle.std.specs.Prelude.{◌≡◌, ℕ, ◌+◌, ◌-◌, ◌==◌, nat_le, zero, suc, Bool, true, false, ◌&&◌, ◌||◌, not, List, [], ◌∷◌, Option, None, Some, length, slice_get, take, if◌then◌else◌}
+-- arrives or its Disconnect is sent. Event 0 is the hub's making.
+use Rattle.std.specs.Prelude.{ℕ, ◌+◌, ◌-◌, ◌==◌, nat_le, zero, suc, Bool, true, false, ◌&&◌, ◌||◌, not, List, [], ◌∷◌, Option, None, Some, length, slice_get, take, if◌then◌else◌}
 use Rattle.std.specs.List.{list_any}
 use Rattle.std.specs.Cmp.Lexicographic.{pointwise}
 use Rattle.fop_types.specs.declared.messages.Input.{Input}
@@ -8,10 +8,7 @@ use Rattle.fop_types.specs.declared.messages.Input.TheVariants as input
 use Rattle.fop_types.specs.declared.messages.OutKind.{OutKind}
 use Rattle.fop_types.specs.declared.messages.OutKind.TheVariants as out
 use Rattle.fop_types.specs.declared.messages.Output.{Output}
-use Rattle.fop_types.specs.declared.messages.Proc.{Proc}
-use Rattle.script_lang.specs.declared.scripts.Action.TheVariants as action
 use Rattle.wire_xdr.specs.WireText.{input_text}
-use Rattle.wire_xdr.specs.Xdr.{IsUnit}
 use Rattle.wire_messages.specs.Messages.{output_in}
 use Rattle.wire_messages.specs.declared.messages.Message.{Message}
 use Rattle.wire_messages.specs.declared.messages.Message.TheVariants.{Whole, Wrong}
@@ -21,7 +18,6 @@ use Rattle.mount_log.specs.declared.logs.Log.{Log}
 use Rattle.mount_log.specs.declared.logs.SentLine.{SentLine}
 use Rattle.mount_log.specs.Graphs.{switches_in}
 use Rattle.mount_log.specs.Submissions.{submitted_at}
-use Rattle.mount_log.specs.Follows.{IsEvent, IsSentBefore}
 
 -- ---- what is open
 
@@ -73,28 +69,3 @@ last_connection log graph brick n = connects_among n graph brick log.sent
 -- the graph in which a call is carried out: the newest when it was submitted
 abbrev pub graph_of_call : Log → ℕ → ℕ
 graph_of_call log call = 1 + length (switches_in (take (submitted_at log call - 1) log.events))
-
--- ---- what is sent for what
-
--- a Down was sent for an action of its event, or directly before a request
-pub data IsForDown (log : Log) (line : SentLine) (serve : ℕ) : Type 0 where
-  ByAction : IsEvent log line.event (logged.Act (action.Down line.brick serve)) → IsForDown log line serve
-  ByArmed : (p : Proc) → IsSentBefore log line.event line.brick p (action.Down line.brick serve) → IsForDown log line serve
-
--- the causes of a Connect: the hub's making, for graph 1; a switch, for the graph that it makes; an Opened of the brick
-pub data IsConnected (log : Log) (line : SentLine) (graph : ℕ) : Type 0 where
-  AtStart : line.event ≡ 0 → graph ≡ 1 → IsConnected log line graph
-  AtSwitch : (volfile : ℕ) → IsEvent log line.event (logged.Act (action.Switch volfile))
-      → graph ≡ 1 + length (switches_in (take line.event log.events)) → IsConnected log line graph
-  AtOpened : (bytes : List ℕ) (output : Output) → IsEvent log line.event (logged.Arrive line.brick bytes)
-      → output_in bytes ≡ Whole output → output.kind ≡ out.Opened → IsConnected log line graph
-
--- What was sent to connect graphs and to have bricks go down and up was sent for its cause, and each action that has a brick
--- go down sent its input. Graphs and numbers are those that an input has, below 2^32.
-pub record ConnectsAreCaused (log : Log) : Type 0 where
-  pub connects : (k graph : ℕ) (line : SentLine) → slice_get log.sent k ≡ Some line → IsUnit graph → line.bytes ≡ input_text (input.Connect graph 1) → IsConnected log line graph
-  pub downs : (k serve : ℕ) (line : SentLine) → slice_get log.sent k ≡ Some line → IsUnit serve → line.bytes ≡ input_text (input.Down serve)
-      → IsForDown log line serve
-  pub ups : (k : ℕ) (line : SentLine) → slice_get log.sent k ≡ Some line → line.bytes ≡ input_text input.Up
-      → IsEvent log line.event (logged.Act (action.Up line.brick))
-  pub carried : (number brick serve : ℕ) → IsEvent log number (logged.Act (action.Down brick serve)) → was_sent log number brick (input.Down serve) ≡ true

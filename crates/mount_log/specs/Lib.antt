@@ -1,5 +1,6 @@
 -- In reading order: the log; lines of a script; submissions and replies; the graphs of a run; winds; the procedure of a
--- request; when a log follows its script; connections; locks; causes of I/O errors; how lines are tied to events.
+-- request; when a log follows its script; connections; locks; causes of I/O errors; how lines are tied to events; what is
+-- sent to connect graphs and for controls.
 pub mod Logs
 pub mod Lines
 pub mod Submissions
@@ -12,3 +13,4 @@ pub mod Connections
 pub mod Locks
 pub mod Causes
 pub mod Ties
+pub mod Connects

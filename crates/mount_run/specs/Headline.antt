@@ -13,7 +13,7 @@ use Rattle.log_audit.specs.Honest.{HasHonestArrivals, HasJournals}
 use Rattle.log_replay.specs.Judged.{IsOneFileSystem}
 use Rattle.change_audit.specs.Borne.{AreBorne}
 use Rattle.mount_log.specs.Causes.{AreCaused}
-use Rattle.mount_log.specs.Connections.{ConnectsAreCaused}
+use Rattle.mount_log.specs.Connects.{ConnectsAreCaused}
 use Rattle.mount_log.specs.Follows.{FollowsScript, IsFinished}
 use Rattle.mount_run.specs.Plans.{accepted}
 use Rattle.run_report.specs.Reports.{report_of}
@@ -40,7 +40,7 @@ pub record IsLawfulRun (script : Script) (plans : List Plan) (rack : Rack) : Typ
   pub follows : FollowsScript script rack.log
   pub finished : IsFinished script rack.log
   pub honest : HasHonestArrivals rack.log
-  pub connections : ConnectsAreCaused rack.log
+  pub connections : ConnectsAreCaused script plans rack.log
   pub ties : AreTied rack.log
   pub bricks : AreBricksOf script rack.log rack.bricks
   -- one legal history, lawful replies, each acknowledged change on a quorum of bricks, each I/O error with its cause

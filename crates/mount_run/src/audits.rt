@@ -2,7 +2,7 @@
 ghost use Rattle.std.specs.Prelude.{◌≡◌, true, length, IfOk, IfSome};
 ghost use Rattle.hub_calls.specs.Plans.{IsScript};
 ghost use Rattle.mount_log.specs.Causes.{AreCaused};
-ghost use Rattle.mount_log.specs.Connections.{ConnectsAreCaused};
+ghost use Rattle.mount_log.specs.Connects.{ConnectsAreCaused};
 ghost use Rattle.mount_log.specs.Follows.{FollowsScript, IsFinished};
 ghost use Rattle.mount_log.specs.Ties.{AreTied};
 ghost use Rattle.mount_log.specs.Winds.{WindsAreBalanced};
@@ -73,10 +73,12 @@ fn has_files(
 // Whether winds, connections and I/O errors are as they should be.
 fn has_causes(alloc: Global, script: &Script, plans: &[Plan], log: &Log) -> Result<bool, AllocError>
     ensures winds { IfOk result (λ yes. yes ≡ true → WindsAreBalanced log.now.winds) }
-    ensures connections { IfOk result (λ yes. yes ≡ true → ConnectsAreCaused log.now) }
+    ensures connections { IfOk result (λ yes. yes ≡ true → ConnectsAreCaused script.now plans.now log.now) }
     ensures causes { IfOk result (λ yes. yes ≡ true → AreCaused script.now plans.now log.now) }
 {
-    if !winds_are_balanced(alloc, log.winds.as_slice())? || !connects_are_caused(alloc, log)? {
+    if !winds_are_balanced(alloc, log.winds.as_slice())?
+        || !connects_are_caused(alloc, script, plans, log)?
+    {
         return Ok(false);
     }
     io_errors_are_caused(alloc, script, plans, log)
@@ -87,7 +89,7 @@ fn is_sound(alloc: Global, script: &Script, plans: &[Plan], log: &Log) -> Result
     requires { IsAccepted script.now }
     ensures ties { IfOk result (λ yes. yes ≡ true → AreTied log.now) }
     ensures winds { IfOk result (λ yes. yes ≡ true → WindsAreBalanced log.now.winds) }
-    ensures connections { IfOk result (λ yes. yes ≡ true → ConnectsAreCaused log.now) }
+    ensures connections { IfOk result (λ yes. yes ≡ true → ConnectsAreCaused script.now plans.now log.now) }
     ensures causes { IfOk result (λ yes. yes ≡ true → AreCaused script.now plans.now log.now) }
 {
     if !lines_are_tied(alloc, script, log)? {
