@@ -19,6 +19,7 @@ pub mod Evidenced
 pub mod Phased
 pub mod Controlling
 pub mod Calling
+pub mod OneByOne
 pub mod Running
 pub mod Tying
 pub mod Numbering

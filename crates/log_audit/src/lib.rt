@@ -20,6 +20,7 @@
 #![tactic(auto)]
 
 mod acts;
+mod alone;
 mod armed_lines;
 mod brick_replies;
 mod bricks;

@@ -3,12 +3,13 @@ ghost use Rattle.std.specs.Prelude.{◌≡◌, true, IfOk, IfSome, length};
 ghost use Rattle.script_lang.specs.Accepted.{IsAccepted};
 ghost use Rattle.mount_log.specs.Follows.{RunOf, FollowsScript};
 ghost use Rattle.log_audit.specs.Armed.{AreAllArmed};
-ghost use Rattle.log_audit.specs.Called.{AreInPhases, AreAnsweredIn, HaveCalls};
+ghost use Rattle.log_audit.specs.Called.{AreOneByOne, AreInPhases, AreAnsweredIn, HaveCalls};
 ghost use Rattle.log_audit.specs.Controlled.{AreCarriedOut, AreTables};
 ghost use Rattle.log_audit.specs.Noted.{AreRising};
 ghost use Rattle.log_audit.specs.Numbered.{AreNth};
 
 use crate::acts::acts_are_of_controls;
+use crate::alone::{are_one_by_one, reply_places};
 use crate::armed_lines::{ArmedLines, all_armed};
 use crate::calls_made::{CallMade, are_answered_in, are_in_phases, calls_made};
 use crate::carried::{SentTables, phases_are_carried};
@@ -42,7 +43,15 @@ fn are_answered(log: &Log, notes: &RunNotes, calls: &[CallMade]) -> bool
     are_answered_in(calls, notes.ended.as_slice(), last, log.replies.as_slice())
 }
 
-// Whether calls were submitted and answered within their phases, by the notes.
+fn are_alone(alloc: Global, log: &Log, calls: &[CallMade]) -> Result<bool, AllocError>
+    ensures { IfOk result (λ yes. yes ≡ true → AreOneByOne log.now calls.now) }
+{
+    let places = reply_places(alloc, calls.len(), log.replies.as_slice())?;
+    let yes = are_one_by_one(log, calls, places.as_slice());
+    Ok(yes)
+}
+
+// Whether sessions submit one call at a time, and calls were submitted and answered within their phases, by the notes.
 fn calls_are_in_phases(
     alloc: Global,
     script: &Script,
@@ -55,6 +64,9 @@ fn calls_are_in_phases(
     let Some(calls) = calls_made(alloc, script, log)? else {
         return Ok(false);
     };
+    if !are_alone(alloc, log, calls.as_slice())? {
+        return Ok(false);
+    }
     if !are_submitted(log, notes, calls.as_slice()) {
         return Ok(false);
     }

@@ -1,32 +1,22 @@
--- When a log follows a script, and when it is finished. Each session's calls are submitted in order, those of a phase once
--- all earlier phases have ended; each control of a phase is carried out once, as an event of its own, or, where it was armed,
--- directly before its request; each control before a request is armed once; and there is no other action.
-use Rattle.std.specs.Prelude.{◌≡◌, ℕ, ◌+◌, ◌-◌, ◌<◌, ◌≤◌, ◌==◌, nat_lt, ◌&&◌, Bool, false, List, [], ◌∷◌, Option, Some, None, length, slice_get, take, if◌then◌else◌}
-use Rattle.fop_types.specs.declared.messages.Input.{Input}
-use Rattle.fop_types.specs.declared.messages.Input.TheVariants as input
+-- When a log follows a script, and when it is finished. Each session's calls are submitted in order and one at a time, those of a
+-- phase once all earlier phases have ended; each control of a phase is carried out once, as an event of its own, or, where it
+-- was armed, directly before its request; each control before a request is armed once; and there is no other action.
+use Rattle.std.specs.Prelude.{◌≡◌, ℕ, ◌+◌, ◌-◌, ◌<◌, ◌≤◌, ◌==◌, Bool, List, [], ◌∷◌, Option, Some, None, length, slice_get, take, if◌then◌else◌}
 use Rattle.fop_types.specs.declared.messages.Proc.{Proc}
 use Rattle.script_lang.specs.Accepted.{calls_of}
 use Rattle.script_lang.specs.declared.scripts.Action.{Action}
-use Rattle.script_lang.specs.declared.scripts.Action.TheVariants as action
-use Rattle.script_lang.specs.declared.scripts.CallLine.{CallLine}
 use Rattle.script_lang.specs.declared.scripts.ControlLine.{ControlLine}
 use Rattle.script_lang.specs.declared.scripts.Phase.{Phase}
 use Rattle.script_lang.specs.declared.scripts.Script.{Script}
 use Rattle.script_lang.specs.declared.scripts.When.TheVariants as moment
-use Rattle.wire_xdr.specs.WireText.{input_text}
-use Rattle.mount_log.specs.Procedures.{rank_in, proc_in}
-use Rattle.mount_log.specs.declared.logs.HubEvent.{HubEvent}
 use Rattle.mount_log.specs.declared.logs.HubEvent.TheVariants as logged
 use Rattle.mount_log.specs.declared.logs.Log.{Log}
 use Rattle.mount_log.specs.declared.logs.ReplyLine.{ReplyLine}
-use Rattle.mount_log.specs.declared.logs.SentLine.{SentLine}
 use Rattle.mount_log.specs.declared.places.LineAt.{LineAt}
-use Rattle.mount_log.specs.Submissions.{session_line, place_of_line, submits_of, submissions_of, submitted_at, replied_at}
-
--- the event of this number, from 1
-pub record IsEvent (log : Log) (number : ℕ) (e : HubEvent) : Type 0 where
-  pub from_one : 1 ≤ number
-  pub there : slice_get log.events (number - 1) ≡ Some e
+use Rattle.mount_log.specs.Submissions.{place_of_line, submits_of, submissions_of, submitted_at, replied_at}
+pub use Rattle.mount_log.specs.Events.{IsEvent}
+pub use Rattle.mount_log.specs.Arms.{input_of, CanBeArmed, AreArmable, IsArmedLine, IsSentBefore, is_rank, is_request_since, requests_since, IsNth}
+pub use Rattle.mount_log.specs.Turns.{IsNextLine, AreInOrder, IsRepliedBy, AreAlone}
 
 -- the control at a place of a phase
 abbrev pub control_in : Option Phase → ℕ → Option ControlLine
@@ -36,83 +26,7 @@ control_in (Some phase) at = slice_get phase.controls at
 abbrev pub control_at : Script → ℕ → ℕ → Option ControlLine
 control_at script phase at = control_in (slice_get script.phases phase) at
 
--- ---- submissions
-
--- a session's next line is submitted, with its number in the script
-pub record IsNextLine (script : Script) (log : Log) (k session line : ℕ) : Type 0 where
-  pub there : CallLine
-  pub next : session_line script session (submits_of session (take k log.events)) ≡ Some there
-  pub number : line ≡ there.line
-
-abbrev pub AreInOrder : Script → Log → Type 0
-AreInOrder script log = (k session line : ℕ) → slice_get log.events k ≡ Some (logged.Submit session line) → IsNextLine script log k session line
-
 -- ---- controls
-
--- the input that an action sends to its brick, if it is one that can be armed
-abbrev pub input_of : Action → Option Input
-input_of (action.Down brick serve) = Some (input.Down serve)
-input_of (action.Fault brick p number) = Some (input.FaultAt p number)
-input_of (action.Up brick) = None
-input_of (action.Cut brick) = None
-input_of action.Heal = None
-input_of (action.Switch volfile) = None
-
--- an action can be armed to send the input
-abbrev pub CanBeArmed : Input → Type 0
-CanBeArmed (input.Down serve) = Unit {0}
-CanBeArmed (input.FaultAt p number) = Unit {0}
-CanBeArmed input.Up = ⊥
-CanBeArmed (input.Connect graph version) = ⊥
-CanBeArmed (input.Disconnect graph) = ⊥
-CanBeArmed (input.Request wind graph req) = ⊥
-
-pub record AreArmable (bytes : List ℕ) : Type 0 where
-  pub sent : Input
-  pub can : CanBeArmed sent
-  pub text : bytes ≡ input_text sent
-
--- in this event the line sends the brick an input that can be armed
-pub record IsArmedLine (number brick : ℕ) (line : SentLine) : Type 0 where
-  pub armable : AreArmable line.bytes
-  pub same_brick : line.brick ≡ brick
-  pub same_event : line.event ≡ number
-
--- In this event the action's input is sent to a brick directly before a request of this procedure. Several actions may be
--- armed for one request, so between the two there may be inputs of others.
-pub record IsSentBefore (log : Log) (number brick : ℕ) (p : Proc) (a : Action) : Type 0 where
-  pub place : ℕ
-  pub request_at : ℕ
-  pub sent : Input
-  pub request : SentLine
-  pub is_input : input_of a ≡ Some sent
-  pub there : slice_get log.sent place ≡ Some (record { event = number; brick = brick; bytes = input_text sent })
-  pub later : place < request_at
-  pub between : (k : ℕ) (line : SentLine) → place < k → k < request_at → slice_get log.sent k ≡ Some line → IsArmedLine number brick line
-  pub request_there : slice_get log.sent request_at ≡ Some request
-  pub same_brick : request.brick ≡ brick
-  pub same_event : request.event ≡ number
-  pub is_request : proc_in request.bytes ≡ Some p
-
--- how many requests of the procedure of this rank were sent to a brick behind an event
-abbrev pub is_rank : ℕ → Option ℕ → Bool
-is_rank rank None = false
-is_rank rank (Some found) = found == rank
-
-abbrev pub is_request_since : ℕ → ℕ → ℕ → SentLine → Bool
-is_request_since since brick rank line = nat_lt since line.event && ((line.brick == brick) && is_rank rank (rank_in line.bytes))
-
-abbrev pub requests_since : ℕ → ℕ → ℕ → List SentLine → ℕ
-requests_since since brick rank [] = 0
-requests_since since brick rank (line ∷ lines) = (if is_request_since since brick rank line then 1 else 0) + requests_since since brick rank lines
-
--- the line at a place is, behind an event, the request of this number to its brick among those of its procedure
-pub record IsNth (log : Log) (since at count : ℕ) : Type 0 where
-  pub line : SentLine
-  pub there : slice_get log.sent at ≡ Some line
-  pub rank : ℕ
-  pub rank_is : rank_in line.bytes ≡ Some rank
-  pub count_is : requests_since since line.brick rank (take (at + 1) log.sent) ≡ count
 
 -- how a control is carried out in an event, in a phase that is behind another: by the event itself, or, where it was armed,
 -- by the line at a place, before the request of its number in the phase
@@ -183,6 +97,7 @@ pub record RunOf (script : Script) (log : Log) : Type 0 where
 
 pub record FollowsScript (script : Script) (log : Log) : Type 0 where
   pub submitted : AreInOrder script log
+  pub alone : AreAlone log
   pub run : RunOf script log
 
 -- ---- finished

@@ -1,5 +1,5 @@
 -- In reading order: the log; lines of a script; submissions and replies; the graphs of a run; winds; the procedure of a
--- request; when a log follows its script; connections; causes of I/O errors; how lines are tied to events.
+-- request; events by their numbers, the turns of sessions, what is armed, when a log follows its script; connections; causes of I/O errors; how lines are tied to events.
 pub mod Logs
 pub mod Lines
 pub mod Submissions
@@ -7,6 +7,9 @@ pub mod Graphs
 pub mod Winds
 pub mod Arrivals
 pub mod Procedures
+pub mod Events
+pub mod Turns
+pub mod Arms
 pub mod Follows
 pub mod Connections
 pub mod Causes
