@@ -2,6 +2,7 @@
 -- that can be armed; causes of what was sent; calls with their graphs, connections, and the evidence of I/O errors;
 -- notes of a run; requests by their numbers; controls; calls; ends of winds; ties.
 pub mod Slots
+pub mod Counting
 pub mod Agreeing
 pub mod Prefixes
 pub mod Arriving

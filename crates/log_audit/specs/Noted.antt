@@ -1,6 +1,6 @@
 -- Notes of a run as functions: the events in which a control was armed and carried out, and the last event of a phase.
 use Rattle.std.specs.Prelude.{◌≡◌, ℕ, ◌+◌, ◌-◌, ◌<◌, ◌≤◌, List, [], Option, None, Some, slice_get, slice_index_or}
-use Rattle.mount_log.specs.Follows.{begun_at}
+use Rattle.mount_log.specs.Phases.{Course, begun_at}
 use Rattle.log_audit.specs.declared.run_notes.Carried.{Carried}
 use Rattle.log_audit.specs.declared.run_notes.ControlAt.{ControlAt}
 use Rattle.log_audit.specs.declared.run_notes.RunNotes.{RunNotes}

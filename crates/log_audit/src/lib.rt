@@ -41,6 +41,7 @@ mod io_causes;
 mod losses;
 mod noting;
 mod nth_requests;
+mod numbers;
 mod phase_ends;
 mod requests;
 mod run;

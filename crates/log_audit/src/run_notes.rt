@@ -1,6 +1,6 @@
 //! Notes of a run: how it carried out its script, as a witness that can be checked against the log.
 ghost use Rattle.std.specs.Prelude.{◌≡◌, option_copied, slice_get};
-ghost use Rattle.mount_log.specs.Follows.{control_at};
+ghost use Rattle.mount_log.specs.Controls.{control_at};
 
 use fop_types::Seq;
 use script_lang::{ControlLine, Phase, Script};

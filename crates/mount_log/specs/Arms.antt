@@ -20,6 +20,15 @@ input_of (action.Cut brick) = None
 input_of action.Heal = None
 input_of (action.Switch volfile) = None
 
+-- the action by which an input that can be armed is sent to a brick
+abbrev pub action_for : ℕ → Input → Option Action
+action_for brick (input.Down serve) = Some (action.Down brick serve)
+action_for brick (input.FaultAt p number) = Some (action.Fault brick p number)
+action_for brick input.Up = None
+action_for brick (input.Connect graph version) = None
+action_for brick (input.Disconnect graph) = None
+action_for brick (input.Request wind graph req) = None
+
 -- an action can be armed to send the input
 abbrev pub CanBeArmed : Input → Type 0
 CanBeArmed (input.Down serve) = Unit {0}
