@@ -18,6 +18,8 @@ pub mod IoCauses
 pub mod Noted
 pub mod Numbered
 pub mod Controlled
+pub mod Timed
+pub mod SentFor
 pub mod Called
 pub mod Ended
 pub mod Tied

@@ -59,3 +59,8 @@ AreRising ended last = (phase : ℕ) → ended_at ended last phase ≤ ended_at 
 pub record IsWithin (ended : List ℕ) (last phase number : ℕ) : Type 0 where
   pub behind : begun ended last phase < number
   pub until : number ≤ ended_at ended last phase
+
+-- ---- the course that the notes say
+
+abbrev pub course_of : RunNotes → ℕ → Course
+course_of notes last = record { ended_at = ended_at notes.ended last; carried_at = carried_at notes.carried; sent_at = sent_at notes.carried; armed_at = armed_at notes.carried }

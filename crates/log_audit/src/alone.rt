@@ -88,7 +88,14 @@ pub fn are_one_by_one(log: &Log, calls: &[CallMade], places: &[usize]) -> bool
         let Some(call) = calls.get(n) else {
             return false;
         };
-        if !are_replied(log, calls, places, call.session, n, call.event.saturating_sub(1)) {
+        if !are_replied(
+            log,
+            calls,
+            places,
+            call.session,
+            n,
+            call.event.saturating_sub(1),
+        ) {
             return false;
         }
     }

@@ -21,6 +21,7 @@
 
 mod acts;
 mod alone;
+mod answered;
 mod armed_lines;
 mod brick_replies;
 mod bricks;
@@ -39,13 +40,17 @@ mod honest;
 mod in_time;
 mod io_causes;
 mod losses;
+mod moments;
 mod noting;
 mod nth_requests;
 mod numbers;
 mod phase_ends;
+mod phase_notes;
 mod requests;
 mod run;
 mod run_notes;
+mod sent_for;
+mod settled;
 mod slots;
 mod submits;
 mod tie_notes;

@@ -5,13 +5,14 @@ ghost use Rattle.mount_log.specs.Controls.{control_at};
 use fop_types::Seq;
 use script_lang::{ControlLine, Phase, Script};
 
-/// The events in which a control was armed, 0 if in none, and carried out; and, where it was carried out before its request,
-/// the place of the line that sent its input.
+/// The events in which a control was armed, 0 if in none, and carried out; where it was carried out before its request, the place
+/// of the line that sent its input; and where it was carried out as its request had come, the place of that.
 #[derive(Clone, Copy)]
 pub struct Carried {
     pub armed: u64,
     pub event: u64,
     pub sent: Option<usize>,
+    pub request: Option<usize>,
 }
 
 /// A control of a script: its phase, and its place among the phase's controls, both from 0.

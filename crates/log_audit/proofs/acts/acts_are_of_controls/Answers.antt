@@ -8,7 +8,7 @@ use Rattle.log_audit.proofs.acts.acts_are_of_controls.Goals as goal
 
 pub loop-k-preserved : goal.loop-k-preserved
 loop-k-preserved c =
-    each_next (λ (n : ℕ) (e : HubEvent). IsOfControl c.args.script.now c.args.notes.now (n + 1) e) c.args.log.now.events c.loop-k.k c.in-Some.event.now (sym c.in-Some.ensures)
+    each_next (λ (n : ℕ) (e : HubEvent). IsOfControl c.args.script.now c.args.notes.now c.len-last.result (n + 1) e) c.args.log.now.events c.loop-k.k c.in-Some.event.now (sym c.in-Some.ensures)
     (c.is_of_control.ensures c.if-not-is_of_control.false) c.loop-k.invariant
 
 pub returns : goal.returns

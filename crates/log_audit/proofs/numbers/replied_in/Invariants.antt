@@ -1,5 +1,4 @@
 use Rattle.std.proofs.Common.{◌≡◌, ◌++◌, ◌+◌, drop, map}
-
 use Rattle.log_audit.proofs.numbers.replied_in.Given as goal
 
 abbrev pub invariant-loop-reply : goal.invariant-loop-reply
