@@ -450,7 +450,7 @@ fn is_how_timely(
         Some(how) => is_timely(
             script, log, tables, numbers, notes, phase, at, control, *how,
         ),
-        None => true,
+        None => false,
     }
 }
 

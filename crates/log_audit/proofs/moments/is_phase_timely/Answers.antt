@@ -10,7 +10,7 @@ use Rattle.log_audit.proofs.moments.is_phase_timely.Goals as goal
 
 pub loop-at-preserved : goal.loop-at-preserved
 loop-at-preserved c =
-    each_next (λ (i : ℕ) (x : ControlLine). IsHowTimely c.args.script.now c.args.log.now c.args.notes.now c.args.phase i x (slice_get c.loop-at.carried i)) c.args.controls.now c.loop-at.at c.in-Some.control.now
+    each_next (λ (i : ℕ) (x : ControlLine). IsHowTimely c.args.script.now c.args.log.now c.args.notes.now c.args.phase i x (slice_get c.carried_of-carried.result.now i)) c.args.controls.now c.loop-at.at c.in-Some.control.now
     (got c.args.controls.now c.loop-at.at c.in-Some.control.now c.in-Some.ensures.lookup.0 c.in-Some.ensures.lookup.1) (c.is_how_timely.ensures c.if-not-is_how_timely.false) c.loop-at.invariant
 
 pub returns : goal.returns
