@@ -174,7 +174,10 @@ fn is_shown_by(
     requires rise { DoAllRise numbers.now }
     ensures { IfOk result (λ yes. yes ≡ true → RunOf script.now log.now) }
 {
-    if !phases_rise(log, notes) || !phases_end(script, log, numbers, notes) {
+    if !phases_rise(log, notes) {
+        return Ok(false);
+    }
+    if !phases_end(script, log, numbers, notes) {
         return Ok(false);
     }
     if !calls_are_in_phases(alloc, script, log, notes)? {
