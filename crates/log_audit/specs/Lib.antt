@@ -1,6 +1,6 @@
--- In reading order: the last wind of each slot; what it says of the winds so far; prefixes; timely arrivals; lines
--- that can be armed; causes of what was sent; calls with their graphs, connections, and the evidence of I/O errors;
--- notes of a run; requests by their numbers; controls; calls; ends of winds; ties.
+-- In reading order: the last wind of each slot; numbers of events; what the winds say so far; prefixes; timely arrivals; lines
+-- that can be armed; causes of what was sent; calls with their graphs, connections, and the evidence of I/O errors; notes of a
+-- run; requests by their numbers; controls, their moments, and what was sent for them; calls; ends of winds; ties.
 pub mod Slots
 pub mod Counting
 pub mod Agreeing

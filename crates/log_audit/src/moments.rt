@@ -14,7 +14,7 @@ use crate::acts::number_of;
 use crate::carried::{SentTables, begun_in, carried_of, is_in_phase, is_nth, number_at};
 use crate::causes::line_at;
 use crate::numbers::Numbers;
-use crate::requests::has_proc;
+use crate::requests::is_request_of;
 use crate::run_notes::{Carried, ControlAt, RunNotes, control_of, phase_at};
 use crate::settled::{are_as_many, is_settled};
 use fop_types::Proc;
@@ -39,7 +39,7 @@ fn is_request(
     requires tables { AreTables notes.now.ended log.now tables.now }
     ensures { result ≡ true → IsRequestOf log.now (begun notes.now.ended (length log.now.events) phase) place brick proc count line.now }
 {
-    if line.brick != brick || !has_proc(line.bytes.as_slice(), proc) {
+    if line.brick != brick || !is_request_of(line.bytes.as_slice(), proc) {
         return false;
     }
     if !is_in_phase(log, notes, phase, line.event) {
@@ -82,7 +82,7 @@ fn is_no_request(
     if line.brick != brick || line.event <= begun_in(log, notes, phase) {
         return true;
     }
-    if !has_proc(line.bytes.as_slice(), proc) {
+    if !is_request_of(line.bytes.as_slice(), proc) {
         return true;
     }
     is_other(tables, place, count)

@@ -51,16 +51,6 @@ pub fn is_request(input: &[u8]) -> bool
 
 /// Whether an input is a request of this procedure.
 pub fn is_request_of(input: &[u8], proc: Proc) -> bool
-    ensures { result ≡ true → proc_in input.now ≡ Some proc }
-{
-    match request_proc(input) {
-        Some(found) => found == proc,
-        None => false,
-    }
-}
-
-/// Whether an input is a request of this procedure: exactly where it is true.
-pub fn has_proc(input: &[u8], proc: Proc) -> bool
     ensures { IsTrue result ↔ (proc_in input.now ≡ Some proc) }
 {
     match request_proc(input) {

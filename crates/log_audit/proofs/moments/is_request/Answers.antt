@@ -6,7 +6,7 @@ use Rattle.log_audit.proofs.moments.is_request.Goals as goal
 
 pub returns : goal.returns
 returns c = λ yes.
-    let proc : proc_in c.args.line.now.bytes ≡ Some c.args.proc = subst (λ (l : List ℕ). proc_in l ≡ Some c.args.proc) c.as_slice.ensures (c.has_proc.ensures.0 c.if-not-has_proc.false) in
+    let proc : proc_in c.args.line.now.bytes ≡ Some c.args.proc = subst (λ (l : List ℕ). proc_in l ≡ Some c.args.proc) c.as_slice.ensures (c.is_request_of.ensures.0 c.if-not-is_request_of.false) in
     let within = c.is_in_phase.ensures c.if-not-is_in_phase.false in
     record {
       there = c.requires.there;
