@@ -122,6 +122,13 @@ module _ (script : Script) (log : Log) (notes : RunNotes) (numbers : Numbers) (a
     by None e none other = absurd cc
     by (Some at) e first second = (out.phases phase at e).turns i j a b first second p q lt
 
+  line : (phase i j m n brick count : ℕ) (p : Proc) (a b : ControlLine) → control_at script phase i ≡ Some a → control_at script phase j ≡ Some b
+      → a.when ≡ moment.Before brick p count → b.when ≡ moment.Before brick p count → sent_at notes.carried phase i ≡ Some m → sent_at notes.carried phase j ≡ Some n → i < j → m < n
+  line phase i j m n brick count p a b x y v w first second lt = by (slice_get script.phases phase) refl x y where
+    by : (o : Option Phase) → slice_get script.phases phase ≡ o → control_in o i ≡ Some a → control_in o j ≡ Some b → m < n
+    by None e none other = absurd cc
+    by (Some at) e one two = (out.phases phase at e).line j b two i a lt one m n brick count p v w first second
+
   timely : (phase at : ℕ) (c : ControlLine) → control_at script phase at ≡ Some c → IsHowTimely script log notes phase at c (how_at notes.carried phase at)
   timely phase at c is = by (slice_get script.phases phase) refl is where
     by : (o : Option Phase) → slice_get script.phases phase ≡ o → control_in o at ≡ Some c → IsHowTimely script log notes phase at c (how_at notes.carried phase at)
@@ -245,6 +252,7 @@ module _ (script : Script) (log : Log) (notes : RunNotes) (numbers : Numbers) (a
       within = λ phase at c is. (within phase at c is).until;
       once = once;
       in_order = turns;
+      in_line = line;
       answered = out.answered;
       no_other = λ number a event. of_control number (logged.Act a) event;
       sent_for = λ k line sent a there is can. out.sent k line there sent a is can;

@@ -20,6 +20,7 @@ use Rattle.mount_log.specs.declared.logs.HubEvent.TheVariants as logged
 use Rattle.mount_log.specs.declared.logs.Log.{Log}
 use Rattle.mount_log.specs.declared.logs.SentLine.{SentLine}
 use Rattle.log_audit.specs.Armed.{AreAllArmed}
+use Rattle.log_audit.specs.InLine.{AreInLine}
 use Rattle.log_audit.specs.Noted.{event_in, among, noted_for, course_of, begun, IsWithin}
 use Rattle.log_audit.specs.Numbered.{AreNth}
 use Rattle.log_audit.specs.SentFor.{AreSentFor}
@@ -132,6 +133,7 @@ pub record AreSoFar (controls : List ControlLine) (carried : List Carried) (n la
 pub record IsPhaseCarried (log : Log) (tables : SentTables) (notes : RunNotes) (phase : ℕ) (controls : List ControlLine) : Type 0 where
   pub each : AreControlsCarried log tables notes phase controls (among (slice_get notes.carried phase))
   pub turns : AreInTurn controls (among (slice_get notes.carried phase))
+  pub line : AreInLine controls (among (slice_get notes.carried phase))
 
 abbrev pub ArePhasesCarried : Script → Log → SentTables → RunNotes → Type 0
 ArePhasesCarried script log tables notes = (k : ℕ) (phase : Phase) → slice_get script.phases k ≡ Some phase → IsPhaseCarried log tables notes k phase.controls

@@ -17,6 +17,7 @@ pub mod Evidence
 pub mod IoCauses
 pub mod Noted
 pub mod Numbered
+pub mod InLine
 pub mod Controlled
 pub mod Timed
 pub mod SentFor

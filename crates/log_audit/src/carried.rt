@@ -9,6 +9,7 @@ ghost use Rattle.log_audit.specs.Controlled.{IsNotedArm, IsArmNoted, IsControlCa
 
 use crate::armed_lines::ArmedLines;
 use crate::causes::{event_at, line_at};
+use crate::in_line::are_in_line;
 use crate::phase_ends::{begun_of, is_within};
 use crate::requests::is_request_of;
 use crate::run_notes::{Carried, ControlAt, RunNotes, phase_at};
@@ -472,6 +473,9 @@ fn is_phase_carried(
 {
     let carried = carried_of(notes, phase);
     if !are_in_turn(controls, carried) {
+        return Ok(false);
+    }
+    if !are_in_line(controls, carried) {
         return Ok(false);
     }
     let yes = are_controls_carried(alloc, log, tables, notes, phase, controls, carried)?;

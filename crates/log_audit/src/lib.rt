@@ -37,6 +37,7 @@ mod enough;
 mod evidence;
 mod finished;
 mod honest;
+mod in_line;
 mod in_time;
 mod io_causes;
 mod losses;

@@ -118,6 +118,9 @@ pub record AreCarried (script : Script) (log : Log) (course : Course) : Type 0 w
   -- controls without a condition are carried out in their order
   pub in_order : (phase i j : ℕ) (a b : ControlLine) → control_at script phase i ≡ Some a → control_at script phase j ≡ Some b
       → a.when ≡ moment.Now → b.when ≡ moment.Now → i < j → course.carried_at phase i < course.carried_at phase j
+  -- controls before one request are sent in their order
+  pub in_line : (phase i j m n brick count : ℕ) (p : Proc) (a b : ControlLine) → control_at script phase i ≡ Some a → control_at script phase j ≡ Some b
+      → a.when ≡ moment.Before brick p count → b.when ≡ moment.Before brick p count → course.sent_at phase i ≡ Some m → course.sent_at phase j ≡ Some n → i < j → m < n
   pub answered : AreAnswered log
   -- there is no other action, and no other Down or FaultAt
   pub no_other : (number : ℕ) (a : Action) → IsEvent log number (logged.Act a) → IsCarriedAt script course number a
