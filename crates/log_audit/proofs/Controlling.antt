@@ -8,20 +8,23 @@ use Rattle.fop_types.specs.declared.messages.Input.{Input}
 use Rattle.fop_types.specs.declared.messages.Proc.{Proc}
 use Rattle.script_lang.specs.declared.scripts.Action.{Action}
 use Rattle.script_lang.specs.declared.scripts.ControlLine.{ControlLine}
+use Rattle.script_lang.specs.declared.scripts.Script.{Script}
 use Rattle.script_lang.specs.declared.scripts.When.TheVariants as moment
 use Rattle.wire_xdr.specs.WireText.{input_text, IsInputOf}
 use Rattle.wire_messages.specs.Messages.{IsSaid}
 use Rattle.wire_messages.specs.declared.messages.Message.{Message}
 use Rattle.wire_messages.specs.declared.messages.Message.TheVariants.{Whole, Wrong}
 use Rattle.mount_log.proofs.Items.{some_is}
-use Rattle.mount_log.specs.Follows.{IsEvent, IsArmedLine, IsSentBefore, IsNth, IsCarriedIn, ByEvent, ByRequest}
+use Rattle.mount_log.specs.Arms.{IsArmedLine, IsSentBefore, IsNth}
+use Rattle.mount_log.specs.Controls.{IsTimely, IsCarriedIn, ByEvent, ByRequest}
+use Rattle.mount_log.specs.Events.{IsEvent}
 use Rattle.mount_log.specs.Procedures.{rank_in, proc_by}
 use Rattle.mount_log.specs.declared.logs.HubEvent.{HubEvent}
 use Rattle.mount_log.specs.declared.logs.HubEvent.TheVariants as logged
 use Rattle.mount_log.specs.declared.logs.Log.{Log}
 use Rattle.mount_log.specs.declared.logs.SentLine.{SentLine}
 use Rattle.log_audit.specs.Armed.{AreArmedFrom, AreAllArmed}
-use Rattle.log_audit.specs.Noted.{event_in, begun, IsWithin}
+use Rattle.log_audit.specs.Noted.{event_in, begun, course_of, IsWithin}
 use Rattle.log_audit.specs.Controlled.{Says, SendsAction, IsSentFor, IsCarriedSo, IsArmed, IsControlCarried, IsFound, Passes, AreInTurn, AreSoFar, AreTables}
 use Rattle.log_audit.specs.declared.armed_lines.ArmedLines.{ArmedLines}
 use Rattle.log_audit.specs.declared.carried.SentTables.{SentTables}
@@ -40,11 +43,11 @@ line_is line number brick bytes e b t =
     let two : record line { event = number } ≡ record { event = number; brick = brick; bytes = line.bytes } = ap (λ (n : ℕ). record { event = number; brick = n; bytes = line.bytes }) b in
     one ∙ two ∙ ap (λ (l : List ℕ). record { event = number; brick = brick; bytes = l }) t
 
-record IsRank (o : Option ℕ) : Type 0 where
+pub record IsRank (o : Option ℕ) : Type 0 where
   pub rank : ℕ
   pub is : o ≡ Some rank
 
-rank_by_proc : (o : Option ℕ) (p : Proc) → proc_by o ≡ Some p → IsRank o
+pub rank_by_proc : (o : Option ℕ) (p : Proc) → proc_by o ≡ Some p → IsRank o
 rank_by_proc None p none = absurd cc
 rank_by_proc (Some rank) p is = record { rank = rank; is = refl }
 
@@ -86,15 +89,16 @@ module _ (log : Log) (notes : RunNotes) (tables : SentTables) (are : AreTables n
     ranked : IsRank (rank_in found.before.request.line.bytes)
     ranked = rank_by_proc (rank_in found.before.request.line.bytes) p found.before.request.is.is_request
 
-pub carried_in : (log : Log) (notes : RunNotes) (tables : SentTables) → AreTables notes.ended log tables → (phase : ℕ) (c : ControlLine) (how : Carried) → IsWithin notes.ended (length log.events) phase how.event
-    → IsCarriedSo log tables how.event how.sent c → IsCarriedIn log (begun notes.ended (length log.events) phase) how.event how.sent c
+pub carried_in : (script : Script) (log : Log) (notes : RunNotes) (tables : SentTables) → AreTables notes.ended log tables → (phase at : ℕ) (c : ControlLine) (how : Carried)
+    → IsWithin notes.ended (length log.events) phase how.event → (how.sent ≡ None → IsTimely script log (course_of notes (length log.events)) phase at how.event c)
+    → IsCarriedSo log tables how.event how.sent c → IsCarriedIn script log (course_of notes (length log.events)) phase at how.event how.sent c
 unfolding sent_before
-carried_in log notes tables are phase c how within so = by how.sent refl so where
-  by : (o : Option ℕ) → how.sent ≡ o → IsCarriedSo log tables how.event o c → IsCarriedIn log (begun notes.ended (length log.events) phase) how.event how.sent c
-  by None is event = ByEvent is event
-  by (Some at) is own =
-      ByRequest own.brick own.proc own.count own.when_is (sent_before log notes tables are phase at how.event own.brick own.count own.proc c.action within own.line) is
-      (is_nth log notes tables are phase at how.event own.brick own.count own.proc c.action within own.line)
+carried_in script log notes tables are phase at c how within timely so = by how.sent refl so where
+  by : (o : Option ℕ) → how.sent ≡ o → IsCarriedSo log tables how.event o c → IsCarriedIn script log (course_of notes (length log.events)) phase at how.event how.sent c
+  by None is event = ByEvent is event (timely is)
+  by (Some place) is own =
+      ByRequest own.brick own.proc own.count own.when_is (sent_before log notes tables are phase place how.event own.brick own.count own.proc c.action within own.line) is
+      (is_nth log notes tables are phase place how.event own.brick own.count own.proc c.action within own.line)
 
 pub armed_by : (log : Log) (number brick count since until : ℕ) (p : Proc) (c : ControlLine) → c.when ≡ moment.Before brick p count → since < number → number < until → IsEvent log number (logged.Arm brick p count c.action)
     → IsArmed log number c since until

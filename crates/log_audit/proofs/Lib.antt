@@ -1,4 +1,5 @@
 pub mod Counts
+pub mod Cutting
 pub mod Steps
 pub mod Balanced
 pub mod Prefixes
@@ -19,6 +20,10 @@ pub mod Evidenced
 pub mod Phased
 pub mod Controlling
 pub mod Calling
+pub mod OneByOne
+pub mod Settling
+pub mod Timing
+pub mod Sending
 pub mod Running
 pub mod Tying
 pub mod Numbering

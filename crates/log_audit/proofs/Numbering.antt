@@ -4,7 +4,7 @@ use Rattle.std.specs.Prelude.{ℕ, zero, suc, ◌≢◌, ◌<◌, ◌≤◌, ◌
 use Rattle.std.proofs.lemmas.Bool.{ltb-true, ltb-false, eqb-true, eqb-false, false_from_ne_true, true_from_ne_false}
 use Rattle.std.proofs.lemmas.List.{length-append}
 use Rattle.mount_log.proofs.Items.{some_is, at_set, beside_set}
-use Rattle.mount_log.specs.Follows.{is_rank, is_request_since, requests_since}
+use Rattle.mount_log.specs.Arms.{is_rank, is_request_since, requests_since}
 use Rattle.mount_log.specs.Procedures.{rank_in}
 use Rattle.mount_log.specs.declared.logs.SentLine.{SentLine}
 use Rattle.log_audit.specs.Noted.{ended_at, begun, AreRising, IsWithin}

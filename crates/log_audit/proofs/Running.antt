@@ -7,7 +7,9 @@ use Rattle.script_lang.specs.declared.scripts.Phase.{Phase}
 use Rattle.script_lang.specs.declared.scripts.Script.{Script}
 use Rattle.script_lang.specs.declared.scripts.When.TheVariants as moment
 use Rattle.mount_log.proofs.Items.{some_is}
-use Rattle.mount_log.specs.Follows.{IsEvent, control_in, control_at, IsCarriedIn, IsArmedIn, RunOf}
+use Rattle.mount_log.specs.Controls.{control_in, control_at, IsTimely, IsCarriedIn, IsArmedIn}
+use Rattle.mount_log.specs.Events.{IsEvent}
+use Rattle.mount_log.specs.Follows.{RunOf}
 use Rattle.fop_types.specs.declared.messages.Proc.{Proc}
 use Rattle.mount_log.specs.Logs.{submits_in}
 use Rattle.mount_log.specs.Submissions.{place_of_line, submits_of, submit_event, submitted_at, event_of_reply, replied_at}
@@ -17,8 +19,11 @@ use Rattle.mount_log.specs.declared.logs.Log.{Log}
 use Rattle.mount_log.specs.declared.logs.ReplyLine.{ReplyLine}
 use Rattle.mount_log.specs.declared.places.LineAt.{LineAt}
 use Rattle.log_audit.specs.Called.{IsCallAt, AreCalls, call_by, IsAnsweredIn, HaveCalls}
+use Rattle.log_audit.specs.Counting.{AreNumbers, AreSettled}
 use Rattle.log_audit.specs.Controlled.{IsControlCarried, IsFound, IsOfControl, AreCarriedOut}
-use Rattle.log_audit.specs.Noted.{event_in, sent_in, armed_in, how_at, carried_at, sent_at, armed_at, noted_for, ended_at, begun, AreRising, IsWithin}
+use Rattle.log_audit.specs.Noted.{event_in, sent_in, armed_in, how_at, carried_at, sent_at, armed_at, noted_for, course_of, ended_at, begun, AreRising, IsWithin}
+use Rattle.log_audit.specs.Timed.{IsHowTimely}
+use Rattle.log_audit.specs.declared.numbers.Numbers.{Numbers}
 use Rattle.log_audit.specs.declared.carried.SentTables.{SentTables}
 use Rattle.log_audit.specs.declared.run_notes.Carried.{Carried}
 use Rattle.log_audit.specs.declared.run_notes.ControlAt.{ControlAt}
@@ -26,6 +31,7 @@ use Rattle.log_audit.specs.declared.calls_made.CallMade.{CallMade}
 use Rattle.log_audit.specs.declared.run_notes.RunNotes.{RunNotes}
 use Rattle.log_audit.proofs.Calling.{event_of_call, counted, same_place}
 use Rattle.log_audit.proofs.Controlling.{carried_in}
+use Rattle.log_audit.proofs.Settling.{nothing_else}
 use Rattle.log_audit.proofs.Phased.{rises_to, begun_next}
 
 -- ---- calls
@@ -98,7 +104,7 @@ record IsHow (log : Log) (tables : SentTables) (notes : RunNotes) (phase at : �
   pub is : how_at notes.carried phase at ≡ Some how
   pub carried : IsControlCarried log tables notes phase at c how
 
-module _ (script : Script) (log : Log) (notes : RunNotes) (rising : AreRising notes.ended (length log.events)) (have : HaveCalls script log notes.ended (length log.events)) (out : AreCarriedOut script log notes) where
+module _ (script : Script) (log : Log) (notes : RunNotes) (numbers : Numbers) (are : AreNumbers log numbers) (rising : AreRising notes.ended (length log.events)) (settled : AreSettled script numbers notes.ended (length log.events)) (have : HaveCalls script log notes.ended (length log.events)) (out : AreCarriedOut script log notes) where
   how_of : (phase at : ℕ) (c : ControlLine) → control_at script phase at ≡ Some c → IsHow log out.tables notes phase at c
   how_of phase at c is = by (slice_get script.phases phase) refl is where
     found : (o : Option Carried) → how_at notes.carried phase at ≡ o → IsFound log out.tables notes phase at c o → IsHow log out.tables notes phase at c
@@ -116,12 +122,25 @@ module _ (script : Script) (log : Log) (notes : RunNotes) (rising : AreRising no
     by None e none other = absurd cc
     by (Some at) e first second = (out.phases phase at e).turns i j a b first second p q lt
 
+  line : (phase i j m n brick count : ℕ) (p : Proc) (a b : ControlLine) → control_at script phase i ≡ Some a → control_at script phase j ≡ Some b
+      → a.when ≡ moment.Before brick p count → b.when ≡ moment.Before brick p count → sent_at notes.carried phase i ≡ Some m → sent_at notes.carried phase j ≡ Some n → i < j → m < n
+  line phase i j m n brick count p a b x y v w first second lt = by (slice_get script.phases phase) refl x y where
+    by : (o : Option Phase) → slice_get script.phases phase ≡ o → control_in o i ≡ Some a → control_in o j ≡ Some b → m < n
+    by None e none other = absurd cc
+    by (Some at) e one two = (out.phases phase at e).line j b two i a lt one m n brick count p v w first second
+
+  timely : (phase at : ℕ) (c : ControlLine) → control_at script phase at ≡ Some c → IsHowTimely script log notes phase at c (how_at notes.carried phase at)
+  timely phase at c is = by (slice_get script.phases phase) refl is where
+    by : (o : Option Phase) → slice_get script.phases phase ≡ o → control_in o at ≡ Some c → IsHowTimely script log notes phase at c (how_at notes.carried phase at)
+    by None e none = absurd cc
+    by (Some p) e there = out.timely phase p e at c there
+
   carried : (phase at : ℕ) (c : ControlLine) → control_at script phase at ≡ Some c
-      → IsCarriedIn log (begun notes.ended (length log.events) phase) (carried_at notes.carried phase at) (sent_at notes.carried phase at) c
+      → IsCarriedIn script log (course_of notes (length log.events)) phase at (carried_at notes.carried phase at) (sent_at notes.carried phase at) c
   carried phase at c is =
       let h = how_of phase at c is in
-      subst (λ (o : Option Carried). IsCarriedIn log (begun notes.ended (length log.events) phase) (event_in o) (sent_in o) c) (sym h.is)
-      (carried_in log notes out.tables out.are phase c h.how h.carried.within h.carried.carried)
+      subst (λ (o : Option Carried). IsCarriedIn script log (course_of notes (length log.events)) phase at (event_in o) (sent_in o) c) (sym h.is)
+      (carried_in script log notes out.tables out.are phase at c h.how h.carried.within (subst (λ (o : Option Carried). IsHowTimely script log notes phase at c o) h.is (timely phase at c is)) h.carried.carried)
 
   within : (phase at : ℕ) (c : ControlLine) → control_at script phase at ≡ Some c → IsWithin notes.ended (length log.events) phase (carried_at notes.carried phase at)
   within phase at c is =
@@ -132,6 +151,17 @@ module _ (script : Script) (log : Log) (notes : RunNotes) (rising : AreRising no
   arms phase at brick count p c is when_is =
       let h = how_of phase at c is in
       subst (λ (o : Option Carried). IsArmedIn log (armed_in o) brick p count c.action (begun notes.ended (length log.events) phase) (event_in o)) (sym h.is) (h.carried.armed brick count p when_is)
+
+  arm_is : (phase at brick count : ℕ) (p : Proc) (c : ControlLine) → control_at script phase at ≡ Some c → c.when ≡ moment.Before brick p count
+      → noted_for notes (armed_at notes.carried phase at) None ≡ Some (record { phase = phase; at = at })
+  arm_is phase at brick count p c is when_is =
+      let h = how_of phase at c is in
+      subst (λ (o : Option Carried). noted_for notes (armed_in o) None ≡ Some (record { phase = phase; at = at })) (sym h.is) (h.carried.arm brick count p when_is).own
+
+  armed_once : (p i q j brick count other_brick other_count : ℕ) (proc other_proc : Proc) (a b : ControlLine) → control_at script p i ≡ Some a → control_at script q j ≡ Some b
+      → a.when ≡ moment.Before brick proc count → b.when ≡ moment.Before other_brick other_proc other_count → armed_at notes.carried p i ≡ armed_at notes.carried q j → (p ≡ q) × (i ≡ j)
+  armed_once p i q j brick count other_brick other_count proc other_proc a b x y v w e =
+      phases_are p q i j (sym (arm_is p i brick count proc a x v) ∙ ap (λ (n : ℕ). noted_for notes n None) e ∙ arm_is q j other_brick other_count other_proc b y w)
 
   noted_is : (phase at : ℕ) (c : ControlLine) → control_at script phase at ≡ Some c → noted_for notes (carried_at notes.carried phase at) (sent_at notes.carried phase at) ≡ Some (record { phase = phase; at = at })
   noted_is phase at c is =
@@ -144,10 +174,10 @@ module _ (script : Script) (log : Log) (notes : RunNotes) (rising : AreRising no
       phases_are p q i j
       (sym (noted_is p i a x) ∙ ap (λ (n : ℕ). noted_for notes n (sent_at notes.carried p i)) e ∙ ap (λ (o : Option ℕ). noted_for notes (carried_at notes.carried q j) o) s ∙ noted_is q j b y)
 
-  of_control : (number : ℕ) (e : HubEvent) → IsEvent log number e → IsOfControl script notes number e
+  of_control : (number : ℕ) (e : HubEvent) → IsEvent log number e → IsOfControl script notes (length log.events) number e
   of_control number e event =
       let one = event.from_one in let n : number - 1 + 1 ≡ number = omega (arith, one) in
-      subst (λ (k : ℕ). IsOfControl script notes k e) n (out.acts (number - 1) e event.there)
+      subst (λ (k : ℕ). IsOfControl script notes (length log.events) k e) n (out.acts (number - 1) e event.there)
 
   submitted : (k session line : ℕ) (at : LineAt) → slice_get log.events k ≡ Some (logged.Submit session line) → place_of_line script session (submits_of session (take k log.events)) ≡ Some at
       → (k < ended_at notes.ended (length log.events) at.phase) × ((earlier : ℕ) → earlier < at.phase → ended_at notes.ended (length log.events) earlier ≤ k)
@@ -209,19 +239,27 @@ module _ (script : Script) (log : Log) (notes : RunNotes) (rising : AreRising no
 
   pub run_of : RunOf script log
   run_of = record {
-    ended_at = ended_at notes.ended (length log.events);
-    carried_at = carried_at notes.carried;
-    sent_at = sent_at notes.carried;
-    armed_at = armed_at notes.carried;
-    rises = rising;
-    carried = carried;
-    behind = λ phase at c is. (within phase at c is).behind;
-    within = λ phase at c is. (within phase at c is).until;
-    once = once;
-    arms = arms;
-    in_order = turns;
-    submitted = submitted;
-    answered = answered;
-    no_other = λ number a event. of_control number (logged.Act a) event;
-    armed = λ number brick count p a event. of_control number (logged.Arm brick p count a) event;
+    course = course_of notes (length log.events);
+    phases = record {
+      rises = rising;
+      settled = λ phase le. nothing_else log numbers are script phase (ended_at notes.ended (length log.events) phase) (settled.each phase le);
+      last = settled.all;
+    };
+    calls = record { alone = have.alone; submitted = submitted; answered = answered };
+    controls = record {
+      carried = carried;
+      behind = λ phase at c is. (within phase at c is).behind;
+      within = λ phase at c is. (within phase at c is).until;
+      once = once;
+      in_order = turns;
+      in_line = line;
+      answered = out.answered;
+      no_other = λ number a event. of_control number (logged.Act a) event;
+      sent_for = λ k line sent a there is can. out.sent k line there sent a is can;
+    };
+    arms = record {
+      arms = arms;
+      once = armed_once;
+      no_other = λ number brick count p a event. of_control number (logged.Arm brick p count a) event;
+    };
   }

@@ -3,7 +3,7 @@ use Rattle.std.specs.Prelude.{◌≡◌, ℕ, ◌<◌, ◌≤◌, List, Some, sl
 use Rattle.fop_types.specs.declared.messages.Input.{Input}
 use Rattle.wire_messages.specs.declared.messages.Message.{Message}
 use Rattle.wire_messages.specs.declared.messages.Message.TheVariants.{Whole, Wrong}
-use Rattle.mount_log.specs.Follows.{CanBeArmed, IsArmedLine}
+use Rattle.mount_log.specs.Arms.{CanBeArmed, IsArmedLine}
 use Rattle.mount_log.specs.declared.logs.SentLine.{SentLine}
 use Rattle.log_audit.specs.declared.armed_lines.ArmedLines.{ArmedLines}
 

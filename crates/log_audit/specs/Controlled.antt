@@ -11,15 +11,20 @@ use Rattle.script_lang.specs.declared.scripts.When.TheVariants as moment
 use Rattle.wire_xdr.specs.WireText.{input_text}
 use Rattle.wire_messages.specs.declared.messages.Message.{Message}
 use Rattle.wire_messages.specs.declared.messages.Message.TheVariants.{Whole, Wrong}
-use Rattle.mount_log.specs.Follows.{IsEvent, input_of, IsArmedIn, IsCarriedAt, IsControlBefore}
+use Rattle.mount_log.specs.Arms.{input_of}
+use Rattle.mount_log.specs.Controls.{IsArmedIn, IsCarriedAt, IsControlBefore, AreAnswered}
+use Rattle.mount_log.specs.Events.{IsEvent}
 use Rattle.mount_log.specs.Procedures.{proc_in}
 use Rattle.mount_log.specs.declared.logs.HubEvent.{HubEvent}
 use Rattle.mount_log.specs.declared.logs.HubEvent.TheVariants as logged
 use Rattle.mount_log.specs.declared.logs.Log.{Log}
 use Rattle.mount_log.specs.declared.logs.SentLine.{SentLine}
 use Rattle.log_audit.specs.Armed.{AreAllArmed}
-use Rattle.log_audit.specs.Noted.{event_in, among, carried_at, armed_at, noted_for, begun, IsWithin}
+use Rattle.log_audit.specs.InLine.{AreInLine}
+use Rattle.log_audit.specs.Noted.{event_in, among, noted_for, course_of, begun, IsWithin}
 use Rattle.log_audit.specs.Numbered.{AreNth}
+use Rattle.log_audit.specs.SentFor.{AreSentFor}
+use Rattle.log_audit.specs.Timed.{AreAllTimely}
 use Rattle.log_audit.specs.declared.armed_lines.ArmedLines.{ArmedLines}
 use Rattle.log_audit.specs.declared.carried.SentTables.{SentTables}
 use Rattle.log_audit.specs.declared.run_notes.Carried.{Carried}
@@ -84,7 +89,13 @@ abbrev pub IsCarriedSo : Log → SentTables → ℕ → Option ℕ → ControlLi
 IsCarriedSo log tables number None c = IsEvent log number (logged.Act c.action)
 IsCarriedSo log tables number (Some at) c = IsSentControl log.sent tables at number c
 
--- a control that goes before a request was armed in an event
+-- a control that goes before a request was armed in an event, which is noted for it
+pub record IsNotedArm (notes : RunNotes) (phase at number : ℕ) : Type 0 where
+  pub own : noted_for notes number None ≡ Some (record { phase = phase; at = at })
+
+abbrev pub IsArmNoted : RunNotes → ℕ → ℕ → ℕ → ControlLine → Type 0
+IsArmNoted notes phase at number c = (brick count : ℕ) (p : Proc) → c.when ≡ moment.Before brick p count → IsNotedArm notes phase at number
+
 abbrev pub IsArmed : Log → ℕ → ControlLine → ℕ → ℕ → Type 0
 IsArmed log number c since until = (brick count : ℕ) (p : Proc) → c.when ≡ moment.Before brick p count → IsArmedIn log number brick p count c.action since until
 
@@ -92,6 +103,7 @@ pub record IsControlCarried (log : Log) (tables : SentTables) (notes : RunNotes)
   pub within : IsWithin notes.ended (length log.events) phase how.event
   pub own : noted_for notes how.event how.sent ≡ Some (record { phase = phase; at = at })
   pub armed : IsArmed log how.armed c (begun notes.ended (length log.events) phase) how.event
+  pub arm : IsArmNoted notes phase at how.armed c
   pub carried : IsCarriedSo log tables how.event how.sent c
 
 abbrev pub IsFound : Log → SentTables → RunNotes → ℕ → ℕ → ControlLine → Option Carried → Type 0
@@ -121,21 +133,22 @@ pub record AreSoFar (controls : List ControlLine) (carried : List Carried) (n la
 pub record IsPhaseCarried (log : Log) (tables : SentTables) (notes : RunNotes) (phase : ℕ) (controls : List ControlLine) : Type 0 where
   pub each : AreControlsCarried log tables notes phase controls (among (slice_get notes.carried phase))
   pub turns : AreInTurn controls (among (slice_get notes.carried phase))
+  pub line : AreInLine controls (among (slice_get notes.carried phase))
 
 abbrev pub ArePhasesCarried : Script → Log → SentTables → RunNotes → Type 0
 ArePhasesCarried script log tables notes = (k : ℕ) (phase : Phase) → slice_get script.phases k ≡ Some phase → IsPhaseCarried log tables notes k phase.controls
 
 -- ---- events
 
-abbrev pub IsOfControl : Script → RunNotes → ℕ → HubEvent → Type 0
-IsOfControl script notes number (logged.Act a) = IsCarriedAt script (carried_at notes.carried) number a
-IsOfControl script notes number (logged.Arm brick p count a) = IsControlBefore script (armed_at notes.carried) number brick p count a
-IsOfControl script notes number (logged.Submit session line) = Unit {0}
-IsOfControl script notes number (logged.Arrive brick bytes) = Unit {0}
-IsOfControl script notes number (logged.Run graph task) = Unit {0}
+abbrev pub IsOfControl : Script → RunNotes → ℕ → ℕ → HubEvent → Type 0
+IsOfControl script notes last number (logged.Act a) = IsCarriedAt script (course_of notes last) number a
+IsOfControl script notes last number (logged.Arm brick p count a) = IsControlBefore script (course_of notes last) number brick p count a
+IsOfControl script notes last number (logged.Submit session line) = Unit {0}
+IsOfControl script notes last number (logged.Arrive brick bytes) = Unit {0}
+IsOfControl script notes last number (logged.Run graph task) = Unit {0}
 
 abbrev pub AreOfControls : Script → RunNotes → Log → Type 0
-AreOfControls script notes log = (k : ℕ) (e : HubEvent) → slice_get log.events k ≡ Some e → IsOfControl script notes (k + 1) e
+AreOfControls script notes log = (k : ℕ) (e : HubEvent) → slice_get log.events k ≡ Some e → IsOfControl script notes (length log.events) (k + 1) e
 
 -- what is looked up of what was sent is so
 pub record AreTables (ended : List ℕ) (log : Log) (tables : SentTables) : Type 0 where
@@ -147,3 +160,6 @@ pub record AreCarriedOut (script : Script) (log : Log) (notes : RunNotes) : Type
   pub tables : SentTables
   pub are : AreTables notes.ended log tables
   pub phases : ArePhasesCarried script log tables notes
+  pub timely : AreAllTimely script log notes
+  pub sent : AreSentFor script log (course_of notes (length log.events))
+  pub answered : AreAnswered log

@@ -1,6 +1,6 @@
 -- Notes of a run as functions: the events in which a control was armed and carried out, and the last event of a phase.
 use Rattle.std.specs.Prelude.{◌≡◌, ℕ, ◌+◌, ◌-◌, ◌<◌, ◌≤◌, List, [], Option, None, Some, slice_get, slice_index_or}
-use Rattle.mount_log.specs.Follows.{begun_at}
+use Rattle.mount_log.specs.Phases.{Course, begun_at}
 use Rattle.log_audit.specs.declared.run_notes.Carried.{Carried}
 use Rattle.log_audit.specs.declared.run_notes.ControlAt.{ControlAt}
 use Rattle.log_audit.specs.declared.run_notes.RunNotes.{RunNotes}
@@ -59,3 +59,8 @@ AreRising ended last = (phase : ℕ) → ended_at ended last phase ≤ ended_at 
 pub record IsWithin (ended : List ℕ) (last phase number : ℕ) : Type 0 where
   pub behind : begun ended last phase < number
   pub until : number ≤ ended_at ended last phase
+
+-- ---- the course that the notes say
+
+abbrev pub course_of : RunNotes → ℕ → Course
+course_of notes last = record { ended_at = ended_at notes.ended last; carried_at = carried_at notes.carried; sent_at = sent_at notes.carried; armed_at = armed_at notes.carried }

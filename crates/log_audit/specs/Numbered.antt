@@ -1,6 +1,6 @@
 -- Requests by their numbers in a phase: counts by brick and procedure, each of its last phase.
 use Rattle.std.specs.Prelude.{◌≡◌, ℕ, ◌+◌, ◌*◌, ◌<◌, ◌≤◌, ◌==◌, List, Option, None, Some, length, slice_get, slice_set, take, if◌then◌else◌}
-use Rattle.mount_log.specs.Follows.{requests_since}
+use Rattle.mount_log.specs.Arms.{requests_since}
 use Rattle.mount_log.specs.Procedures.{rank_in}
 use Rattle.mount_log.specs.declared.logs.SentLine.{SentLine}
 use Rattle.log_audit.specs.Noted.{ended_at, begun, IsWithin}

@@ -1,8 +1,8 @@
 //! Whether each action of a log is that of a control, and what is armed is a control.
 ghost use Rattle.std.specs.Prelude.{◌≡◌, true, slice_get, option_copied};
 ghost use Rattle.script_lang.specs.declared.scripts.When.TheVariants as moment;
-ghost use Rattle.mount_log.specs.Follows.{control_at, IsCarriedAt, IsControlBefore};
-ghost use Rattle.log_audit.specs.Noted.{how_at, carried_at, armed_at};
+ghost use Rattle.mount_log.specs.Controls.{control_at, IsCarriedAt, IsControlBefore};
+ghost use Rattle.log_audit.specs.Noted.{how_at, carried_at, sent_at, armed_at, course_of};
 ghost use Rattle.log_audit.specs.Controlled.{IsOfControl, AreOfControls};
 
 use crate::carried::is_same;
@@ -22,12 +22,23 @@ fn how_of(notes: &RunNotes, at: ControlAt) -> Option<&Carried>
     }
 }
 
-fn number_of(notes: &RunNotes, at: ControlAt) -> u64
+/// The event in which the control at a place was carried out, 0 where there is none.
+pub fn number_of(notes: &RunNotes, at: ControlAt) -> u64
     ensures { result ≡ carried_at notes.now.carried at.phase at.at }
 {
     match how_of(notes, at) {
         Some(how) => how.event,
         None => 0,
+    }
+}
+
+/// The place of the line that carried out the control at a place, if one did.
+pub fn sent_of(notes: &RunNotes, at: ControlAt) -> Option<usize>
+    ensures { result ≡ sent_at notes.now.carried at.phase at.at }
+{
+    match how_of(notes, at) {
+        Some(how) => how.sent,
+        None => None,
     }
 }
 
@@ -40,18 +51,22 @@ fn armed_of(notes: &RunNotes, at: ControlAt) -> u64
     }
 }
 
-// Whether the control at a place has the action, and was carried out in the event.
+// Whether the control at a place has the action, and was carried out by the event.
 fn is_carried_at(
     script: &Script,
     notes: &RunNotes,
+    last: u64,
     at: ControlAt,
     number: u64,
     action: Action,
 ) -> bool
-    ensures { result ≡ true → IsCarriedAt script.now (carried_at notes.now.carried) number action }
+    ensures { result ≡ true → IsCarriedAt script.now (course_of notes.now last) number action }
 {
+    if number_of(notes, at) != number || sent_of(notes, at).is_some() {
+        return false;
+    }
     match control_of(script, at) {
-        Some(control) => is_same(control.action, action) && number_of(notes, at) == number,
+        Some(control) => is_same(control.action, action),
         None => false,
     }
 }
@@ -76,6 +91,7 @@ fn is_control(control: &ControlLine, brick: u8, proc: Proc, count: u32, action: 
 fn is_control_before(
     script: &Script,
     notes: &RunNotes,
+    last: u64,
     at: ControlAt,
     number: u64,
     brick: u8,
@@ -83,7 +99,7 @@ fn is_control_before(
     count: u32,
     action: Action,
 ) -> bool
-    ensures { result ≡ true → IsControlBefore script.now (armed_at notes.now.carried) number brick proc count action }
+    ensures { result ≡ true → IsControlBefore script.now (course_of notes.now last) number brick proc count action }
 {
     match control_of(script, at) {
         Some(control) => {
@@ -96,16 +112,19 @@ fn is_control_before(
 fn is_of_control(
     script: &Script,
     notes: &RunNotes,
+    last: u64,
     at: ControlAt,
     number: u64,
     event: &HubEvent,
 ) -> bool
-    ensures { result ≡ true → IsOfControl script.now notes.now number event.now }
+    ensures { result ≡ true → IsOfControl script.now notes.now last number event.now }
 {
     match event {
-        HubEvent::Act(action) => is_carried_at(script, notes, at, number, *action),
+        HubEvent::Act(action) => is_carried_at(script, notes, last, at, number, *action),
         HubEvent::Arm(brick, proc, count, action) => {
-            is_control_before(script, notes, at, number, *brick, *proc, *count, *action)
+            is_control_before(
+                script, notes, last, at, number, *brick, *proc, *count, *action,
+            )
         }
         _ => true,
     }
@@ -115,6 +134,7 @@ fn is_of_control(
 pub fn acts_are_of_controls(script: &Script, log: &Log, notes: &RunNotes) -> bool
     ensures { result ≡ true → AreOfControls script.now notes.now log.now }
 {
+    let last = log.events.len() as u64;
     for k in 0..log.events.len() {
         let Some(event) = event_at(log, k) else {
             return false;
@@ -122,7 +142,7 @@ pub fn acts_are_of_controls(script: &Script, log: &Log, notes: &RunNotes) -> boo
         let Some(at) = notes.by_event.as_slice().get(k) else {
             return false;
         };
-        if !is_of_control(script, notes, *at, k as u64 + 1, event) {
+        if !is_of_control(script, notes, last, *at, k as u64 + 1, event) {
             return false;
         }
     }

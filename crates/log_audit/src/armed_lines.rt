@@ -1,7 +1,7 @@
 //! Lines that can be armed, one behind the other: where they stop at a request, they were armed for it.
 ghost use Rattle.std.specs.Prelude.{◌≡◌, ℕ, List, true, IfOk};
 ghost use Rattle.mount_log.specs.declared.logs.SentLine.{SentLine as Line};
-ghost use Rattle.mount_log.specs.Follows.{AreArmable, CanBeArmed, IsArmedLine};
+ghost use Rattle.mount_log.specs.Arms.{AreArmable, CanBeArmed, IsArmedLine};
 ghost use Rattle.log_audit.specs.Armed.{IsArmable, AreArmedFrom, AreAllArmed};
 
 use crate::requests::is_request;

@@ -1,14 +1,15 @@
 //! Whether each control was carried out where the notes of a run say.
-ghost use Rattle.std.specs.Prelude.{◌≡◌, true, Some, IfOk, IfSome, length, option_copied, slice_get};
+ghost use Rattle.std.specs.Prelude.{◌≡◌, true, None, Some, IfOk, IfSome, length, option_copied, slice_get};
 ghost use Rattle.fop_types.specs.declared.messages.Input.TheVariants as input;
-ghost use Rattle.mount_log.specs.Follows.{IsEvent};
+ghost use Rattle.mount_log.specs.Events.{IsEvent};
 ghost use Rattle.mount_log.specs.declared.logs.HubEvent.TheVariants as logged;
 ghost use Rattle.log_audit.specs.Noted.{event_in, among, noted_for, begun, IsWithin};
 ghost use Rattle.log_audit.specs.Controlled.{IsActionInput, Says, SendsAction, IsRequestTo, IsRequestAt, IsSentAt, GoesBefore, IsSentFor, IsSentControl, IsCarriedSo, IsArmed};
-ghost use Rattle.log_audit.specs.Controlled.{IsControlCarried, AreControlsCarried, Passes, AreInTurn, IsPhaseCarried, ArePhasesCarried};
+ghost use Rattle.log_audit.specs.Controlled.{IsNotedArm, IsArmNoted, IsControlCarried, AreControlsCarried, Passes, AreInTurn, IsPhaseCarried, ArePhasesCarried};
 
 use crate::armed_lines::ArmedLines;
 use crate::causes::{event_at, line_at};
+use crate::in_line::are_in_line;
 use crate::phase_ends::{begun_of, is_within};
 use crate::requests::is_request_of;
 use crate::run_notes::{Carried, ControlAt, RunNotes, phase_at};
@@ -52,7 +53,8 @@ fn acts(event: &HubEvent, action: Action) -> bool
     }
 }
 
-fn is_act(log: &Log, number: u64, action: Action) -> bool
+/// Whether the event of this number carries out an action.
+pub fn is_act(log: &Log, number: u64, action: Action) -> bool
     ensures { result ≡ true → IsEvent log.now number (logged.Act action) }
 {
     match event_at(log, number) {
@@ -156,8 +158,8 @@ fn is_sent_at(
     Ok(yes)
 }
 
-// Whether a request is this one of its procedure in its phase.
-fn is_nth(tables: &SentTables, at: usize, count: u32) -> bool
+/// Whether a request is this one of its procedure in its phase.
+pub fn is_nth(tables: &SentTables, at: usize, count: u32) -> bool
     ensures { result ≡ true → slice_get tables.now.nth.items at ≡ Some count }
 {
     match tables.nth.as_slice().get(at) {
@@ -259,16 +261,21 @@ fn is_carried(
     }
 }
 
+// The control that is noted for an event.
+fn noted_at(notes: &RunNotes, number: u64) -> Option<ControlAt>
+    ensures { result ≡ noted_for notes.now number None }
+{
+    let at = number.saturating_sub(1) as usize;
+    notes.by_event.as_slice().get(at).copied()
+}
+
 // The control that is noted for how another was carried out.
 fn noted(notes: &RunNotes, how: Carried) -> Option<ControlAt>
     ensures { result ≡ noted_for notes.now how.event how.sent }
 {
     match how.sent {
         Some(place) => notes.by_line.as_slice().get(place).copied(),
-        None => {
-            let at = how.event.saturating_sub(1) as usize;
-            notes.by_event.as_slice().get(at).copied()
-        }
+        None => noted_at(notes, how.event),
     }
 }
 
@@ -290,6 +297,25 @@ fn arms(event: &HubEvent, brick: u8, proc: Proc, count: u32, action: Action) -> 
             *at == brick && *which == proc && *nth == count && is_same(*what, action)
         }
         _ => false,
+    }
+}
+
+fn is_noted_arm(notes: &RunNotes, phase: usize, at: usize, number: u64) -> bool
+    ensures { result ≡ true → IsNotedArm notes.now phase at number }
+{
+    match noted_at(notes, number) {
+        Some(found) => found.phase == phase && found.at == at,
+        None => false,
+    }
+}
+
+// Whether the event that arms a control, if it goes before a request, is noted for it, and so for no other.
+fn is_own_arm(notes: &RunNotes, phase: usize, at: usize, control: &ControlLine, number: u64) -> bool
+    ensures { result ≡ true → IsArmNoted notes.now phase at number control.now }
+{
+    match control.when {
+        When::Before(_, _, _) => is_noted_arm(notes, phase, at, number),
+        _ => true,
     }
 }
 
@@ -315,7 +341,8 @@ fn is_armed(log: &Log, control: &ControlLine, how: Carried, since: u64) -> bool
     is_arm(log, how.armed, brick, proc, count, control.action)
 }
 
-fn is_in_phase(log: &Log, notes: &RunNotes, phase: usize, number: u64) -> bool
+/// Whether an event is one of a phase.
+pub fn is_in_phase(log: &Log, notes: &RunNotes, phase: usize, number: u64) -> bool
     ensures { result ≡ true → IsWithin notes.now.ended (length log.now.events) phase number }
 {
     is_within(
@@ -326,8 +353,8 @@ fn is_in_phase(log: &Log, notes: &RunNotes, phase: usize, number: u64) -> bool
     )
 }
 
-// The last event before a phase.
-fn begun_in(log: &Log, notes: &RunNotes, phase: usize) -> u64
+/// The last event before a phase.
+pub fn begun_in(log: &Log, notes: &RunNotes, phase: usize) -> u64
     ensures { result ≡ begun notes.now.ended (length log.now.events) phase }
 {
     begun_of(notes.ended.as_slice(), log.events.len() as u64, phase)
@@ -349,7 +376,9 @@ fn is_control_carried(
     if !is_in_phase(log, notes, phase, how.event) || !is_its_own(notes, phase, at, how) {
         return Ok(false);
     }
-    if !is_armed(log, control, how, begun_in(log, notes, phase)) {
+    if !is_armed(log, control, how, begun_in(log, notes, phase))
+        || !is_own_arm(notes, phase, at, control, how.armed)
+    {
         return Ok(false);
     }
     let yes = is_carried(alloc, log, tables, control, how)?;
@@ -383,8 +412,8 @@ fn are_controls_carried(
 
 // ---- the controls without a condition
 
-// The event of the control at a place, 0 where there is none.
-fn number_at(carried: &[Carried], at: usize) -> u64
+/// The event of the control at a place, 0 where there is none.
+pub fn number_at(carried: &[Carried], at: usize) -> u64
     ensures { result ≡ event_in (slice_get carried.now at) }
 {
     match carried.get(at) {
@@ -422,7 +451,8 @@ fn are_in_turn(controls: &[ControlLine], carried: &[Carried]) -> bool
 
 // ---- all phases
 
-fn carried_of(notes: &RunNotes, phase: usize) -> &[Carried]
+/// How the controls of a phase were carried out.
+pub fn carried_of(notes: &RunNotes, phase: usize) -> &[Carried]
     ensures { result.now ≡ among (slice_get notes.now.carried phase) }
 {
     match notes.carried.as_slice().get(phase) {
@@ -443,6 +473,9 @@ fn is_phase_carried(
 {
     let carried = carried_of(notes, phase);
     if !are_in_turn(controls, carried) {
+        return Ok(false);
+    }
+    if !are_in_line(controls, carried) {
         return Ok(false);
     }
     let yes = are_controls_carried(alloc, log, tables, notes, phase, controls, carried)?;

@@ -4,8 +4,8 @@
 //!   winds_are_balanced     the winds              each was opened once and ended once
 //!   winds_are_once         the winds              each was opened once and ended at most once
 //!   submits_are_in_order   the events, a script   each session submits its lines in order
-//!   is_run_of              the events, what was   each control is carried out once, at its request where it goes before
-//!                          sent, a script         one, and calls are submitted and answered within their phases
+//!   is_run_of              the whole log, a       each phase ends with nothing else left, each control is carried out once,
+//!                          script                 in its moment, and calls are submitted one at a time, within their phases
 //!   is_finished            the replies, a script  each call has one reply
 //!   lines_are_tied         all lines              replies, winds and requests are of their calls, events and graphs
 //!   connects_are_caused    what was sent, plans   connections and controls are sent exactly where they have a cause
@@ -14,12 +14,14 @@
 //!   io_errors_are_caused   the replies, plans     each I/O error has its cause
 //! ```
 //!
-//! Each audit goes through the log a fixed number of times, `arrivals_are_honest` once more for each brick. It knows nothing
-//! of how the log came about. True says that its definition holds of the log; false alone says nothing: an audit may ask for
+//! Each audit goes through the log a fixed number of times, `arrivals_are_honest` once more for each brick, and `is_run_of` once
+//! more through what was sent for each control whose request has not come. It knows nothing of how the log came about. True says that its definition holds of the log; false alone says nothing: an audit may ask for
 //! more than its definition, where every log of a run has it. A program calls them before it writes a report.
 #![tactic(auto)]
 
 mod acts;
+mod alone;
+mod answered;
 mod armed_lines;
 mod brick_replies;
 mod bricks;
@@ -39,6 +41,7 @@ mod evidence;
 mod finished;
 mod grants;
 mod honest;
+mod in_line;
 mod in_time;
 mod io_causes;
 mod known;
@@ -49,12 +52,17 @@ mod links;
 mod lock_phases;
 mod locks;
 mod losses;
+mod moments;
 mod noting;
 mod nth_requests;
+mod numbers;
 mod phase_ends;
+mod phase_notes;
 mod requests;
 mod run;
 mod run_notes;
+mod sent_for;
+mod settled;
 mod slots;
 mod sources;
 mod split_clues;

@@ -1,5 +1,5 @@
 //! The procedure of a request, by its encoding.
-ghost use Rattle.std.specs.Prelude.{◌≡◌, Some, is_some, true};
+ghost use Rattle.std.specs.Prelude.{◌≡◌, ◌↔◌, Some, IsTrue, is_some, true};
 ghost use Rattle.mount_log.specs.Procedures.{rank_in, proc_in};
 
 use fop_types::Proc;
@@ -51,7 +51,7 @@ pub fn is_request(input: &[u8]) -> bool
 
 /// Whether an input is a request of this procedure.
 pub fn is_request_of(input: &[u8], proc: Proc) -> bool
-    ensures { result ≡ true → proc_in input.now ≡ Some proc }
+    ensures { IsTrue result ↔ (proc_in input.now ≡ Some proc) }
 {
     match request_proc(input) {
         Some(found) => found == proc,

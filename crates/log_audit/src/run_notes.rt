@@ -1,17 +1,18 @@
 //! Notes of a run: how it carried out its script, as a witness that can be checked against the log.
 ghost use Rattle.std.specs.Prelude.{◌≡◌, option_copied, slice_get};
-ghost use Rattle.mount_log.specs.Follows.{control_at};
+ghost use Rattle.mount_log.specs.Controls.{control_at};
 
 use fop_types::Seq;
 use script_lang::{ControlLine, Phase, Script};
 
-/// The events in which a control was armed, 0 if in none, and carried out; and, where it was carried out before its request,
-/// the place of the line that sent its input.
+/// The events in which a control was armed, 0 if in none, and carried out; where it was carried out before its request, the place
+/// of the line that sent its input; and where it was carried out as its request had come, the place of that.
 #[derive(Clone, Copy)]
 pub struct Carried {
     pub armed: u64,
     pub event: u64,
     pub sent: Option<usize>,
+    pub request: Option<usize>,
 }
 
 /// A control of a script: its phase, and its place among the phase's controls, both from 0.

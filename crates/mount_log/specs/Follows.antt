@@ -1,185 +1,25 @@
--- When a log follows a script, and when it is finished. Each session's calls are submitted in order, those of a phase once
--- all earlier phases have ended; each control of a phase is carried out once, as an event of its own, or, where it was armed,
--- directly before its request; each control before a request is armed once; and there is no other action.
-use Rattle.std.specs.Prelude.{◌≡◌, ℕ, ◌+◌, ◌-◌, ◌<◌, ◌≤◌, ◌==◌, nat_lt, ◌&&◌, Bool, false, List, [], ◌∷◌, Option, Some, None, length, slice_get, take, if◌then◌else◌}
-use Rattle.fop_types.specs.declared.messages.Input.{Input}
-use Rattle.fop_types.specs.declared.messages.Input.TheVariants as input
-use Rattle.fop_types.specs.declared.messages.Proc.{Proc}
+-- When a log follows a script, and when it is finished. Each session submits its calls in order and one at a time, those of a
+-- phase once all earlier phases have ended; a phase ends once nothing else is left; each control of a phase is carried out once,
+-- in its moment; and there is no other action.
+use Rattle.std.specs.Prelude.{◌≡◌, ℕ, ◌+◌, ◌≤◌, ◌==◌, List, [], ◌∷◌, length, if◌then◌else◌}
 use Rattle.script_lang.specs.Accepted.{calls_of}
-use Rattle.script_lang.specs.declared.scripts.Action.{Action}
-use Rattle.script_lang.specs.declared.scripts.Action.TheVariants as action
-use Rattle.script_lang.specs.declared.scripts.CallLine.{CallLine}
-use Rattle.script_lang.specs.declared.scripts.ControlLine.{ControlLine}
-use Rattle.script_lang.specs.declared.scripts.Phase.{Phase}
 use Rattle.script_lang.specs.declared.scripts.Script.{Script}
-use Rattle.script_lang.specs.declared.scripts.When.TheVariants as moment
-use Rattle.wire_xdr.specs.WireText.{input_text}
-use Rattle.mount_log.specs.Procedures.{rank_in, proc_in}
-use Rattle.mount_log.specs.declared.logs.HubEvent.{HubEvent}
-use Rattle.mount_log.specs.declared.logs.HubEvent.TheVariants as logged
 use Rattle.mount_log.specs.declared.logs.Log.{Log}
 use Rattle.mount_log.specs.declared.logs.ReplyLine.{ReplyLine}
-use Rattle.mount_log.specs.declared.logs.SentLine.{SentLine}
-use Rattle.mount_log.specs.declared.places.LineAt.{LineAt}
-use Rattle.mount_log.specs.Submissions.{session_line, place_of_line, submits_of, submissions_of, submitted_at, replied_at}
+use Rattle.mount_log.specs.Controls.{AreCarried, AreArmed}
+use Rattle.mount_log.specs.Phases.{Course, ArePhases, AreCallsInPhases}
+use Rattle.mount_log.specs.Submissions.{submissions_of}
+pub use Rattle.mount_log.specs.Events.{IsEvent}
+pub use Rattle.mount_log.specs.Arms.{AreArmable, IsArmedLine, IsSentBefore}
+pub use Rattle.mount_log.specs.Turns.{IsNextLine, AreInOrder}
 
--- the event of this number, from 1
-pub record IsEvent (log : Log) (number : ℕ) (e : HubEvent) : Type 0 where
-  pub from_one : 1 ≤ number
-  pub there : slice_get log.events (number - 1) ≡ Some e
-
--- the control at a place of a phase
-abbrev pub control_in : Option Phase → ℕ → Option ControlLine
-control_in None at = None
-control_in (Some phase) at = slice_get phase.controls at
-
-abbrev pub control_at : Script → ℕ → ℕ → Option ControlLine
-control_at script phase at = control_in (slice_get script.phases phase) at
-
--- ---- submissions
-
--- a session's next line is submitted, with its number in the script
-pub record IsNextLine (script : Script) (log : Log) (k session line : ℕ) : Type 0 where
-  pub there : CallLine
-  pub next : session_line script session (submits_of session (take k log.events)) ≡ Some there
-  pub number : line ≡ there.line
-
-abbrev pub AreInOrder : Script → Log → Type 0
-AreInOrder script log = (k session line : ℕ) → slice_get log.events k ≡ Some (logged.Submit session line) → IsNextLine script log k session line
-
--- ---- controls
-
--- the input that an action sends to its brick, if it is one that can be armed
-abbrev pub input_of : Action → Option Input
-input_of (action.Down brick serve) = Some (input.Down serve)
-input_of (action.Fault brick p number) = Some (input.FaultAt p number)
-input_of (action.Up brick) = None
-input_of (action.Cut brick) = None
-input_of action.Heal = None
-input_of (action.Switch volfile) = None
-
--- an action can be armed to send the input
-abbrev pub CanBeArmed : Input → Type 0
-CanBeArmed (input.Down serve) = Unit {0}
-CanBeArmed (input.FaultAt p number) = Unit {0}
-CanBeArmed input.Up = ⊥
-CanBeArmed (input.Connect graph version) = ⊥
-CanBeArmed (input.Disconnect graph) = ⊥
-CanBeArmed (input.Request wind graph req) = ⊥
-
-pub record AreArmable (bytes : List ℕ) : Type 0 where
-  pub sent : Input
-  pub can : CanBeArmed sent
-  pub text : bytes ≡ input_text sent
-
--- in this event the line sends the brick an input that can be armed
-pub record IsArmedLine (number brick : ℕ) (line : SentLine) : Type 0 where
-  pub armable : AreArmable line.bytes
-  pub same_brick : line.brick ≡ brick
-  pub same_event : line.event ≡ number
-
--- In this event the action's input is sent to a brick directly before a request of this procedure. Several actions may be
--- armed for one request, so between the two there may be inputs of others.
-pub record IsSentBefore (log : Log) (number brick : ℕ) (p : Proc) (a : Action) : Type 0 where
-  pub place : ℕ
-  pub request_at : ℕ
-  pub sent : Input
-  pub request : SentLine
-  pub is_input : input_of a ≡ Some sent
-  pub there : slice_get log.sent place ≡ Some (record { event = number; brick = brick; bytes = input_text sent })
-  pub later : place < request_at
-  pub between : (k : ℕ) (line : SentLine) → place < k → k < request_at → slice_get log.sent k ≡ Some line → IsArmedLine number brick line
-  pub request_there : slice_get log.sent request_at ≡ Some request
-  pub same_brick : request.brick ≡ brick
-  pub same_event : request.event ≡ number
-  pub is_request : proc_in request.bytes ≡ Some p
-
--- how many requests of the procedure of this rank were sent to a brick behind an event
-abbrev pub is_rank : ℕ → Option ℕ → Bool
-is_rank rank None = false
-is_rank rank (Some found) = found == rank
-
-abbrev pub is_request_since : ℕ → ℕ → ℕ → SentLine → Bool
-is_request_since since brick rank line = nat_lt since line.event && ((line.brick == brick) && is_rank rank (rank_in line.bytes))
-
-abbrev pub requests_since : ℕ → ℕ → ℕ → List SentLine → ℕ
-requests_since since brick rank [] = 0
-requests_since since brick rank (line ∷ lines) = (if is_request_since since brick rank line then 1 else 0) + requests_since since brick rank lines
-
--- the line at a place is, behind an event, the request of this number to its brick among those of its procedure
-pub record IsNth (log : Log) (since at count : ℕ) : Type 0 where
-  pub line : SentLine
-  pub there : slice_get log.sent at ≡ Some line
-  pub rank : ℕ
-  pub rank_is : rank_in line.bytes ≡ Some rank
-  pub count_is : requests_since since line.brick rank (take (at + 1) log.sent) ≡ count
-
--- how a control is carried out in an event, in a phase that is behind another: by the event itself, or, where it was armed,
--- by the line at a place, before the request of its number in the phase
-pub data IsCarriedIn (log : Log) (since number : ℕ) (place : Option ℕ) (c : ControlLine) : Type 0 where
-  ByEvent : place ≡ None → IsEvent log number (logged.Act c.action) → IsCarriedIn log since number place c
-  ByRequest : (brick : ℕ) (p : Proc) (count : ℕ) → c.when ≡ moment.Before brick p count → (sent : IsSentBefore log number brick p c.action)
-      → place ≡ Some sent.place → IsNth log since sent.request_at count → IsCarriedIn log since number place c
-
--- a control before a request is armed in an event
-pub record IsArmedIn (log : Log) (number brick : ℕ) (p : Proc) (count : ℕ) (a : Action) (since until : ℕ) : Type 0 where
-  pub event : IsEvent log number (logged.Arm brick p count a)
-  pub behind : since < number
-  pub before : number < until
-
--- the action of an event is that of a control which is carried out there
-pub record IsCarriedAt (script : Script) (carried_at : ℕ → ℕ → ℕ) (number : ℕ) (a : Action) : Type 0 where
-  pub phase : ℕ
-  pub at : ℕ
-  pub control : ControlLine
-  pub there : control_at script phase at ≡ Some control
-  pub number_is : carried_at phase at ≡ number
-  pub action_is : control.action ≡ a
-
--- what an event arms is a control of the script that is armed there, for its request
-pub record IsControlBefore (script : Script) (armed_at : ℕ → ℕ → ℕ) (number brick : ℕ) (p : Proc) (count : ℕ) (a : Action) : Type 0 where
-  pub phase : ℕ
-  pub at : ℕ
-  pub control : ControlLine
-  pub there : control_at script phase at ≡ Some control
-  pub number_is : armed_at phase at ≡ number
-  pub when_is : control.when ≡ moment.Before brick p count
-  pub action_is : control.action ≡ a
-
--- the last event before a phase
-abbrev pub begun_at : (ℕ → ℕ) → ℕ → ℕ
-begun_at ended_at phase = if phase == 0 then 0 else ended_at (phase - 1)
-
--- a plan of the run: the last event of each phase; the events in which each control is carried out and armed; and the place of
--- the line that sends its input, where it was armed
+-- the log is that of a run of the script
 pub record RunOf (script : Script) (log : Log) : Type 0 where
-  pub ended_at : ℕ → ℕ
-  pub carried_at : ℕ → ℕ → ℕ
-  pub sent_at : ℕ → ℕ → Option ℕ
-  pub armed_at : ℕ → ℕ → ℕ
-  pub rises : (phase : ℕ) → ended_at phase ≤ ended_at (phase + 1)
-  pub carried : (phase at : ℕ) (c : ControlLine) → control_at script phase at ≡ Some c → IsCarriedIn log (begun_at ended_at phase) (carried_at phase at) (sent_at phase at) c
-  pub behind : (phase at : ℕ) (c : ControlLine) → control_at script phase at ≡ Some c → begun_at ended_at phase < carried_at phase at
-  pub within : (phase at : ℕ) (c : ControlLine) → control_at script phase at ≡ Some c → carried_at phase at ≤ ended_at phase
-  -- no two controls are carried out by one event or one line
-  pub once : (p i q j : ℕ) (a b : ControlLine) → control_at script p i ≡ Some a → control_at script q j ≡ Some b → carried_at p i ≡ carried_at q j → sent_at p i ≡ sent_at q j
-      → (p ≡ q) × (i ≡ j)
-  -- each control before a request is armed within its phase, before it is carried out
-  pub arms : (phase at brick count : ℕ) (p : Proc) (c : ControlLine) → control_at script phase at ≡ Some c → c.when ≡ moment.Before brick p count
-      → IsArmedIn log (armed_at phase at) brick p count c.action (begun_at ended_at phase) (carried_at phase at)
-  -- controls without a condition are carried out in their order
-  pub in_order : (phase i j : ℕ) (a b : ControlLine) → control_at script phase i ≡ Some a → control_at script phase j ≡ Some b
-      → a.when ≡ moment.Now → b.when ≡ moment.Now → i < j → carried_at phase i < carried_at phase j
-  -- a call is submitted once the phases before its own have ended, and answered before its own ends
-  pub submitted : (k session line : ℕ) (at : LineAt) → slice_get log.events k ≡ Some (logged.Submit session line)
-      → place_of_line script session (submits_of session (take k log.events)) ≡ Some at
-      → (k < ended_at at.phase) × ((earlier : ℕ) → earlier < at.phase → ended_at earlier ≤ k)
-  pub answered : (k session line number : ℕ) (at : LineAt) → slice_get log.events k ≡ Some (logged.Submit session line)
-      → place_of_line script session (submits_of session (take k log.events)) ≡ Some at → submitted_at log number ≡ k + 1
-      → replied_at log number ≤ ended_at at.phase
-  -- there is no other action, and no other is armed
-  pub no_other : (number : ℕ) (a : Action) → IsEvent log number (logged.Act a) → IsCarriedAt script carried_at number a
-  pub armed : (number brick count : ℕ) (p : Proc) (a : Action) → IsEvent log number (logged.Arm brick p count a) → IsControlBefore script armed_at number brick p count a
+  pub course : Course
+  pub phases : ArePhases script log course
+  pub calls : AreCallsInPhases script log course
+  pub controls : AreCarried script log course
+  pub arms : AreArmed script log course
 
 pub record FollowsScript (script : Script) (log : Log) : Type 0 where
   pub submitted : AreInOrder script log
@@ -191,8 +31,8 @@ abbrev pub replies_to : ℕ → List ReplyLine → ℕ
 replies_to number [] = 0
 replies_to number (reply ∷ replies) = (if reply.call == number then 1 else 0) + replies_to number replies
 
--- every call was submitted and has one reply, and nothing else has; that every control was carried out is in the plan of the
--- run
+-- every call was submitted and has one reply, and nothing else has. That every control was carried out, and that nothing is left
+-- at the end, is in the run.
 pub record IsFinished (script : Script) (log : Log) : Type 0 where
   pub submitted : length (submissions_of script log) ≡ length (calls_of script.phases)
   pub replied : (number : ℕ) → 1 ≤ number → number ≤ length (calls_of script.phases) → replies_to number log.replies ≡ 1

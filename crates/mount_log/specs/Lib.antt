@@ -1,6 +1,7 @@
 -- In reading order: the log; lines of a script; submissions and replies; the graphs of a run; winds; the procedure of a
--- request; when a log follows its script; connections; locks; causes of I/O errors; how lines are tied to events; what is
--- sent to connect graphs and for controls.
+-- In reading order: the log; lines of a script; submissions and replies; the graphs of a run; winds; the procedure of a
+-- request; events by their numbers; the turns of sessions; phases; what is armed; controls; when a log follows its script;
+-- connections; locks; causes of I/O errors; how lines are tied to events; what is sent to connect graphs and for controls.
 pub mod Logs
 pub mod Lines
 pub mod Submissions
@@ -8,6 +9,11 @@ pub mod Graphs
 pub mod Winds
 pub mod Arrivals
 pub mod Procedures
+pub mod Events
+pub mod Turns
+pub mod Phases
+pub mod Arms
+pub mod Controls
 pub mod Follows
 pub mod Connections
 pub mod Locks

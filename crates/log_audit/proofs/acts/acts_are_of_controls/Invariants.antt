@@ -4,4 +4,4 @@ use Rattle.log_audit.specs.Controlled.{IsOfControl}
 use Rattle.log_audit.proofs.acts.acts_are_of_controls.Given as goal
 
 abbrev pub invariant-loop-k : goal.invariant-loop-k
-invariant-loop-k l = (i : ℕ) (e : HubEvent) → i < l.k → slice_get l.log.events i ≡ Some e → IsOfControl l.script l.notes (i + 1) e
+invariant-loop-k l = (i : ℕ) (e : HubEvent) → i < l.k → slice_get l.log.events i ≡ Some e → IsOfControl l.script l.notes l.last (i + 1) e
