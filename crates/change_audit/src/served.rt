@@ -10,17 +10,21 @@ ghost use Rattle.wire_messages.specs.declared.messages.Message.TheVariants.{Whol
 ghost use Rattle.brick_machine.specs.Machine.{outputs_of};
 ghost use Rattle.change_audit.specs.Served.{IsAnswered, IsOnWind, IsOpOf, IsOpIn, IsOpText, IsPostOf, IsPostIn, IsPostOn, HasText, IsServed, IsPosted};
 
+use crate::openings::is_wind_for;
 use brick_machine::{Brick, outputs_are_encoded, outputs_are_in_order};
 use bytes::Bytes;
 use fop_types::{BrickRep, BrickReq, DoneArm, Input, OutKind, Output, StoreOp};
+use mount_log::WindLine;
 use std::alloc::{AllocError, Global};
 use wire_messages::{Message, input_of, messages_read_back, output_of};
 
-/// A request in a brick's journal, and its answer among the brick's outputs, by their places from 0.
+/// A request in a brick's journal, its answer among the brick's outputs, and the opening of its wind among the wind lines, by
+/// their places from 0.
 #[derive(Clone, Copy)]
 pub struct Served {
     pub place: usize,
     pub answer: usize,
+    pub opening: usize,
 }
 
 /// The bytes at a place.
@@ -186,17 +190,20 @@ fn wind_before(alloc: Global, bytes: &[u8], text: &[u8]) -> Result<Option<u64>, 
     Ok(found)
 }
 
-/// Whether the brick has answered Done to the request at a place, and this is the request's text.
+/// Whether the brick has answered Done to the request at a place, this is the request's text, and it was sent for a wind of the
+/// call.
 ///
 /// # Errors
 /// Out of memory.
 pub(crate) fn is_served(
     alloc: Global,
+    winds: &[WindLine],
     brick: &Brick,
     at: Served,
+    call: u32,
     text: &[u8],
 ) -> Result<bool, AllocError>
-    ensures { IfOk result (λ yes. yes ≡ true → IsServed brick.now.journal at.place text.now) }
+    ensures { IfOk result (λ yes. yes ≡ true → IsServed winds.now brick.now.journal call at.place text.now) }
 {
     let Some(bytes) = bytes_at(brick.journal(), at.place) else {
         return Ok(false);
@@ -204,6 +211,9 @@ pub(crate) fn is_served(
     let Some(wind) = wind_before(alloc, bytes.as_slice(), text)? else {
         return Ok(false);
     };
+    if !is_wind_for(winds, at.opening, call, wind) {
+        return Ok(false);
+    }
     let yes = is_answered(alloc, brick, at, wind)?;
     Ok(yes)
 }
@@ -297,18 +307,21 @@ fn post_in(
     }
 }
 
-/// Whether the brick has answered Done to the post of a change in a graph, which is at a place.
+/// Whether the brick has answered Done to the post of a change in a graph, which is at a place and was sent for a wind of the
+/// call.
 ///
 /// # Errors
 /// Out of memory.
 pub(crate) fn is_posted(
     alloc: Global,
+    winds: &[WindLine],
     brick: &Brick,
     at: Served,
+    call: u32,
     graph: usize,
     change: u64,
 ) -> Result<bool, AllocError>
-    ensures { IfOk result (λ yes. yes ≡ true → IsPosted brick.now.journal graph change at.place) }
+    ensures { IfOk result (λ yes. yes ≡ true → IsPosted winds.now brick.now.journal call graph change at.place) }
 {
     let Some(bytes) = bytes_at(brick.journal(), at.place) else {
         return Ok(false);
@@ -316,6 +329,9 @@ pub(crate) fn is_posted(
     let Some(wind) = post_in(alloc, bytes.as_slice(), graph, change)? else {
         return Ok(false);
     };
+    if !is_wind_for(winds, at.opening, call, wind) {
+        return Ok(false);
+    }
     let yes = is_answered(alloc, brick, at, wind)?;
     Ok(yes)
 }

@@ -2,7 +2,7 @@ use Rattle.std.proofs.Common.{◌≡◌, sym, ap, subst, ◌∙◌}
 use Rattle.std.specs.Prelude.{Bool, List, true, Some, slice_get}
 use Rattle.change_audit.specs.Acknowledged.{AreMarked}
 use Rattle.change_audit.proofs.Marking.{marked_well}
-use Rattle.change_audit.proofs.changes.is_call_borne.Goals as goal
+use Rattle.change_audit.proofs.changes.take_due.Goals as goal
 
 pub returns-then-not-is_marked : goal.returns-then-not-is_marked
 returns-then-not-is_marked c = λ _ well.
