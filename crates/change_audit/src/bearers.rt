@@ -3,8 +3,9 @@ ghost use Rattle.std.specs.Prelude.{◌≡◌, ◌==◌, ◌≤◌, true, length
 ghost use Rattle.std.specs.List.{AllByRecursion, IsDistinct};
 ghost use Rattle.change_audit.specs.Bearing.{brick_of, RisesFrom, IsMaking, IsSaidBorne, IsSaidBearer, HasBearers};
 
+use crate::answers::{Served, bytes_at};
 use crate::making::makes;
-use crate::served::{Served, bytes_at, is_posted, is_served, op_in, text_in};
+use crate::served::{is_posted, is_served, op_in, text_in};
 use brick_machine::Brick;
 use fop_types::{FlatOp, SetPlan};
 use mount_log::WindLine;

@@ -1,7 +1,8 @@
 //! Which bricks bear which changes, found in journals and outputs. Nothing is said of what is found.
 
+use crate::answers::{Served, done_wind, whole_output};
 use crate::bearers::Bearer;
-use crate::served::{Served, done_wind, whole_input, whole_output};
+use crate::served::whole_input;
 use brick_machine::Brick;
 use bytes::Bytes;
 use fop_types::{BrickReq, Input, Seq};

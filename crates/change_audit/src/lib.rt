@@ -16,6 +16,7 @@
 #![tactic(auto)]
 
 mod acknowledged;
+mod answers;
 mod bearers;
 mod call_graphs;
 mod changes;

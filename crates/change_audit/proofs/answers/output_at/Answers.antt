@@ -4,7 +4,7 @@ use Rattle.fop_types.specs.declared.messages.Output.{Output}
 use Rattle.wire_messages.specs.Messages.{output_in}
 use Rattle.wire_messages.specs.declared.messages.Message.TheVariants.{Whole}
 use Rattle.change_audit.proofs.Texts.{output_is}
-use Rattle.change_audit.proofs.served.output_at.Goals as goal
+use Rattle.change_audit.proofs.answers.output_at.Goals as goal
 
 pub returns : goal.returns
 returns c =
