@@ -1,13 +1,12 @@
 -- The bricks that bear a change.
-use Rattle.std.proofs.Common.{◌≡◌, refl, sym, ap, subst, ◌∙◌, arith, get_or}
-use Rattle.std.specs.Prelude.{ℕ, ◌<◌, ◌≤◌, ◌+◌, ◌==◌, Bool, true, false, List, [], ◌∷◌, length, map, drop, slice_get, Contains, Some}
+use Rattle.std.proofs.Common.{◌≡◌, sym, subst, arith}
+use Rattle.std.specs.Prelude.{ℕ, ◌<◌, ◌≤◌, ◌+◌, ◌==◌, false, List, [], ◌∷◌, length, map, slice_get, Contains, Some}
 use Rattle.std.specs.List.{AllByRecursion, IsDistinct}
 use Rattle.std.proofs.lemmas.Bool.{eqb-true, false_from_ne_true}
 use Rattle.fop_types.specs.declared.flat.FlatOp.{FlatOp}
 use Rattle.fop_types.specs.declared.jobs.SetPlan.{SetPlan}
-use Rattle.fop_types.specs.declared.store_ops.StoreOp.{StoreOp}
 use Rattle.brick_machine.specs.Journal.{Journal}
-use Rattle.change_audit.specs.Borne.{IsBorneBy, IsBearer}
+use Rattle.change_audit.specs.Borne.{IsBearer}
 use Rattle.change_audit.specs.Bearing.{brick_of, RisesFrom, IsMaking, IsSaidBorne, IsSaidBearer, HasBearers}
 use Rattle.change_audit.specs.Served.{IsOpText, IsServed, IsPosted}
 use Rattle.mount_log.specs.declared.logs.WindLine.{WindLine}

@@ -1,5 +1,5 @@
 use Rattle.std.proofs.Common.{◌≡◌, sym, ap, subst, ◌∙◌}
-use Rattle.std.specs.Prelude.{ℕ, List, Option, Some, IfSome, slice_get, length, ◌<◌, ◌^◌}
+use Rattle.std.specs.Prelude.{ℕ, List, Option, IfSome, slice_get, length, ◌<◌, ◌^◌}
 use Rattle.fop_types.specs.declared.messages.Output.{Output}
 use Rattle.wire_messages.specs.Messages.{output_in}
 use Rattle.wire_messages.specs.declared.messages.Message.TheVariants.{Whole}

@@ -1,4 +1,3 @@
-use Rattle.std.proofs.Common.{◌≡◌}
 use Rattle.change_audit.specs.Bearing.{IsSaidBearer}
 use Rattle.change_audit.proofs.Items.{all_next}
 use Rattle.change_audit.proofs.bearers.are_bearers.Goals as goal

@@ -1,4 +1,4 @@
-use Rattle.std.proofs.Common.{◌≡◌, drop}
+use Rattle.std.proofs.Common.{drop}
 use Rattle.change_audit.proofs.Bearing.{have_bearers}
 use Rattle.change_audit.proofs.bearers.has_bearers.Goals as goal
 

@@ -1,4 +1,4 @@
-use Rattle.std.proofs.Common.{◌≡◌, sym}
+use Rattle.std.proofs.Common.{sym}
 use Rattle.change_audit.proofs.Bearing.{bearer_is}
 use Rattle.change_audit.proofs.bearers.is_bearer.Goals as goal
 

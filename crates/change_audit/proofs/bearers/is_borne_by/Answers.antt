@@ -1,4 +1,3 @@
-use Rattle.std.proofs.Common.{◌≡◌}
 use Rattle.change_audit.proofs.Bearing.{borne_by}
 use Rattle.change_audit.proofs.bearers.is_borne_by.Goals as goal
 

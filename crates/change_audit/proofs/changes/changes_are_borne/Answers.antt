@@ -1,5 +1,4 @@
-use Rattle.std.proofs.Common.{◌≡◌, ◌<◌, ◌≤◌, arith}
-use Rattle.std.specs.Prelude.{ℕ, length}
+use Rattle.std.proofs.Common.{arith}
 use Rattle.change_audit.proofs.Entries.{claimed_next, all_claimed}
 use Rattle.change_audit.proofs.changes.changes_are_borne.Goals as goal
 

@@ -1,4 +1,4 @@
-use Rattle.std.proofs.Common.{◌≡◌, subst}
+use Rattle.std.proofs.Common.{subst}
 use Rattle.std.specs.Prelude.{List}
 use Rattle.mount_log.specs.declared.logs.WindLine.{WindLine}
 use Rattle.change_audit.specs.Bearing.{HasBearers}

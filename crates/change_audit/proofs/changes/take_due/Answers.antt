@@ -1,6 +1,5 @@
-use Rattle.std.proofs.Common.{◌≡◌, sym, ap, subst, ◌∙◌}
+use Rattle.std.proofs.Common.{◌≡◌, ap, ◌∙◌}
 use Rattle.std.specs.Prelude.{Bool, List, true, Some, slice_get}
-use Rattle.change_audit.specs.Acknowledged.{AreMarked}
 use Rattle.change_audit.proofs.Marking.{marked_well}
 use Rattle.change_audit.proofs.changes.take_due.Goals as goal
 

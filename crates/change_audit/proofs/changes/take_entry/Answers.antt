@@ -1,4 +1,3 @@
-use Rattle.std.proofs.Common.{◌≡◌}
 use Rattle.change_audit.proofs.Entries.{entry_claimed}
 use Rattle.change_audit.proofs.changes.take_entry.Goals as goal
 

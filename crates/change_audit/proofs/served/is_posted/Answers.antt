@@ -1,5 +1,5 @@
-use Rattle.std.proofs.Common.{◌≡◌, sym, ap, subst, ◌∙◌}
-use Rattle.std.specs.Prelude.{ℕ, List, Option, Some, IfSome, slice_get}
+use Rattle.std.proofs.Common.{sym, ap, subst, ◌∙◌}
+use Rattle.std.specs.Prelude.{ℕ, List, Option, IfSome, slice_get}
 use Rattle.change_audit.specs.Served.{IsPostOn}
 use Rattle.change_audit.proofs.Texts.{posted}
 use Rattle.change_audit.proofs.served.is_posted.Goals as goal
