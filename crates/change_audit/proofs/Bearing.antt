@@ -1,15 +1,15 @@
 -- The bricks that bear a change.
-use Rattle.std.proofs.Common.{◌≡◌, refl, sym, ap, subst, ◌∙◌, arith, get_or}
-use Rattle.std.specs.Prelude.{ℕ, ◌<◌, ◌≤◌, ◌+◌, ◌==◌, Bool, true, false, List, [], ◌∷◌, length, map, drop, slice_get, Contains, Some}
+use Rattle.std.proofs.Common.{◌≡◌, sym, subst, arith}
+use Rattle.std.specs.Prelude.{ℕ, ◌<◌, ◌≤◌, ◌+◌, ◌==◌, false, List, [], ◌∷◌, length, map, slice_get, Contains, Some}
 use Rattle.std.specs.List.{AllByRecursion, IsDistinct}
 use Rattle.std.proofs.lemmas.Bool.{eqb-true, false_from_ne_true}
 use Rattle.fop_types.specs.declared.flat.FlatOp.{FlatOp}
 use Rattle.fop_types.specs.declared.jobs.SetPlan.{SetPlan}
-use Rattle.fop_types.specs.declared.store_ops.StoreOp.{StoreOp}
 use Rattle.brick_machine.specs.Journal.{Journal}
-use Rattle.change_audit.specs.Borne.{IsBorneBy, IsBearer}
+use Rattle.change_audit.specs.Borne.{IsBearer}
 use Rattle.change_audit.specs.Bearing.{brick_of, RisesFrom, IsMaking, IsSaidBorne, IsSaidBearer, HasBearers}
 use Rattle.change_audit.specs.Served.{IsOpText, IsServed, IsPosted}
+use Rattle.mount_log.specs.declared.logs.WindLine.{WindLine}
 use Rattle.change_audit.specs.declared.bearers.Bearer.{Bearer}
 use Rattle.change_audit.proofs.Items.{all_mapped}
 
@@ -30,8 +30,8 @@ distinct least (x ∷ numbers) rises = (apart_from x (x + 1) numbers (omega arit
 
 -- ---- a bearer
 
-pub borne_by : (graph change op_at post_at : ℕ) (text : List ℕ) (b : Journal) → op_at < post_at → IsServed b.journal op_at text → IsPosted b.journal graph change post_at → IsSaidBorne graph change text b
-borne_by graph change op_at post_at text b later served posted o has = record {
+pub borne_by : (winds : List WindLine) (call graph change op_at post_at : ℕ) (text : List ℕ) (b : Journal) → op_at < post_at → IsServed winds b.journal call op_at text → IsPosted winds b.journal call graph change post_at → IsSaidBorne winds call graph change text b
+borne_by winds call graph change op_at post_at text b later served posted o has = record {
   op_at = op_at;
   post_at = post_at;
   fd = has.fd;
@@ -42,21 +42,20 @@ borne_by graph change op_at post_at text b later served posted o has = record {
   later = later;
 }
 
-pub bearer_is : (bricks : List Journal) (plan : SetPlan) (graph change : ℕ) (text : List ℕ) (bearer : Bearer) (b : Journal) → Contains plan.bricks bearer.brick → slice_get bricks bearer.brick ≡ Some b
-    → IsSaidBorne graph change text b → IsSaidBearer bricks plan graph change text bearer
-bearer_is bricks plan graph change text bearer b member there borne o has = record { member = member; at = b; there = there; borne = borne o has }
+pub bearer_is : (winds : List WindLine) (bricks : List Journal) (plan : SetPlan) (call graph change : ℕ) (text : List ℕ) (bearer : Bearer) (b : Journal) → Contains plan.bricks bearer.brick → slice_get bricks bearer.brick ≡ Some b
+    → IsSaidBorne winds call graph change text b → IsSaidBearer winds bricks plan call graph change text bearer
+bearer_is winds bricks plan call graph change text bearer b member there borne o has = record { member = member; at = b; there = there; borne = borne o has }
 
-pub have_bearers : (bricks : List Journal) (plan : SetPlan) (graph change : ℕ) (operation : FlatOp) (text behind : List ℕ) (bearers : List Bearer) → IsDistinct ◌==◌ (map brick_of bearers)
-    → plan.q ≤ length (map brick_of bearers) → IsMaking graph change operation behind → text ≡ behind → AllByRecursion (IsSaidBearer bricks plan graph change text) bearers
-    → HasBearers bricks plan graph operation
-have_bearers bricks plan graph change operation text behind bearers differ quorum making same all =
+pub have_bearers : (winds : List WindLine) (bricks : List Journal) (plan : SetPlan) (call graph change : ℕ) (operation : FlatOp) (text behind : List ℕ) (bearers : List Bearer) → IsDistinct ◌==◌ (map brick_of bearers)
+    → plan.q ≤ length (map brick_of bearers) → IsMaking graph change operation behind → text ≡ behind → AllByRecursion (IsSaidBearer winds bricks plan call graph change text) bearers
+    → HasBearers winds bricks plan call graph change operation
+have_bearers winds bricks plan call graph change operation text behind bearers differ quorum making same all =
     let has : IsOpText graph change making.op text = subst (IsOpText graph change making.op) (sym same) making.has_text in
     record {
       op = making.op;
       op_is = making.op_is;
-      change = change;
       bearers = map brick_of bearers;
       differ = differ;
       quorum = quorum;
-      each = all_mapped brick_of (IsSaidBearer bricks plan graph change text) (IsBearer bricks plan graph change making.op) (λ b said. said making.op has) bearers all;
+      each = all_mapped brick_of (IsSaidBearer winds bricks plan call graph change text) (IsBearer winds bricks plan call graph change making.op) (λ b said. said making.op has) bearers all;
     }

@@ -1,6 +1,7 @@
--- One entry of the history.
-use Rattle.std.proofs.Common.{◌≡◌, subst, ◌∙◌}
-use Rattle.std.specs.Prelude.{ℕ, List, Some, slice_get}
+-- The entries of the history so far, with their changes.
+use Rattle.std.proofs.Common.{◌≡◌, ap, subst, ◌∙◌, arith}
+use Rattle.std.specs.Prelude.{ℕ, ◌<◌, ◌≤◌, ◌+◌, List, Some, length, slice_get}
+use Rattle.std.proofs.lemmas.Option.{slice_get_within}
 use Rattle.fop_types.specs.declared.flat.FlatOp.{FlatOp}
 use Rattle.fop_types.specs.declared.history.Entry.{Entry}
 use Rattle.graph_build.specs.declared.plans.Plan.{Plan}
@@ -8,12 +9,38 @@ use Rattle.script_lang.specs.declared.scripts.Script.{Script}
 use Rattle.brick_machine.specs.Journal.{Journal}
 use Rattle.mount_log.proofs.Items.{some_is}
 use Rattle.mount_log.specs.declared.logs.Log.{Log}
-use Rattle.change_audit.specs.Borne.{IsBorne, IsAcknowledged}
-use Rattle.change_audit.specs.Entries.{IsEntryBorne}
+use Rattle.change_audit.specs.Borne.{IsAcknowledged, AreBorne}
+use Rattle.change_audit.specs.Claims.{KeepClaims, entry_by, place_or_first}
+use Rattle.change_audit.specs.Entries.{IsClaimed, IsEntryClaimed}
+use Rattle.change_audit.proofs.Items.{each_more}
 
-pub entry_borne : (script : Script) (plans : List Plan) (log : Log) (bricks : List Journal) (ops : List FlatOp) (k : ℕ) (entry : Entry) (operation : FlatOp) → Some entry ≡ slice_get log.history k
-    → Some operation ≡ slice_get ops k → (IsAcknowledged log entry.call → IsBorne script plans log bricks entry.call operation)
-    → (other : Entry) → slice_get log.history k ≡ Some other → IsEntryBorne script plans log bricks ops k other
-entry_borne script plans log bricks ops k entry operation here op_here borne other there made op_there well =
-    subst (λ (e : Entry). IsAcknowledged log e.call → IsBorne script plans log bricks e.call made) (some_is entry other (here ∙ there))
-    (subst (λ (o : FlatOp). IsAcknowledged log entry.call → IsBorne script plans log bricks entry.call o) (some_is operation made (op_here ∙ op_there)) borne) well
+module _ (script : Script) (plans : List Plan) (log : Log) (bricks : List Journal) (ops : List FlatOp) where
+  pub entry_claimed : (claims : List (ℕ × ℕ)) (k : ℕ) (entry : Entry) (operation : FlatOp) → Some entry ≡ slice_get log.history k → Some operation ≡ slice_get ops k
+      → (IsAcknowledged log entry.call → IsClaimed script plans log bricks claims k entry.call operation)
+      → (other : Entry) → slice_get log.history k ≡ Some other → IsEntryClaimed script plans log bricks ops claims k other
+  entry_claimed claims k entry operation here op_here claimed other there made op_there well =
+      subst (λ (e : Entry). IsAcknowledged log e.call → IsClaimed script plans log bricks claims k e.call made) (some_is entry other (here ∙ there))
+      (subst (λ (o : FlatOp). IsAcknowledged log entry.call → IsClaimed script plans log bricks claims k entry.call o) (some_is operation made (op_here ∙ op_there)) claimed) well
+
+  -- an entry keeps its change
+  claim_kept : (before after : List (ℕ × ℕ)) (k call : ℕ) (operation : FlatOp) → KeepClaims before after → IsClaimed script plans log bricks before k call operation
+      → IsClaimed script plans log bricks after k call operation
+  claim_kept before after k call operation keep is = record { change = is.change; claimed = keep is.change k is.claimed; borne = is.borne }
+
+  -- the entries before a place
+  abbrev AreClaimedTo : ℕ → List (ℕ × ℕ) → Type 0
+  AreClaimedTo n claims = (j : ℕ) (entry : Entry) → j < n → slice_get log.history j ≡ Some entry → IsEntryClaimed script plans log bricks ops claims j entry
+
+  pub claimed_next : (n : ℕ) (before after : List (ℕ × ℕ)) → KeepClaims before after
+      → ((entry : Entry) → slice_get log.history n ≡ Some entry → IsEntryClaimed script plans log bricks ops after n entry) → AreClaimedTo n before → AreClaimedTo (n + 1) after
+  claimed_next n before after keep own so_far =
+      each_more (λ (j : ℕ) (e : Entry). IsEntryClaimed script plans log bricks ops after j e) log.history n own
+      (λ j e below there operation op_there well. claim_kept before after j e.call operation keep (so_far j e below there operation op_there well))
+
+  pub all_claimed : (n : ℕ) (claims : List (ℕ × ℕ)) → length log.history ≤ n → AreClaimedTo n claims → AreBorne script plans log bricks ops
+  all_claimed n claims le are = record {
+    entry_of = entry_by claims;
+    each = λ k entry operation there op_there well.
+        let lt = slice_get_within log.history k entry there in let has = are k entry (omega (arith, lt, le)) there operation op_there well in
+        record { change = has.change; own = ap place_or_first has.claimed; borne = has.borne };
+  }

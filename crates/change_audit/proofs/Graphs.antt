@@ -1,6 +1,6 @@
 -- The graph of a call is that of the table.
-use Rattle.std.proofs.Common.{◌≡◌, refl, sym, ap, subst, ◌∙◌, arith}
-use Rattle.std.specs.Prelude.{ℕ, zero, suc, ◌<◌, ◌≤◌, ◌+◌, ◌-◌, List, [], ◌∷◌, ◌++◌, Option, Some, length, take, drop, slice_get}
+use Rattle.std.proofs.Common.{◌≡◌, sym, ap, subst, ◌∙◌, arith}
+use Rattle.std.specs.Prelude.{ℕ, zero, suc, ◌≤◌, ◌+◌, ◌-◌, List, [], ◌∷◌, Some, length, take, slice_get}
 use Rattle.std.specs.List.{AllByRecursion}
 use Rattle.fop_types.specs.declared.flat.FlatOp.{FlatOp}
 use Rattle.fop_types.specs.declared.jobs.SetPlan.{SetPlan}
@@ -82,9 +82,9 @@ module _ (script : Script) (log : Log) (tables : CallGraphs) (are : AreGraphsOf 
       at.graph_is ∙ ap (λ (n : ℕ). 1 + length (switches_in (take (submit_event 0 log.events n - 1) log.events))) number
 
   -- a change of a call that the bricks of a set of its graph bear
-  pub borne : (plans : List Plan) (bricks : List Journal) (call graph set : ℕ) (operation : FlatOp) (plan : SetPlan) → HasGraph tables call graph
-      → set_of_plan (plan_of_volfile plans (slice_get tables.volfiles (graph - 1))) set ≡ Some plan → HasBearers bricks plan graph operation → IsBorne script plans log bricks call operation
-  borne plans bricks call graph set operation plan has set_is have =
+  pub borne : (plans : List Plan) (bricks : List Journal) (call graph change set : ℕ) (operation : FlatOp) (plan : SetPlan) → HasGraph tables call graph
+      → set_of_plan (plan_of_volfile plans (slice_get tables.volfiles (graph - 1))) set ≡ Some plan → HasBearers log.winds bricks plan call graph change operation → IsBorne script plans log bricks call change operation
+  borne plans bricks call graph change set operation plan has set_is have =
       let same = graph_is call graph has in
       record {
         set = set;
@@ -94,9 +94,8 @@ module _ (script : Script) (log : Log) (tables : CallGraphs) (are : AreGraphsOf 
             ∙ ap (λ (n : ℕ). set_of_plan (plan_of_volfile plans (slice_get tables.volfiles (n - 1))) set) (sym same) ∙ set_is;
         op = have.op;
         op_is = have.op_is;
-        change = have.change;
         bearers = have.bearers;
         differ = have.differ;
         quorum = have.quorum;
-        each = subst (λ (n : ℕ). AllByRecursion (IsBearer bricks plan n have.change have.op) have.bearers) same have.each;
+        each = subst (λ (n : ℕ). AllByRecursion (IsBearer log.winds bricks plan call n change have.op) have.bearers) same have.each;
       }

@@ -3,4 +3,5 @@ pub mod Texts
 pub mod Bearing
 pub mod Graphs
 pub mod Marking
+pub mod Claiming
 pub mod Entries

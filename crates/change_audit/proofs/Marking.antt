@@ -1,5 +1,5 @@
 -- Marks of the replies so far, with the next.
-use Rattle.std.proofs.Common.{◌≡◌, sym, subst, arith, get_or}
+use Rattle.std.proofs.Common.{◌≡◌, subst, arith, get_or}
 use Rattle.std.specs.Prelude.{ℕ, ◌<◌, ◌≤◌, ◌+◌, Bool, true, List, Some, length, slice_get}
 use Rattle.std.proofs.lemmas.Option.{slice_get_within}
 use Rattle.mount_log.specs.declared.logs.Log.{Log}

@@ -19,7 +19,8 @@ use Rattle.wire_messages.specs.declared.messages.Message.TheVariants.{Whole, Wro
 use Rattle.brick_machine.specs.Encoded.{OutputsAreEncoded}
 use Rattle.brick_machine.specs.Laws.{OutputsByTaken, outputs_up_to}
 use Rattle.brick_machine.specs.Machine.{outputs_of, texts_of}
-use Rattle.change_audit.specs.Borne.{IsDoneRequest}
+use Rattle.mount_log.specs.declared.logs.WindLine.{WindLine}
+use Rattle.change_audit.specs.Borne.{IsDoneRequest, IsWindFor}
 use Rattle.change_audit.specs.Served.{IsAnswered, IsOnWind, IsOpIn, IsOpText, IsPostIn, IsPostOn, IsPosted, HasText, IsServed, text_of}
 use Rattle.change_audit.proofs.Items.{all_at, drop_front, each_at, mapped, take_long}
 
@@ -70,15 +71,15 @@ post_text wind graph change x bytes is post = record { cells = post.cells; mask 
 
 -- ---- requests that were answered
 
-done : (journal : List (List ℕ)) (wind graph place answer : ℕ) (req : BrickReq) → slice_get journal place ≡ Some (input_text (Request wind graph req)) → IsAnswered journal place answer wind
-    → IsDoneRequest journal graph place req
-done journal wind graph place answer req there put = record { wind = wind; answer_at = answer; output = put.output; there = there; answered = put.there; caused = put.caused; reply = put.reply }
+done : (winds : List WindLine) (journal : List (List ℕ)) (call wind graph place answer : ℕ) (req : BrickReq) → IsWindFor winds call wind → slice_get journal place ≡ Some (input_text (Request wind graph req)) → IsAnswered journal place answer wind
+    → IsDoneRequest winds journal call graph place req
+done winds journal call wind graph place answer req opened there put = record { wind = wind; of_call = opened; answer_at = answer; output = put.output; there = there; answered = put.there; caused = put.caused; reply = put.reply }
 
-pub served : (journal : List (List ℕ)) (wind place answer : ℕ) (bytes text : List ℕ) → slice_get journal place ≡ Some bytes → HasText wind text bytes → IsAnswered journal place answer wind
-    → IsServed journal place text
-served journal wind place answer bytes text there has put graph req is = done journal wind graph place answer req (there ∙ ap Some (has graph req is)) put
+pub served : (winds : List WindLine) (journal : List (List ℕ)) (call wind place answer : ℕ) (bytes text : List ℕ) → IsWindFor winds call wind → slice_get journal place ≡ Some bytes → HasText wind text bytes → IsAnswered journal place answer wind
+    → IsServed winds journal call place text
+served winds journal call wind place answer bytes text opened there has put graph req is = done winds journal call wind graph place answer req opened (there ∙ ap Some (has graph req is)) put
 
-pub posted : (journal : List (List ℕ)) (wind graph change place answer : ℕ) (bytes : List ℕ) → slice_get journal place ≡ Some bytes → IsPostOn wind graph change bytes → IsAnswered journal place answer wind
-    → IsPosted journal graph change place
-posted journal wind graph change place answer bytes there post put =
-    record { cells = post.cells; mask = post.mask; done = done journal wind graph place answer _ (there ∙ ap Some post.is) put }
+pub posted : (winds : List WindLine) (journal : List (List ℕ)) (call wind graph change place answer : ℕ) (bytes : List ℕ) → IsWindFor winds call wind → slice_get journal place ≡ Some bytes → IsPostOn wind graph change bytes → IsAnswered journal place answer wind
+    → IsPosted winds journal call graph change place
+posted winds journal call wind graph change place answer bytes opened there post put =
+    record { cells = post.cells; mask = post.mask; done = done winds journal call wind graph place answer _ opened (there ∙ ap Some post.is) put }

@@ -6,6 +6,7 @@ use Rattle.fop_types.specs.declared.flat.FlatOp.{FlatOp}
 use Rattle.fop_types.specs.declared.jobs.SetPlan.{SetPlan}
 use Rattle.fop_types.specs.declared.store_ops.StoreOp.{StoreOp}
 use Rattle.brick_machine.specs.Journal.{Journal}
+use Rattle.mount_log.specs.declared.logs.WindLine.{WindLine}
 use Rattle.change_audit.specs.declared.bearers.Bearer.{Bearer}
 use Rattle.change_audit.specs.Borne.{IsBorneBy, IsBearer}
 use Rattle.change_audit.specs.Served.{IsOpText}
@@ -25,18 +26,17 @@ pub record IsMaking (graph change : ℕ) (operation : FlatOp) (text : List ℕ) 
   pub has_text : IsOpText graph change op text
 
 -- a brick has served the op of this text, and then the post of its change
-abbrev pub IsSaidBorne : ℕ → ℕ → List ℕ → Journal → Type 0
-IsSaidBorne graph change text at = (o : StoreOp) → IsOpText graph change o text → IsBorneBy graph change o at
+abbrev pub IsSaidBorne : List WindLine → ℕ → ℕ → ℕ → List ℕ → Journal → Type 0
+IsSaidBorne winds call graph change text at = (o : StoreOp) → IsOpText graph change o text → IsBorneBy winds call graph change o at
 
-abbrev pub IsSaidBearer : List Journal → SetPlan → ℕ → ℕ → List ℕ → Bearer → Type 0
-IsSaidBearer bricks plan graph change text bearer = (o : StoreOp) → IsOpText graph change o text → IsBearer bricks plan graph change o bearer.brick
+abbrev pub IsSaidBearer : List WindLine → List Journal → SetPlan → ℕ → ℕ → ℕ → List ℕ → Bearer → Type 0
+IsSaidBearer winds bricks plan call graph change text bearer = (o : StoreOp) → IsOpText graph change o text → IsBearer winds bricks plan call graph change o bearer.brick
 
--- a quorum of the bricks of a set has borne a change that makes the operation
-pub record HasBearers (bricks : List Journal) (plan : SetPlan) (graph : ℕ) (operation : FlatOp) : Type 0 where
+-- a quorum of the bricks of a set has borne a change of a call that makes the operation
+pub record HasBearers (winds : List WindLine) (bricks : List Journal) (plan : SetPlan) (call graph change : ℕ) (operation : FlatOp) : Type 0 where
   pub op : StoreOp
   pub op_is : change_of op ≡ Some operation
-  pub change : ℕ
   pub bearers : List ℕ
   pub differ : IsDistinct ◌==◌ bearers
   pub quorum : plan.q ≤ length bearers
-  pub each : AllByRecursion (IsBearer bricks plan graph change op) bearers
+  pub each : AllByRecursion (IsBearer winds bricks plan call graph change op) bearers

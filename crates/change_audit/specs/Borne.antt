@@ -1,6 +1,6 @@
--- Acknowledged changes are on the bricks: for each entry of a call that was answered well, a quorum of the bricks of one set
--- has in its journals the store op of the entry and later its post, under one change number and of the call's graph, each
--- answered Done.
+-- Acknowledged changes are on the bricks: each entry of a call that was answered well has a change of its own, and a quorum of
+-- the bricks of one set has in its journals the store op of that change, which makes the entry, and later its post, of the
+-- call's graph, each sent for a wind of the call and answered Done.
 use Rattle.std.specs.Prelude.{◌≡◌, ℕ, ◌+◌, ◌<◌, ◌≤◌, ◌==◌, true, List, Some, Contains, length, slice_get}
 use Rattle.std.specs.List.{AllByRecursion, IsDistinct}
 use Rattle.dht_fops.specs.Answers.{change_of}
@@ -25,12 +25,24 @@ use Rattle.brick_machine.specs.Journal.{Journal}
 use Rattle.brick_machine.specs.Machine.{outputs_of}
 use Rattle.mount_log.specs.declared.logs.Log.{Log}
 use Rattle.mount_log.specs.declared.logs.ReplyLine.{ReplyLine}
+use Rattle.mount_log.specs.declared.logs.WindLine.{WindLine}
+use Rattle.xlator_law.specs.Numbers.{wind_number}
 use Rattle.mount_log.specs.Causes.{set_of_call}
 use Rattle.mount_log.specs.Connections.{graph_of_call}
 
--- a request of a graph is at this place in a journal, from 0, and what it caused is its Done
-pub record IsDoneRequest (journal : List (List ℕ)) (graph place : ℕ) (req : BrickReq) : Type 0 where
+-- the wind of this number was opened for the call; an op and a post are never the open that goes before a request
+pub record IsWindFor (winds : List WindLine) (call wind : ℕ) : Type 0 where
+  pub place : ℕ
+  pub line : WindLine
+  pub there : slice_get winds place ≡ Some line
+  pub opened : line.opened ≡ true
+  pub call_is : line.call ≡ call
+  pub number_is : wind_number line.wind ≡ wind
+
+-- a request of a call in a graph is at this place in a journal, from 0, and what it caused is its Done
+pub record IsDoneRequest (winds : List WindLine) (journal : List (List ℕ)) (call graph place : ℕ) (req : BrickReq) : Type 0 where
   pub wind : ℕ
+  pub of_call : IsWindFor winds call wind
   pub answer_at : ℕ
   pub output : Output
   pub there : slice_get journal place ≡ Some (input_text (Request wind graph req))
@@ -39,33 +51,33 @@ pub record IsDoneRequest (journal : List (List ℕ)) (graph place : ℕ) (req : 
   pub reply : output.kind ≡ Reply wind (Done Nothing)
 
 -- a brick has served the op and then its post
-pub record IsBorneBy (graph change : ℕ) (o : StoreOp) (b : Journal) : Type 0 where
+pub record IsBorneBy (winds : List WindLine) (call graph change : ℕ) (o : StoreOp) (b : Journal) : Type 0 where
   pub op_at : ℕ
   pub post_at : ℕ
   pub fd : ℕ
   pub cells : List Cell
   pub mask : Mask
-  pub op_done : IsDoneRequest b.journal graph op_at (Op change fd o)
-  pub post_done : IsDoneRequest b.journal graph post_at (Post change cells mask)
+  pub op_done : IsDoneRequest winds b.journal call graph op_at (Op change fd o)
+  pub post_done : IsDoneRequest winds b.journal call graph post_at (Post change cells mask)
   pub later : op_at < post_at
 
-pub record IsBearer (bricks : List Journal) (plan : SetPlan) (graph change : ℕ) (o : StoreOp) (brick : ℕ) : Type 0 where
+pub record IsBearer (winds : List WindLine) (bricks : List Journal) (plan : SetPlan) (call graph change : ℕ) (o : StoreOp) (brick : ℕ) : Type 0 where
   pub member : Contains plan.bricks brick
   pub at : Journal
   pub there : slice_get bricks brick ≡ Some at
-  pub borne : IsBorneBy graph change o at
+  pub borne : IsBorneBy winds call graph change o at
 
-pub record IsBorne (script : Script) (plans : List Plan) (log : Log) (bricks : List Journal) (call : ℕ) (operation : FlatOp) : Type 0 where
+-- a change of a call makes the operation, and a quorum of the bricks of one set bears it
+pub record IsBorne (script : Script) (plans : List Plan) (log : Log) (bricks : List Journal) (call change : ℕ) (operation : FlatOp) : Type 0 where
   pub set : ℕ
   pub plan : SetPlan
   pub plan_is : set_of_call script plans log call set ≡ Some plan
   pub op : StoreOp
   pub op_is : change_of op ≡ Some operation
-  pub change : ℕ
   pub bearers : List ℕ
   pub differ : IsDistinct ◌==◌ bearers
   pub quorum : plan.q ≤ length bearers
-  pub each : AllByRecursion (IsBearer bricks plan (graph_of_call log call) change op) bearers
+  pub each : AllByRecursion (IsBearer log.winds bricks plan call (graph_of_call log call) change op) bearers
 
 -- the call of an entry was answered well
 pub record IsAcknowledged (log : Log) (call : ℕ) : Type 0 where
@@ -75,7 +87,15 @@ pub record IsAcknowledged (log : Log) (call : ℕ) : Type 0 where
   pub call_is : reply.call ≡ call
   pub well : is_ok reply.answer ≡ true
 
-abbrev pub AreBorne : Script → List Plan → Log → List Journal → List FlatOp → Type 0
-AreBorne script plans log bricks ops =
-    (k : ℕ) (entry : Entry) (operation : FlatOp) → slice_get log.history k ≡ Some entry → slice_get ops k ≡ Some operation
-    → IsAcknowledged log entry.call → IsBorne script plans log bricks entry.call operation
+-- a change that makes the operation, and is that of the entry at this place
+pub record HasChange (script : Script) (plans : List Plan) (log : Log) (bricks : List Journal) (entry_of : ℕ → ℕ) (k call : ℕ) (operation : FlatOp) : Type 0 where
+  pub change : ℕ
+  pub own : entry_of change ≡ k
+  pub borne : IsBorne script plans log bricks call change operation
+
+-- Each change has the place of the entry that it makes, so no two entries have the same change; nor, as an op and its post name
+-- their change, the same request.
+pub record AreBorne (script : Script) (plans : List Plan) (log : Log) (bricks : List Journal) (ops : List FlatOp) : Type 0 where
+  pub entry_of : ℕ → ℕ
+  pub each : (k : ℕ) (entry : Entry) (operation : FlatOp) → slice_get log.history k ≡ Some entry → slice_get ops k ≡ Some operation
+      → IsAcknowledged log entry.call → HasChange script plans log bricks entry_of k entry.call operation

@@ -8,6 +8,7 @@ use Rattle.brick_machine.specs.Journal.{Journal}
 use Rattle.mount_log.specs.declared.logs.Log.{Log}
 use Rattle.change_audit.specs.Acknowledged.{AreMarked}
 use Rattle.change_audit.specs.Borne.{IsBorne, IsAcknowledged}
+use Rattle.change_audit.specs.Claims.{claim_of}
 use Rattle.change_audit.specs.CallGraphs.{AreGraphsOf}
 use Rattle.change_audit.specs.declared.changes.Notes.{Notes}
 
@@ -15,7 +16,13 @@ pub record AreNotesOf (script : Script) (log : Log) (notes : Notes) : Type 0 whe
   pub graphs : AreGraphsOf script log notes.graphs
   pub marks : AreMarked log.replies notes.marks
 
--- the entry at a place is borne, if its call was answered well
-abbrev pub IsEntryBorne : Script → List Plan → Log → List Journal → List FlatOp → ℕ → Entry → Type 0
-IsEntryBorne script plans log bricks ops k entry =
-    (operation : FlatOp) → slice_get ops k ≡ Some operation → IsAcknowledged log entry.call → IsBorne script plans log bricks entry.call operation
+-- a change that makes the operation was taken for the entry at a place
+pub record IsClaimed (script : Script) (plans : List Plan) (log : Log) (bricks : List Journal) (claims : List (ℕ × ℕ)) (k call : ℕ) (operation : FlatOp) : Type 0 where
+  pub change : ℕ
+  pub claimed : claim_of claims change ≡ Some k
+  pub borne : IsBorne script plans log bricks call change operation
+
+-- the entry at a place has its change, if its call was answered well
+abbrev pub IsEntryClaimed : Script → List Plan → Log → List Journal → List FlatOp → List (ℕ × ℕ) → ℕ → Entry → Type 0
+IsEntryClaimed script plans log bricks ops claims k entry =
+    (operation : FlatOp) → slice_get ops k ≡ Some operation → IsAcknowledged log entry.call → IsClaimed script plans log bricks claims k entry.call operation

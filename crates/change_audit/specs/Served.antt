@@ -1,6 +1,6 @@
 -- A request that a brick has answered Done, by the places of the request in the journal and of the answer among the outputs. A
 -- request's text is what its bytes are behind the number of its wind: its graph, and what is asked.
-use Rattle.std.specs.Prelude.{◌≡◌, ℕ, ◌+◌, List, ◌++◌, Some, slice_get}
+use Rattle.std.specs.Prelude.{◌≡◌, ℕ, ◌+◌, true, List, ◌++◌, Some, slice_get}
 use Rattle.fop_types.specs.declared.cells.Cell.{Cell}
 use Rattle.fop_types.specs.declared.contents.Mask.{Mask}
 use Rattle.fop_types.specs.declared.messages.BrickRep.TheVariants.{Done}
@@ -16,6 +16,8 @@ use Rattle.wire_xdr.specs.MessageText.{req_text}
 use Rattle.wire_xdr.specs.WireText.{input_text}
 use Rattle.wire_xdr.specs.Xdr.{unit}
 use Rattle.brick_machine.specs.Machine.{outputs_of}
+use Rattle.mount_log.specs.declared.logs.WindLine.{WindLine}
+use Rattle.xlator_law.specs.Numbers.{wind_number}
 use Rattle.change_audit.specs.Borne.{IsDoneRequest}
 
 -- the output at a place is the Done of a wind, and the input at another place caused it
@@ -73,12 +75,18 @@ pub record IsPostOn (wind graph change : ℕ) (bytes : List ℕ) : Type 0 where
 abbrev pub HasText : ℕ → List ℕ → List ℕ → Type 0
 HasText wind text bytes = (graph : ℕ) (req : BrickReq) → text ≡ text_of graph req → bytes ≡ input_text (Request wind graph req)
 
--- the brick has answered Done to the request of this text at a place
-abbrev pub IsServed : List (List ℕ) → ℕ → List ℕ → Type 0
-IsServed journal place text = (graph : ℕ) (req : BrickReq) → text ≡ text_of graph req → IsDoneRequest journal graph place req
+-- the line opens the wind of this number for the call
+pub record IsOpeningFor (call wind : ℕ) (line : WindLine) : Type 0 where
+  pub opened : line.opened ≡ true
+  pub call_is : line.call ≡ call
+  pub number_is : wind_number line.wind ≡ wind
 
--- the brick has answered Done to the post of a change at a place
-pub record IsPosted (journal : List (List ℕ)) (graph change place : ℕ) : Type 0 where
+-- the brick has answered Done to the request of this text at a place, which was sent for a wind of the call
+abbrev pub IsServed : List WindLine → List (List ℕ) → ℕ → ℕ → List ℕ → Type 0
+IsServed winds journal call place text = (graph : ℕ) (req : BrickReq) → text ≡ text_of graph req → IsDoneRequest winds journal call graph place req
+
+-- the brick has answered Done to the post of a change at a place, which was sent for a wind of the call
+pub record IsPosted (winds : List WindLine) (journal : List (List ℕ)) (call graph change place : ℕ) : Type 0 where
   pub cells : List Cell
   pub mask : Mask
-  pub done : IsDoneRequest journal graph place (Post change cells mask)
+  pub done : IsDoneRequest winds journal call graph place (Post change cells mask)

@@ -3,10 +3,12 @@ ghost use Rattle.std.specs.Prelude.{◌≡◌, ◌==◌, ◌≤◌, true, length
 ghost use Rattle.std.specs.List.{AllByRecursion, IsDistinct};
 ghost use Rattle.change_audit.specs.Bearing.{brick_of, RisesFrom, IsMaking, IsSaidBorne, IsSaidBearer, HasBearers};
 
+use crate::answers::{Served, bytes_at};
 use crate::making::makes;
-use crate::served::{Served, bytes_at, is_posted, is_served, op_in, text_in};
+use crate::served::{is_posted, is_served, op_in, text_in};
 use brick_machine::Brick;
 use fop_types::{FlatOp, SetPlan};
+use mount_log::WindLine;
 use std::alloc::{AllocError, Global};
 
 /// A brick that is said to bear a change, with the places of its op and of its post.
@@ -33,34 +35,38 @@ fn has_member(plan: &SetPlan, brick: u8) -> bool
 // Whether a brick has served the op of this text, and later the post of the change.
 fn is_borne_by(
     alloc: Global,
+    winds: &[WindLine],
     brick: &Brick,
+    call: u32,
     graph: usize,
     change: u64,
     text: &[u8],
     bearer: &Bearer,
 ) -> Result<bool, AllocError>
-    ensures { IfOk result (λ yes. yes ≡ true → IsSaidBorne graph change text.now brick.now) }
+    ensures { IfOk result (λ yes. yes ≡ true → IsSaidBorne winds.now call graph change text.now brick.now) }
 {
     if bearer.op.place >= bearer.post.place {
         return Ok(false);
     }
-    if !is_served(alloc, brick, bearer.op, text)? {
+    if !is_served(alloc, winds, brick, bearer.op, call, text)? {
         return Ok(false);
     }
-    let yes = is_posted(alloc, brick, bearer.post, graph, change)?;
+    let yes = is_posted(alloc, winds, brick, bearer.post, call, graph, change)?;
     Ok(yes)
 }
 
 fn is_bearer(
     alloc: Global,
+    winds: &[WindLine],
     bricks: &[Brick],
     plan: &SetPlan,
+    call: u32,
     graph: usize,
     change: u64,
     text: &[u8],
     bearer: &Bearer,
 ) -> Result<bool, AllocError>
-    ensures { IfOk result (λ yes. yes ≡ true → IsSaidBearer bricks.now plan.now graph change text.now bearer.now) }
+    ensures { IfOk result (λ yes. yes ≡ true → IsSaidBearer winds.now bricks.now plan.now call graph change text.now bearer.now) }
 {
     if !has_member(plan, bearer.brick) {
         return Ok(false);
@@ -68,23 +74,27 @@ fn is_bearer(
     let Some(brick) = brick_at(bricks, bearer.brick) else {
         return Ok(false);
     };
-    let yes = is_borne_by(alloc, brick, graph, change, text, bearer)?;
+    let yes = is_borne_by(alloc, winds, brick, call, graph, change, text, bearer)?;
     Ok(yes)
 }
 
 fn are_bearers(
     alloc: Global,
+    winds: &[WindLine],
     bricks: &[Brick],
     plan: &SetPlan,
+    call: u32,
     graph: usize,
     change: u64,
     text: &[u8],
     bearers: &[Bearer],
 ) -> Result<bool, AllocError>
-    ensures { IfOk result (λ yes. yes ≡ true → AllByRecursion (IsSaidBearer bricks.now plan.now graph change text.now) bearers.now) }
+    ensures { IfOk result (λ yes. yes ≡ true → AllByRecursion (IsSaidBearer winds.now bricks.now plan.now call graph change text.now) bearers.now) }
 {
     for bearer in bearers {
-        if !is_bearer(alloc, bricks, plan, graph, change, text, bearer)? {
+        if !is_bearer(
+            alloc, winds, bricks, plan, call, graph, change, text, bearer,
+        )? {
             return Ok(false);
         }
     }
@@ -141,21 +151,23 @@ fn is_making(
     }
 }
 
-/// Whether a quorum of the bricks of a set bears a change in a graph that makes the operation: those who are said to, by rising
-/// numbers.
+/// Whether a quorum of the bricks of a set bears a change of a call in a graph that makes the operation: those who are said to,
+/// by rising numbers.
 ///
 /// # Errors
 /// Out of memory.
 pub(crate) fn has_bearers(
     alloc: Global,
+    winds: &[WindLine],
     bricks: &[Brick],
     plan: &SetPlan,
+    call: u32,
     graph: usize,
     operation: &FlatOp,
     change: u64,
     bearers: &[Bearer],
 ) -> Result<bool, AllocError>
-    ensures { IfOk result (λ yes. yes ≡ true → HasBearers bricks.now plan.now graph operation.now) }
+    ensures { IfOk result (λ yes. yes ≡ true → HasBearers winds.now bricks.now plan.now call graph change operation.now) }
 {
     if !are_apart(bearers) {
         return Ok(false);
@@ -172,6 +184,8 @@ pub(crate) fn has_bearers(
     let Some(text) = text_in(bytes) else {
         return Ok(false);
     };
-    let yes = are_bearers(alloc, bricks, plan, graph, change, text, bearers)?;
+    let yes = are_bearers(
+        alloc, winds, bricks, plan, call, graph, change, text, bearers,
+    )?;
     Ok(yes)
 }

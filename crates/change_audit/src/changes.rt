@@ -3,11 +3,13 @@ ghost use Rattle.std.specs.Prelude.{◌≡◌, true, Some, option_copied, slice_
 ghost use Rattle.fop_types.specs.declared.history.Entry.{Entry as Made};
 ghost use Rattle.change_audit.specs.Borne.{IsBorne, IsAcknowledged, AreBorne};
 ghost use Rattle.change_audit.specs.CallGraphs.{AreGraphsOf};
-ghost use Rattle.change_audit.specs.Entries.{AreNotesOf, IsEntryBorne};
+ghost use Rattle.change_audit.specs.Claims.{KeepClaims};
+ghost use Rattle.change_audit.specs.Entries.{AreNotesOf, IsClaimed, IsEntryClaimed};
 
 use crate::acknowledged::{answered_well, is_marked};
 use crate::bearers::has_bearers;
 use crate::call_graphs::{CallGraphs, call_graphs, graph_of, set_in, set_with};
+use crate::claims::Claims;
 use crate::finding::{Candidate, Candidates, find};
 use brick_machine::Brick;
 use fop_types::{Entry, FlatOp, Seq};
@@ -54,7 +56,7 @@ fn set_of(plans: &[Plan], graphs: &CallGraphs, graph: usize, change: &Candidate)
 }
 
 // Whether the bricks of a set bear this change of a call, and it makes the operation.
-fn is_borne_in(
+fn is_borne(
     alloc: Global,
     script: &Script,
     plans: &[Plan],
@@ -66,7 +68,7 @@ fn is_borne_in(
     change: &Candidate,
 ) -> Result<bool, AllocError>
     requires { AreGraphsOf script.now log.now graphs.now }
-    ensures { IfOk result (λ yes. yes ≡ true → IsBorne script.now plans.now log.now bricks.now call operation.now) }
+    ensures { IfOk result (λ yes. yes ≡ true → IsBorne script.now plans.now log.now bricks.now call change.now.change operation.now) }
 {
     let Some(graph) = graph_of(graphs, call) else {
         return Ok(false);
@@ -77,11 +79,14 @@ fn is_borne_in(
     let Some(plan) = set_in(plans, graphs, graph, set) else {
         return Ok(false);
     };
+    let winds = log.winds.as_slice();
     let bearers = change.bearers.as_slice();
     let yes = has_bearers(
         alloc,
+        winds,
         bricks,
         plan,
+        call,
         graph,
         operation,
         change.change,
@@ -90,52 +95,88 @@ fn is_borne_in(
     Ok(yes)
 }
 
-// Whether the bricks of a set bear a change of a call that makes the operation.
-fn is_borne(
+// The number of a change of a call that makes the operation and is on the bricks of a set: the first that was not taken.
+fn change_for(
     alloc: Global,
     script: &Script,
     plans: &[Plan],
     log: &Log,
     bricks: &[Brick],
     notes: &Notes,
+    claims: &Claims,
     call: u32,
     operation: &FlatOp,
-) -> Result<bool, AllocError>
+) -> Result<Option<u64>, AllocError>
     requires { AreGraphsOf script.now log.now notes.now.graphs }
-    ensures { IfOk result (λ yes. yes ≡ true → IsBorne script.now plans.now log.now bricks.now call operation.now) }
+    ensures { IfOk result (λ found. IfSome found (λ change. IsBorne script.now plans.now log.now bricks.now call change operation.now)) }
 {
     let graphs = &notes.graphs;
     for at in notes.found.begin(call)..notes.found.count() {
         let Some(change) = notes.found.change(at, call) else {
-            return Ok(false);
+            return Ok(None);
         };
-        if is_borne_in(
+        if claims.has(change.change) {
+            continue;
+        }
+        if is_borne(
             alloc, script, plans, log, bricks, graphs, call, operation, change,
         )? {
-            return Ok(true);
+            return Ok(Some(change.change));
         }
     }
-    Ok(false)
+    Ok(None)
 }
 
-// Whether the operation of a call is borne, if the call was answered well.
-fn is_call_borne(
+// Takes a change for the entry at a place, whose call and operation these are.
+fn take_change(
     alloc: Global,
     script: &Script,
     plans: &[Plan],
     log: &Log,
     bricks: &[Brick],
     notes: &Notes,
+    claims: &mut Claims,
+    k: usize,
+    call: u32,
+    operation: &FlatOp,
+) -> Result<bool, AllocError>
+    requires { AreGraphsOf script.now log.now notes.now.graphs }
+    ensures claimed { IfOk result (λ yes. yes ≡ true → IsClaimed script.now plans.now log.now bricks.now claims.new k call operation.now) }
+    ensures keeps { IfOk result (λ yes. KeepClaims claims.old claims.new) }
+{
+    let found = change_for(
+        alloc, script, plans, log, bricks, notes, claims, call, operation,
+    )?;
+    let Some(change) = found else {
+        return Ok(false);
+    };
+    let did = claims.take(change, k)?;
+    Ok(did)
+}
+
+// Takes a change for the entry at a place, if its call was answered well.
+fn take_due(
+    alloc: Global,
+    script: &Script,
+    plans: &[Plan],
+    log: &Log,
+    bricks: &[Brick],
+    notes: &Notes,
+    claims: &mut Claims,
+    k: usize,
     call: u32,
     operation: &FlatOp,
 ) -> Result<bool, AllocError>
     requires { AreNotesOf script.now log.now notes.now }
-    ensures { IfOk result (λ yes. yes ≡ true → IsAcknowledged log.now call → IsBorne script.now plans.now log.now bricks.now call operation.now) }
+    ensures claimed { IfOk result (λ yes. yes ≡ true → IsAcknowledged log.now call → IsClaimed script.now plans.now log.now bricks.now claims.new k call operation.now) }
+    ensures keeps { IfOk result (λ yes. KeepClaims claims.old claims.new) }
 {
     if !is_marked(notes.marks.as_slice(), call) {
         return Ok(true);
     }
-    let yes = is_borne(alloc, script, plans, log, bricks, notes, call, operation)?;
+    let yes = take_change(
+        alloc, script, plans, log, bricks, notes, claims, k, call, operation,
+    )?;
     Ok(yes)
 }
 
@@ -151,8 +192,8 @@ fn op_at(ops: &[FlatOp], k: usize) -> Option<&FlatOp>
     ops.get(k)
 }
 
-// Whether the entry at a place is borne, if its call was answered well.
-fn is_entry_borne(
+// Takes a change for the entry at a place, if its call was answered well.
+fn take_entry(
     alloc: Global,
     script: &Script,
     plans: &[Plan],
@@ -160,10 +201,12 @@ fn is_entry_borne(
     bricks: &[Brick],
     ops: &[FlatOp],
     notes: &Notes,
+    claims: &mut Claims,
     k: usize,
 ) -> Result<bool, AllocError>
     requires { AreNotesOf script.now log.now notes.now }
-    ensures { IfOk result (λ yes. yes ≡ true → (entry : Made) → slice_get log.now.history k ≡ Some entry → IsEntryBorne script.now plans.now log.now bricks.now ops.now k entry) }
+    ensures claimed { IfOk result (λ yes. yes ≡ true → (entry : Made) → slice_get log.now.history k ≡ Some entry → IsEntryClaimed script.now plans.now log.now bricks.now ops.now claims.new k entry) }
+    ensures keeps { IfOk result (λ yes. KeepClaims claims.old claims.new) }
 {
     let Some(entry) = entry_at(log, k) else {
         return Ok(false);
@@ -172,13 +215,16 @@ fn is_entry_borne(
         return Ok(false);
     };
     let call = entry.call;
-    let yes = is_call_borne(alloc, script, plans, log, bricks, notes, call, operation)?;
+    let yes = take_due(
+        alloc, script, plans, log, bricks, notes, claims, k, call, operation,
+    )?;
     Ok(yes)
 }
 
-/// Whether each entry of the history whose call was answered well is borne: by a quorum of the bricks of one set, which have
-/// served the op of one change, which makes the entry's operation, and later its post, and have answered both Done. `ops` are
-/// the operations of the entries, in their order; where they are fewer than the entries, it is false.
+/// Whether each entry of the history whose call was answered well has a change of its own on the bricks: a quorum of the bricks
+/// of one set have served the op of the change, which makes the entry's operation, and later its post, for winds of the call,
+/// and have answered both Done. `ops` are the operations of the entries, in their order; where they are fewer than the entries,
+/// it is false.
 ///
 /// # Errors
 /// Out of memory.
@@ -195,8 +241,19 @@ pub fn changes_are_borne(
     let Some(notes) = notes_of(alloc, script, log, bricks)? else {
         return Ok(false);
     };
+    let mut claims = Claims::new(alloc);
     for k in 0..log.history.len() {
-        if !is_entry_borne(alloc, script, plans, log, bricks, ops, &notes, k)? {
+        if !take_entry(
+            alloc,
+            script,
+            plans,
+            log,
+            bricks,
+            ops,
+            &notes,
+            &mut claims,
+            k,
+        )? {
             return Ok(false);
         }
     }

@@ -1,7 +1,8 @@
 //! Which bricks bear which changes, found in journals and outputs. Nothing is said of what is found.
 
+use crate::answers::{Served, done_wind, whole_output};
 use crate::bearers::Bearer;
-use crate::served::{Served, done_wind, whole_input, whole_output};
+use crate::served::whole_input;
 use brick_machine::Brick;
 use bytes::Bytes;
 use fop_types::{BrickReq, Input, Seq};
@@ -31,15 +32,24 @@ struct ChangeOf {
     change: u64,
 }
 
-// The call of each wind.
-fn calls_of_winds(alloc: Global, winds: &[WindLine]) -> Result<BTreeMap<u64, u32>, AllocError> {
-    let mut calls = BTreeMap::new(alloc);
-    for line in winds {
+// The opening of a wind: its call, and its place among the wind lines.
+#[derive(Clone, Copy)]
+struct Opening {
+    call: u32,
+    place: usize,
+}
+
+// The opening of each wind.
+fn openings_of(alloc: Global, winds: &[WindLine]) -> Result<BTreeMap<u64, Opening>, AllocError> {
+    let mut openings = BTreeMap::new(alloc);
+    for place in 0..winds.len() {
+        let line = &winds[place];
         if line.opened {
-            calls.insert(line.wind.number(), line.call)?;
+            let call = line.call;
+            openings.insert(line.wind.number(), Opening { call, place })?;
         }
     }
-    Ok(calls)
+    Ok(openings)
 }
 
 // The wind of an output that is a Done with nothing.
@@ -104,7 +114,7 @@ fn asked_in(alloc: Global, bytes: &[u8]) -> Result<Option<Asked>, AllocError> {
 // The changes found so far.
 #[derive(Drop)]
 struct Search {
-    calls: BTreeMap<u64, u32>,
+    openings: BTreeMap<u64, Opening>,
     changes: BTreeMap<ChangeOf, Seq<Bearer>>,
 }
 
@@ -132,14 +142,11 @@ impl Search {
         &mut self,
         alloc: Global,
         reading: &mut Reading,
-        wind: u64,
+        call: u32,
         change: u64,
         post: Served,
     ) -> Result<(), AllocError> {
         let Some(op) = reading.ops.remove(&change) else {
-            return Ok(());
-        };
-        let Some(call) = self.calls.get(&wind).copied() else {
             return Ok(());
         };
         let bearer = Bearer {
@@ -160,13 +167,20 @@ impl Search {
         let Some(answer) = reading.answers.get(&asked.wind).copied() else {
             return Ok(());
         };
-        let served = Served { place, answer };
+        let Some(opened) = self.openings.get(&asked.wind).copied() else {
+            return Ok(());
+        };
+        let served = Served {
+            place,
+            answer,
+            opening: opened.place,
+        };
         match asked.part {
             Part::Op(change) => {
                 reading.ops.insert(change, served)?;
                 Ok(())
             }
-            Part::Post(change) => self.post(alloc, reading, asked.wind, change, served),
+            Part::Post(change) => self.post(alloc, reading, opened.call, change, served),
         }
     }
 
@@ -258,9 +272,9 @@ pub(crate) fn find(
     winds: &[WindLine],
     bricks: &[Brick],
 ) -> Result<Candidates, AllocError> {
-    let calls = calls_of_winds(alloc, winds)?;
+    let openings = openings_of(alloc, winds)?;
     let mut search = Search {
-        calls,
+        openings,
         changes: BTreeMap::new(alloc),
     };
     search.read_all(alloc, bricks)?;

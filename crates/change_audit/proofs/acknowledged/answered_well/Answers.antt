@@ -1,4 +1,4 @@
-use Rattle.std.proofs.Common.{◌≡◌, sym, subst}
+use Rattle.std.proofs.Common.{sym, subst}
 use Rattle.std.specs.Prelude.{Bool, List}
 use Rattle.change_audit.specs.Acknowledged.{AreMarked}
 use Rattle.change_audit.proofs.Marking.{marked_next, marked_all}

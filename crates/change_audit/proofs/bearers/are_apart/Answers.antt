@@ -1,4 +1,4 @@
-use Rattle.std.proofs.Common.{◌≡◌, map}
+use Rattle.std.proofs.Common.{map}
 use Rattle.change_audit.specs.Bearing.{brick_of}
 use Rattle.change_audit.proofs.Bearing.{distinct}
 use Rattle.change_audit.proofs.bearers.are_apart.Goals as goal

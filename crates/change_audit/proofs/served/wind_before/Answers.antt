@@ -1,4 +1,3 @@
-use Rattle.std.proofs.Common.{◌≡◌}
 use Rattle.std.proofs.lemmas.Option.{IfSome_then}
 use Rattle.change_audit.proofs.Texts.{has_text}
 use Rattle.change_audit.proofs.served.wind_before.Goals as goal

@@ -2,7 +2,7 @@ use Rattle.std.proofs.Common.{◌≡◌, subst}
 use Rattle.std.specs.Prelude.{Option, Some, IfSome, slice_get}
 use Rattle.fop_types.specs.declared.messages.Output.{Output}
 use Rattle.brick_machine.specs.Machine.{outputs_of}
-use Rattle.change_audit.proofs.served.is_answered.Goals as goal
+use Rattle.change_audit.proofs.answers.is_answered.Goals as goal
 
 pub returns : goal.returns
 returns c = λ _. record {

@@ -1,10 +1,10 @@
 use Rattle.std.proofs.Common.{◌≡◌, sym, ap, subst, ◌∙◌}
-use Rattle.std.specs.Prelude.{ℕ, List, Option, Some, IfSome, slice_get, length, ◌<◌, ◌^◌}
+use Rattle.std.specs.Prelude.{ℕ, List, Option, IfSome, slice_get, length, ◌<◌, ◌^◌}
 use Rattle.fop_types.specs.declared.messages.Output.{Output}
 use Rattle.wire_messages.specs.Messages.{output_in}
 use Rattle.wire_messages.specs.declared.messages.Message.TheVariants.{Whole}
 use Rattle.change_audit.proofs.Texts.{output_is}
-use Rattle.change_audit.proofs.served.output_at.Goals as goal
+use Rattle.change_audit.proofs.answers.output_at.Goals as goal
 
 pub returns : goal.returns
 returns c =

@@ -1,8 +1,0 @@
-use Rattle.std.proofs.Common.{◌≡◌}
-use Rattle.change_audit.proofs.Graphs.{borne}
-use Rattle.change_audit.proofs.changes.is_borne_in.Goals as goal
-
-pub returns : goal.returns
-returns c = λ yes.
-    borne c.args.script.now c.args.log.now c.args.graphs.now c.requires c.args.plans.now c.args.bricks.now c.args.call c.in-Some.graph c.in-Some-set_of.set c.args.operation.now c.in-Some-set_in.plan.now
-    c.in-Some.ensures c.in-Some-set_in.ensures (c.in_ok-yes.ensures yes)

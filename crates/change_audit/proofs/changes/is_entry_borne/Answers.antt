@@ -1,8 +1,0 @@
-use Rattle.std.proofs.Common.{◌≡◌}
-use Rattle.change_audit.proofs.Entries.{entry_borne}
-use Rattle.change_audit.proofs.changes.is_entry_borne.Goals as goal
-
-pub returns : goal.returns
-returns c = λ yes.
-    entry_borne c.args.script.now c.args.plans.now c.args.log.now c.args.bricks.now c.args.ops.now c.args.k c.in-Some.entry c.in-Some-op_at.operation.now c.in-Some.ensures c.in-Some-op_at.ensures
-    (c.in_ok-yes.ensures yes)

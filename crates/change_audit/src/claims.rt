@@ -1,0 +1,55 @@
+//! The changes that were taken for entries, each for one.
+ghost use Rattle.std.specs.Prelude.{◌≡◌, [], true, Some, is_some, IfOk};
+ghost use Rattle.change_audit.specs.Claims.{claim_of, KeepClaims};
+
+use std::alloc::{AllocError, Global};
+use std::collections::BTreeMap;
+use std::marker::Model;
+
+/// The place of the entry that each change was taken for, by the change's number. Contracts see the places with their changes.
+#[derive(Drop)]
+pub struct Claims {
+    places: BTreeMap<u64, usize>,
+}
+
+impl Model for Claims {
+    ghost use Rattle.std.specs.Prelude.{List, ℕ};
+
+    ghost Value = { List (ℕ × ℕ) };
+
+    ghost view = { λ c. c.places.entries };
+}
+
+#[tactic(auto, using(crate::proofs::Claiming::claimed_now, crate::proofs::Claiming::claims_kept))]
+impl Claims {
+    /// No change was taken. It allocates nothing.
+    pub(crate) fn new(alloc: Global) -> Claims
+        ensures { result ≡ [] }
+    {
+        Claims {
+            places: BTreeMap::new(alloc),
+        }
+    }
+
+    /// Whether a change was taken for an entry.
+    pub(crate) fn has(&self, change: u64) -> bool
+        ensures { result ≡ is_some (claim_of self.now change) }
+    {
+        self.places.contains_key(&change)
+    }
+
+    /// Takes a change for the entry at a place. It is false where the change was taken before.
+    ///
+    /// # Errors
+    /// Out of memory.
+    pub(crate) fn take(&mut self, change: u64, place: usize) -> Result<bool, AllocError>
+        ensures taken { IfOk result (λ did. did ≡ true → claim_of self.new change ≡ Some place) }
+        ensures keeps { IfOk result (λ did. KeepClaims self.old self.new) }
+    {
+        if self.has(change) {
+            return Ok(false);
+        }
+        self.places.insert(change, place)?;
+        Ok(true)
+    }
+}
