@@ -23,7 +23,7 @@ use Rattle.history_replay.specs.Traces.{Trace, IsLawfulTrace}
 
 -- ---- the calls
 
--- the calls of a session among these lines
+-- the lines of a session among these, in their order
 abbrev pub of_session : ℕ → List CallLine → List CallLine
 of_session session lines = filter (λ l. l.session == session) lines
 
@@ -39,13 +39,9 @@ AreCallsOf script number [] (c ∷ calls) = ⊥
 AreCallsOf script number (line ∷ lines) [] = ⊥
 AreCallsOf script number (line ∷ lines) (c ∷ calls) = IsCallOf script number line c × AreCallsOf script (number + 1) lines calls
 
--- the numbers of a session's lines, in their order
-abbrev pub line_numbers : ℕ → List CallLine → List ℕ
-line_numbers session lines = map (λ l. l.line) (of_session session lines)
-
 -- These lines are the calls of a phase, each session's in their order. Sessions have numbers below 256.
 abbrev pub AreTheseLines : List CallLine → List CallLine → Type 0
-AreTheseLines lines calls = (session : ℕ) → session < 256 → line_numbers session lines ≡ line_numbers session calls
+AreTheseLines lines calls = (session : ℕ) → session < 256 → of_session session lines ≡ of_session session calls
 
 -- These lines are the calls of the phases, those of earlier phases first.
 abbrev pub AreInPhases : List CallLine → List Phase → Type 0
