@@ -126,8 +126,9 @@ abbrev pub last_or : ℕ → List ℕ → ℕ
 last_or before [] = before
 last_or before (place ∷ places) = last_or place places
 
--- No place of a call is below the last place of the nearest call of its session before it that has one. `reached` has these
--- places by session; `sessions` are those of the calls.
+-- A report does not say when a call was submitted, so its entries are anywhere behind its lookups. But no place of a call is
+-- below the last place of the nearest call of its session before it that has one. `reached` has these places by session;
+-- `sessions` are those of the calls.
 abbrev pub since_from : List ℕ → List ℕ → List (List ℕ) → List ℕ
 since_from reached [] places = []
 since_from reached (session ∷ sessions) [] = []
@@ -144,6 +145,7 @@ pub record IsTraceOf (lines : List CallLine) (calls : List ReportCall) (history 
   pub calls_are : t.calls ≡ map submission_of lines
   pub replies : AreShown (with_answers calls) t.replies
   pub history_is : t.history ≡ map entry_shown history
+  pub submitted : t.submitted ≡ replicate (length lines) 0
   pub since : t.since ≡ since_from (replicate 256 0) (map (λ l. l.session) lines) (map (λ c. c.places) calls)
   pub until : t.until ≡ replicate (length lines) (length history)
 

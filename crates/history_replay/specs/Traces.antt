@@ -6,12 +6,13 @@ use Rattle.fop_types.specs.Replies.{AreLawfulReplies}
 use Rattle.fop_types.specs.declared.flat.FlatOp.{FlatOp}
 use Rattle.fop_types.specs.declared.history.Entry.{Entry}
 
--- The calls are in the order of their numbers, from 1 on. Some have no reply. `since` and `until` have a number for each
--- call: a lower bound of the places of its fops and of the entries before its first one, and an upper bound of its places.
+-- The calls are in the order of their numbers, from 1 on. Some have no reply. The last three lists have a number for each
+-- call: a lower bound of the entries before its first one, a lower bound of the places of its fops, and an upper bound of these.
 pub record Trace : Type 0 where
   pub calls : List Submission
   pub replies : List Reply
   pub history : List Entry
+  pub submitted : List ℕ
   pub since : List ℕ
   pub until : List ℕ
 
@@ -24,7 +25,7 @@ of_call numbers call = get_or numbers (call - 1) 0
 pub record IsLawfulWith (t : Trace) (ops : List FlatOp) : Type 0 where
   pub places : ℕ → List ℕ
   pub answered : ℕ → ℕ
-  pub legal : IsLegalHistory t.calls t.replies (of_call t.since) places ops t.history
+  pub legal : IsLegalHistory t.calls t.replies (of_call t.submitted) places ops t.history
   pub lawful : AreLawfulReplies t.calls t.replies ops t.history (of_call t.since) (of_call t.until) answered
 
 -- there are such operations
