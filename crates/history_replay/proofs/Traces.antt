@@ -273,7 +273,6 @@ lawful_with t f count claims ops indexed made bears all =
     let facts = facts_of t f count all ops indexed made.end made.reached held in
     record {
       places = λ number. places_by t.replies (reply_at f (number - 1));
-      answered = λ number. length (places_by t.replies (reply_at f (number - 1)));
       legal = legal_history t f count all ops indexed bears.as_many facts;
       lawful = lawful_replies t f count all ops indexed bears.as_many facts;
     }

@@ -1,5 +1,5 @@
 -- What is judged: calls, their replies and a history of changes, with bounds on the places of each call.
-use Rattle.std.specs.Prelude.{ℕ, ◌-◌, List, get_or}
+use Rattle.std.specs.Prelude.{ℕ, ◌-◌, List, get_or, length}
 use Rattle.fop_types.specs.Calls.{Submission}
 use Rattle.fop_types.specs.History.{Reply, IsLegalHistory}
 use Rattle.fop_types.specs.Replies.{AreLawfulReplies}
@@ -21,12 +21,12 @@ abbrev pub of_call : List ℕ → ℕ → ℕ
 of_call numbers call = get_or numbers (call - 1) 0
 
 -- The replies are those of one plain file system after the changes of the history, which are these operations: with them the
--- history is legal, and the replies are lawful. `answered` is how many fops of a call have a place.
+-- history is legal, and the replies are lawful. `places` are those of the fops of each call. How many there are is not judged by
+-- itself: the lookups and the answer fix it, but for an I/O error, which may leave places out at its end.
 pub record IsLawfulWith (t : Trace) (ops : List FlatOp) : Type 0 where
   pub places : ℕ → List ℕ
-  pub answered : ℕ → ℕ
   pub legal : IsLegalHistory t.calls t.replies (of_call t.submitted) places ops t.history
-  pub lawful : AreLawfulReplies t.calls t.replies ops t.history (of_call t.since) (of_call t.until) answered
+  pub lawful : AreLawfulReplies t.calls t.replies ops t.history (of_call t.since) (of_call t.until) (λ number. length (places number))
 
 -- there are such operations
 pub record IsLawfulTrace (t : Trace) : Type 0 where

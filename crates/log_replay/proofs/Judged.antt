@@ -108,17 +108,16 @@ one_file_system script log t ops events answered calls_are replies_are history_i
     let until = until_agrees log t.calls answered t.until replied until_is in
     let legal : IsLegalHistory t.calls t.replies (length_since log) lawful.places ops t.history =
     legal_same t.calls t.replies (of_call t.submitted) (length_since log) lawful.places ops t.history submitted lawful.legal in
-    let replies : AreLawfulReplies t.calls t.replies ops t.history (length_since log) (length_until log) lawful.answered =
-    lawful_same t.calls t.replies (of_call t.since) (length_since log) (of_call t.until) (length_until log) ops t.history lawful.answered since until lawful.lawful in
+    let replies : AreLawfulReplies t.calls t.replies ops t.history (length_since log) (length_until log) (λ number. length (lawful.places number)) =
+    lawful_same t.calls t.replies (of_call t.since) (length_since log) (of_call t.until) (length_until log) ops t.history (λ number. length (lawful.places number)) since until lawful.lawful in
     record {
       places = lawful.places;
-      answered = lawful.answered;
       legal = subst (λ (l : List Entry). IsLegalHistory (submissions_of script log) (replies_of log) (length_since log) lawful.places ops l) history_is
           (subst (λ (r : List Reply). IsLegalHistory (submissions_of script log) r (length_since log) lawful.places ops t.history) replies_are
           (subst (λ (c : List Submission). IsLegalHistory c t.replies (length_since log) lawful.places ops t.history) calls_are legal));
-      lawful = subst (λ (l : List Entry). AreLawfulReplies (submissions_of script log) (replies_of log) ops l (length_since log) (length_until log) lawful.answered) history_is
-          (subst (λ (r : List Reply). AreLawfulReplies (submissions_of script log) r ops t.history (length_since log) (length_until log) lawful.answered) replies_are
-          (subst (λ (c : List Submission). AreLawfulReplies c t.replies ops t.history (length_since log) (length_until log) lawful.answered) calls_are replies));
+      lawful = subst (λ (l : List Entry). AreLawfulReplies (submissions_of script log) (replies_of log) ops l (length_since log) (length_until log) (λ number. length (lawful.places number))) history_is
+          (subst (λ (r : List Reply). AreLawfulReplies (submissions_of script log) r ops t.history (length_since log) (length_until log) (λ number. length (lawful.places number))) replies_are
+          (subst (λ (c : List Submission). AreLawfulReplies c t.replies ops t.history (length_since log) (length_until log) (λ number. length (lawful.places number))) calls_are replies));
       entered = entered;
     }
 
