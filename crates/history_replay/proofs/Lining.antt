@@ -1,12 +1,12 @@
 -- The lines of calls, one after another.
-use Rattle.std.proofs.Common.{◌≡◌, ◌∷◌, ◌++◌, refl, sym, ap, subst, ◌∙◌, ℕ, ◌+◌, ◌<◌, ◌≤◌, ◌==◌, List, [], length, take, drop, map, get_or, arith, append_assoc, append-nil}
+use Rattle.std.proofs.Common.{◌≡◌, ◌∷◌, ◌++◌, refl, sym, ap, subst, ◌∙◌, ℕ, ◌+◌, ◌<◌, ◌≤◌, ◌==◌, List, [], length, take, drop, get_or, arith, append_assoc, append-nil}
 use Rattle.std.specs.Prelude.{Bool, true, false, cond}
 use Rattle.std.proofs.lemmas.List.{drop_more, drop_all}
 use Rattle.report_text.specs.declared.calls.ReportCall.{ReportCall}
 use Rattle.script_lang.specs.declared.scripts.CallLine.{CallLine}
 use Rattle.script_lang.specs.declared.scripts.Phase.{Phase}
 use Rattle.script_lang.specs.declared.scripts.Script.{Script}
-use Rattle.history_replay.specs.Reports.{IsCallOf, AreCallsOf, AreTheseLines, AreInPhases, of_session, line_numbers}
+use Rattle.history_replay.specs.Reports.{IsCallOf, AreCallsOf, AreTheseLines, AreInPhases, of_session}
 
 first_at : {X : Type 0} (xs : List X) (i : ℕ) (x : X) → i < length xs → x ≡ get_or xs i x → drop i xs ≡ x ∷ drop (i + 1) xs
 first_at {X} xs i x within read = drop_more xs i x within ∙ ap (λ (y : X). y ∷ drop (i + 1) xs) (sym read)
@@ -27,28 +27,27 @@ calls_all script lines calls i past long so_far =
     (subst (λ (l : List CallLine). AreCallsOf script (i + 1) l (drop i calls)) (sym (drop_all i lines past))
     (subst (AreCallsOf script (i + 1) []) (sym (drop_all i calls (omega (arith, past, long)))) tt))
 
--- ---- the numbers of a session's lines
+-- ---- the lines of a session
 
-numbers_first : (session : ℕ) (line : CallLine) (lines : List CallLine) (here : Bool) → (line.session == session) ≡ here
-    → line_numbers session (line ∷ lines) ≡ cond here (line.line ∷ line_numbers session lines) (line_numbers session lines)
-numbers_first session line lines true is = ap (λ (b : Bool). map (λ l. l.line) (cond b (line ∷ of_session session lines) (of_session session lines))) is
-numbers_first session line lines false is = ap (λ (b : Bool). map (λ l. l.line) (cond b (line ∷ of_session session lines) (of_session session lines))) is
+session_first : (session : ℕ) (line : CallLine) (lines : List CallLine) (here : Bool) → (line.session == session) ≡ here
+    → of_session session (line ∷ lines) ≡ cond here (line ∷ of_session session lines) (of_session session lines)
+session_first session line lines here is = ap (λ (b : Bool). cond b (line ∷ of_session session lines) (of_session session lines)) is
 
-pub numbers_kept : (session : ℕ) (lines : List CallLine) (i : ℕ) (line : CallLine) (numbers all : List ℕ) → i < length lines → line ≡ get_or lines i line
-    → (line.session == session) ≡ true → numbers ++ line_numbers session (drop i lines) ≡ all
-    → (numbers ++ line.line ∷ []) ++ line_numbers session (drop (i + 1) lines) ≡ all
-numbers_kept session lines i line numbers all within read same so_far =
-    let first : line_numbers session (drop i lines) ≡ line.line ∷ line_numbers session (drop (i + 1) lines) =
-    ap (line_numbers session) (first_at lines i line within read) ∙ numbers_first session line (drop (i + 1) lines) true same in
-    append_assoc numbers (line.line ∷ []) (line_numbers session (drop (i + 1) lines)) ∙ ap (λ (l : List ℕ). numbers ++ l) (sym first) ∙ so_far
+pub session_kept : (session : ℕ) (lines : List CallLine) (i : ℕ) (line : CallLine) (found all : List CallLine) → i < length lines → line ≡ get_or lines i line
+    → (line.session == session) ≡ true → found ++ of_session session (drop i lines) ≡ all
+    → (found ++ line ∷ []) ++ of_session session (drop (i + 1) lines) ≡ all
+session_kept session lines i line found all within read same so_far =
+    let first : of_session session (drop i lines) ≡ line ∷ of_session session (drop (i + 1) lines) =
+    ap (of_session session) (first_at lines i line within read) ∙ session_first session line (drop (i + 1) lines) true same in
+    append_assoc found (line ∷ []) (of_session session (drop (i + 1) lines)) ∙ ap (λ (l : List CallLine). found ++ l) (sym first) ∙ so_far
 
-pub numbers_skipped : (session : ℕ) (lines : List CallLine) (i : ℕ) (line : CallLine) (numbers all : List ℕ) → i < length lines → line ≡ get_or lines i line
-    → (line.session == session) ≡ false → numbers ++ line_numbers session (drop i lines) ≡ all
-    → numbers ++ line_numbers session (drop (i + 1) lines) ≡ all
-numbers_skipped session lines i line numbers all within read other so_far =
-    let first : line_numbers session (drop i lines) ≡ line_numbers session (drop (i + 1) lines) =
-    ap (line_numbers session) (first_at lines i line within read) ∙ numbers_first session line (drop (i + 1) lines) false other in
-    ap (λ (l : List ℕ). numbers ++ l) (sym first) ∙ so_far
+pub session_skipped : (session : ℕ) (lines : List CallLine) (i : ℕ) (line : CallLine) (found all : List CallLine) → i < length lines → line ≡ get_or lines i line
+    → (line.session == session) ≡ false → found ++ of_session session (drop i lines) ≡ all
+    → found ++ of_session session (drop (i + 1) lines) ≡ all
+session_skipped session lines i line found all within read other so_far =
+    let first : of_session session (drop i lines) ≡ of_session session (drop (i + 1) lines) =
+    ap (of_session session) (first_at lines i line within read) ∙ session_first session line (drop (i + 1) lines) false other in
+    ap (λ (l : List CallLine). found ++ l) (sym first) ∙ so_far
 
 -- ---- phases
 

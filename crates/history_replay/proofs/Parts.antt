@@ -44,7 +44,7 @@ pub record IsPart (c : Case) (fds : Descriptors) (ops : List FlatOp) (index part
   pub stands : slice_get ops index ≡ Some op
   pub accepted : IsChange (flat (fs_after ops index) op)
   pub seen : ℕ
-  pub after_submission : c.since ≤ seen
+  pub after_submission : c.submitted ≤ seen
   pub after_lookups : AreAtMost (take (lookups (looked_up c.call)) c.places) seen
   pub not_later : seen ≤ index
   pub possible : IsChange (flat (fs_after ops seen) last)
@@ -119,7 +119,7 @@ module _ (ops : List FlatOp) (replies : List Reply) (c : Case) (fds : Descriptor
   pub last_is_legal : (index : ℕ) → Whole ops replies c fds → c.last ≡ Some index → IsPart c fds ops index (last_part_number c.call)
   last_is_legal index w is =
       let l = late_by_reply index c.reply w.last w.lasts is w.last_is w.last_held in
-      let tests = and_parts (nat_le c.since index) (are_at_most (lookup_places c) index) l.late in
+      let tests = and_parts (nat_le c.submitted index) (are_at_most (lookup_places c) index) l.late in
       let below = lookups_at index tests.1 in
       record {
         sent = w.sent;
@@ -134,7 +134,7 @@ module _ (ops : List FlatOp) (replies : List Reply) (c : Case) (fds : Descriptor
         stands = l.entered.stands;
         accepted = l.entered.accepted;
         seen = index;
-        after_submission = leb-true c.since index tests.0;
+        after_submission = leb-true c.submitted index tests.0;
         after_lookups = below;
         not_later = omega arith;
         possible = l.entered.accepted;
@@ -185,7 +185,7 @@ module _ (ops : List FlatOp) (replies : List Reply) (c : Case) (fds : Descriptor
       let made : first_by (Some index) c w.last ≡ Some w.firsts = subst (λ (o : Option ℕ). first_by o c w.last ≡ Some w.firsts) is w.first_is in
       let parts = if_parts (is_first c index) (part_claims index c.seen w.last) w.firsts made in
       let f = first_by_op index w.last w.firsts parts.1 w.first_held in
-      let one = and_parts (nat_le c.since c.seen) (are_at_most (lookup_places c) c.seen && (nat_le c.seen index && is_before index c.last)) parts.0 in
+      let one = and_parts (nat_le c.submitted c.seen) (are_at_most (lookup_places c) c.seen && (nat_le c.seen index && is_before index c.last)) parts.0 in
       let two = and_parts (are_at_most (lookup_places c) c.seen) (nat_le c.seen index && is_before index c.last) one.1 in
       let three = and_parts (nat_le c.seen index) (is_before index c.last) two.1 in
       let seen_there : c.seen ≤ index = leb-true c.seen index three.0 in
@@ -203,7 +203,7 @@ module _ (ops : List FlatOp) (replies : List Reply) (c : Case) (fds : Descriptor
         stands = f.entered.stands;
         accepted = f.entered.accepted;
         seen = c.seen;
-        after_submission = leb-true c.since c.seen one.0;
+        after_submission = leb-true c.submitted c.seen one.0;
         after_lookups = looked;
         not_later = seen_there;
         possible = f.possible;
@@ -215,7 +215,7 @@ module _ (ops : List FlatOp) (replies : List Reply) (c : Case) (fds : Descriptor
   first_before_last index other w is last_is =
       let made : first_by (Some index) c w.last ≡ Some w.firsts = subst (λ (o : Option ℕ). first_by o c w.last ≡ Some w.firsts) is w.first_is in
       let parts = if_parts (is_first c index) (part_claims index c.seen w.last) w.firsts made in
-      let one = and_parts (nat_le c.since c.seen) (are_at_most (lookup_places c) c.seen && (nat_le c.seen index && is_before index c.last)) parts.0 in
+      let one = and_parts (nat_le c.submitted c.seen) (are_at_most (lookup_places c) c.seen && (nat_le c.seen index && is_before index c.last)) parts.0 in
       let two = and_parts (are_at_most (lookup_places c) c.seen) (nat_le c.seen index && is_before index c.last) one.1 in
       let three = and_parts (nat_le c.seen index) (is_before index c.last) two.1 in
       ltb-true index other (subst (λ (o : Option ℕ). is_before index o ≡ true) last_is three.1)

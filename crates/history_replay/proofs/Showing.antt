@@ -119,16 +119,18 @@ since_all lines calls i reached since all past so_far =
 -- ---- the report
 
 pub lawful_for : (lines : List CallLine) (calls : List ReportCall) (entries : List (ℕ × ℕ)) (t : Trace) (submissions : List Submission) (replies : List Reply) (history : List Entry)
-    (since until : List ℕ) (count many : ℕ) → t.calls ≡ submissions → submissions ≡ map submission_of lines → t.replies ≡ replies → AreShown (with_answers calls) replies
-    → t.history ≡ history → history ≡ map entry_shown entries → t.since ≡ since
+    (submitted since until : List ℕ) (none count many : ℕ) → t.calls ≡ submissions → submissions ≡ map submission_of lines → t.replies ≡ replies → AreShown (with_answers calls) replies
+    → t.history ≡ history → history ≡ map entry_shown entries → t.submitted ≡ submitted → submitted ≡ replicate none 0
+    → none ≡ length lines → t.since ≡ since
     → since ≡ since_from (replicate 256 0) (map (λ l. l.session) lines) (map (λ c. c.places) calls) → t.until ≡ until → until ≡ replicate count many
     → count ≡ length lines → many ≡ length entries → IsLawfulTrace t → IsLawfulFor lines calls entries
-lawful_for lines calls entries t submissions replies history since until count many t_calls calls_are t_replies shown t_history history_is t_since since_is t_until until_is count_is many_is lawful = record {
+lawful_for lines calls entries t submissions replies history submitted since until none count many t_calls calls_are t_replies shown t_history history_is t_submitted submitted_is none_is t_since since_is t_until until_is count_is many_is lawful = record {
   trace = t;
   shows = record {
     calls_are = t_calls ∙ calls_are;
     replies = subst (AreShown (with_answers calls)) (sym t_replies) shown;
     history_is = t_history ∙ history_is;
+    submitted = t_submitted ∙ submitted_is ∙ ap (λ (n : ℕ). replicate n 0) none_is;
     since = t_since ∙ since_is;
     until = t_until ∙ until_is ∙ ap (λ (n : ℕ). replicate n many) count_is ∙ ap (λ (n : ℕ). replicate (length lines) n) many_is;
   };

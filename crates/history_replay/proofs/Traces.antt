@@ -110,7 +110,7 @@ module _ (t : Trace) (f : Findings) (count : ℕ) (all : length t.calls ≤ coun
       subst (λ (n : ℕ). IsPart (case_here at s) (fds_here at s) ops index n) (sym part)
       (first_is_legal ops t.replies (case_here at s) (fds_here at s) refl index (whole_by at s (not_free_first (case_here at s) index first) fact.shape) first other)
 
-  legal_by : (index : ℕ) (e : Entry) → Found index e → IsLegalEntry t.calls t.replies (of_call t.since e.call) places ops index e
+  legal_by : (index : ℕ) (e : Entry) → Found index e → IsLegalEntry t.calls t.replies (of_call t.submitted e.call) places ops index e
   legal_by index e x =
       let part = part_by x.at x.s e index (facts x.at x.s x.there) x.place in
       let before : e.call - 1 ≡ x.at = let n = x.number in omega (arith, n) in
@@ -118,7 +118,7 @@ module _ (t : Trace) (f : Findings) (count : ℕ) (all : length t.calls ≤ coun
       let fds_are : descriptors_at t.calls ops t.replies x.s.session e.call ≡ fds_here x.at x.s = ap (descriptors_at t.calls ops t.replies x.s.session) x.number in
       let up : e.call ≡ suc x.at = let n = x.number in omega (arith, n) in
       let drawn_is : drawn_by t.calls e.call ≡ (case_here x.at x.s).drawn = ap (λ (n : ℕ). record { hi = 0; lo = 1 + objects_made (take n t.calls) }) up in
-      let since_is : of_call t.since e.call ≡ (case_here x.at x.s).since = ap (λ (n : ℕ). get_or t.since n 0) before in
+      let submitted_is : of_call t.submitted e.call ≡ (case_here x.at x.s).submitted = ap (λ (n : ℕ). get_or t.submitted n 0) before in
       record {
         submission = x.s;
         asked = ap (call_numbered t.calls) x.number ∙ numbered t.calls x.at x.s x.there;
@@ -135,7 +135,7 @@ module _ (t : Trace) (f : Findings) (count : ℕ) (all : length t.calls ≤ coun
         stands = part.stands;
         accepted = part.accepted;
         seen = part.seen;
-        after_submission = subst (λ (n : ℕ). n ≤ part.seen) (sym since_is) part.after_submission;
+        after_submission = subst (λ (n : ℕ). n ≤ part.seen) (sym submitted_is) part.after_submission;
         after_lookups = subst (λ (ps : List ℕ). AreAtMost (take (lookups (looked_up x.s.call)) ps) part.seen) (sym places_are) part.after_lookups;
         not_later = part.not_later;
         possible = part.possible;
@@ -164,7 +164,7 @@ module _ (t : Trace) (f : Findings) (count : ℕ) (all : length t.calls ≤ coun
   written_by : (k : ℕ) (r : Reply) → slice_get t.replies k ≡ Some r → places r.call ≡ r.places
   written_by k r there = ap (places_by t.replies) (indexed.replies k r there).found ∙ ap places_in there
 
-  pub legal_history : IsLegalHistory t.calls t.replies (of_call t.since) places ops t.history
+  pub legal_history : IsLegalHistory t.calls t.replies (of_call t.submitted) places ops t.history
   legal_history = record {
     as_many = as_many;
     distinct = same_index;
@@ -273,7 +273,6 @@ lawful_with t f count claims ops indexed made bears all =
     let facts = facts_of t f count all ops indexed made.end made.reached held in
     record {
       places = λ number. places_by t.replies (reply_at f (number - 1));
-      answered = λ number. length (places_by t.replies (reply_at f (number - 1)));
       legal = legal_history t f count all ops indexed bears.as_many facts;
       lawful = lawful_replies t f count all ops indexed bears.as_many facts;
     }

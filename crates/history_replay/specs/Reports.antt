@@ -23,7 +23,7 @@ use Rattle.history_replay.specs.Traces.{Trace, IsLawfulTrace}
 
 -- ---- the calls
 
--- the calls of a session among these lines
+-- the lines of a session among these, in their order
 abbrev pub of_session : ℕ → List CallLine → List CallLine
 of_session session lines = filter (λ l. l.session == session) lines
 
@@ -39,13 +39,9 @@ AreCallsOf script number [] (c ∷ calls) = ⊥
 AreCallsOf script number (line ∷ lines) [] = ⊥
 AreCallsOf script number (line ∷ lines) (c ∷ calls) = IsCallOf script number line c × AreCallsOf script (number + 1) lines calls
 
--- the numbers of a session's lines, in their order
-abbrev pub line_numbers : ℕ → List CallLine → List ℕ
-line_numbers session lines = map (λ l. l.line) (of_session session lines)
-
 -- These lines are the calls of a phase, each session's in their order. Sessions have numbers below 256.
 abbrev pub AreTheseLines : List CallLine → List CallLine → Type 0
-AreTheseLines lines calls = (session : ℕ) → session < 256 → line_numbers session lines ≡ line_numbers session calls
+AreTheseLines lines calls = (session : ℕ) → session < 256 → of_session session lines ≡ of_session session calls
 
 -- These lines are the calls of the phases, those of earlier phases first.
 abbrev pub AreInPhases : List CallLine → List Phase → Type 0
@@ -130,8 +126,9 @@ abbrev pub last_or : ℕ → List ℕ → ℕ
 last_or before [] = before
 last_or before (place ∷ places) = last_or place places
 
--- No place of a call is below the last place of the nearest call of its session before it that has one. `reached` has these
--- places by session; `sessions` are those of the calls.
+-- A report does not say when a call was submitted, so its entries are anywhere behind its lookups. But no place of a call is
+-- below the last place of the nearest call of its session before it that has one. `reached` has these places by session;
+-- `sessions` are those of the calls.
 abbrev pub since_from : List ℕ → List ℕ → List (List ℕ) → List ℕ
 since_from reached [] places = []
 since_from reached (session ∷ sessions) [] = []
@@ -148,6 +145,7 @@ pub record IsTraceOf (lines : List CallLine) (calls : List ReportCall) (history 
   pub calls_are : t.calls ≡ map submission_of lines
   pub replies : AreShown (with_answers calls) t.replies
   pub history_is : t.history ≡ map entry_shown history
+  pub submitted : t.submitted ≡ replicate (length lines) 0
   pub since : t.since ≡ since_from (replicate 256 0) (map (λ l. l.session) lines) (map (λ c. c.places) calls)
   pub until : t.until ≡ replicate (length lines) (length history)
 

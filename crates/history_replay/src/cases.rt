@@ -42,7 +42,7 @@ pub(crate) struct Case<'a> {
     pub places: &'a [u32],
     pub found: &'a [Gfid],
     pub drawn: Gfid,
-    pub since: u32,
+    pub submitted: u32,
     pub seen: u32,
     pub first: Option<u32>,
     pub last: Option<u32>,
@@ -61,7 +61,7 @@ impl<'a> Model for Case<'a> {
       places = c.places.now;
       found = c.found.now;
       drawn = c.drawn;
-      since = c.since;
+      submitted = c.submitted;
       seen = c.seen;
       first = c.first;
       last = c.last;
@@ -118,14 +118,14 @@ impl<'a> Case<'a> {
     fn is_late(&self, index: u32) -> bool
         ensures { result ≡ is_late_of self.now index }
     {
-        self.since <= index && self.looks_up_by(index)
+        self.submitted <= index && self.looks_up_by(index)
     }
 
     // Whether an entry of this index may be a rename's part 1.
     fn is_first(&self, index: u32) -> bool
         ensures { result ≡ is_first_of self.now index }
     {
-        self.since <= self.seen
+        self.submitted <= self.seen
             && (self.looks_up_by(self.seen) && (self.seen <= index && is_before(index, self.last)))
     }
 

@@ -402,21 +402,21 @@ impl<'t, 'a> Walk<'t, 'a> {
         Ok(())
     }
 
-    fn since(&self, at: usize) -> u32 {
+    fn submitted(&self, at: usize) -> u32 {
         let trace = self.trace;
-        match trace.since.get(at) {
-            Some(since) => *since,
+        match trace.submitted.get(at) {
+            Some(submitted) => *submitted,
             None => 0,
         }
     }
 
     // Whether the rename of a call is possible at this place, which is then kept.
     fn sees(&mut self, at: usize, place: u32) -> bool {
-        let since = self.since(at);
+        let submitted = self.submitted(at);
         let Some(known) = self.known.get_mut(at) else {
             return true;
         };
-        if since <= place && would_rename(&self.files, known.last.as_ref()) {
+        if submitted <= place && would_rename(&self.files, known.last.as_ref()) {
             known.seen = Some(place);
             return true;
         }
@@ -483,7 +483,7 @@ impl<'t, 'a> Walk<'t, 'a> {
             return Ok(false);
         };
         let at = at as usize;
-        if self.since(at) > index {
+        if self.submitted(at) > index {
             return Ok(false);
         }
         if entry.part == 1 && self.parts.first.get(at).copied() == Some(Some(index)) {

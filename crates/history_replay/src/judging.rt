@@ -180,6 +180,17 @@ fn since_of(alloc: Global, lines: &[Named], calls: &[ReportCall]) -> Result<Vec<
     Ok(since)
 }
 
+// No bound, for each call.
+fn no_bounds(alloc: Global, count: usize) -> Result<Vec<u32>, AllocError>
+    ensures { IfOk result (λ v. v.items ≡ replicate count 0) }
+{
+    let mut bounds = Vec::new(alloc);
+    for _ in 0..count {
+        bounds.push(0)?;
+    }
+    Ok(bounds)
+}
+
 // The length of the history, for each call; `None` where it fits no number.
 fn until_of(alloc: Global, count: usize, entries: usize) -> Result<Option<Vec<u32>>, AllocError>
     ensures { IfOk result (λ o. IfSome o (λ v. v.items ≡ replicate count entries)) }
@@ -273,6 +284,7 @@ fn judge_lines(
 {
     let calls = submissions(alloc, lines)?;
     let history = history_of(alloc, entries)?;
+    let submitted = no_bounds(alloc, lines.len())?;
     let since = since_of(alloc, lines, shown)?;
     let Some(until) = until_of(alloc, lines.len(), entries.len())? else {
         return Ok(Verdict::Entry(u32::MAX));
@@ -284,7 +296,7 @@ fn judge_lines(
         &answers,
         calls.as_slice(),
         history.as_slice(),
-        since.as_slice(),
+        submitted.as_slice(),
     )? {
         Ok(walked) => walked,
         Err(entry) => return Ok(Verdict::Entry(entry)),
@@ -295,6 +307,7 @@ fn judge_lines(
         calls: calls.as_slice(),
         replies: replies.as_slice(),
         history: history.as_slice(),
+        submitted: submitted.as_slice(),
         since: since.as_slice(),
         until: until.as_slice(),
     };
@@ -307,7 +320,7 @@ fn walk<'a>(
     answers: &'a Vec<Option<Answer>>,
     calls: &'a [Submitted<'a>],
     history: &'a [Entry],
-    since: &'a [u32],
+    submitted: &'a [u32],
 ) -> Result<Result<Walked, u32>, AllocError>
     requires { AreAnswersShown shown.now answers.now.items }
 {
@@ -316,7 +329,8 @@ fn walk<'a>(
         calls,
         replies: replies.as_slice(),
         history,
-        since,
+        submitted,
+        since: &[],
         until: &[],
     };
     find(alloc, &trace)

@@ -1,9 +1,9 @@
 //! The lines of the script that a report's calls are.
 ghost use Rattle.std.specs.Prelude.{◌≡◌, true, length, take, drop, map, IfOk};
-ghost use Rattle.history_replay.specs.Reports.{IsCallOf, AreCallsOf, AreInPhases, AreTheseLines, line_numbers, submission_of};
+ghost use Rattle.history_replay.specs.Reports.{IsCallOf, AreCallsOf, AreInPhases, AreTheseLines, of_session, submission_of};
 
 use crate::lookups::behind;
-use crate::same::same_bytes;
+use crate::same::{same_bytes, same_line};
 use crate::trace::Submitted;
 use report_text::ReportCall;
 use script_lang::{CallLine, Phase, Script};
@@ -187,36 +187,56 @@ fn are_calls_of(script: &Script, lines: &[Named], calls: &[ReportCall]) -> bool
     true
 }
 
-#[tactic(auto, using(crate::proofs::Lining::numbers_kept, crate::proofs::Lining::numbers_skipped))]
-fn numbers_named(alloc: Global, lines: &[Named], session: u8) -> Result<Vec<u32>, AllocError>
-    ensures { IfOk result (λ v. v.items ≡ line_numbers session lines.now) }
+// The lines of a session.
+#[tactic(auto, using(crate::proofs::Lining::session_kept, crate::proofs::Lining::session_skipped))]
+fn named_of<'a>(
+    alloc: Global,
+    lines: &[Named<'a>],
+    session: u8,
+) -> Result<Vec<Named<'a>>, AllocError>
+    ensures { IfOk result (λ v. v.items ≡ of_session session lines.now) }
 {
-    let mut numbers = Vec::new(alloc);
+    let mut found = Vec::new(alloc);
     for named in lines {
         if named.line.session == session {
-            numbers.push(named.line.line)?;
+            found.push(Named { line: named.line })?;
         }
     }
-    Ok(numbers)
+    Ok(found)
 }
 
-#[tactic(auto, using(crate::proofs::Lining::numbers_kept, crate::proofs::Lining::numbers_skipped))]
-fn numbers_of(alloc: Global, lines: &[CallLine], session: u8) -> Result<Vec<u32>, AllocError>
-    ensures { IfOk result (λ v. v.items ≡ line_numbers session lines.now) }
+// The calls of a session.
+#[tactic(auto, using(crate::proofs::Lining::session_kept, crate::proofs::Lining::session_skipped))]
+fn calls_of<'a>(
+    alloc: Global,
+    calls: &'a [CallLine],
+    session: u8,
+) -> Result<Vec<Named<'a>>, AllocError>
+    ensures { IfOk result (λ v. v.items ≡ of_session session calls.now) }
 {
-    let mut numbers = Vec::new(alloc);
-    for line in lines {
+    let mut found = Vec::new(alloc);
+    for line in calls {
         if line.session == session {
-            numbers.push(line.line)?;
+            found.push(Named { line })?;
         }
     }
-    Ok(numbers)
+    Ok(found)
 }
 
-fn same_numbers(one: &[u32], other: &[u32]) -> bool
+// Whether two lists of lines are the same.
+fn same_lines(one: &[Named], other: &[Named]) -> bool
     ensures { result ≡ true → one.now ≡ other.now }
 {
-    one == other
+    if one.len() != other.len() {
+        return false;
+    }
+    for at in 0..one.len() {
+        let (first, second) = (&one[at], &other[at]);
+        if !same_line(first.line, second.line) {
+            return false;
+        }
+    }
+    true
 }
 
 // Whether the calls of each session are those of the phase, in their order.
@@ -224,9 +244,9 @@ fn are_lines(alloc: Global, lines: &[Named], phase: &[CallLine]) -> Result<bool,
     ensures { IfOk result (λ same. same ≡ true → AreTheseLines lines.now phase.now) }
 {
     for session in 0..256usize {
-        let one = numbers_named(alloc, lines, session as u8)?;
-        let other = numbers_of(alloc, phase, session as u8)?;
-        if !same_numbers(one.as_slice(), other.as_slice()) {
+        let one = named_of(alloc, lines, session as u8)?;
+        let other = calls_of(alloc, phase, session as u8)?;
+        if !same_lines(one.as_slice(), other.as_slice()) {
             return Ok(false);
         }
     }

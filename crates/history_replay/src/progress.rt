@@ -131,7 +131,7 @@ fn case_at<'a>(
         places: places_at(trace, reply_index(f, at)),
         found: found_at(f.found.as_slice(), at),
         drawn: Gfid { hi: 0, lo },
-        since: number_at(trace.since, at),
+        submitted: number_at(trace.submitted, at),
         seen: number_at(f.seen.as_slice(), at),
         first: index_at(f.first.as_slice(), at),
         last: index_at(f.last.as_slice(), at),

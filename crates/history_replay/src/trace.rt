@@ -37,13 +37,14 @@ impl<'a> Model for Replied<'a> {
 }
 
 /// The calls by their numbers, from 1 on; the replies, each session's in the order of its calls; the history of changes; and
-/// two numbers for each call: `since` is a lower bound of its places and of the entries before its first one, `until` an upper
-/// bound of its places.
+/// three numbers for each call: `submitted` is a lower bound of the entries before its first one, `since` a lower bound of its
+/// places, `until` an upper bound of its places.
 #[derive(Drop)]
 pub struct Trace<'a> {
     pub calls: &'a [Submitted<'a>],
     pub replies: &'a [Replied<'a>],
     pub history: &'a [Entry],
+    pub submitted: &'a [u32],
     pub since: &'a [u32],
     pub until: &'a [u32],
 }
@@ -53,5 +54,5 @@ impl<'a> Model for Trace<'a> {
 
     ghost Value = { Traced };
 
-    ghost view = { λ t. record { calls = t.calls.now; replies = t.replies.now; history = t.history.now; since = t.since.now; until = t.until.now } };
+    ghost view = { λ t. record { calls = t.calls.now; replies = t.replies.now; history = t.history.now; submitted = t.submitted.now; since = t.since.now; until = t.until.now } };
 }

@@ -100,24 +100,24 @@ until_agrees log calls events until h until_is number s there =
 
 one_file_system : (script : Script) (log : Log) (t : Trace) (ops : List FlatOp) (events answered : List ℕ) → t.calls ≡ submissions_of script log → t.replies ≡ replies_of log
     → t.history ≡ log.history → events ≡ submit_events 0 log.events → length events ≡ length t.calls → HasReplyEvents (length t.calls) log.replies answered
-    → t.since ≡ map (λ n. count_below (n + 0) log.entered) events → t.until ≡ map (λ n. count_below (n + 1) log.entered) answered
+    → t.submitted ≡ t.since → t.since ≡ map (λ n. count_below (n + 0) log.entered) events → t.until ≡ map (λ n. count_below (n + 1) log.entered) answered
     → length log.entered ≡ length log.history → IsLawfulWith t ops → IsOneFileSystem script log ops
-one_file_system script log t ops events answered calls_are replies_are history_is events_are long replied since_is until_is entered lawful =
+one_file_system script log t ops events answered calls_are replies_are history_is events_are long replied submitted_is since_is until_is entered lawful =
+    let submitted = since_agrees log t.calls events t.submitted events_are long (submitted_is ∙ since_is) in
     let since = since_agrees log t.calls events t.since events_are long since_is in
     let until = until_agrees log t.calls answered t.until replied until_is in
     let legal : IsLegalHistory t.calls t.replies (length_since log) lawful.places ops t.history =
-    legal_same t.calls t.replies (of_call t.since) (length_since log) lawful.places ops t.history since lawful.legal in
-    let replies : AreLawfulReplies t.calls t.replies ops t.history (length_since log) (length_until log) lawful.answered =
-    lawful_same t.calls t.replies (of_call t.since) (length_since log) (of_call t.until) (length_until log) ops t.history lawful.answered since until lawful.lawful in
+    legal_same t.calls t.replies (of_call t.submitted) (length_since log) lawful.places ops t.history submitted lawful.legal in
+    let replies : AreLawfulReplies t.calls t.replies ops t.history (length_since log) (length_until log) (λ number. length (lawful.places number)) =
+    lawful_same t.calls t.replies (of_call t.since) (length_since log) (of_call t.until) (length_until log) ops t.history (λ number. length (lawful.places number)) since until lawful.lawful in
     record {
       places = lawful.places;
-      answered = lawful.answered;
       legal = subst (λ (l : List Entry). IsLegalHistory (submissions_of script log) (replies_of log) (length_since log) lawful.places ops l) history_is
           (subst (λ (r : List Reply). IsLegalHistory (submissions_of script log) r (length_since log) lawful.places ops t.history) replies_are
           (subst (λ (c : List Submission). IsLegalHistory c t.replies (length_since log) lawful.places ops t.history) calls_are legal));
-      lawful = subst (λ (l : List Entry). AreLawfulReplies (submissions_of script log) (replies_of log) ops l (length_since log) (length_until log) lawful.answered) history_is
-          (subst (λ (r : List Reply). AreLawfulReplies (submissions_of script log) r ops t.history (length_since log) (length_until log) lawful.answered) replies_are
-          (subst (λ (c : List Submission). AreLawfulReplies c t.replies ops t.history (length_since log) (length_until log) lawful.answered) calls_are replies));
+      lawful = subst (λ (l : List Entry). AreLawfulReplies (submissions_of script log) (replies_of log) ops l (length_since log) (length_until log) (λ number. length (lawful.places number))) history_is
+          (subst (λ (r : List Reply). AreLawfulReplies (submissions_of script log) r ops t.history (length_since log) (length_until log) (λ number. length (lawful.places number))) replies_are
+          (subst (λ (c : List Submission). AreLawfulReplies c t.replies ops t.history (length_since log) (length_until log) (λ number. length (lawful.places number))) calls_are replies));
       entered = entered;
     }
 
@@ -126,4 +126,4 @@ pub one_if : (script : Script) (log : Log) (calls : List Submission) (events sin
     → IfSome o (λ ops. IsLawfulWith (trace_of log calls since until) ops) → IfSome o (λ ops. IsOneFileSystem script log ops)
 one_if script log calls events since until None calls_are events_are long lengths entered lawful = tt
 one_if script log calls events since until (Some ops) calls_are events_are long lengths entered lawful =
-    one_file_system script log (trace_of log calls since until) ops events lengths.answered calls_are refl refl events_are long lengths.replied lengths.since_are lengths.until_are entered lawful
+    one_file_system script log (trace_of log calls since until) ops events lengths.answered calls_are refl refl events_are long lengths.replied refl lengths.since_are lengths.until_are entered lawful

@@ -8,7 +8,7 @@ use Rattle.log_replay.specs.Events.{HasReplyEvents}
 
 -- the trace of a log with these calls and lengths
 abbrev pub trace_of : Log → List Submission → List ℕ → List ℕ → Trace
-trace_of log calls since until = record { calls = calls; replies = replies_of log; history = log.history; since = since; until = until }
+trace_of log calls since until = record { calls = calls; replies = replies_of log; history = log.history; submitted = since; since = since; until = until }
 
 -- the lengths for so many calls, which these events submit
 pub record HasLengths (log : Log) (events : List ℕ) (count : ℕ) (since until : List ℕ) : Type 0 where

@@ -60,6 +60,7 @@ fn ops_of<'a>(
             calls,
             replies: replies.as_slice(),
             history: log.history.as_slice(),
+            submitted: since,
             since,
             until,
         },

@@ -26,7 +26,7 @@ pub record Case : Type 0 where
   pub places : List ℕ
   pub found : List Gfid
   pub drawn : Gfid
-  pub since : ℕ
+  pub submitted : ℕ
   pub seen : ℕ
   pub first : Option ℕ
   pub last : Option ℕ
@@ -101,7 +101,7 @@ is_whole c = (length c.found == c.lookups) && nat_le c.lookups (length c.places)
 
 -- an entry of this index may be the call's last part
 abbrev pub is_late : Case → ℕ → Bool
-is_late c index = nat_le c.since index && are_at_most (lookup_places c) index
+is_late c index = nat_le c.submitted index && are_at_most (lookup_places c) index
 
 abbrev pub is_before : ℕ → Option ℕ → Bool
 is_before index None = true
@@ -110,7 +110,7 @@ is_before index (Some other) = nat_lt index other
 -- an entry of this index may be a rename's part 1
 abbrev pub is_first : Case → ℕ → Bool
 is_first c index =
-    nat_le c.since c.seen && (are_at_most (lookup_places c) c.seen && (nat_le c.seen index && is_before index c.last))
+    nat_le c.submitted c.seen && (are_at_most (lookup_places c) c.seen && (nat_le c.seen index && is_before index c.last))
 
 abbrev pub part_claims : ℕ → ℕ → FlatOp → Option (List Claim)
 part_claims index seen (op.Rename parent name target new_name) =

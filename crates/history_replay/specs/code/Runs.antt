@@ -55,7 +55,7 @@ case_of t f count at s made = record {
   places = places_by t.replies (reply_at f at);
   found = get_or f.found at [];
   drawn = record { hi = 0; lo = 1 + made };
-  since = get_or t.since at 0;
+  submitted = get_or t.submitted at 0;
   seen = get_or f.seen at 0;
   first = get_or f.first at None;
   last = get_or f.last at None;

@@ -1,6 +1,6 @@
 use Rattle.std.proofs.Common.{◌≡◌, ℕ, ◌<◌}
-use Rattle.history_replay.specs.Reports.{line_numbers}
+use Rattle.history_replay.specs.Reports.{of_session}
 use Rattle.history_replay.proofs.lines.are_lines.Given as goal
 
 abbrev pub invariant-loop-session : goal.invariant-loop-session
-invariant-loop-session l = (session : ℕ) → session < l.session → line_numbers session l.lines ≡ line_numbers session l.phase
+invariant-loop-session l = (session : ℕ) → session < l.session → of_session session l.lines ≡ of_session session l.phase
