@@ -82,7 +82,7 @@ impl Hub {
     /// # Errors
     /// `Winds` where a further wind was needed and 4,294,967,295 were opened; else out of memory.
     pub fn submit(&mut self, alloc: Global, session: u8) -> Result<bool, Stop>
-        ensures same { OnOk result ((self.new.script ≡ self.old.script) × (self.new.plans ≡ self.old.plans)) }
+        ensures same { (self.new.script ≡ self.old.script) × (self.new.plans ≡ self.old.plans) }
         ensures unchanged { IfOk result (λ did. did ≡ false → self.new ≡ self.old) }
         ensures goes { OnOk result (self.new.stop ≡ None) }
         ensures stops { IfErr result (λ s. self.new.stop ≡ Some s) }
@@ -107,7 +107,7 @@ impl Hub {
     /// # Errors
     /// As for [`Hub::submit`].
     pub fn arrive(&mut self, alloc: Global, brick: u8, output: Bytes) -> Result<(), Stop>
-        ensures same { OnOk result ((self.new.script ≡ self.old.script) × (self.new.plans ≡ self.old.plans)) }
+        ensures same { (self.new.script ≡ self.old.script) × (self.new.plans ≡ self.old.plans) }
         ensures goes { OnOk result (self.new.stop ≡ None) }
         ensures stops { IfErr result (λ s. self.new.stop ≡ Some s) }
     {
@@ -129,7 +129,7 @@ impl Hub {
     /// # Errors
     /// As for [`Hub::submit`].
     pub fn run(&mut self, alloc: Global, graph: u32, task: u32) -> Result<bool, Stop>
-        ensures same { OnOk result ((self.new.script ≡ self.old.script) × (self.new.plans ≡ self.old.plans)) }
+        ensures same { (self.new.script ≡ self.old.script) × (self.new.plans ≡ self.old.plans) }
         ensures unchanged { IfOk result (λ did. did ≡ false → self.new ≡ self.old) }
         ensures goes { OnOk result (self.new.stop ≡ None) }
         ensures stops { IfErr result (λ s. self.new.stop ≡ Some s) }
@@ -159,7 +159,7 @@ impl Hub {
         alloc: Global,
         arrived: &mut VecDeque<(u8, Bytes)>,
     ) -> Result<Turned, Stop>
-        ensures same { OnOk result ((self.new.script ≡ self.old.script) × (self.new.plans ≡ self.old.plans)) }
+        ensures same { (self.new.script ≡ self.old.script) × (self.new.plans ≡ self.old.plans) }
         ensures goes { OnOk result (self.new.stop ≡ None) }
         ensures stops { IfErr result (λ s. self.new.stop ≡ Some s) }
     {
@@ -188,7 +188,7 @@ impl Hub {
     /// # Errors
     /// As for [`Hub::submit`].
     pub fn act(&mut self, alloc: Global, action: Action) -> Result<bool, Stop>
-        ensures same { OnOk result ((self.new.script ≡ self.old.script) × (self.new.plans ≡ self.old.plans)) }
+        ensures same { (self.new.script ≡ self.old.script) × (self.new.plans ≡ self.old.plans) }
         ensures unchanged { IfOk result (λ did. did ≡ false → self.new ≡ self.old) }
         ensures goes { OnOk result (self.new.stop ≡ None) }
         ensures stops { IfErr result (λ s. self.new.stop ≡ Some s) }
@@ -221,7 +221,7 @@ impl Hub {
         count: u32,
         action: Action,
     ) -> Result<bool, Stop>
-        ensures same { OnOk result ((self.new.script ≡ self.old.script) × (self.new.plans ≡ self.old.plans)) }
+        ensures same { (self.new.script ≡ self.old.script) × (self.new.plans ≡ self.old.plans) }
         ensures unchanged { IfOk result (λ did. did ≡ false → self.new ≡ self.old) }
         ensures armable { IfOk result (λ did. did ≡ true → is_armable brick action ≡ true) }
         ensures goes { OnOk result (self.new.stop ≡ None) }

@@ -20,6 +20,9 @@ pub struct Desk {
 // How many outputs of a brick one turn moves into the inbox, at most.
 const MOST_MOVED: u32 = 64;
 
+/// More bricks than a script has.
+pub(crate) const MOST_BRICKS: usize = 64;
+
 impl Desk {
     /// A hub that has just been made, with the ends of its bricks' links.
     ///
@@ -70,13 +73,13 @@ impl Desk {
     }
 
     // Moves outputs of a brick from its ring into the inbox.
-    fn receive_from(&mut self, brick: usize) -> Result<(), AllocError> {
-        let Some(end) = self.ends.get_mut(brick) else {
+    fn receive_from(&mut self, brick: u8) -> Result<(), AllocError> {
+        let Some(end) = self.ends.get_mut(brick as usize) else {
             return Ok(());
         };
         for _ in 0..MOST_MOVED {
             match end.try_recv() {
-                Some(output) => self.inbox.push_back((brick as u8, output))?,
+                Some(output) => self.inbox.push_back((brick, output))?,
                 None => return Ok(()),
             }
         }
@@ -84,7 +87,8 @@ impl Desk {
     }
 
     fn receive(&mut self) -> Result<(), AllocError> {
-        for brick in 0..self.ends.len() {
+        let many = self.ends.len().min(MOST_BRICKS) as u8;
+        for brick in 0..many {
             self.receive_from(brick)?;
         }
         Ok(())

@@ -1,6 +1,6 @@
 ghost use Rattle.hub_calls.specs.Plans.{IsScript};
 
-use crate::desk::Desk;
+use crate::desk::{Desk, MOST_BRICKS};
 use crate::gate::Gate;
 use crate::side::BrickSide;
 use brick_link::{HubEnd, pair};
@@ -49,7 +49,8 @@ impl Places {
         script: &Script,
         plans: &[Plan],
     ) -> Result<(), AllocError> {
-        for number in 0..script.bricks.len() as u8 {
+        let many = script.bricks.len().min(MOST_BRICKS) as u8;
+        for number in 0..many {
             let brick = named_brick(alloc, script, plans, number)?;
             self.add_owner(alloc, number, brick)?;
         }

@@ -82,7 +82,7 @@ impl World {
     }
 
     fn submit(&mut self, alloc: Global, session: u8) -> Result<bool, Stop>
-        ensures { OnOk result ((self.new.script ≡ self.old.script) × (self.new.plans ≡ self.old.plans)) }
+        ensures { (self.new.script ≡ self.old.script) × (self.new.plans ≡ self.old.plans) }
     {
         let did = self.hub.submit(alloc, session)?;
         self.deliver()?;
@@ -91,7 +91,7 @@ impl World {
 
     // The next output of a brick arrives.
     fn arrive(&mut self, alloc: Global, brick: u8) -> Result<bool, Stop>
-        ensures { OnOk result ((self.new.script ≡ self.old.script) × (self.new.plans ≡ self.old.plans)) }
+        ensures { (self.new.script ≡ self.old.script) × (self.new.plans ≡ self.old.plans) }
     {
         let Some(output) = self.lines.take_output(brick)? else {
             return Ok(false);
@@ -110,7 +110,7 @@ impl World {
     }
 
     fn run_task(&mut self, alloc: Global, graph: u32, task: u32) -> Result<bool, Stop>
-        ensures { OnOk result ((self.new.script ≡ self.old.script) × (self.new.plans ≡ self.old.plans)) }
+        ensures { (self.new.script ≡ self.old.script) × (self.new.plans ≡ self.old.plans) }
     {
         let did = self.hub.run(alloc, graph, task)?;
         self.deliver()?;
@@ -118,7 +118,7 @@ impl World {
     }
 
     fn act(&mut self, alloc: Global, action: Action) -> Result<bool, Stop>
-        ensures { OnOk result ((self.new.script ≡ self.old.script) × (self.new.plans ≡ self.old.plans)) }
+        ensures { (self.new.script ≡ self.old.script) × (self.new.plans ≡ self.old.plans) }
     {
         let did = self.hub.act(alloc, action)?;
         self.deliver()?;
@@ -133,7 +133,7 @@ impl World {
         count: u32,
         action: Action,
     ) -> Result<bool, Stop>
-        ensures { OnOk result ((self.new.script ≡ self.old.script) × (self.new.plans ≡ self.old.plans)) }
+        ensures { (self.new.script ≡ self.old.script) × (self.new.plans ≡ self.old.plans) }
     {
         let did = self.hub.arm(alloc, brick, proc, count, action)?;
         self.deliver()?;
@@ -141,7 +141,7 @@ impl World {
     }
 
     fn happen(&mut self, alloc: Global, happening: Event) -> Result<bool, Stop>
-        ensures { OnOk result ((self.new.script ≡ self.old.script) × (self.new.plans ≡ self.old.plans)) }
+        ensures { (self.new.script ≡ self.old.script) × (self.new.plans ≡ self.old.plans) }
     {
         match happening {
             Event::Submit(session) => self.submit(alloc, session),
@@ -158,7 +158,7 @@ impl World {
     /// # Errors
     /// As for [`hub_calls::Hub::submit`].
     pub fn apply(&mut self, alloc: Global, event: Event) -> Result<bool, Stop>
-        ensures same { OnOk result ((self.new.script ≡ self.old.script) × (self.new.plans ≡ self.old.plans)) }
+        ensures same { (self.new.script ≡ self.old.script) × (self.new.plans ≡ self.old.plans) }
         ensures goes { OnOk result (self.new.stop ≡ None) }
         ensures stops { IfErr result (λ s. self.new.stop ≡ Some s) }
     {
@@ -212,7 +212,7 @@ impl World {
     /// # Errors
     /// As for [`hub_calls::Hub::submit`].
     pub fn run(&mut self, alloc: Global, seed: u64) -> Result<(), Stop>
-        ensures same { OnOk result ((self.new.script ≡ self.old.script) × (self.new.plans ≡ self.old.plans)) }
+        ensures same { (self.new.script ≡ self.old.script) × (self.new.plans ≡ self.old.plans) }
         ensures stops { IfErr result (λ s. self.new.stop ≡ Some s) }
     {
         let mut schedule = Schedule::new(seed);
