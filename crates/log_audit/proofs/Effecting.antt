@@ -138,7 +138,7 @@ none_starts (logged.Arm at p count a) = refl
 -- how many graphs an effect makes
 abbrev makes : Effect → ℕ
 makes effect.Switched = 1
-makes other = 0
+makes _ = 0
 
 newest_by : (newest : ℕ) (f : Effect) → newest_after newest f ≡ newest + makes f
 newest_by newest effect.Switched = refl

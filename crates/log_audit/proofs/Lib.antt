@@ -28,7 +28,6 @@ pub mod Running
 pub mod Tying
 pub mod Numbering
 pub mod Ending
-pub mod Alike
 pub mod Locking
 pub mod Granting
 pub mod Sourcing

@@ -142,28 +142,28 @@ pub record IsEffectAt (log : Log) (k : ℕ) (e : Effect) : Type 0 where
 
 abbrev pub is_started : Effect → Bool
 is_started effect.Started = true
-is_started other = false
+is_started _ = false
 
 abbrev pub is_switched : Effect → Bool
 is_switched effect.Switched = true
-is_switched other = false
+is_switched _ = false
 
 abbrev pub opened_as : ℕ → Effect → Bool
 opened_as brick (effect.Opened b) = b == brick
-opened_as brick other = false
+opened_as brick _ = false
 
 abbrev pub closed_as : ℕ → Effect → Bool
 closed_as brick (effect.Closed b) = b == brick
-closed_as brick other = false
+closed_as brick _ = false
 
 abbrev pub cut_as : ℕ → Effect → Bool
 cut_as brick (effect.Cut b) = b == brick
-cut_as brick other = false
+cut_as brick _ = false
 
 -- the newest graph behind the event
 abbrev pub newest_after : ℕ → Effect → ℕ
 newest_after newest effect.Switched = newest + 1
-newest_after newest other = newest
+newest_after newest _ = newest
 
 -- ---- open connections
 
@@ -181,11 +181,11 @@ without_link graph brick (l ∷ ls) = if (l.graph == graph) && (l.brick == brick
 
 abbrev pub closed_by : Effect → List Link → List Link
 closed_by (effect.Closed brick) links = without_brick brick links
-closed_by other links = links
+closed_by _ links = links
 
 abbrev pub dropped_as : ℕ → What → List Link → List Link
 dropped_as brick (what.Disconnect graph) links = without_link graph brick links
-dropped_as brick other links = links
+dropped_as brick _ links = links
 
 abbrev pub dropped_by : Item → List Link → List Link
 dropped_by item links = dropped_as item.brick item.what links
@@ -196,7 +196,7 @@ dropped (i ∷ is) links = dropped is (dropped_by i links)
 
 abbrev pub added_as : ℕ → What → List Link → List Link
 added_as brick (what.Connect graph) links = links ++ record { graph = graph; brick = brick } ∷ []
-added_as brick other links = links
+added_as brick _ links = links
 
 abbrev pub added_by : Item → List Link → List Link
 added_by item links = added_as item.brick item.what links
@@ -218,7 +218,7 @@ without_number n (x ∷ xs) = if x == n then without_number n xs else x ∷ with
 abbrev pub closed_after : Effect → List ℕ → List ℕ
 closed_after (effect.Closed brick) closed = closed ++ brick ∷ []
 closed_after (effect.Opened brick) closed = without_number brick closed
-closed_after other closed = closed
+closed_after _ closed = closed
 
 -- ---- what is left of graphs
 
