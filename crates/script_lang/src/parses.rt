@@ -43,7 +43,7 @@ fn lines_of(alloc: Global, text: &[u8]) -> Result<Script, ScriptError>
     }
 }
 
-// Reads the lines of a text; a volfile that is begun is ended. Their number.
+// Reads the lines of a text into an empty draft, and gives their number. No volfile is left open.
 fn read_text(alloc: Global, draft: &mut Draft, text: &[u8]) -> Result<u32, ScriptError>
     requires { InScript draft.old ≡ nothing_said }
     ensures { HasRead result draft.new (parsed text.now) }
@@ -52,6 +52,7 @@ fn read_text(alloc: Global, draft: &mut Draft, text: &[u8]) -> Result<u32, Scrip
     read_lines(alloc, draft, &mut inside, text)
 }
 
+// The same, where `inside` is the volfile whose lines are read, if there is one.
 fn read_lines(
     alloc: Global,
     draft: &mut Draft,
