@@ -1,5 +1,6 @@
-ghost use Rattle.std.specs.Prelude.{ℕ, ◌≡◌, ◌≢◌, ◌<◌, ◌+◌, ◌∷◌, [], None, true, IsSome, OnOk, OnErr, IfOk, IfSome};
+ghost use Rattle.std.specs.Prelude.{ℕ, ◌≡◌, ◌≢◌, ◌<◌, ◌+◌, ◌∷◌, ◌++◌, [], None, true, IsSome, OnOk, OnErr, IfOk, IfSome};
 ghost use Rattle.wire_xdr.specs.MessageText.{IsReq};
+ghost use Rattle.xlator_law.specs.Numbers.{wind_number};
 ghost use Rattle.client_xlator.specs.Client.{new_client, connected, ended, noted, known_at, is_known, is_reachable, opens, message, sent_by, carried};
 
 use crate::sent::Sent;
@@ -143,13 +144,32 @@ impl Client {
         ensures sent { IfOk result (λ s. s ≡ sent_by self.old w bound fd req) }
         ensures kept { self.new ≡ self.old }
     {
-        if !is_reachable(self.connection, bound) {
-            return Ok(Sent::NotConnected);
+        if is_reachable(self.connection, bound) {
+            let messages = self.messages(alloc, w, fd, req)?;
+            Ok(Sent::Messages(messages))
+        } else {
+            drop(req);
+            Ok(Sent::NotConnected)
         }
-        let mut messages = self.opens(alloc, w, fd)?;
+    }
+
+    // The messages that carry a request over the open connection.
+    fn messages(
+        &self,
+        alloc: Global,
+        w: WindNo,
+        fd: Option<(u32, Gfid)>,
+        req: BrickReq,
+    ) -> Result<Seq<Seq<u8>>, AllocError>
+        requires slot { w.slot < 2147483648 }
+        requires encoded { IsReq true req }
+        requires fd { IfSome fd (λ f. f.0 ≢ 0) }
+        ensures { IfOk result (λ ms. ms ≡ opens self.now w fd ++ message self.now.graph (wind_number w) req ∷ []) }
+    {
         let request = message(alloc, self.graph, w.number(), req)?;
+        let mut messages = self.opens(alloc, w, fd)?;
         messages.push(request)?;
-        Ok(Sent::Messages(messages))
+        Ok(messages)
     }
 
     // The open of a descriptor that is new to the connection, and else no message.
@@ -203,6 +223,7 @@ fn message(alloc: Global, graph: u32, wind: u64, req: BrickReq) -> Result<Seq<u8
     ensures { IfOk result (λ m. m ≡ message graph wind req) }
 {
     let input = Input::Request { wind, graph, req };
-    let bytes = encode_req(alloc, &input)?;
-    Ok(Seq::from_vec(bytes))
+    let bytes = encode_req(alloc, &input);
+    drop(input);
+    Ok(Seq::from_vec(bytes?))
 }

@@ -5,5 +5,6 @@ pub mod Gives
 pub mod LineNumbers
 pub mod Modes
 pub mod Parts
+pub mod Sessions
 pub mod TextRead
 pub mod WordBounds

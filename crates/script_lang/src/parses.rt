@@ -1,5 +1,6 @@
 ghost use Rattle.std.specs.Prelude.{◌≡◌, IfOk};
 ghost use Rattle.script_lang.specs.Accepted.{IsAccepted};
+ghost use Rattle.script_lang.specs.code.Readings.{HasRead, reading_of};
 ghost use Rattle.script_lang.specs.ScriptText.{IsButForMemory, has_start as has_start_part, nothing_said, parsed, script_of, text_ended};
 ghost use Rattle.script_lang.specs.declared.drafts.Reading.TheVariants.{InScript};
 
@@ -36,13 +37,37 @@ fn lines_of(alloc: Global, text: &[u8]) -> Result<Script, ScriptError>
     ensures { IsButForMemory result (parsed text.now) }
 {
     let mut draft = nothing_read(alloc);
+    match read_text(alloc, &mut draft, text) {
+        Ok(number) => finish(draft, number),
+        Err(e) => Err(e),
+    }
+}
+
+// Reads the lines of a text into an empty draft, and gives their number. No volfile is left open.
+fn read_text(alloc: Global, draft: &mut Draft, text: &[u8]) -> Result<u32, ScriptError>
+    requires { InScript draft.old ≡ nothing_said }
+    ensures { HasRead result draft.new (parsed text.now) }
+{
     let mut inside: Option<Inside> = None;
+    read_lines(alloc, draft, &mut inside, text)
+}
+
+// The same, where `inside` is the volfile whose lines are read, if there is one.
+fn read_lines(
+    alloc: Global,
+    draft: &mut Draft,
+    inside: &mut Option<Inside>,
+    text: &[u8],
+) -> Result<u32, ScriptError>
+    requires { reading_of draft.old inside.old ≡ nothing_said }
+    ensures { HasRead result draft.new (parsed text.now) }
+{
     let mut number: u32 = 0;
     let mut at = 0;
     while at < text.len() {
         let line = first_line(text, at);
         number = line_after(number);
-        if let Some(kind) = with_line(alloc, &mut draft, &mut inside, number, line)? {
+        if let Some(kind) = with_line(alloc, draft, inside, number, line)? {
             return Err(ScriptError::At { line: number, kind });
         }
         at += line.len() + 1;
@@ -53,7 +78,7 @@ fn lines_of(alloc: Global, text: &[u8]) -> Result<Script, ScriptError>
             kind: ScriptKind::Unclosed,
         });
     }
-    finish(draft, number)
+    Ok(number)
 }
 
 fn nothing_read(alloc: Global) -> Draft

@@ -1,6 +1,7 @@
 ghost use Rattle.std.specs.Prelude.{◌≡◌, ◌<◌, [], map, IfOk, OnOk};
 ghost use Rattle.script_lang.specs.code.Readings.{Leaves};
-ghost use Rattle.script_lang.specs.StatementText.{call_added, call_read, call_said, control_added, control_read, is_great_action, new_phase, phases_read, phases_with, with_call as call_put};
+ghost use Rattle.script_lang.specs.code.Sessions.{HasNumber, TakesCalls, call_placed};
+ghost use Rattle.script_lang.specs.StatementText.{call_read, call_said, control_added, control_read, is_great_action, new_phase, phases_read, phases_with, with_call as call_put};
 ghost use Rattle.script_lang.specs.declared.drafts.Reading.TheVariants.{InScript};
 
 use crate::calls::call_of;
@@ -90,14 +91,40 @@ fn with_said(alloc: Global, draft: &mut Draft, number: u32, session: &[u8], said
 {
     match said {
         Ok(call) => {
-            if is_name(session) {
-                let place = draft.sessions.place(session);
-                with_call(alloc, draft, number, session, place, call)
-            } else {
-                Ok(Some(ScriptKind::BadWord))
+            let place = draft.sessions.place(session);
+            match session_refusal(draft, session, place) {
+                None => {
+                    with_call(alloc, draft, number, session, place, call)?;
+                    Ok(None)
+                }
+                Some(kind) => {
+                    drop(call);
+                    Ok(Some(kind))
+                }
             }
         }
         Err(kind) => Ok(Some(kind)),
+    }
+}
+
+// Why the session of this name and place takes no call, if it takes none.
+fn session_refusal(draft: &Draft, name: &[u8], place: Option<u8>) -> Option<ScriptKind>
+    ensures { TakesCalls draft.now name.now place result }
+{
+    if !is_name(name) {
+        return Some(ScriptKind::BadWord);
+    }
+    if draft.call_count >= 4096 {
+        return Some(ScriptKind::TooMany);
+    }
+    match place {
+        Some(_session) => None,
+        None => {
+            if draft.sessions.len() >= 64 {
+                return Some(ScriptKind::TooMany);
+            }
+            None
+        }
     }
 }
 
@@ -109,25 +136,18 @@ fn with_call(
     name: &[u8],
     place: Option<u8>,
     call: Call,
-) -> Refused
-    ensures { IfOk result (λ no. Leaves (call_added draft.old number name.now place call) no (InScript draft.new)) }
+) -> Result<(), AllocError>
+    requires count { draft.old.call_count < 4096 }
+    requires session { HasNumber draft.old place }
+    ensures { OnOk result (draft.new ≡ call_placed draft.old number name.now place call) }
 {
-    if draft.call_count >= 4096 {
-        return Ok(Some(ScriptKind::TooMany));
-    }
     match place {
-        Some(session) => {
-            put_call(draft, number, session, call)?;
-            Ok(None)
-        }
+        Some(session) => put_call(draft, number, session, call),
         None => {
-            let session = draft.sessions.len();
-            if session >= 64 {
-                return Ok(Some(ScriptKind::TooMany));
-            }
+            let session = draft.sessions.len() as u8;
+            put_call(draft, number, session, call)?;
             draft.sessions.push(Seq::from_bytes(alloc, name)?)?;
-            put_call(draft, number, session as u8, call)?;
-            Ok(None)
+            Ok(())
         }
     }
 }

@@ -26,17 +26,18 @@ pub(crate) fn begins_with(word: &[u8], text: &[u8]) -> bool
 pub(crate) fn data_of(alloc: Global, limit: u32, word: &[u8]) -> Result<Option<Seq<u8>>, AllocError>
     ensures { IfOk result (λ found. found ≡ data_at limit word.now) }
 {
+    let rest = behind(word, 1);
     if begins_with(word, b"t:") {
-        return visible_of(alloc, limit, &word[2..]);
+        return visible_of(alloc, limit, rest);
     }
     if begins_with(word, b"x:") {
-        return hexadecimal_of(alloc, limit, &word[2..]);
+        return hexadecimal_of(alloc, limit, rest);
     }
     if begins_with(word, b"z:") {
-        return copies(alloc, number_of(0, limit, &word[2..]), Some(0));
+        return copies(alloc, number_of(0, limit, rest), Some(0));
     }
     if begins_with(word, b"r:") {
-        return repeated_of(alloc, limit, &word[2..]);
+        return repeated_of(alloc, limit, rest);
     }
     Ok(None)
 }

@@ -4,13 +4,13 @@ use Rattle.script_lang.specs.code.Readings.{Leaves, reading_of}
 use Rattle.script_lang.specs.ScriptText.{line_read, lines_read}
 use Rattle.script_lang.proofs.Accepted.{KeepsReading, next_keeps, nothing_keeps}
 use Rattle.script_lang.proofs.TextRead.{taken}
-use Rattle.script_lang.proofs.parses.lines_of.Goals as goal
+use Rattle.script_lang.proofs.parses.read_lines.Goals as goal
 
 pub loop-at-init : goal.loop-at-init
 loop-at-init c = (
   omega arith,
-  subst KeepsReading (sym c.nothing_read-draft.ensures) nothing_keeps,
-  ap (λ r. lines_read (lines_of c.args.text.now) r 0) c.nothing_read-draft.ensures,
+  subst KeepsReading (sym c.requires) nothing_keeps,
+  ap (λ r. lines_read (lines_of c.args.text.now) r 0) c.requires,
 )
 
 pub loop-at-preserved : goal.loop-at-preserved
