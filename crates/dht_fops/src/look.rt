@@ -72,9 +72,16 @@ fn ask_names(alloc: Global, volume: Volume, look: Look, set: u8) -> Result<Step,
     requires second { IsSecondSet look.purpose (length look.lookup.names) }
     ensures { IfOk result (λ step. course_of volume step ≡ asks_names volume look set) }
 {
-    let job = names_job(alloc, look.lookup.parent())?;
-    let pending = PendingLook::new(look);
-    Ok(ask(set, job, State::Names(OnNames::Look(pending))))
+    match names_job(alloc, look.lookup.parent()) {
+        Ok(job) => {
+            let pending = PendingLook::new(look);
+            Ok(ask(set, job, State::Names(OnNames::Look(pending))))
+        }
+        Err(error) => {
+            drop(look);
+            Err(error)
+        }
+    }
 }
 
 /// Begins a look at a name that belongs to this set.
