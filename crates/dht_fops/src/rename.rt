@@ -1,12 +1,7 @@
-ghost use Rattle.std.specs.Prelude.{◌≡◌, ◌∷◌, [], IfOk, Some};
+ghost use Rattle.std.specs.Prelude.{◌≡◌, IfOk};
 ghost use Rattle.dht_fops.specs.Renames.{drops_old_link, adds_link, moves, bears, replaces, changes_names};
-ghost use Rattle.dht_fops.specs.Volumes.{entry};
 ghost use Rattle.dht_fops.specs.code.Waits.{course_of};
 ghost use Rattle.dht_fops.specs.declared.volume.Volume.{Volume};
-ghost use Rattle.fop_types.specs.Cells.{names_cell};
-ghost use Rattle.fop_types.specs.StoreOps.{both_names as both_names_of};
-ghost use Rattle.fop_types.specs.declared.jobs.Job.TheVariants as job;
-ghost use Rattle.fop_types.specs.declared.store_ops.StoreOp.TheVariants as op;
 
 use crate::cells::{birth_job, both_names, change_job, one_dir};
 use crate::drops::{NameDrop, drop_link};
@@ -101,19 +96,6 @@ pub(crate) fn add_link(
     ))
 }
 
-fn move_job(alloc: Global, volume: Volume, renaming: &Renaming) -> Result<Job, AllocError>
-    ensures { IfOk result (λ made. made ≡ job.Change (both_names_of renaming.now.source.parent renaming.now.target) 0 (op.Move renaming.now.source.parent renaming.now.source.name renaming.now.target renaming.now.new_name) (Some (entry volume 2))) }
-{
-    let cells = both_names(alloc, renaming.source.parent, renaming.target)?;
-    let op = StoreOp::Move {
-        parent: renaming.source.parent,
-        name: renaming.source.name.copy(alloc)?,
-        target: renaming.target,
-        new_name: renaming.new_name.copy(alloc)?,
-    };
-    Ok(change_job(volume, 2, cells, op))
-}
-
 /// The move on the file's set.
 ///
 /// # Errors
@@ -125,7 +107,14 @@ pub(crate) fn move_name(
 ) -> Result<Step, AllocError>
     ensures { IfOk result (λ step. course_of volume step ≡ moves volume renaming) }
 {
-    let job = move_job(alloc, volume, &renaming)?;
+    let cells = both_names(alloc, renaming.source.parent, renaming.target)?;
+    let op = StoreOp::Move {
+        parent: renaming.source.parent,
+        name: renaming.source.name.copy(alloc)?,
+        target: renaming.target,
+        new_name: renaming.new_name.copy(alloc)?,
+    };
+    let job = change_job(volume, 2, cells, op);
     Ok(ask(
         renaming.source.set,
         job,
@@ -156,18 +145,6 @@ pub(crate) fn bear(
     ))
 }
 
-// The unlink of a file of the new name.
-fn unlink_job(alloc: Global, volume: Volume, renaming: &Renaming) -> Result<Job, AllocError>
-    ensures { IfOk result (λ made. made ≡ job.Change (names_cell renaming.now.target ∷ []) 0 (op.DropName renaming.now.target renaming.now.new_name) (Some (entry volume 1))) }
-{
-    let cells = one_dir(alloc, renaming.target)?;
-    let op = StoreOp::DropName {
-        parent: renaming.target,
-        name: renaming.new_name.copy(alloc)?,
-    };
-    Ok(change_job(volume, 1, cells, op))
-}
-
 /// A file of the new name on another set is unlinked; then the move follows.
 ///
 /// # Errors
@@ -184,7 +161,12 @@ pub(crate) fn replace(
     match replaced {
         None => bear(alloc, volume, renaming, has_copy),
         Some(set) => {
-            let job = unlink_job(alloc, volume, &renaming)?;
+            let cells = one_dir(alloc, renaming.target)?;
+            let op = StoreOp::DropName {
+                parent: renaming.target,
+                name: renaming.new_name.copy(alloc)?,
+            };
+            let job = change_job(volume, 1, cells, op);
             Ok(ask(
                 set,
                 job,

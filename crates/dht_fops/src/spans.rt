@@ -1,10 +1,9 @@
 ghost use Rattle.std.specs.Prelude.{◌≡◌, ◌∷◌, [], ◌+◌, ◌<◌, ◌≤◌, length, IfOk, IfSome};
-ghost use Rattle.dht_fops.specs.Looks.{span_job as span_job_of, span_of as span_in};
+ghost use Rattle.dht_fops.specs.Looks.{span_job as span_job_of};
 ghost use Rattle.dht_fops.specs.Renames.{second_set as second_set_of};
 ghost use Rattle.dht_fops.specs.code.Purposes.{IsSecondSet};
 ghost use Rattle.dht_fops.specs.code.Waits.{course_of, with_spans as with_spans_of, looks_after_spans, looks_for, reads_on, sets_left, spans_read, with_span, learnt_at};
 ghost use Rattle.dht_fops.specs.declared.volume.Volume.{Volume};
-ghost use Rattle.dht_linkto.specs.DirNames.{first_content};
 
 use crate::cells::{cell, listed};
 use crate::layouts::{Layout, span_of};
@@ -86,11 +85,18 @@ fn ask_span(alloc: Global, volume: Volume, read: SpansRead) -> Result<Step, Allo
     ensures { IfOk result (λ step. course_of volume step ≡ reads_on volume read) }
 {
     let set = read.next;
-    let job = span_job(alloc, read.dir)?;
-    let mut read = read;
-    read.next = set + 1;
-    let pending = PendingSpans::new(read);
-    Ok(ask(set, job, State::Contents(OnContents::Spans(pending))))
+    match span_job(alloc, read.dir) {
+        Ok(job) => {
+            let mut read = read;
+            read.next = set + 1;
+            let pending = PendingSpans::new(read);
+            Ok(ask(set, job, State::Contents(OnContents::Spans(pending))))
+        }
+        Err(error) => {
+            drop(read);
+            Err(error)
+        }
+    }
 }
 
 /// Looks for a name that belongs to this set, where it is known; else reads the directory's layout first.
@@ -158,14 +164,6 @@ fn look_by(
     Ok(step)
 }
 
-// The range that a directory's metadata shows.
-fn first_span(contents: Seq<Option<Content>>) -> Option<Span>
-    ensures { result ≡ span_in (first_content contents) }
-{
-    let mut contents = contents;
-    span_of(&take_first(&mut contents))
-}
-
 /// One more set showed the directory's metadata. Once each has, the layout is learnt and the name is looked for.
 ///
 /// # Errors
@@ -185,8 +183,9 @@ pub(crate) fn span_shown(
     ensures course { IfOk result (λ step. course_of volume step ≡ spans_read volume read contents) }
     ensures learnt { IfOk result (λ step. learnt.new ≡ learnt_at (sets_left read) (with_span read contents) learnt.old) }
 {
+    let mut contents = contents;
     let mut read = read;
-    read.spans.push(first_span(contents))?;
+    read.spans.push(span_of(&take_first(&mut contents)))?;
     if read.next < read.count {
         ask_span(alloc, volume, read)
     } else {
