@@ -178,9 +178,13 @@ pub(crate) fn look_on(
     ensures { IfOk result (λ step. course_of volume step ≡ looked_at volume look shown) }
 {
     match look.lookup.asked() {
-        None => Ok(answer(Answer::Done, None)),
+        None => {
+            drop(look);
+            Ok(answer(Answer::Done, None))
+        }
         Some(set) => {
             if shown.removed {
+                drop(look);
                 return Ok(refuse(AppError::Enoent, Some(shown.place)));
             }
             look_further(alloc, volume, look, set, shown)
