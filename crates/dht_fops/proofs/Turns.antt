@@ -1,10 +1,10 @@
 -- What callers see of a turn is the turn.
 use Rattle.std.proofs.Common.{◌≡◌, ◌∙◌, ℕ, Option, refl, ap, sym, subst}
-use Rattle.dht_fops.specs.Courses.{Course}
 use Rattle.dht_fops.specs.code.Fops.{course_seen, asked_of, GivesOneJob}
 use Rattle.dht_fops.specs.code.Turns.{next_of, asked_by}
-use Rattle.dht_fops.specs.code.Waits.{course_by, goes_on, goes_held}
+use Rattle.dht_fops.specs.code.Waits.{course_by, course_of, goes_on, goes_held}
 use Rattle.dht_fops.specs.declared.step.DhtNext.{DhtNext}
+use Rattle.dht_fops.specs.declared.step.Step.{Step}
 use Rattle.dht_fops.specs.declared.step.Turn.{Turn}
 use Rattle.dht_fops.specs.declared.state.State.{State}
 use Rattle.dht_fops.specs.declared.step.Turn.TheVariants as turn
@@ -15,8 +15,11 @@ turn_course v s (turn.Ask set job) = refl
 turn_course v s (turn.Extend dir) = refl
 turn_course v s (turn.End answer place) = refl
 
-pub course_given : (v : Volume) (s : State) (t : Turn) (next : DhtNext) (course : Course) → next ≡ next_of t → course_by v s t ≡ course → course_seen (goes_on v s) (goes_held v s) next ≡ course
-course_given v s t next course e h = ap (λ (n : DhtNext). course_seen (goes_on v s) (goes_held v s) n) e ∙ turn_course v s t ∙ h
+pub step_given : (v : Volume) (step : Step) (s : State) (next : DhtNext) → s ≡ step.state → next ≡ next_of step.turn → course_seen (goes_on v s) (goes_held v s) next ≡ course_of v step
+step_given v step s next e h =
+    ap (λ (n : DhtNext). course_seen (goes_on v s) (goes_held v s) n) h
+    ∙ turn_course v s step.turn
+    ∙ ap (λ (s : State). course_by v s step.turn) e
 
 turn_asked : (t : Turn) → asked_by t ≡ asked_of (next_of t)
 turn_asked (turn.Ask set job) = refl

@@ -37,16 +37,25 @@ fn change_cell(
 ) -> Result<Step, AllocError>
     ensures { IfOk result (λ step. course_of volume step ≡ changes_cell volume set cell fd op answer) }
 {
-    let job = Job::Change {
-        cells: listed(alloc, &[cell])?,
-        fd,
-        op,
-        effect: Some(Entry {
-            call: volume.call,
-            part: 1,
-        }),
-    };
-    Ok(ask(set, job, State::Number(OnNumber::Change(answer))))
+    match listed(alloc, &[cell]) {
+        Ok(cells) => {
+            let job = Job::Change {
+                cells,
+                fd,
+                op,
+                effect: Some(Entry {
+                    call: volume.call,
+                    part: 1,
+                }),
+            };
+            Ok(ask(set, job, State::Number(OnNumber::Change(answer))))
+        }
+        Err(error) => {
+            drop(op);
+            drop(answer);
+            Err(error)
+        }
+    }
 }
 
 fn change_meta(

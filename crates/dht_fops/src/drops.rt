@@ -66,11 +66,12 @@ pub(crate) fn drop_link(
 fn unlink_on(alloc: Global, volume: Volume, dropped: NameDrop, set: u8) -> Result<Step, AllocError>
     ensures { IfOk result (λ step. course_of volume step ≡ unlinks volume dropped.parent dropped.name dropped.hashed dropped.has_link set) }
 {
+    let cells = one_dir(alloc, dropped.parent)?;
     let op = StoreOp::DropName {
         parent: dropped.parent,
         name: dropped.name.copy(alloc)?,
     };
-    let job = change_job(volume, 1, one_dir(alloc, dropped.parent)?, op);
+    let job = change_job(volume, 1, cells, op);
     Ok(ask(set, job, State::Number(OnNumber::Unlink(dropped))))
 }
 

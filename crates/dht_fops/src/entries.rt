@@ -62,13 +62,14 @@ fn add_dir(
     requires { 1 ≤ volume.sets }
     ensures { IfOk result (λ step. course_of volume step ≡ adds_dir volume parent name mode drawn) }
 {
+    let cells = one_dir(alloc, parent)?;
     let op = StoreOp::AddName {
         parent,
         item: new_item(alloc, name, drawn, Kind::Dir),
         mode,
         span: Some(even_span(volume.sets, 0)),
     };
-    let job = change_job(volume, 1, one_dir(alloc, parent)?, op);
+    let job = change_job(volume, 1, cells, op);
     Ok(ask(
         0,
         job,
@@ -142,13 +143,14 @@ fn make_file(
 ) -> Result<Step, AllocError>
     ensures { IfOk result (λ step. course_of volume step ≡ adds_file volume ended.parent ended.name mode drawn ended.hashed) }
 {
+    let cells = one_dir(alloc, ended.parent)?;
     let op = StoreOp::AddName {
         parent: ended.parent,
         item: new_item(alloc, ended.name, drawn, Kind::File),
         mode,
         span: None,
     };
-    let job = change_job(volume, 1, one_dir(alloc, ended.parent)?, op);
+    let job = change_job(volume, 1, cells, op);
     let made = FopAnswer::Found {
         set: ended.hashed,
         gfid: drawn,

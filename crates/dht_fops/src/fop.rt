@@ -3,13 +3,14 @@ ghost use Rattle.dht_linkto.specs.declared.names.DirNames.{DirNames};
 ghost use Rattle.dht_fops.specs.Courses.{on_names, on_contents, on_number};
 ghost use Rattle.dht_fops.specs.Fops.{fop_course};
 ghost use Rattle.dht_fops.specs.code.Fops.{volume_of, course_on, goes_on_with, goes_held_with, learnt_with, asked_of, GivesOneJob};
+ghost use Rattle.dht_fops.specs.code.Waits.{course_of};
 
 use crate::begin::begin_fop;
 use crate::dht_fop::DhtFop;
 use crate::layouts::Layout;
 use crate::resume::{held, resume};
 use crate::state::{OnReply, State};
-use crate::step::DhtNext;
+use crate::step::{DhtNext, Step};
 use crate::volume::Volume;
 use fop_types::{Fop, Gfid, Job, Seq, SetReply, Span};
 use std::alloc::{AllocError, Global};
@@ -47,12 +48,12 @@ impl DhtFop {
         };
         let step = begin_fop(alloc, volume, fop, names, kept)?;
         let asked = step.turn.asked();
-        let next = step.turn.into_next(alloc)?;
+        let (state, next) = step.into_next(alloc)?;
         let begun = DhtFop {
             volume,
             learnt: Seq::new(alloc),
             asked,
-            state: step.state,
+            state,
         };
         Ok((begun, next))
     }
@@ -87,10 +88,7 @@ impl DhtFop {
         self.asked = None;
         let state = mem::replace(&mut self.state, State::Reply(OnReply::End));
         let step = resume(alloc, self.volume, &mut self.learnt, state, reply)?;
-        let asked = step.turn.asked();
-        let next = step.turn.into_next(alloc)?;
-        self.asked = asked;
-        self.state = step.state;
+        let next = self.go_on(alloc, step)?;
         Ok(next)
     }
 
@@ -109,10 +107,22 @@ impl DhtFop {
         self.asked = None;
         let state = mem::replace(&mut self.state, State::Reply(OnReply::End));
         let step = held(alloc, self.volume, state)?;
+        let next = self.go_on(alloc, step)?;
+        Ok(next)
+    }
+
+    // Waits as the step says, and gives its turn.
+    fn go_on(&mut self, alloc: Global, step: Step) -> Result<DhtNext, AllocError>
+        ensures course { IfOk result (λ next. course_on self.new next ≡ course_of self.old.volume step) }
+        ensures learnt { self.new.learnt ≡ self.old.learnt }
+        ensures asked { IfOk result (λ next. self.new.asked ≡ asked_of next) }
+        ensures spent { OnErr result (self.new.asked ≡ self.old.asked) }
+        ensures one { IfOk result (λ next. GivesOneJob next) }
+    {
         let asked = step.turn.asked();
-        let next = step.turn.into_next(alloc)?;
+        let (state, next) = step.into_next(alloc)?;
+        drop(mem::replace(&mut self.state, state));
         self.asked = asked;
-        self.state = step.state;
         Ok(next)
     }
 }

@@ -72,9 +72,16 @@ fn ask_names(alloc: Global, volume: Volume, look: Look, set: u8) -> Result<Step,
     requires second { IsSecondSet look.purpose (length look.lookup.names) }
     ensures { IfOk result (λ step. course_of volume step ≡ asks_names volume look set) }
 {
-    let job = names_job(alloc, look.lookup.parent())?;
-    let pending = PendingLook::new(look);
-    Ok(ask(set, job, State::Names(OnNames::Look(pending))))
+    match names_job(alloc, look.lookup.parent()) {
+        Ok(job) => {
+            let pending = PendingLook::new(look);
+            Ok(ask(set, job, State::Names(OnNames::Look(pending))))
+        }
+        Err(error) => {
+            drop(look);
+            Err(error)
+        }
+    }
 }
 
 /// Begins a look at a name that belongs to this set.
@@ -171,9 +178,13 @@ pub(crate) fn look_on(
     ensures { IfOk result (λ step. course_of volume step ≡ looked_at volume look shown) }
 {
     match look.lookup.asked() {
-        None => Ok(answer(Answer::Done, None)),
+        None => {
+            drop(look);
+            Ok(answer(Answer::Done, None))
+        }
         Some(set) => {
             if shown.removed {
+                drop(look);
                 return Ok(refuse(AppError::Enoent, Some(shown.place)));
             }
             look_further(alloc, volume, look, set, shown)

@@ -71,6 +71,7 @@ pub(crate) fn add_link(
     if renaming.hashed == renaming.source.set {
         return drop_old_link(alloc, volume, renaming.source, number);
     }
+    let cells = one_dir(alloc, renaming.target)?;
     let item = Item {
         name: renaming.new_name,
         gfid: renaming.source.gfid,
@@ -78,7 +79,7 @@ pub(crate) fn add_link(
         target: renaming.set_name,
     };
     let job = Job::Change {
-        cells: one_dir(alloc, renaming.target)?,
+        cells,
         fd: 0,
         op: StoreOp::AddName {
             parent: renaming.target,
@@ -160,11 +161,12 @@ pub(crate) fn replace(
     match replaced {
         None => bear(alloc, volume, renaming, has_copy),
         Some(set) => {
+            let cells = one_dir(alloc, renaming.target)?;
             let op = StoreOp::DropName {
                 parent: renaming.target,
                 name: renaming.new_name.copy(alloc)?,
             };
-            let job = change_job(volume, 1, one_dir(alloc, renaming.target)?, op);
+            let job = change_job(volume, 1, cells, op);
             Ok(ask(
                 set,
                 job,

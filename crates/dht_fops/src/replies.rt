@@ -18,15 +18,10 @@ pub(crate) fn contents_in(
     match reply {
         SetReply::Contents(contents, place) => Ok((contents, place)),
         SetReply::Io(error) => Err(error),
-        SetReply::Decided(_) => Ok((Seq::new(alloc), 0)),
-        SetReply::Opened => Ok((Seq::new(alloc), 0)),
-        SetReply::Listed {
-            cells: _,
-            answered: _,
-            short: _,
-        } => Ok((Seq::new(alloc), 0)),
-        SetReply::Healed(_) => Ok((Seq::new(alloc), 0)),
-        SetReply::Skipped(_) => Ok((Seq::new(alloc), 0)),
+        other => {
+            drop(other);
+            Ok((Seq::new(alloc), 0))
+        }
     }
 }
 
@@ -37,15 +32,10 @@ pub(crate) fn number_in(reply: SetReply) -> Result<Option<u32>, IoError>
     match reply {
         SetReply::Decided(number) => Ok(number),
         SetReply::Io(error) => Err(error),
-        SetReply::Contents(_, _) => Ok(None),
-        SetReply::Opened => Ok(None),
-        SetReply::Listed {
-            cells: _,
-            answered: _,
-            short: _,
-        } => Ok(None),
-        SetReply::Healed(_) => Ok(None),
-        SetReply::Skipped(_) => Ok(None),
+        other => {
+            drop(other);
+            Ok(None)
+        }
     }
 }
 
@@ -59,12 +49,10 @@ pub(crate) fn cells_in(alloc: Global, reply: SetReply) -> Seq<Cell>
             answered: _,
             short: _,
         } => cells,
-        SetReply::Contents(_, _) => Seq::new(alloc),
-        SetReply::Decided(_) => Seq::new(alloc),
-        SetReply::Opened => Seq::new(alloc),
-        SetReply::Healed(_) => Seq::new(alloc),
-        SetReply::Skipped(_) => Seq::new(alloc),
-        SetReply::Io(_) => Seq::new(alloc),
+        other => {
+            drop(other);
+            Seq::new(alloc)
+        }
     }
 }
 

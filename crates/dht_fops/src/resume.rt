@@ -88,6 +88,7 @@ fn on_reply(
 ) -> Result<Step, AllocError>
     ensures { IfOk result (λ step. course_of volume step ≡ reply_goes volume state reply) }
 {
+    let listed = cells_in(alloc, reply);
     match state {
         OnReply::End => Ok(answer(Answer::Done, None)),
         OnReply::LinkDrop(number) => Ok(answer(Answer::Done, number)),
@@ -97,7 +98,7 @@ fn on_reply(
         OnReply::Index(indexing) => {
             let count = indexing.count;
             let next = indexing.next;
-            let cells = with_cells(indexing, cells_in(alloc, reply).as_slice())?;
+            let cells = with_cells(indexing, listed.as_slice())?;
             index_from(alloc, volume, count, cells, next)
         }
         OnReply::Heal(healing) => heal_from(alloc, volume, healing.cells, healing.next),
@@ -122,15 +123,24 @@ pub(crate) fn resume(
     match state {
         State::Names(state) => match names_in(alloc, reply) {
             Ok(shown) => on_names(alloc, volume, state, shown),
-            Err(error) => Ok(fail(error)),
+            Err(error) => {
+                drop(state);
+                Ok(fail(error))
+            }
         },
         State::Contents(state) => match contents_in(alloc, reply) {
             Ok((contents, place)) => on_contents(alloc, volume, learnt, state, contents, place),
-            Err(error) => Ok(fail(error)),
+            Err(error) => {
+                drop(state);
+                Ok(fail(error))
+            }
         },
         State::Number(state) => match number_in(reply) {
             Ok(number) => on_number(alloc, volume, state, number),
-            Err(error) => Ok(fail(error)),
+            Err(error) => {
+                drop(state);
+                Ok(fail(error))
+            }
         },
         State::Reply(state) => on_reply(alloc, volume, state, reply),
     }
@@ -141,12 +151,10 @@ fn held_by(alloc: Global, volume: Volume, state: OnReply) -> Result<Step, AllocE
 {
     match state {
         OnReply::Extend(dir) => empty_from(alloc, volume, dir, 0),
-        OnReply::End => Ok(answer(Answer::Done, None)),
-        OnReply::LinkDrop(_) => Ok(answer(Answer::Done, None)),
-        OnReply::NewLink(_, _) => Ok(answer(Answer::Done, None)),
-        OnReply::Reopen(_) => Ok(answer(Answer::Done, None)),
-        OnReply::Index(_) => Ok(answer(Answer::Done, None)),
-        OnReply::Heal(_) => Ok(answer(Answer::Done, None)),
+        other => {
+            drop(other);
+            Ok(answer(Answer::Done, None))
+        }
     }
 }
 
@@ -159,8 +167,9 @@ pub(crate) fn held(alloc: Global, volume: Volume, state: State) -> Result<Step, 
 {
     match state {
         State::Reply(state) => held_by(alloc, volume, state),
-        State::Names(_) => Ok(answer(Answer::Done, None)),
-        State::Contents(_) => Ok(answer(Answer::Done, None)),
-        State::Number(_) => Ok(answer(Answer::Done, None)),
+        other => {
+            drop(other);
+            Ok(answer(Answer::Done, None))
+        }
     }
 }

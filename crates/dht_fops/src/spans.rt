@@ -85,17 +85,18 @@ fn ask_span(alloc: Global, volume: Volume, read: SpansRead) -> Result<Step, Allo
     ensures { IfOk result (λ step. course_of volume step ≡ reads_on volume read) }
 {
     let set = read.next;
-    let job = span_job(alloc, read.dir)?;
-    let pending = PendingSpans::new(SpansRead {
-        dir: read.dir,
-        name: read.name,
-        names: read.names,
-        purpose: read.purpose,
-        spans: read.spans,
-        next: set + 1,
-        count: read.count,
-    });
-    Ok(ask(set, job, State::Contents(OnContents::Spans(pending))))
+    match span_job(alloc, read.dir) {
+        Ok(job) => {
+            let mut read = read;
+            read.next = set + 1;
+            let pending = PendingSpans::new(read);
+            Ok(ask(set, job, State::Contents(OnContents::Spans(pending))))
+        }
+        Err(error) => {
+            drop(read);
+            Err(error)
+        }
+    }
 }
 
 /// Looks for a name that belongs to this set, where it is known; else reads the directory's layout first.
@@ -183,17 +184,8 @@ pub(crate) fn span_shown(
     ensures learnt { IfOk result (λ step. learnt.new ≡ learnt_at (sets_left read) (with_span read contents) learnt.old) }
 {
     let mut contents = contents;
-    let mut spans = read.spans;
-    spans.push(span_of(&take_first(&mut contents)))?;
-    let read = SpansRead {
-        dir: read.dir,
-        name: read.name,
-        names: read.names,
-        purpose: read.purpose,
-        spans,
-        next: read.next,
-        count: read.count,
-    };
+    let mut read = read;
+    read.spans.push(span_of(&take_first(&mut contents)))?;
     if read.next < read.count {
         ask_span(alloc, volume, read)
     } else {
