@@ -1,6 +1,6 @@
-ghost use Rattle.std.specs.Prelude.{map, ◌≡◌, Some, None, Ok, Err, IfOk, OnErr, codes};
+ghost use Rattle.std.specs.Prelude.{map, ◌≡◌, [], ◌∷◌, ◌++◌, Some, None, Ok, Err, IfOk, IfSome, OnOk, OnErr, codes};
 ghost use Rattle.std.specs.Option.{MatchOption};
-ghost use Rattle.volfile.specs.VolfileText.{block_ended, line_read, nothing_read, said_in, said_outside, statement, text_ended, volume_begun};
+ghost use Rattle.volfile.specs.VolfileText.{block_ended, line_read, nothing_read, said_in, said_outside, statement, text_ended, volfile_of, volume_begun};
 
 use crate::comments::{are_text_bytes, before_comment, has_no_backquote};
 use crate::defined::Defined;
@@ -178,25 +178,35 @@ impl Held {
             (λ kind. (said_in self.old.block self.old.volumes number (codes "end-volume") (map (λ w. w.now) rest.now) ≡ Err kind) × (self.new ≡ self.old))) }
         ensures err { OnErr result (self.new ≡ self.old) }
     {
-        match self.block.take() {
+        match &self.block {
             None => Ok(Some(VolKind::Unexpected)),
             Some(block) => {
                 if !rest.is_empty() {
-                    self.block = Some(block);
                     return Ok(Some(VolKind::WordCount));
                 }
                 if block.kind.is_empty() {
-                    self.block = Some(block);
                     return Ok(Some(VolKind::MissingType));
                 }
-                match self.volumes.push(alloc, block) {
-                    Ok(()) => Ok(None),
-                    Err(failed) => {
-                        self.block = Some(failed.value);
-                        Err(AllocError)
-                    }
-                }
+                self.put_block(alloc)?;
+                Ok(None)
             }
+        }
+    }
+
+    // Puts the open block, if there is one, behind the volumes whose blocks have ended.
+    fn put_block(&mut self, alloc: Global) -> Result<(), AllocError>
+        ensures ok { OnOk result (IfSome self.old.block (λ v. self.new ≡ record { volumes = self.old.volumes ++ v ∷ []; block = None })) }
+        ensures err { OnErr result (self.new ≡ self.old) }
+    {
+        match self.block.take() {
+            None => Ok(()),
+            Some(block) => match self.volumes.push(alloc, block) {
+                Ok(()) => Ok(()),
+                Err(failed) => {
+                    self.block = Some(failed.value);
+                    Err(AllocError)
+                }
+            },
         }
     }
 
@@ -204,20 +214,28 @@ impl Held {
     pub(crate) fn end(self, number: u32) -> Result<Volfile, VolError>
         ensures { result ≡ text_ended self number }
     {
-        if self.block.is_some() {
-            return Err(VolError::At {
+        let Held { volumes, block } = self;
+        match block {
+            None => volfile_of(volumes, number),
+            Some(_block) => Err(VolError::At {
                 line: number,
                 kind: VolKind::Unclosed,
-            });
+            }),
         }
-        if self.volumes.len() == 0 {
-            return Err(VolError::At {
-                line: number,
-                kind: VolKind::Empty,
-            });
-        }
-        Ok(Volfile {
-            volumes: Seq::from_vec(self.volumes.into_volumes()),
-        })
     }
+}
+
+// The volfile of these volumes, where the text ends at the line with this number.
+fn volfile_of(volumes: Defined, number: u32) -> Result<Volfile, VolError>
+    ensures { result ≡ volfile_of volumes number }
+{
+    if volumes.len() == 0 {
+        return Err(VolError::At {
+            line: number,
+            kind: VolKind::Empty,
+        });
+    }
+    Ok(Volfile {
+        volumes: Seq::from_vec(volumes.into_volumes()),
+    })
 }
