@@ -1,11 +1,11 @@
 //! The distribute node: it runs a fop over the sets, one job at a time, and keeps the layouts that fops have read.
-ghost use Rattle.std.specs.Prelude.{◌≡◌, ◌≤◌, ◌<◌, IfOk, OnOk, Some, length, drop, true, is_none};
+ghost use Rattle.std.specs.Prelude.{◌≡◌, ◌≤◌, ◌<◌, ◌-◌, IfOk, OnOk, Some, length, drop, true, is_none};
 ghost use Rattle.fop_types.specs.Bounds.{IsFop};
 ghost use Rattle.fop_types.specs.Jobs.{IsJob, IsSetReply};
 ghost use Rattle.graph_nodes.specs.Distribute.{IsBegun, Begins, IsFopBegun, GoesOn, OnReply, OnExtended, TakesReply, IsHeld, Gives, IsKept, AreJobs, are_below, names_sets, refused, first_asked, asked_move, kept_with, waiting};
 ghost use Rattle.graph_nodes.specs.Kept.{IsFopKept};
-ghost use Rattle.graph_nodes.specs.Moves.{IsMove};
-ghost use Rattle.graph_nodes.specs.Moves.Move.{Waits};
+ghost use Rattle.graph_nodes.specs.Moves.{IsMove, to_child};
+ghost use Rattle.graph_nodes.specs.Moves.Move.{Back, Waits};
 ghost use Rattle.graph_nodes.specs.Turns.{IsFopTurn};
 
 use crate::context::{Context, HoldWait};
@@ -25,6 +25,13 @@ fn refused(alloc: Global) -> Step<Down, Up, Local>
     ensures { IsMove refused result }
 {
     Step::Unwind(Up::Answer(FopAnswer::Call(Answer::Io(lost(alloc, 0))), None))
+}
+
+// So a fop is answered that can't be run, and ends with what it has.
+fn refuse<T: Drop>(alloc: Global, _ended: T) -> Step<Down, Up, Local>
+    ensures { IsMove refused result }
+{
+    refused(alloc)
 }
 
 // Whether the sets of descriptors are among so many.
@@ -77,8 +84,8 @@ impl Distribute {
                 let step = self.begin(alloc, cx, entry, op.into_fop())?;
                 Ok(step)
             }
-            Down::Job(_) => Ok(refused(alloc)),
-            Down::Request(_) => Ok(refused(alloc)),
+            Down::Job(job) => Ok(refuse(alloc, job)),
+            Down::Request(request) => Ok(refuse(alloc, request)),
         }
     }
 
@@ -302,7 +309,7 @@ impl Distribute {
                 let step = hold(alloc, cx, state, gfid)?;
                 Ok(step)
             }
-            DhtNext::Done(answer, place) => Ok(Step::Unwind(Up::Answer(answer, place))),
+            DhtNext::Done(answer, place) => Ok(done(state, answer, place)),
         }
     }
 
@@ -323,7 +330,7 @@ impl Distribute {
                 let step = self.ask_set(alloc, state, set, job)?;
                 Ok(step)
             }
-            None => Ok(refused(alloc)),
+            None => Ok(refuse(alloc, state)),
         }
     }
 
@@ -340,25 +347,38 @@ impl Distribute {
         ensures { IfOk result (λ step. IsMove (asked_move self.now.sets state set job) step) }
     {
         if set < self.sets && 0 < state.jobs {
-            let FopState {
-                entry,
-                fop,
-                learnt,
-                jobs,
-            } = state;
-            let state = FopState {
-                entry,
-                fop,
-                learnt,
-                jobs: jobs - 1,
-            };
-            let frame = FopFrame::new(alloc, state)?;
-            let asked = Down::Job(SetJob::new(job));
-            let step = one(alloc, set as u16, asked, Local::Distribute(frame))?;
+            let step = asked(alloc, state, set, job)?;
             return Ok(step);
         }
-        Ok(refused(alloc))
+        Ok(refuse(alloc, (state, job)))
     }
+}
+
+// A set is asked for a job. The fop has one less left.
+fn asked(
+    alloc: Global,
+    state: FopState,
+    set: u8,
+    job: Job,
+) -> Result<Step<Down, Up, Local>, AllocError>
+    requires some { 0 < state.jobs }
+    requires job { IsJob job }
+    requires kept { IsFopKept state.fop }
+    ensures { IfOk result (λ step. IsMove (to_child set (Down.Job job) (Local.Distribute (record state { jobs = state.jobs - 1 }))) step) }
+{
+    let mut state = state;
+    state.jobs -= 1;
+    let frame = FopFrame::new(alloc, state)?;
+    let asked = Down::Job(SetJob::new(job));
+    let step = one(alloc, set as u16, asked, Local::Distribute(frame))?;
+    Ok(step)
+}
+
+// The fop ends, and is answered.
+fn done(_ended: FopState, answer: FopAnswer, place: Option<u32>) -> Step<Down, Up, Local>
+    ensures { IsMove (Back (Up.Answer answer place)) result }
+{
+    Step::Unwind(Up::Answer(answer, place))
 }
 
 // The fop waits until its call's hold is extended.
@@ -372,11 +392,12 @@ fn hold(
     ensures step { IfOk result (λ step. IsMove (Waits (Local.Distribute state)) step) }
     ensures cx { OnOk result (cx.new ≡ waiting cx.old state.entry gfid) }
 {
-    cx.holds.push(HoldWait {
+    let wait = HoldWait {
         call: state.entry.call,
         frame: state.entry.frame,
         gfid,
-    })?;
+    };
     let frame = FopFrame::new(alloc, state)?;
+    cx.holds.push(wait)?;
     Ok(Step::Wait(Local::Distribute(frame)))
 }
