@@ -99,19 +99,25 @@ fn send(
     sent: SentWind<Down>,
     sends: &mut Seq<(u8, Seq<u8>)>,
 ) -> Result<(), AllocError> {
-    let SentWind {
-        node,
-        wind,
-        fop,
-        ..
-    } = sent;
-    let Some(brick) = brick_at(nodes, node) else {
-        return Ok(());
-    };
-    match fop {
-        Down::Request(request) => send_request(alloc, clients, outer, brick, wind, request, sends),
-        Down::Fop(_) => Ok(()),
-        Down::Job(_) => Ok(()),
+    let brick = brick_at(nodes, sent.node);
+    let wind = sent.wind;
+    match brick.zip(request_of(sent.fop)) {
+        Some((brick, request)) => send_request(alloc, clients, outer, brick, wind, request, sends),
+        None => Ok(()),
+    }
+}
+
+fn request_of(down: Down) -> Option<Request> {
+    match down {
+        Down::Request(request) => Some(request),
+        Down::Fop(fop) => {
+            drop(fop);
+            None
+        }
+        Down::Job(job) => {
+            drop(job);
+            None
+        }
     }
 }
 
@@ -228,8 +234,14 @@ fn answer_of(answered: Answered<Up>) -> Option<(u32, FopAnswer, u32)> {
             Some(place) => Some((call, answer, place)),
             None => None,
         },
-        Up::Set(_) => None,
-        Up::Brick(_) => None,
+        Up::Set(said) => {
+            drop(said);
+            None
+        }
+        Up::Brick(said) => {
+            drop(said);
+            None
+        }
     }
 }
 
