@@ -55,9 +55,9 @@ fn collect(
     ensures parked { OnOk result ((key : ℕ) → times key parked.new.keys ≡ times key board.old.waiting + times key parked.old.keys) }
     ensures err { OnErr result ((board.new.graph ≡ board.old.graph) × (board.new.stack ≡ board.old.stack)) }
 {
+    park(&mut board.waiting, parked)?;
     let sends = take_sends(alloc, nodes, &mut cx.clients, outer, &mut board.sent)?;
     let holds = take_holds(alloc, &mut cx.holds, waits)?;
-    park(&mut board.waiting, parked)?;
     let answers = take_answers(alloc, &mut board.answers)?;
     let copies = all_of(alloc, &mut cx.copies)?;
     let skips = all_of(alloc, &mut cx.skips)?;
@@ -107,6 +107,7 @@ fn send(
     }
 }
 
+// What a client hands out.
 fn request_of(down: Down) -> Option<Request> {
     match down {
         Down::Request(request) => Some(request),
@@ -141,6 +142,7 @@ fn send_request(
     sends: &mut Seq<(u8, Seq<u8>)>,
 ) -> Result<(), AllocError> {
     if wind.slot >= 2147483648 {
+        drop(request);
         return Ok(());
     }
     let bound = request.bound();
@@ -151,9 +153,8 @@ fn send_request(
     match sent {
         Sent::Messages(messages) => {
             let before = before_of(messages.len(), fd);
-            open_at(outer, brick, Waiting { wind, before, own })?;
             push_all(brick, messages, sends)?;
-            Ok(())
+            open_at(outer, brick, Waiting { wind, before, own })
         }
         Sent::NotConnected => Ok(()),
     }

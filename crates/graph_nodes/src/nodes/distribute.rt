@@ -21,18 +21,11 @@ use graph_items::{Down, SetJob, Up};
 use std::alloc::{AllocError, Global};
 use xlator_law::{Entry, Step};
 
-// The answer where a fop can't be run: that of a set without a quorum.
-fn refused(alloc: Global) -> Step<Down, Up, Local>
-    ensures { IsMove refused result }
-{
-    Step::Unwind(Up::Answer(FopAnswer::Call(Answer::Io(lost(alloc, 0))), None))
-}
-
-// So a fop is answered that can't be run, and ends with what it has.
+// The answer where a fop can't be run: that of a set without a quorum. What the fop has ends.
 fn refuse<T: Drop>(alloc: Global, _ended: T) -> Step<Down, Up, Local>
     ensures { IsMove refused result }
 {
-    refused(alloc)
+    Step::Unwind(Up::Answer(FopAnswer::Call(Answer::Io(lost(alloc, 0))), None))
 }
 
 // Whether the sets of descriptors are among so many.
@@ -105,7 +98,7 @@ impl Distribute {
             let step = self.begin_over(alloc, cx, entry, fop)?;
             return Ok(step);
         }
-        Ok(refused(alloc))
+        Ok(refuse(alloc, fop))
     }
 
     #[tactic(auto, using(crate::proofs::FopTurns::begun_turn, crate::proofs::FopTurns::named_sets, crate::proofs::FopSteps::fop_begun))]
@@ -372,7 +365,7 @@ impl Distribute {
     }
 }
 
-// A set is asked for a job. The fop has one less left.
+// A set is asked for a job, and the fop has one job less left.
 fn asked(
     alloc: Global,
     state: FopState,
