@@ -1,5 +1,5 @@
 -- A fop begins, takes a reply, and goes on with its hold, as its node makes it.
-use Rattle.std.proofs.Common.{◌≡◌, ℕ, List, [], length, drop, sym, subst}
+use Rattle.std.proofs.Common.{◌≡◌, ℕ, [], length, drop, subst}
 use Rattle.dht_fops.specs.Fops.{fop_course}
 use Rattle.dht_fops.specs.code.Fops.{volume_of, course_on, goes_on_with, goes_held_with, learnt_with, asked_of}
 use Rattle.dht_fops.specs.declared.dht_fop.DhtFop.{DhtFop}
