@@ -1,9 +1,8 @@
 -- A fop begins, takes a reply, and goes on with its hold, as its node makes it.
-use Rattle.std.proofs.Common.{◌≡◌, ℕ, List, [], length, drop, sym, subst}
+use Rattle.std.proofs.Common.{◌≡◌, ℕ, [], length, drop, subst}
 use Rattle.dht_fops.specs.Fops.{fop_course}
 use Rattle.dht_fops.specs.code.Fops.{volume_of, course_on, goes_on_with, goes_held_with, learnt_with, asked_of}
 use Rattle.dht_fops.specs.declared.dht_fop.DhtFop.{DhtFop}
-use Rattle.dht_fops.specs.declared.layouts.Layout.{Layout}
 use Rattle.dht_fops.specs.declared.step.DhtNext.{DhtNext}
 use Rattle.fop_types.specs.declared.fops.Fop.{Fop}
 use Rattle.fop_types.specs.declared.jobs.SetReply.{SetReply}
@@ -32,20 +31,20 @@ fop_begun node old new entry f fop next jobs step gives course learnt asked coun
   gives = subst (λ (n : ℕ). Gives node.sets (record { entry = entry; fop = fop; learnt = 0; jobs = n }) next old step new) count gives;
 }
 
-pub reply_taken : (old new : Distribute) (cx cx_new : Context) (frame : FopState) (reply : SetReply) (fop : DhtFop) (next : DhtNext) (count : ℕ) (layouts : List Layout) (step : Step Down Up Local)
-    → Gives new.sets (record frame { fop = fop; learnt = count }) next cx step cx_new
-    → course_on fop next ≡ goes_on_with frame.fop reply → fop.learnt ≡ learnt_with frame.fop reply → fop.asked ≡ asked_of next
-    → count ≡ length fop.learnt → layouts ≡ fop.learnt → IsKept (kept_with old.kept.entries (drop frame.learnt layouts)) old new
+pub reply_taken : (old new : Distribute) (cx cx_new : Context) (frame state : FopState) (reply : SetReply) (next : DhtNext) (step : Step Down Up Local)
+    → Gives new.sets state next cx step cx_new → state ≡ record frame { fop = state.fop; learnt = length state.fop.learnt }
+    → course_on state.fop next ≡ goes_on_with frame.fop reply → state.fop.learnt ≡ learnt_with frame.fop reply → state.fop.asked ≡ asked_of next
+    → IsKept (kept_with old.kept.entries (drop frame.learnt state.fop.learnt)) old new
     → TakesReply old cx frame reply step new cx_new
-reply_taken old new cx cx_new frame reply fop next count layouts step gives course learnt asked counted read kept = record {
-  fop = fop;
+reply_taken old new cx cx_new frame state reply next step gives is course learnt asked kept = record {
+  fop = state.fop;
   next = next;
   course = course;
   learnt = learnt;
   asked = asked;
-  gives = subst (λ (n : ℕ). Gives n (record frame { fop = fop; learnt = length fop.learnt }) next cx step cx_new) kept.sets
-      (subst (λ (n : ℕ). Gives new.sets (record frame { fop = fop; learnt = n }) next cx step cx_new) counted gives);
-  kept = subst (λ (ls : List Layout). IsKept (kept_with old.kept.entries (drop frame.learnt ls)) old new) read kept;
+  gives = subst (λ (n : ℕ). Gives n (record frame { fop = state.fop; learnt = length state.fop.learnt }) next cx step cx_new) kept.sets
+      (subst (λ (s : FopState). Gives new.sets s next cx step cx_new) is gives);
+  kept = kept;
 }
 
 pub hold_taken : (node : Distribute) (cx cx_new : Context) (frame : FopState) (fop : DhtFop) (next : DhtNext) (step : Step Down Up Local)

@@ -55,21 +55,49 @@ fn collect(
     ensures parked { OnOk result ((key : ℕ) → times key parked.new.keys ≡ times key board.old.waiting + times key parked.old.keys) }
     ensures err { OnErr result ((board.new.graph ≡ board.old.graph) × (board.new.stack ≡ board.old.stack)) }
 {
-    let sends = take_sends(alloc, nodes, &mut cx.clients, outer, &mut board.sent)?;
-    let holds = take_holds(alloc, &mut cx.holds, waits)?;
+    let mut moved = Moved {
+        holds: Seq::new(alloc),
+        sends: Seq::new(alloc),
+        answers: Seq::new(alloc),
+        copies: Seq::new(alloc),
+        skips: Seq::new(alloc),
+        winds: Seq::new(alloc),
+    };
+    let collected = collect_into(alloc, nodes, board, cx, waits, outer, parked, &mut moved);
+    collected.and(Ok(moved))
+}
+
+// What came out is put into `moved`, whose lists are empty.
+fn collect_into(
+    alloc: Global,
+    nodes: &[Node],
+    board: &mut Board<Down, Up, Local>,
+    cx: &mut Context,
+    waits: &mut BTreeMap<u32, u32>,
+    outer: &mut Vec<AtBrick>,
+    parked: &mut BTreeSet<u32>,
+    moved: &mut Moved,
+) -> Result<(), AllocError>
+    requires once { AreOnce board.old.waiting parked.old.keys }
+    ensures board { OnOk result (board.new ≡ shown board.old) }
+    ensures parked { OnOk result ((key : ℕ) → times key parked.new.keys ≡ times key board.old.waiting + times key parked.old.keys) }
+    ensures err { OnErr result ((board.new.graph ≡ board.old.graph) × (board.new.stack ≡ board.old.stack)) }
+{
+    take_sends(
+        alloc,
+        nodes,
+        &mut cx.clients,
+        outer,
+        &mut board.sent,
+        &mut moved.sends,
+    )?;
+    take_holds(&mut cx.holds, waits, &mut moved.holds)?;
     park(&mut board.waiting, parked)?;
-    let answers = take_answers(alloc, &mut board.answers)?;
-    let copies = all_of(alloc, &mut cx.copies)?;
-    let skips = all_of(alloc, &mut cx.skips)?;
-    let winds = Seq::from_vec(board.stack.lines());
-    Ok(Moved {
-        holds,
-        sends,
-        answers,
-        copies,
-        skips,
-        winds,
-    })
+    take_answers(&mut board.answers, &mut moved.answers)?;
+    take_all(&mut cx.copies, &mut moved.copies)?;
+    take_all(&mut cx.skips, &mut moved.skips)?;
+    moved.winds = Seq::from_vec(board.stack.lines());
+    Ok(())
 }
 
 // The messages of the winds that were handed out.
@@ -79,14 +107,14 @@ fn take_sends(
     clients: &mut Clients,
     outer: &mut Vec<AtBrick>,
     handed: &mut Queue<SentWind<Down>>,
-) -> Result<Seq<(u8, Seq<u8>)>, AllocError>
+    sends: &mut Seq<(u8, Seq<u8>)>,
+) -> Result<(), AllocError>
     ensures { OnOk result (handed.new ≡ []) }
 {
-    let mut sends = Seq::new(alloc);
     while let Some(sent) = handed.pop() {
-        send(alloc, nodes, clients, outer, sent, &mut sends)?;
+        send(alloc, nodes, clients, outer, sent, sends)?;
     }
-    Ok(sends)
+    Ok(())
 }
 
 // A wind that was handed out goes to its brick. Clients alone hand out winds, each with a request; what another node
@@ -99,19 +127,26 @@ fn send(
     sent: SentWind<Down>,
     sends: &mut Seq<(u8, Seq<u8>)>,
 ) -> Result<(), AllocError> {
-    let SentWind {
-        node,
-        wind,
-        fop,
-        ..
-    } = sent;
-    let Some(brick) = brick_at(nodes, node) else {
-        return Ok(());
-    };
-    match fop {
-        Down::Request(request) => send_request(alloc, clients, outer, brick, wind, request, sends),
-        Down::Fop(_) => Ok(()),
-        Down::Job(_) => Ok(()),
+    let brick = brick_at(nodes, sent.node);
+    let wind = sent.wind;
+    match brick.zip(request_of(sent.fop)) {
+        Some((brick, request)) => send_request(alloc, clients, outer, brick, wind, request, sends),
+        None => Ok(()),
+    }
+}
+
+// What a client hands out.
+fn request_of(down: Down) -> Option<Request> {
+    match down {
+        Down::Request(request) => Some(request),
+        Down::Fop(fop) => {
+            drop(fop);
+            None
+        }
+        Down::Job(job) => {
+            drop(job);
+            None
+        }
     }
 }
 
@@ -135,6 +170,7 @@ fn send_request(
     sends: &mut Seq<(u8, Seq<u8>)>,
 ) -> Result<(), AllocError> {
     if wind.slot >= 2147483648 {
+        drop(request);
         return Ok(());
     }
     let bound = request.bound();
@@ -145,9 +181,8 @@ fn send_request(
     match sent {
         Sent::Messages(messages) => {
             let before = before_of(messages.len(), fd);
-            open_at(outer, brick, Waiting { wind, before, own })?;
             push_all(brick, messages, sends)?;
-            Ok(())
+            open_at(outer, brick, Waiting { wind, before, own })
         }
         Sent::NotConnected => Ok(()),
     }
@@ -180,32 +215,30 @@ fn push_all(
 
 // The calls that ask for a hold. Each one's frame goes on once it is granted.
 fn take_holds(
-    alloc: Global,
     asked: &mut Queue<HoldWait>,
     waits: &mut BTreeMap<u32, u32>,
-) -> Result<Seq<(u32, HoldAsk)>, AllocError>
+    holds: &mut Seq<(u32, HoldAsk)>,
+) -> Result<(), AllocError>
     ensures { OnOk result (asked.new ≡ []) }
 {
-    let mut holds = Seq::new(alloc);
     while let Some(wait) = asked.pop() {
         waits.insert(wait.call, wait.frame)?;
         holds.push((wait.call, HoldAsk::Extend(wait.gfid)))?;
     }
-    Ok(holds)
+    Ok(())
 }
 
 // The answers of fops, with their places. The root gives nothing else; another reply would be no answer.
 fn take_answers(
-    alloc: Global,
     came: &mut Queue<Answered<Up>>,
-) -> Result<Seq<(u32, FopAnswer, u32)>, AllocError>
+    answers: &mut Seq<(u32, FopAnswer, u32)>,
+) -> Result<(), AllocError>
     ensures { OnOk result (came.new ≡ []) }
 {
-    let mut answers = Seq::new(alloc);
     while let Some(answered) = came.pop() {
-        push_answer(answered, &mut answers)?;
+        push_answer(answered, answers)?;
     }
-    Ok(answers)
+    Ok(())
 }
 
 fn push_answer(
@@ -228,18 +261,23 @@ fn answer_of(answered: Answered<Up>) -> Option<(u32, FopAnswer, u32)> {
             Some(place) => Some((call, answer, place)),
             None => None,
         },
-        Up::Set(_) => None,
-        Up::Brick(_) => None,
+        Up::Set(said) => {
+            drop(said);
+            None
+        }
+        Up::Brick(said) => {
+            drop(said);
+            None
+        }
     }
 }
 
 // All items of a queue.
-fn all_of<T: Drop>(alloc: Global, queue: &mut Queue<T>) -> Result<Seq<T>, AllocError>
+fn take_all<T: Drop>(queue: &mut Queue<T>, items: &mut Seq<T>) -> Result<(), AllocError>
     ensures { OnOk result (queue.new ≡ []) }
 {
-    let mut all = Vec::new(alloc);
     while let Some(item) = queue.pop() {
-        all.push(item)?;
+        items.push(item)?;
     }
-    Ok(Seq::from_vec(all))
+    Ok(())
 }

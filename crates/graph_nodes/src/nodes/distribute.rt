@@ -1,10 +1,11 @@
 //! The distribute node: it runs a fop over the sets, one job at a time, and keeps the layouts that fops have read.
-ghost use Rattle.std.specs.Prelude.{◌≡◌, ◌≤◌, ◌<◌, IfOk, OnOk, Some, length, drop, true, is_none};
+ghost use Rattle.std.specs.Prelude.{◌≡◌, ◌≤◌, ◌<◌, ◌-◌, IfOk, OnOk, Some, length, drop, true, is_none};
+ghost use Rattle.dht_fops.specs.code.Fops.{course_on, goes_on_with, learnt_with, asked_of};
 ghost use Rattle.fop_types.specs.Bounds.{IsFop};
 ghost use Rattle.fop_types.specs.Jobs.{IsJob, IsSetReply};
 ghost use Rattle.graph_nodes.specs.Distribute.{IsBegun, Begins, IsFopBegun, GoesOn, OnReply, OnExtended, TakesReply, IsHeld, Gives, IsKept, AreJobs, are_below, names_sets, refused, first_asked, asked_move, kept_with, waiting};
 ghost use Rattle.graph_nodes.specs.Kept.{IsFopKept};
-ghost use Rattle.graph_nodes.specs.Moves.{IsMove};
+ghost use Rattle.graph_nodes.specs.Moves.{IsMove, to_child};
 ghost use Rattle.graph_nodes.specs.Moves.Move.{Waits};
 ghost use Rattle.graph_nodes.specs.Turns.{IsFopTurn};
 
@@ -20,8 +21,8 @@ use graph_items::{Down, SetJob, Up};
 use std::alloc::{AllocError, Global};
 use xlator_law::{Entry, Step};
 
-// The answer where a fop can't be run: that of a set without a quorum.
-fn refused(alloc: Global) -> Step<Down, Up, Local>
+// The answer where a fop can't be run: that of a set without a quorum. What the fop has ends.
+fn refuse<T: Drop>(alloc: Global, _ended: T) -> Step<Down, Up, Local>
     ensures { IsMove refused result }
 {
     Step::Unwind(Up::Answer(FopAnswer::Call(Answer::Io(lost(alloc, 0))), None))
@@ -77,8 +78,8 @@ impl Distribute {
                 let step = self.begin(alloc, cx, entry, op.into_fop())?;
                 Ok(step)
             }
-            Down::Job(_) => Ok(refused(alloc)),
-            Down::Request(_) => Ok(refused(alloc)),
+            Down::Job(job) => Ok(refuse(alloc, job)),
+            Down::Request(request) => Ok(refuse(alloc, request)),
         }
     }
 
@@ -97,7 +98,7 @@ impl Distribute {
             let step = self.begin_over(alloc, cx, entry, fop)?;
             return Ok(step);
         }
-        Ok(refused(alloc))
+        Ok(refuse(alloc, fop))
     }
 
     #[tactic(auto, using(crate::proofs::FopTurns::begun_turn, crate::proofs::FopTurns::named_sets, crate::proofs::FopSteps::fop_begun))]
@@ -154,8 +155,8 @@ impl Distribute {
                 let step = self.resume_set(alloc, cx, frame.into_state(), answer.into_reply())?;
                 Ok(step)
             }
-            Up::Answer(_, _) => Ok(refused(alloc)),
-            Up::Brick(_) => Ok(refused(alloc)),
+            Up::Answer(answer, _) => Ok(refuse(alloc, (frame, answer))),
+            Up::Brick(said) => Ok(refuse(alloc, (frame, said))),
         }
     }
 
@@ -176,11 +177,11 @@ impl Distribute {
                 let step = self.take_reply(alloc, cx, state, set, reply)?;
                 Ok(step)
             }
-            None => Ok(refused(alloc)),
+            None => Ok(refuse(alloc, (state, reply))),
         }
     }
 
-    #[tactic(auto, using(crate::proofs::FopTurns::answer_turn, crate::proofs::FopSteps::reply_taken))]
+    #[tactic(auto, using(crate::proofs::FopSteps::reply_taken))]
     fn take_reply(
         &mut self,
         alloc: Global,
@@ -195,25 +196,44 @@ impl Distribute {
         ensures step { IfOk result (λ step. TakesReply self.old cx.old state reply step self.new cx.new) }
         ensures sets { self.new.sets ≡ self.old.sets }
     {
+        let mut state = state;
+        match self.answer(alloc, &mut state, set, reply) {
+            Ok(next) => {
+                let step = self.go(alloc, cx, state, next)?;
+                Ok(step)
+            }
+            Err(error) => {
+                drop(state);
+                Err(error)
+            }
+        }
+    }
+
+    // The fop takes the reply, and the node keeps the layouts that it has read since.
+    #[tactic(auto, using(crate::proofs::FopTurns::answer_turn))]
+    fn answer(
+        &mut self,
+        alloc: Global,
+        state: &mut FopState,
+        set: u8,
+        reply: SetReply,
+    ) -> Result<DhtNext, AllocError>
+        requires asked { state.old.fop.asked ≡ Some set }
+        requires kept { IsFopKept state.old.fop }
+        requires bounded { IsSetReply reply }
+        ensures course { IfOk result (λ next. course_on state.new.fop next ≡ goes_on_with state.old.fop reply) }
+        ensures learnt { OnOk result (state.new.fop.learnt ≡ learnt_with state.old.fop reply) }
+        ensures asked { IfOk result (λ next. state.new.fop.asked ≡ asked_of next) }
+        ensures state { OnOk result (state.new ≡ record state.old { fop = state.new.fop; learnt = length state.new.fop.learnt }) }
+        ensures kept { OnOk result (IsKept (kept_with self.old.kept.entries (drop state.old.learnt state.new.fop.learnt)) self.old self.new) }
+        ensures turn { IfOk result (λ next. IsFopTurn state.new.fop next) }
+        ensures sets { self.new.sets ≡ self.old.sets }
+    {
         fops_keep_bounds();
-        let FopState {
-            entry,
-            fop,
-            learnt,
-            jobs,
-        } = state;
-        let mut fop = fop;
-        let next = fop.answer(alloc, set, reply)?;
-        self.learn(alloc, fop.learnt(), learnt)?;
-        let learnt = fop.learnt().len();
-        let state = FopState {
-            entry,
-            fop,
-            learnt,
-            jobs,
-        };
-        let step = self.go(alloc, cx, state, next)?;
-        Ok(step)
+        let next = state.fop.answer(alloc, set, reply)?;
+        let kept = self.learn(alloc, state.fop.learnt(), state.learnt);
+        state.learnt = state.fop.learnt().len();
+        kept.and(Ok(next))
     }
 
     /// The call's hold was extended. A fop that waits for no hold is refused.
@@ -234,7 +254,7 @@ impl Distribute {
                 let step = self.extended(alloc, cx, state)?;
                 Ok(step)
             }
-            Some(_) => Ok(refused(alloc)),
+            Some(_) => Ok(refuse(alloc, state)),
         }
     }
 
@@ -250,22 +270,17 @@ impl Distribute {
         ensures { IfOk result (λ step. IsHeld self.now cx.old state step cx.new) }
     {
         fops_keep_bounds();
-        let FopState {
-            entry,
-            fop,
-            learnt,
-            jobs,
-        } = state;
-        let mut fop = fop;
-        let next = fop.held(alloc)?;
-        let state = FopState {
-            entry,
-            fop,
-            learnt,
-            jobs,
-        };
-        let step = self.go(alloc, cx, state, next)?;
-        Ok(step)
+        let mut state = state;
+        match state.fop.held(alloc) {
+            Ok(next) => {
+                let step = self.go(alloc, cx, state, next)?;
+                Ok(step)
+            }
+            Err(error) => {
+                drop(state);
+                Err(error)
+            }
+        }
     }
 
     // Keeps the layouts from one on.
@@ -302,7 +317,10 @@ impl Distribute {
                 let step = hold(alloc, cx, state, gfid)?;
                 Ok(step)
             }
-            DhtNext::Done(answer, place) => Ok(Step::Unwind(Up::Answer(answer, place))),
+            DhtNext::Done(answer, place) => {
+                drop(state);
+                Ok(Step::Unwind(Up::Answer(answer, place)))
+            }
         }
     }
 
@@ -323,7 +341,7 @@ impl Distribute {
                 let step = self.ask_set(alloc, state, set, job)?;
                 Ok(step)
             }
-            None => Ok(refused(alloc)),
+            None => Ok(refuse(alloc, state)),
         }
     }
 
@@ -340,24 +358,37 @@ impl Distribute {
         ensures { IfOk result (λ step. IsMove (asked_move self.now.sets state set job) step) }
     {
         if set < self.sets && 0 < state.jobs {
-            let FopState {
-                entry,
-                fop,
-                learnt,
-                jobs,
-            } = state;
-            let state = FopState {
-                entry,
-                fop,
-                learnt,
-                jobs: jobs - 1,
-            };
-            let frame = FopFrame::new(alloc, state)?;
-            let asked = Down::Job(SetJob::new(job));
-            let step = one(alloc, set as u16, asked, Local::Distribute(frame))?;
+            let step = asked(alloc, state, set, job)?;
             return Ok(step);
         }
-        Ok(refused(alloc))
+        Ok(refuse(alloc, (state, job)))
+    }
+}
+
+// A set is asked for a job, and the fop has one job less left.
+fn asked(
+    alloc: Global,
+    state: FopState,
+    set: u8,
+    job: Job,
+) -> Result<Step<Down, Up, Local>, AllocError>
+    requires some { 0 < state.jobs }
+    requires job { IsJob job }
+    requires kept { IsFopKept state.fop }
+    ensures { IfOk result (λ step. IsMove (to_child set (Down.Job job) (Local.Distribute (record state { jobs = state.jobs - 1 }))) step) }
+{
+    let mut state = state;
+    state.jobs -= 1;
+    match FopFrame::new(alloc, state) {
+        Ok(frame) => {
+            let asked = Down::Job(SetJob::new(job));
+            let step = one(alloc, set as u16, asked, Local::Distribute(frame))?;
+            Ok(step)
+        }
+        Err(error) => {
+            drop(job);
+            Err(error)
+        }
     }
 }
 
@@ -372,11 +403,12 @@ fn hold(
     ensures step { IfOk result (λ step. IsMove (Waits (Local.Distribute state)) step) }
     ensures cx { OnOk result (cx.new ≡ waiting cx.old state.entry gfid) }
 {
-    cx.holds.push(HoldWait {
+    let wait = HoldWait {
         call: state.entry.call,
         frame: state.entry.frame,
         gfid,
-    })?;
+    };
     let frame = FopFrame::new(alloc, state)?;
+    cx.holds.push(wait)?;
     Ok(Step::Wait(Local::Distribute(frame)))
 }

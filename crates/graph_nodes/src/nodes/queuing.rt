@@ -2,7 +2,7 @@
 //! once.
 ghost use Rattle.std.specs.Prelude.{◌≡◌, IfOk, OnOk};
 ghost use Rattle.io_threads.specs.Lanes.{first_of, in_turn, without_first};
-ghost use Rattle.graph_nodes.specs.IoThreads.{IsQueued, go_on_of, priority_of, priority_of_fop, queued};
+ghost use Rattle.graph_nodes.specs.IoThreads.{IsQueued, go_on_of, priority_of, priority_of_fop, queued, ready_with};
 ghost use Rattle.graph_nodes.specs.Moves.{IsMove};
 
 use crate::context::Context;
@@ -58,9 +58,24 @@ impl IoThreads {
     ) -> Result<Step<Down, Up, Local>, AllocError>
         ensures { IfOk result (λ step. IsQueued self.old cx.old entry down step self.new cx.new) }
     {
-        self.queue(alloc, priority_of(&down), entry.frame)?;
+        let waits = self.wait(alloc, cx, priority_of(&down), entry.frame);
+        waits.and(Ok(Step::Wait(Local::Queued(down))))
+    }
+
+    // A frame waits, and the node is ready.
+    fn wait(
+        &mut self,
+        alloc: Global,
+        cx: &mut Context,
+        priority: Priority,
+        frame: u32,
+    ) -> Result<(), AllocError>
+        ensures node { OnOk result (self.new ≡ queued priority frame self.old) }
+        ensures cx { OnOk result (cx.new ≡ ready_with cx.old self.old.number) }
+    {
+        self.queue(alloc, priority, frame)?;
         cx.ready.insert(self.number)?;
-        Ok(Step::Wait(Local::Queued(down)))
+        Ok(())
     }
 
     // A frame waits in the queue of its priority, and is counted.
