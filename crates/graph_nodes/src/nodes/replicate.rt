@@ -257,7 +257,6 @@ impl Replicate {
     }
 
     // A copy is done: the mount gets its records, and the transaction goes on.
-    #[tactic(auto, using(crate::proofs::JobTurns::recorded_turn))]
     fn copied(
         &self,
         alloc: Global,
