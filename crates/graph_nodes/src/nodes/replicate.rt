@@ -233,22 +233,8 @@ impl Replicate {
         ensures { IfOk result (λ step. IsTurn (on_copy self.now.plan requests cx.old txn (run, need)) step cx.new) }
     {
         match need {
-            CopyNeed::Send(list) => {
-                let job = JobState {
-                    txn,
-                    copy: Some(run),
-                    requests,
-                };
-                self.send(alloc, job, list)
-            }
-            CopyNeed::Wait => {
-                let job = JobState {
-                    txn,
-                    copy: Some(run),
-                    requests,
-                };
-                waiting(alloc, job)
-            }
+            CopyNeed::Send(list) => self.send(alloc, txn, Some(run), requests, list),
+            CopyNeed::Wait => waiting(alloc, txn, Some(run), requests),
             CopyNeed::Done(done) => {
                 drop(run);
                 self.copied(alloc, cx, txn, requests, done)
@@ -325,25 +311,10 @@ impl Replicate {
         ensures { IfOk result (λ step. IsTurn (went self.now.plan txn requests cx.old need) step cx.new) }
     {
         match need {
-            Need::Send(list) => self.send(
-                alloc,
-                JobState {
-                    txn,
-                    copy: None,
-                    requests,
-                },
-                list,
-            ),
+            Need::Send(list) => self.send(alloc, txn, None, requests, list),
             Need::Copy(job, rows) => self.begin_copy(alloc, txn, requests, job, rows),
             Need::Reply(reply) => answer(cx, txn, reply),
-            Need::Wait => waiting(
-                alloc,
-                JobState {
-                    txn,
-                    copy: None,
-                    requests,
-                },
-            ),
+            Need::Wait => waiting(alloc, txn, None, requests),
         }
     }
 
@@ -383,20 +354,17 @@ impl Replicate {
         requires encoded { CopyIsEncoded need }
         ensures { IfOk result (λ step. IsMove (copy_begun self.now.plan txn requests (run, need)) step) }
     {
-        let job = JobState {
-            txn,
-            copy: Some(run),
-            requests,
-        };
         match need {
-            CopyNeed::Send(list) => self.send(alloc, job, list),
+            CopyNeed::Send(list) => self.send(alloc, txn, Some(run), requests, list),
             CopyNeed::Wait => {
-                drop(job);
+                drop(run);
+                drop(txn);
                 Ok(self.refused(alloc))
             }
             CopyNeed::Done(done) => {
                 drop(done);
-                drop(job);
+                drop(run);
+                drop(txn);
                 Ok(self.refused(alloc))
             }
         }
@@ -406,13 +374,21 @@ impl Replicate {
     fn send(
         &self,
         alloc: Global,
-        job: JobState,
+        txn: Txn,
+        copy: Option<CopyRun>,
+        requests: usize,
         list: Seq<(u8, BrickReq)>,
     ) -> Result<Step<Down, Up, Local>, AllocError>
         requires encoded { AreEncoded list }
-        requires kept { IsJobKept job }
-        ensures { IfOk result (λ step. IsMove (send_of self.now.plan job list) step) }
+        requires kept { IsTxnKept txn }
+        requires copy { IsCopyKept copy }
+        ensures { IfOk result (λ step. IsMove (send_of self.now.plan (record { txn = txn; copy = copy; requests = requests }) list) step) }
     {
+        let job = JobState {
+            txn,
+            copy,
+            requests,
+        };
         if list.len() <= job.requests {
             winding(alloc, job, list)
         } else {
@@ -443,11 +419,24 @@ fn winding(
 }
 
 // The frame waits on, for those who have not answered.
-fn waiting(alloc: Global, job: JobState) -> Result<Step<Down, Up, Local>, AllocError>
-    requires kept { IsJobKept job }
-    ensures { IfOk result (λ step. IsMove (On [] (Local.Set job)) step) }
+fn waiting(
+    alloc: Global,
+    txn: Txn,
+    copy: Option<CopyRun>,
+    requests: usize,
+) -> Result<Step<Down, Up, Local>, AllocError>
+    requires kept { IsTxnKept txn }
+    requires copy { IsCopyKept copy }
+    ensures { IfOk result (λ step. IsMove (On [] (Local.Set (record { txn = txn; copy = copy; requests = requests }))) step) }
 {
-    let frame = SetFrame::new(alloc, job)?;
+    let frame = SetFrame::new(
+        alloc,
+        JobState {
+            txn,
+            copy,
+            requests,
+        },
+    )?;
     Ok(Step::Wind(Vec::new(alloc), Local::Set(frame)))
 }
 
