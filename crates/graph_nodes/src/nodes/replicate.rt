@@ -29,7 +29,6 @@ use fop_types::{BrickReq, CopyDone, CopyJob, Job, Mask, Seq, SetReply, SplitRow}
 use graph_items::{BrickReply, Clients, Down, SetAnswer, Up};
 use self_heal::{CopyNeed, CopyRun};
 use std::alloc::{AllocError, Global};
-use std::mem::drop;
 use xlator_law::{Entry, Step};
 
 // What a transaction is told of its replicas' connections.
