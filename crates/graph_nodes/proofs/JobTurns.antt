@@ -1,8 +1,7 @@
 -- A job begins on what its node sees of the connections, and goes on once the records of a copy are kept.
-use Rattle.std.proofs.Common.{◌≡◌, ℕ, List, length, subst}
+use Rattle.std.proofs.Common.{◌≡◌, ℕ, List, Result, IfOk, length, subst}
 use Rattle.fop_types.specs.declared.contents.Mask.{Mask}
 use Rattle.fop_types.specs.declared.copy_jobs.CopyDone.{CopyDone}
-use Rattle.fop_types.specs.declared.copy_jobs.CopyRecord.{CopyRecord}
 use Rattle.fop_types.specs.declared.jobs.Job.{Job}
 use Rattle.fop_types.specs.declared.jobs.SetPlan.{SetPlan}
 use Rattle.afr_transaction.specs.Answers.{copied}
@@ -29,11 +28,9 @@ job_begun plan old new call requests j step txn need at_live at_last begun live_
   turn = subst (λ (n : ℕ). IsTurn (went plan txn n old need) step new) count turn;
 }
 
-pub recorded_turn : (plan : SetPlan) (requests : ℕ) (old mid new : Context) (txn : Txn) (done : CopyDone) (step : Step Down Up Local) (bricks : List ℕ) (records : List CopyRecord)
-    → mid ≡ recorded bricks old records → bricks ≡ plan.bricks → records ≡ done.records
-    → IsTurn (turned plan requests mid (copied txn done mid.ledger (live plan mid.clients) (lasts plan mid.clients))) step new
-    → IsTurn (on_copy_done plan requests old txn done) step new
-recorded_turn plan requests old mid new txn done step bricks records is bricks_are records_are h =
-    let from : mid ≡ recorded plan.bricks old done.records =
-    subst (λ (bs : List ℕ). mid ≡ recorded bs old done.records) bricks_are (subst (λ (rs : List CopyRecord). mid ≡ recorded bricks old rs) records_are is) in
-    subst (λ (c : Context). IsTurn (turned plan requests c (copied txn done c.ledger (live plan c.clients) (lasts plan c.clients))) step new) from h
+pub recorded_turn : {E : Type 0} (plan : SetPlan) (requests : ℕ) (old mid new : Context) (txn : Txn) (done : CopyDone) (result : Result (Step Down Up Local) E)
+    → mid ≡ recorded plan.bricks old done.records
+    → IfOk result (λ step. IsTurn (turned plan requests mid (copied txn done mid.ledger (live plan mid.clients) (lasts plan mid.clients))) step new)
+    → IfOk result (λ step. IsTurn (on_copy_done plan requests old txn done) step new)
+recorded_turn plan requests old mid new txn done result is h =
+    subst (λ (c : Context). IfOk result (λ step. IsTurn (turned plan requests c (copied txn done c.ledger (live plan c.clients) (lasts plan c.clients))) step new)) is h

@@ -1,19 +1,20 @@
 //! The replicate node of a set: it runs a transaction for each job, and the copies that the transaction asks for. The
 //! slot of a wind, and its child, is the number of the replica that is asked.
-ghost use Rattle.std.specs.Prelude.{◌≡◌, ◌<◌, IfOk, OnOk, Some, None, [], true, length};
+ghost use Rattle.std.specs.Prelude.{◌≡◌, ◌<◌, ◌≤◌, ◌-◌, IfOk, OnOk, Some, None, [], true, length, map};
 ghost use Rattle.afr_phases.specs.Waves.{is_asked};
 ghost use Rattle.afr_transaction.specs.Answers.{answered, copied};
 ghost use Rattle.afr_transaction.specs.Shapes.{is_copying};
 ghost use Rattle.fop_types.specs.Bounds.{AreFew};
-ghost use Rattle.fop_types.specs.Jobs.{IsJob};
+ghost use Rattle.fop_types.specs.Jobs.{IsJob, IsSetReply};
 ghost use Rattle.graph_nodes.specs.Costs.{requests_for};
-ghost use Rattle.graph_nodes.specs.Kept.{IsTxnKept, IsCopyKept};
+ghost use Rattle.graph_nodes.specs.Kept.{IsTxnKept, IsCopyKept, IsJobKept};
 ghost use Rattle.graph_nodes.specs.Moves.{IsMove};
-ghost use Rattle.graph_nodes.specs.Moves.Move.{On};
-ghost use Rattle.graph_nodes.specs.Replicate.{IsTurn, IsBegun, IsJobBegun, is_asked_by, said_of, refused, send_of, copy_begun, went, turned, on_copy, on_copy_done, resume_of, noted, live, lasts, AreEncoded};
+ghost use Rattle.graph_nodes.specs.Moves.Move.{On, Back};
+ghost use Rattle.graph_nodes.specs.Replicate.{IsTurn, IsBegun, IsJobBegun, is_asked_by, said_of, refused, send_of, wind_of, copy_begun, recorded, went, turned, on_copy, on_copy_done, resume_of, noted, live, lasts, AreEncoded};
 ghost use Rattle.graph_nodes.specs.Shapes.{waits_well, is_under_way};
 ghost use Rattle.graph_nodes.specs.Turns.{IsTxnTurn};
 ghost use Rattle.self_heal.specs.Runs.{new_run, next_cell, answered as copy_answered};
+ghost use Rattle.self_heal.specs.Turning.{AreEncoded as CopyIsEncoded};
 
 use crate::context::Context;
 use crate::costs::requests_for;
@@ -89,12 +90,15 @@ impl Replicate {
         ensures { IfOk result (λ step. IsBegun self.now.plan cx.old entry.call down step cx.new) }
     {
         match down {
-            Down::Job(job) => {
-                let step = self.begin(alloc, cx, entry.call, job.into_job())?;
-                Ok(step)
+            Down::Job(job) => self.begin(alloc, cx, entry.call, job.into_job()),
+            Down::Fop(fop) => {
+                drop(fop);
+                Ok(self.refused(alloc))
             }
-            Down::Fop(_) => Ok(self.refused(alloc)),
-            Down::Request(_) => Ok(self.refused(alloc)),
+            Down::Request(request) => {
+                drop(request);
+                Ok(self.refused(alloc))
+            }
         }
     }
 
@@ -141,14 +145,8 @@ impl Replicate {
             requests,
         } = frame.into_state();
         match copy {
-            Some(run) => {
-                let step = self.copy_answered(alloc, cx, txn, requests, run, slot, said)?;
-                Ok(step)
-            }
-            None => {
-                let step = self.answered(alloc, cx, txn, requests, slot, said)?;
-                Ok(step)
-            }
+            Some(run) => self.copy_answered(alloc, cx, txn, requests, run, slot, said),
+            None => self.answered(alloc, cx, txn, requests, slot, said),
         }
     }
 
@@ -175,9 +173,14 @@ impl Replicate {
         let rep = said.into_rep();
         let need = cx
             .ledger
-            .answer(alloc, &mut txn, replica, rep, mark, at.live, &at.last)?;
-        let step = self.go(alloc, cx, txn, requests, need)?;
-        Ok(step)
+            .answer(alloc, &mut txn, replica, rep, mark, at.live, &at.last);
+        match need {
+            Ok(need) => self.go(alloc, cx, txn, requests, need),
+            Err(failed) => {
+                drop(txn);
+                Err(failed)
+            }
+        }
     }
 
     // A replica has answered the copy.
@@ -201,22 +204,44 @@ impl Replicate {
         let mut run = run;
         let mark = said.mark();
         let rep = said.into_rep();
-        let need = answer_run(alloc, &mut run, replica, rep, mark)?;
+        let need = answer_run(alloc, &mut run, replica, rep, mark);
         match need {
-            CopyNeed::Send(list) => {
-                let step = self.send(alloc, txn, Some(run), requests, list)?;
-                Ok(step)
+            Ok(need) => self.go_on_copying(alloc, cx, txn, requests, run, need),
+            Err(failed) => {
+                drop(run);
+                drop(txn);
+                Err(failed)
             }
+        }
+    }
+
+    // What the copy needs next.
+    fn go_on_copying(
+        &self,
+        alloc: Global,
+        cx: &mut Context,
+        txn: Txn,
+        requests: usize,
+        run: CopyRun,
+        need: CopyNeed,
+    ) -> Result<Step<Down, Up, Local>, AllocError>
+        requires copying { is_copying txn ≡ true }
+        requires kept { IsTxnKept txn }
+        requires few { AreFew run.job.cells }
+        requires encoded { CopyIsEncoded need }
+        ensures { IfOk result (λ step. IsTurn (on_copy self.now.plan requests cx.old txn (run, need)) step cx.new) }
+    {
+        match need {
+            CopyNeed::Send(list) => self.send(alloc, txn, Some(run), requests, list),
             CopyNeed::Wait => waiting(alloc, txn, Some(run), requests),
             CopyNeed::Done(done) => {
-                let step = self.copied(alloc, cx, txn, requests, done)?;
-                Ok(step)
+                drop(run);
+                self.copied(alloc, cx, txn, requests, done)
             }
         }
     }
 
     // A copy is done: the mount gets its records, and the transaction goes on.
-    #[tactic(auto, using(crate::proofs::JobTurns::recorded_turn))]
     fn copied(
         &self,
         alloc: Global,
@@ -229,14 +254,22 @@ impl Replicate {
         requires kept { IsTxnKept txn }
         ensures { IfOk result (λ step. IsTurn (on_copy_done self.now.plan requests cx.old txn done) step cx.new) }
     {
-        record_all(
-            alloc,
-            cx,
-            self.plan.bricks.as_slice(),
-            done.records.as_slice(),
-        )?;
-        let step = self.go_on_copied(alloc, cx, txn, requests, done)?;
-        Ok(step)
+        match self.record(alloc, cx, &done) {
+            Ok(()) => self.go_on_copied(alloc, cx, txn, requests, done),
+            Err(failed) => {
+                drop(done);
+                drop(txn);
+                Err(failed)
+            }
+        }
+    }
+
+    // The mount gets the records of a copy.
+    fn record(&self, alloc: Global, cx: &mut Context, done: &CopyDone) -> Result<(), AllocError>
+        ensures { OnOk result (cx.new ≡ recorded self.now.plan.bricks cx.old done.now.records) }
+    {
+        let bricks = self.plan.bricks.as_slice();
+        record_all(alloc, cx, bricks, done.records.as_slice())
     }
 
     // The transaction takes a copy that is done.
@@ -254,9 +287,14 @@ impl Replicate {
     {
         let mut txn = txn;
         let at = self.standing(&cx.clients);
-        let need = cx.ledger.copied(alloc, &mut txn, done, at.live, &at.last)?;
-        let step = self.go(alloc, cx, txn, requests, need)?;
-        Ok(step)
+        let need = cx.ledger.copied(alloc, &mut txn, done, at.live, &at.last);
+        match need {
+            Ok(need) => self.go(alloc, cx, txn, requests, need),
+            Err(failed) => {
+                drop(txn);
+                Err(failed)
+            }
+        }
     }
 
     // What the transaction needs next.
@@ -272,23 +310,14 @@ impl Replicate {
         ensures { IfOk result (λ step. IsTurn (went self.now.plan txn requests cx.old need) step cx.new) }
     {
         match need {
-            Need::Send(list) => {
-                let step = self.send(alloc, txn, None, requests, list)?;
-                Ok(step)
-            }
-            Need::Copy(job, rows) => {
-                let step = self.begin_copy(alloc, txn, requests, job, rows)?;
-                Ok(step)
-            }
-            Need::Reply(reply) => {
-                note_skip(cx, &txn.job, &reply)?;
-                Ok(Step::Unwind(Up::Set(SetAnswer::new(reply))))
-            }
+            Need::Send(list) => self.send(alloc, txn, None, requests, list),
+            Need::Copy(job, rows) => self.begin_copy(alloc, txn, requests, job, rows),
+            Need::Reply(reply) => answer(cx, txn, reply),
             Need::Wait => waiting(alloc, txn, None, requests),
         }
     }
 
-    // A copy begins. One that a transaction asks for has a sink, a source and a cell, so its first need is a request.
+    // A copy begins.
     fn begin_copy(
         &self,
         alloc: Global,
@@ -301,14 +330,42 @@ impl Replicate {
         requires few { AreFew job.cells }
         ensures { IfOk result (λ step. IsMove (copy_begun self.now.plan txn requests (next_cell (new_run job rows))) step) }
     {
-        let (run, need) = begin_run(alloc, job, rows)?;
-        match need {
-            CopyNeed::Send(list) => {
-                let step = self.send(alloc, txn, Some(run), requests, list)?;
-                Ok(step)
+        match begin_run(alloc, job, rows) {
+            Ok((run, need)) => self.send_first(alloc, txn, requests, run, need),
+            Err(failed) => {
+                drop(txn);
+                Err(failed)
             }
-            CopyNeed::Wait => Ok(self.refused(alloc)),
-            CopyNeed::Done(_) => Ok(self.refused(alloc)),
+        }
+    }
+
+    // What a copy needs first. One that a transaction asks for has a sink, a source and a cell, so that is a request.
+    fn send_first(
+        &self,
+        alloc: Global,
+        txn: Txn,
+        requests: usize,
+        run: CopyRun,
+        need: CopyNeed,
+    ) -> Result<Step<Down, Up, Local>, AllocError>
+        requires kept { IsTxnKept txn }
+        requires few { AreFew run.job.cells }
+        requires encoded { CopyIsEncoded need }
+        ensures { IfOk result (λ step. IsMove (copy_begun self.now.plan txn requests (run, need)) step) }
+    {
+        match need {
+            CopyNeed::Send(list) => self.send(alloc, txn, Some(run), requests, list),
+            CopyNeed::Wait => {
+                drop(run);
+                drop(txn);
+                Ok(self.refused(alloc))
+            }
+            CopyNeed::Done(done) => {
+                drop(done);
+                drop(run);
+                drop(txn);
+                Ok(self.refused(alloc))
+            }
         }
     }
 
@@ -326,22 +383,38 @@ impl Replicate {
         requires copy { IsCopyKept copy }
         ensures { IfOk result (λ step. IsMove (send_of self.now.plan (record { txn = txn; copy = copy; requests = requests }) list) step) }
     {
-        let count = list.len();
-        if count <= requests {
-            let winds = winds_of(alloc, list, txn.locks)?;
-            let requests = requests - count;
-            let frame = SetFrame::new(
-                alloc,
-                JobState {
-                    txn,
-                    copy,
-                    requests,
-                },
-            )?;
-            return Ok(Step::Wind(winds, Local::Set(frame)));
+        let job = JobState {
+            txn,
+            copy,
+            requests,
+        };
+        if list.len() <= job.requests {
+            winding(alloc, job, list)
+        } else {
+            drop(list);
+            drop(job);
+            Ok(self.refused(alloc))
         }
-        Ok(self.refused(alloc))
     }
+}
+
+// The requests go out, and the frame waits.
+fn winding(
+    alloc: Global,
+    job: JobState,
+    list: Seq<(u8, BrickReq)>,
+) -> Result<Step<Down, Up, Local>, AllocError>
+    requires encoded { AreEncoded list }
+    requires kept { IsJobKept job }
+    requires few { length list ≤ job.requests }
+    ensures { IfOk result (λ step. IsMove (On (map (wind_of job.txn.locks) list) (Local.Set (record job { requests = job.requests - length list }))) step) }
+{
+    let mut job = job;
+    job.requests -= list.len();
+    let locks = job.txn.locks;
+    let frame = SetFrame::new(alloc, job)?;
+    let winds = winds_of(alloc, list, locks)?;
+    Ok(Step::Wind(winds, Local::Set(frame)))
 }
 
 // The frame waits on, for those who have not answered.
@@ -364,6 +437,17 @@ fn waiting(
         },
     )?;
     Ok(Step::Wind(Vec::new(alloc), Local::Set(frame)))
+}
+
+// The job ends with the reply of its transaction.
+fn answer(cx: &mut Context, txn: Txn, reply: SetReply) -> Result<Step<Down, Up, Local>, AllocError>
+    requires { IsSetReply reply }
+    ensures { IfOk result (λ step. IsTurn (record { move = Back (Up.Set reply); cx = noted cx.old txn.job reply }) step cx.new) }
+{
+    let noted = note_skip(cx, &txn.job, &reply);
+    drop(txn);
+    let answer = SetAnswer::new(reply);
+    noted.and(Ok(Step::Unwind(Up::Set(answer))))
 }
 
 // A heal that leaves its cell is noted.
