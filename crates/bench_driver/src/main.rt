@@ -15,9 +15,7 @@ fn main(rt: HostRuntime) -> io::Result<()> {
     let _program = words.next();
     if let Some(word) = words.next() {
         if word.as_str() == "time" {
-            timing::report(&rt, rt.alloc(), 10)?;
-            timing::report(&rt, rt.alloc(), 1000)?;
-            timing::report(&rt, rt.alloc(), 100000)?;
+            timing::report(&rt, rt.alloc())?;
         }
     }
     Ok(())

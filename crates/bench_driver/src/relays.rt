@@ -53,13 +53,24 @@ pub fn rounds(alloc: Global, filled: Tree, fops: u32) -> Result<Tree, AllocError
 }
 
 fn round(alloc: Global, tree: Tree, call: u32) -> Result<Tree, AllocError> {
-    let mut down = started(alloc, tree, call)?;
-    let Some((wind, _)) = down.sent() else {
-        return Err(AllocError);
-    };
-    let mut up = answered(alloc, down, wind)?;
+    let down = started(alloc, tree, call)?;
+    let mut up = returned(alloc, down)?;
     up.answer();
     Ok(up)
+}
+
+// The wind that went outside is answered.
+fn returned(alloc: Global, tree: Tree) -> Result<Tree, AllocError> {
+    let mut down = tree;
+    match down.sent() {
+        Some((wind, _)) => answered(alloc, down, wind),
+        None => unanswered(down),
+    }
+}
+
+// Ends the relays, of which no wind went outside.
+fn unanswered(_tree: Tree) -> Result<Tree, AllocError> {
+    Err(AllocError)
 }
 
 // The lines of the winds are let go, so that they take no memory.

@@ -1,4 +1,5 @@
 use crate::relays::{self, DEPTH};
+use frame_trees::Tree;
 use std::alloc::Global;
 use std::io;
 use std::rt::Runtime;
@@ -8,13 +9,34 @@ use std::time::{Duration, Instant};
 // for each on its way up.
 const ROUNDS: u32 = 20000;
 
-/// Writes to standard error how many tasks the driver does each second where so many frames are open.
-pub fn report<R: Runtime>(rt: &R, alloc: Global, frames: u32) -> io::Result<()> {
+// How many frames are open while it is timed.
+const FRAMES: [u32; 3] = [10, 1000, 100000];
+
+/// Writes to standard error how many tasks the driver does each second, with few open frames and with many.
+pub fn report<R: Runtime>(rt: &R, alloc: Global) -> io::Result<()> {
+    for frames in &FRAMES {
+        report_one(rt, alloc, *frames)?;
+    }
+    Ok(())
+}
+
+fn report_one<R: Runtime>(rt: &R, alloc: Global, frames: u32) -> io::Result<()> {
     let tree = relays::filled(alloc, frames / DEPTH)?;
-    let start = Instant::now(rt)?;
-    let _done = relays::rounds(alloc, tree, ROUNDS)?;
-    let tasks = each_second(start.elapsed(rt)?);
+    let tasks = each_second(time_of_rounds(rt, alloc, tree)?);
     eprintln!(rt; "{frames} open frames: {tasks} tasks each second")
+}
+
+// The time of all rounds, without that in which the tree ends.
+fn time_of_rounds<R: Runtime>(rt: &R, alloc: Global, tree: Tree) -> io::Result<Duration> {
+    let start = Instant::now(rt);
+    let done = relays::rounds(alloc, tree, ROUNDS);
+    let time = time_since(rt, start);
+    done.and(Ok(()))?;
+    time
+}
+
+fn time_since<R: Runtime>(rt: &R, start: io::Result<Instant>) -> io::Result<Duration> {
+    start?.elapsed(rt)
 }
 
 fn each_second(time: Duration) -> u64 {

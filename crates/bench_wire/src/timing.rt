@@ -30,10 +30,7 @@ struct Pass {
 
 /// Writes to standard error how fast 65,536 bytes are copied, encoded as a write and decoded.
 pub fn report<R: Runtime>(rt: &R, alloc: Global) -> io::Result<()> {
-    let bytes = payload(alloc)?;
-    let input = request(payload(alloc)?);
-    let message = message(alloc, &input)?;
-    let best = best_pass(rt, alloc, bytes.as_slice(), &input, message.as_slice())?;
+    let best = best_of_write(rt, alloc)?;
     report_pass(rt, best)
 }
 
@@ -42,6 +39,30 @@ fn report_pass<R: Runtime>(rt: &R, pass: Pass) -> io::Result<()> {
     report_one(rt, "copy", pass.copy, pass.copy)?;
     report_one(rt, "encode", pass.encode, pass.copy)?;
     report_one(rt, "decode", pass.decode, pass.copy)
+}
+
+fn best_of_write<R: Runtime>(rt: &R, alloc: Global) -> io::Result<Pass> {
+    let input = request(payload(alloc)?);
+    best_of_input(rt, alloc, &input)
+}
+
+fn best_of_input<R: Runtime>(rt: &R, alloc: Global, input: &Input) -> io::Result<Pass>
+    requires { IsInput input.now }
+{
+    let message = message(alloc, input)?;
+    best_of_message(rt, alloc, input, message.as_slice())
+}
+
+fn best_of_message<R: Runtime>(
+    rt: &R,
+    alloc: Global,
+    input: &Input,
+    message: &[u8],
+) -> io::Result<Pass>
+    requires { IsInput input.now }
+{
+    let bytes = payload(alloc)?;
+    best_pass(rt, alloc, bytes.as_slice(), input, message)
 }
 
 /// The quickest of all passes, each of the three for itself.

@@ -15,3 +15,7 @@ pub record IsTree (nodes : List Node) (wiring : Wiring) (board : Board ℕ ℕ K
   pub fits : Fits (map node_promise nodes) wiring
   pub fine : SoundWith (map node_promise nodes) board
   pub held : AreHeld fine.all (λ _. 0) board
+
+-- a tree of the first board is one of the second
+abbrev pub KeepsTrees : Board ℕ ℕ Kept → Board ℕ ℕ Kept → Type 0
+KeepsTrees b c = (nodes : List Node) (wiring : Wiring) → IsTree nodes wiring b → IsTree nodes wiring c

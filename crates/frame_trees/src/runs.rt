@@ -2,6 +2,7 @@ use crate::kinds::{Kind, Node};
 use crate::tree::Tree;
 use frame_driver::{Bailed, Child, Wiring};
 use std::alloc::Global;
+use std::process::Abort;
 use std::test::*;
 use xlator_law::{Stop, WindNo};
 
@@ -66,6 +67,31 @@ fn done(tree: Tree, alloc: Global, act: &Act) -> Result<Tree, Stop> {
     }
 }
 
+// Does it, with as many winds opened and ended.
+fn counted(
+    rt: &impl Abort,
+    tree: Tree,
+    alloc: Global,
+    act: &Act,
+    lines: usize,
+) -> Result<Tree, Fail> {
+    match done(tree, alloc, act) {
+        Ok(next) => with_lines(rt, next, lines),
+        Err(_) => Err(Fail::new("memory is ample")),
+    }
+}
+
+fn with_lines(rt: &impl Abort, tree: Tree, lines: usize) -> Result<Tree, Fail> {
+    let mut tree = tree;
+    are_same(rt, tree.lines(), lines)?;
+    Ok(tree)
+}
+
+fn are_same(rt: &impl Abort, found: usize, lines: usize) -> Result<(), Fail> {
+    assert_eq!(rt; found, lines);
+    Ok(())
+}
+
 // A fop goes down to the two gates and to one wind outside, which is wind 7; each gate goes on, with winds 9
 // and 10 outside; wind 7 is answered, and once more; winds 10 and 9 are bailed, and 9, the older one, ends
 // first. Beside each, how many winds it opens and ends.
@@ -82,12 +108,9 @@ const ACTS: [(Act, usize); 6] = [
 fn winds_are_as_counted(rt: HostRuntime) -> Result<(), Fail> {
     let mut tree = grown(rt.alloc())?;
     for (act, lines) in &ACTS {
-        let Ok(next) = done(tree, rt.alloc(), act) else {
-            return Err(Fail::new("memory is ample"));
-        };
-        tree = next;
-        assert_eq!(rt; tree.lines(), *lines);
+        tree = counted(&rt, tree, rt.alloc(), act, *lines)?;
     }
-    assert!(rt; tree.answer() == Some((7, 22)) && tree.answer() == None);
+    let answers = (tree.answer(), tree.answer());
+    assert!(rt; answers == (Some((7, 22)), None));
     Ok(())
 }

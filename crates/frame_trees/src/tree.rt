@@ -1,5 +1,6 @@
-ghost use Rattle.std.specs.Prelude.{◌≡◌, true, [], ◌∷◌, IfOk};
+ghost use Rattle.std.specs.Prelude.{◌≡◌, true, [], ◌∷◌, IfOk, OnOk};
 ghost use Rattle.frame_driver.specs.Tasks.{IsWindOurs};
+ghost use Rattle.frame_trees.specs.Trees.{KeepsTrees};
 
 use crate::fitting::fits;
 use crate::kinds::{Kept, Node};
@@ -22,6 +23,56 @@ fn both(alloc: Global, first: Bailed<u8>, second: Bailed<u8>) -> Result<Vec<Bail
     winds.push(first)?;
     winds.push(second)?;
     Ok(winds)
+}
+
+// Ends a wind that is of the board's graph, and gives whether it is.
+fn reply_ours(
+    board: &mut Board<u32, u8, Kept>,
+    alloc: Global,
+    wind: WindNo,
+    reply: u8,
+) -> Result<bool, AllocError>
+    ensures { OnOk result (KeepsTrees board.old board.new) }
+{
+    let ours = board.owns(wind);
+    if ours {
+        board.reply(alloc, wind, reply)?;
+        return Ok(true);
+    }
+    Ok(false)
+}
+
+// Ends two winds where both are of the board's graph, and gives whether they are.
+fn bail_ours(
+    board: &mut Board<u32, u8, Kept>,
+    alloc: Global,
+    first: Bailed<u8>,
+    second: Bailed<u8>,
+) -> Result<bool, AllocError>
+    ensures { OnOk result (KeepsTrees board.old board.new) }
+{
+    let ours = owns_both(board, first.wind, second.wind);
+    if ours {
+        let winds = both(alloc, first, second)?;
+        board.bail(alloc, winds)?;
+        return Ok(true);
+    }
+    Ok(false)
+}
+
+// The frame that began to wait first goes on, and gives whether one waits.
+fn wake(board: &mut Board<u32, u8, Kept>, alloc: Global) -> Result<bool, Stop>
+    ensures { OnOk result (KeepsTrees board.old board.new) }
+{
+    let Some(frame) = board.waiting.pop() else {
+        return Ok(false);
+    };
+    let open = board.has_frame(frame);
+    if open {
+        board.go_on(alloc, frame)?;
+        return Ok(true);
+    }
+    Err(Stop::Mem)
 }
 
 /// The nodes of a tree, what is below each, and their frames. A call that ends in an error takes the tree
@@ -68,8 +119,7 @@ impl Tree {
     /// As for [`Board::run`].
     pub fn submit(mut self, alloc: Global, call: u32, fop: u32) -> Result<Tree, Stop> {
         self.board.submit(alloc, call, 0, fop)?;
-        let tree = self.run(alloc)?;
-        Ok(tree)
+        self.run(alloc)
     }
 
     /// A wind is answered from outside, and all that follows from it is done.
@@ -77,12 +127,8 @@ impl Tree {
     /// # Errors
     /// As for [`Board::run`].
     pub fn reply(mut self, alloc: Global, wind: WindNo, reply: u8) -> Result<Tree, Stop> {
-        if !self.board.owns(wind) {
-            return Ok(self);
-        }
-        self.board.reply(alloc, wind, reply)?;
-        let tree = self.run(alloc)?;
-        Ok(tree)
+        let changed = reply_ours(&mut self.board, alloc, wind, reply)?;
+        self.run_if(alloc, changed)
     }
 
     /// The frame that began to wait first, of those that wait, goes on, and all that follows from it is done.
@@ -91,16 +137,8 @@ impl Tree {
     /// # Errors
     /// As for [`Board::run`].
     pub fn go_on(mut self, alloc: Global) -> Result<Tree, Stop> {
-        let Some(frame) = self.board.waiting.pop() else {
-            return Ok(self);
-        };
-        let open = self.board.has_frame(frame);
-        if open {
-            self.board.go_on(alloc, frame)?;
-            let tree = self.run(alloc)?;
-            return Ok(tree);
-        }
-        Err(Stop::Mem)
+        let changed = wake(&mut self.board, alloc)?;
+        self.run_if(alloc, changed)
     }
 
     /// Two winds end from outside at once, and all that follows from it is done.
@@ -113,14 +151,8 @@ impl Tree {
         first: Bailed<u8>,
         second: Bailed<u8>,
     ) -> Result<Tree, Stop> {
-        let ours = owns_both(&self.board, first.wind, second.wind);
-        if ours {
-            let winds = both(alloc, first, second)?;
-            self.board.bail(alloc, winds)?;
-            let tree = self.run(alloc)?;
-            return Ok(tree);
-        }
-        Ok(self)
+        let changed = bail_ours(&mut self.board, alloc, first, second)?;
+        self.run_if(alloc, changed)
     }
 
     /// The next wind that went outside, with its fop.
@@ -138,6 +170,14 @@ impl Tree {
     /// How many winds were opened and ended since the last count, together.
     pub fn lines(&mut self) -> usize {
         self.board.stack.lines().len()
+    }
+
+    // Does all that is left to do after a change.
+    fn run_if(self, alloc: Global, changed: bool) -> Result<Tree, Stop> {
+        if changed {
+            return self.run(alloc);
+        }
+        Ok(self)
     }
 
     // Does all that is left to do.
