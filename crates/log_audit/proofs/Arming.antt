@@ -1,6 +1,6 @@
 -- Armed lines with one more, from a later place, and none of them.
-use Rattle.std.proofs.Common.{◌≡◌, sym, ap, ◌∙◌, arith, get_or}
-use Rattle.std.specs.Prelude.{ℕ, ◌<◌, ◌≤◌, ◌+◌, List, Some, length, slice_get}
+use Rattle.std.proofs.Common.{◌≡◌, sym, ap, subst, ◌∙◌, arith, get_or}
+use Rattle.std.specs.Prelude.{ℕ, ◌<◌, ◌≤◌, ◌+◌, List, [], ◌∷◌, ◌++◌, Some, length, slice_get}
 use Rattle.std.proofs.lemmas.Option.{slice_get-get_or}
 use Rattle.fop_types.specs.declared.messages.Input.{Input}
 use Rattle.wire_xdr.specs.WireText.{input_text, IsInputOf}
@@ -9,9 +9,9 @@ use Rattle.wire_messages.specs.declared.messages.Message.{Message}
 use Rattle.wire_messages.specs.declared.messages.Message.TheVariants.{Whole, Wrong}
 use Rattle.mount_log.specs.Follows.{AreArmable, IsArmedLine}
 use Rattle.mount_log.specs.declared.logs.SentLine.{SentLine}
-use Rattle.log_audit.specs.Armed.{IsArmable, AreArmedFrom}
+use Rattle.log_audit.specs.Armed.{IsArmable, AreArmedFrom, AreAllArmed}
 use Rattle.log_audit.specs.declared.armed_lines.ArmedLines.{ArmedLines}
-use Rattle.log_audit.proofs.Causing.{each_next}
+use Rattle.log_audit.proofs.Lists.{each_next, each_push}
 
 pub armable : (bytes : List ℕ) (message : Message Input) → IsSaid IsInputOf input_text bytes message → IsArmable message → AreArmable bytes
 armable bytes (Whole x) said can = record { sent = x; can = can; text = said.1 }
@@ -30,3 +30,6 @@ armed_next sent from stop event brick line lt is own armed = record {
 
 pub armed_later : (sent : List SentLine) (from : ℕ) (armed : ArmedLines) → AreArmedFrom sent from armed → AreArmedFrom sent (from + 1) armed
 armed_later sent from armed is = record { each = λ k line le lt there. is.each k line (omega (arith, le)) lt there }
+
+pub armed_push : (sent : List SentLine) (all : List ArmedLines) (at : ℕ) (armed : ArmedLines) → length all ≡ at → AreArmedFrom sent at armed → AreAllArmed sent all → AreAllArmed sent (all ++ armed ∷ [])
+armed_push sent all at armed many own before = each_push (λ (k : ℕ) (a : ArmedLines). AreArmedFrom sent k a) all armed (subst (λ (n : ℕ). AreArmedFrom sent n armed) (sym many) own) before

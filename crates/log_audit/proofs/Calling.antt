@@ -1,6 +1,7 @@
 -- The calls of a log, event by event.
 use Rattle.std.proofs.Common.{◌≡◌, refl, sym, ap, subst, ◌∙◌, arith}
-use Rattle.std.specs.Prelude.{ℕ, zero, suc, ◌<◌, ◌≤◌, ◌+◌, ◌-◌, List, [], ◌∷◌, ◌++◌, Option, None, Some, length, slice_get, take}
+use Rattle.std.specs.Prelude.{ℕ, zero, suc, ◌≢◌, ◌<◌, ◌≤◌, ◌+◌, ◌-◌, ◌==◌, Bool, true, false, List, [], ◌∷◌, ◌++◌, Option, None, Some, length, slice_get, take, if◌then◌else◌}
+use Rattle.std.proofs.lemmas.Bool.{eqb-false}
 use Rattle.std.proofs.lemmas.List.{length-append, take_all}
 use Rattle.script_lang.specs.declared.scripts.Script.{Script}
 use Rattle.mount_log.specs.Lines.{queue_of, places_from, TakesLine}
@@ -11,12 +12,12 @@ use Rattle.mount_log.specs.declared.logs.HubEvent.{HubEvent}
 use Rattle.mount_log.specs.declared.logs.HubEvent.TheVariants as logged
 use Rattle.mount_log.specs.declared.logs.Log.{Log}
 use Rattle.mount_log.specs.declared.places.LineAt.{LineAt}
-use Rattle.log_audit.specs.Caused.{IsCounted}
-use Rattle.log_audit.specs.Called.{IsCallAt, AreCalls, AreGathered}
+use Rattle.log_audit.specs.Switches.{IsCounted}
+use Rattle.log_audit.specs.Called.{IsCallAt, AreCalls, AreGathered, call_by}
 use Rattle.log_audit.specs.Submitted.{HaveLeft}
 use Rattle.log_audit.specs.declared.calls_made.CallMade.{CallMade}
-use Rattle.log_audit.specs.declared.causes.Switched.{Switched}
-use Rattle.log_audit.proofs.Controlling.{each_push}
+use Rattle.log_audit.specs.declared.switches.Switched.{Switched}
+use Rattle.log_audit.proofs.Lists.{each_push, take_next}
 use Rattle.log_audit.proofs.Submitting.{its_next, left_submit, left_other, submits_none}
 
 submits_push : (es : List HubEvent) (e : HubEvent) → submits_in (es ++ e ∷ []) ≡ submits_in es + is_submit e
@@ -29,14 +30,6 @@ is_none (logged.Arrive brick bytes) not_one = refl
 is_none (logged.Run graph task) not_one = refl
 is_none (logged.Act a) not_one = refl
 is_none (logged.Arm brick p count a) not_one = refl
-
-module _ {X : Type 0} where
-  pub take_next : (xs : List X) (n : ℕ) (x : X) → slice_get xs n ≡ Some x → take (n + 1) xs ≡ take n xs ++ x ∷ []
-  take_next [] n x is = absurd cc
-  take_next (y ∷ xs) zero x is = let e : y ≡ x = first y x is in ap (λ (z : X). z ∷ []) e where
-    first : (a b : X) → Some a ≡ Some b → a ≡ b
-    first a b e = cc
-  take_next (y ∷ xs) (suc n) x is = let e : suc n + 1 ≡ suc (n + 1) = omega arith in ap (λ (m : ℕ). take m (y ∷ xs)) e ∙ ap (λ l. y ∷ l) (take_next xs n x is)
 
 module _ (script : Script) (log : Log) (n : ℕ) (e : HubEvent) (there : slice_get log.events n ≡ Some e) (queues : List (List LineAt)) (calls : List CallMade) (so_far : AreGathered script log n queues calls) where
   passed : take (n + 1) log.events ≡ take n log.events ++ e ∷ []
@@ -117,3 +110,29 @@ none_passed script log queues all = record { left = λ session. all session; eac
 
 pub all_passed : (script : Script) (log : Log) (n : ℕ) (queues : List (List LineAt)) (calls : List CallMade) → length log.events ≤ n → AreGathered script log n queues calls → AreCalls script log calls
 all_passed script log n queues calls past so_far = record { each = so_far.each; many = so_far.many ∙ ap submits_in (take_all n log.events past) }
+
+-- ---- a call by its number
+
+pub record IsCallBy (calls : List CallMade) (number : ℕ) (call : CallMade) : Type 0 where
+  pub from_one : 1 ≤ number
+  pub there : slice_get calls (number - 1) ≡ Some call
+
+pub by_number : (calls : List CallMade) (number : ℕ) (call : CallMade) → call_by calls number ≡ Some call → IsCallBy calls number call
+by_number calls number call is = by (number == 0) refl is where
+  from_one : (n : ℕ) → n ≢ 0 → 1 ≤ n
+  from_one zero ne = absurd (ne refl)
+  from_one (suc n) ne = omega arith
+
+  by : (b : Bool) → (number == 0) ≡ b → (if b then None else slice_get calls (number - 1)) ≡ Some call → IsCallBy calls number call
+  by true z none = absurd cc
+  by false z there = record { from_one = from_one number (eqb-false number 0 z); there = there }
+
+module _ (script : Script) (log : Log) where
+  -- the number of a call's event is what the log says
+  pub event_is : (calls : List CallMade) (number : ℕ) (call : CallMade) → AreCalls script log calls → IsCallBy calls number call → submitted_at log number ≡ call.event
+  event_is calls number call are by =
+      let own = are.each (number - 1) call by.there in
+      let one = by.from_one in let n : number - 1 + 1 ≡ number = omega (arith, one) in
+      let at : submit_event 0 log.events (submits_in (take own.place log.events) + 1) ≡ 0 + own.place + 1 = event_of_call 0 log.events own.place call.session call.line own.there in
+      let z : 0 + own.place + 1 ≡ own.place + 1 = omega arith in
+      ap (submit_event 0 log.events) (sym n ∙ ap (λ (m : ℕ). m + 1) (sym own.number_is)) ∙ at ∙ z ∙ sym own.event_is

@@ -1,12 +1,11 @@
 //! The calls that were submitted, by their numbers.
-ghost use Rattle.std.specs.Prelude.{◌≡◌, true, IfOk, IfSome, option_copied, slice_get};
+ghost use Rattle.std.specs.Prelude.{◌≡◌, IfOk, IfSome, option_copied, slice_get};
 ghost use Rattle.script_lang.specs.Accepted.{IsAccepted};
-ghost use Rattle.log_audit.specs.Called.{AreCalls, AreInPhases, IsAnsweredIn, AreAnsweredIn, call_by};
+ghost use Rattle.log_audit.specs.Called.{AreCalls, call_by};
 
-use crate::causes::{Switched, passed_to};
-use crate::downs::event_at;
-use crate::phase_ends::{end_of, is_within};
-use mount_log::{HubEvent, Log, ReplyLine, lines_of_sessions, take_line};
+use crate::by_place::event_at;
+use crate::switches::{Switched, passed_to};
+use mount_log::{HubEvent, Log, lines_of_sessions, take_line};
 use script_lang::Script;
 use std::alloc::{AllocError, Global};
 
@@ -75,43 +74,4 @@ pub fn call_of(calls: &[CallMade], number: u32) -> Option<&CallMade>
         return None;
     }
     calls.get(number as usize - 1)
-}
-
-/// Whether each call was submitted within the phase of its line.
-pub fn are_in_phases(calls: &[CallMade], ended: &[u64], last: u64) -> bool
-    ensures { result ≡ true → AreInPhases ended.now last calls.now }
-{
-    for k in 0..calls.len() {
-        let Some(call) = calls.get(k) else {
-            return false;
-        };
-        if !is_within(ended, last, call.phase as usize, call.event) {
-            return false;
-        }
-    }
-    true
-}
-
-fn is_answered_in(calls: &[CallMade], ended: &[u64], last: u64, reply: &ReplyLine) -> bool
-    ensures { result ≡ true → IsAnsweredIn calls.now ended.now last reply.now }
-{
-    match call_of(calls, reply.call) {
-        Some(call) => reply.event <= end_of(ended, last, call.phase as usize),
-        None => false,
-    }
-}
-
-/// Whether each reply is to a call, and comes before the end of the phase of its line.
-pub fn are_answered_in(calls: &[CallMade], ended: &[u64], last: u64, replies: &[ReplyLine]) -> bool
-    ensures { result ≡ true → AreAnsweredIn calls.now ended.now last replies.now }
-{
-    for k in 0..replies.len() {
-        let Some(reply) = replies.get(k) else {
-            return false;
-        };
-        if !is_answered_in(calls, ended, last, reply) {
-            return false;
-        }
-    }
-    true
 }

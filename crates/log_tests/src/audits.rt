@@ -3,9 +3,9 @@ ghost use Rattle.script_lang.specs.Accepted.{IsAccepted};
 
 use brick_machine::Brick;
 use graph_build::Plan;
+use line_audit::connects_are_caused;
 use log_audit::{
-    arrivals_are_honest, connects_are_caused, is_finished, submits_are_in_order,
-    winds_are_balanced, winds_are_once,
+    arrivals_are_honest, is_finished, submits_are_in_order, winds_are_balanced, winds_are_once,
 };
 use mount_log::Log;
 use script_lang::Script;

@@ -12,14 +12,14 @@ ghost use Rattle.mount_run.specs.Headline.{AreBricksOf, HasFiles, IsLawfulRun};
 ghost use Rattle.mount_run.specs.Outcomes.{IsStopped};
 
 use change_audit::changes_are_borne;
+use error_audit::io_errors_are_caused;
 use graph_build::Plan;
 use hub_calls::Rack;
-use log_audit::{
-    arrivals_are_honest, connects_are_caused, follows_script, io_errors_are_caused, is_finished,
-    lines_are_tied, winds_are_balanced, winds_are_once,
-};
+use line_audit::{connects_are_caused, lines_are_tied};
+use log_audit::{arrivals_are_honest, is_finished, winds_are_balanced, winds_are_once};
 use log_replay::one_file_system;
 use mount_log::Log;
+use run_audit::follows_script;
 use run_report::opened_in;
 use script_lang::Script;
 use std::alloc::{AllocError, Global};

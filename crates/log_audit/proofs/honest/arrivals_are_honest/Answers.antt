@@ -5,7 +5,7 @@ use Rattle.std.proofs.lemmas.Option.{slice_get-get_or}
 use Rattle.mount_log.specs.declared.logs.HubEvent.{HubEvent}
 use Rattle.brick_machine.specs.Journal.{Journal}
 use Rattle.log_audit.specs.Honest.{IsFrom, IsHonestAt}
-use Rattle.log_audit.proofs.Causing.{each_next}
+use Rattle.log_audit.proofs.Lists.{each_next}
 use Rattle.log_audit.proofs.Honesty.{honest, journals}
 use Rattle.log_audit.proofs.honest.arrivals_are_honest.Goals as goal
 

@@ -1,0 +1,122 @@
+-- The locks of each call, with one more; and the order of a lock phase.
+use Rattle.std.proofs.Common.{◌≡◌, refl, sym, ap, subst, ◌∙◌, arith, inl, inr, length-set}
+use Rattle.std.specs.Prelude.{ℕ, zero, suc, ◌<◌, ◌⊎◌, List, [], ◌∷◌, ◌++◌, Some, Contains, length, map, slice_get, slice_index_or, slice_set}
+use Rattle.std.specs.List.{AllByRecursion}
+use Rattle.std.proofs.lemmas.Bool.{cases_eq}
+use Rattle.std.proofs.lemmas.List.{map-set, get_or-set_same, get_or-set_other, get_or-map, length-map}
+use Rattle.std.proofs.lemmas.List.Elements.{Contains-append_left, Contains-push}
+use Rattle.fop_types.specs.declared.cells.Cell.{Cell}
+use Rattle.fop_types.specs.declared.jobs.SetPlan.{SetPlan}
+use Rattle.fop_types.specs.declared.messages.BrickReq.{BrickReq}
+use Rattle.fop_types.specs.declared.messages.BrickReq.TheVariants as req
+use Rattle.fop_types.specs.declared.messages.Input.{Input}
+use Rattle.fop_types.specs.declared.messages.Input.TheVariants as input
+use Rattle.wire_messages.specs.Messages.{input_in}
+use Rattle.wire_messages.specs.declared.messages.Message.{Message}
+use Rattle.wire_messages.specs.declared.messages.Message.TheVariants.{Whole, Wrong}
+use Rattle.mount_log.specs.Locks.{IsLock, IsAsked, IsLastPhase}
+use Rattle.mount_log.specs.declared.logs.Log.{Log}
+use Rattle.mount_log.specs.declared.logs.SentLine.{SentLine}
+use Rattle.error_audit.specs.LockTable.{locks_at, HasLock, AreKept, IsRequestNoted, IsInputNoted, IsNoted, IsLineNoted, HaveLocks, IsBehind, IsFollowed, IsLockOn}
+use Rattle.error_audit.specs.declared.locks.LockAt.{LockAt}
+
+-- ---- one more
+
+module _ {V : Type 0} (f : V → List LockAt) (qs : List V) (before q : V) (call : ℕ) (lock : LockAt) (low : call < length qs) (is : before ≡ slice_index_or qs call before) (pushed : f q ≡ f before ++ lock ∷ []) where
+  abbrev new : List (List LockAt)
+  new = map f (slice_set qs call q)
+
+  set_is : (c : ℕ) → locks_at new c ≡ slice_index_or (slice_set (map f qs) call (f q)) c []
+  set_is c = ap (λ (l : List (List LockAt)). locks_at l c) (map-set f qs call q)
+
+  own : locks_at new call ≡ f before ++ lock ∷ []
+  own = set_is call ∙ get_or-set_same (map f qs) call (f q) [] (omega (arith, length-map qs f, low)) ∙ pushed
+
+  old : locks_at (map f qs) call ≡ f before
+  old = get_or-map f qs call before [] low ∙ ap f (sym is)
+
+  pub put_there : Contains (locks_at new call) lock
+  put_there = subst (λ (l : List LockAt). Contains l lock) (sym own) (Contains-push (f before) lock)
+
+  stays : (c : ℕ) (other : LockAt) → Contains (locks_at (map f qs) c) other → Contains (locks_at new c) other
+  stays c other there = by (cases_eq call c) where
+    by : (call ≡ c) ⊎ (call ≡ c → ⊥) → Contains (locks_at new c) other
+    by (inl e) =
+        let at_call : Contains (locks_at (map f qs) call) other = subst (λ (n : ℕ). Contains (locks_at (map f qs) n) other) (sym e) there in
+        subst (λ (n : ℕ). Contains (locks_at new n) other) e
+        (subst (λ (l : List LockAt). Contains l other) (sym own) (Contains-append_left (f before) (lock ∷ []) other (subst (λ (l : List LockAt). Contains l other) old at_call)))
+    by (inr d) = subst (λ (l : List LockAt). Contains l other) (sym (set_is c ∙ get_or-set_other (map f qs) call c (f q) [] (λ e. d (sym e)))) there
+
+  pub put_kept : AreKept (map f qs) new
+  put_kept = record { many = length-map (slice_set qs call q) f ∙ length-set qs call q ∙ sym (length-map qs f); kept = stays }
+
+-- ---- what was noted stays
+
+module _ (old new : List (List LockAt)) (kept : AreKept old new) (lock : LockAt) where
+  has_still : (call : ℕ) → HasLock old call lock → HasLock new call lock
+  has_still call has low = kept.kept call lock (has (subst (λ (n : ℕ). call < n) kept.many low))
+
+  request_still : (r : BrickReq) → IsRequestNoted old lock r → IsRequestNoted new lock r
+  request_still (req.Lock call shared cells) has = has_still call has
+  request_still (req.Unlock call) has = has
+  request_still (req.Mark change cells) has = has
+  request_still (req.Op change fd op) has = has
+  request_still (req.Post change cells mask) has = has
+  request_still (req.Fetch fd cell) has = has
+  request_still (req.Replace cell last content) has = has
+  request_still (req.Clear cells mask) has = has
+  request_still (req.Settle cells mask) has = has
+  request_still req.Index has = has
+  request_still (req.Open fd gfid) has = has
+  request_still (req.Release fd) has = has
+
+  input_still : (x : Input) → IsInputNoted old lock x → IsInputNoted new lock x
+  input_still (input.Request wind graph r) has = request_still r has
+  input_still (input.Connect graph version) has = has
+  input_still (input.Disconnect graph) has = has
+  input_still (input.Down serve) has = has
+  input_still input.Up has = has
+  input_still (input.FaultAt p number) has = has
+
+  pub noted_still : (m : Message Input) → IsNoted old lock m → IsNoted new lock m
+  noted_still (Whole x) has = input_still x has
+  noted_still (Wrong place) has = has
+
+-- ---- all
+
+pub all_kept : (lists : List (List LockAt)) → AreKept lists lists
+all_kept lists = record { many = refl; kept = λ call lock there. there }
+
+pub locks_there : (log : Log) (lists : List (List LockAt)) → ((k : ℕ) (line : SentLine) → slice_get log.sent k ≡ Some line → IsLineNoted lists k line) → HaveLocks log lists
+locks_there log lists all call at brick wind cells l =
+    let noted : IsNoted lists (record { at = at; brick = l.line.brick }) (Whole (input.Request wind l.graph (req.Lock call l.shared cells))) =
+    subst (IsNoted lists (record { at = at; brick = l.line.brick })) l.read (all at l.line l.there) in
+    subst (λ (b : ℕ). HasLock lists call (record { at = at; brick = b })) l.brick_is noted
+
+-- ---- the order
+
+module _ {X : Type 0} (P : X → Type 0) where
+  pub all_in : (xs : List X) (x : X) → AllByRecursion P xs → Contains xs x → P x
+  all_in [] x all (k, lt, is) = absurd (omega (arith, lt))
+  all_in (y ∷ xs) x all (zero, lt, is) = subst P is all.0
+  all_in (y ∷ xs) x all (suc k, lt, is) = all_in xs x all.1 (k, omega (arith, lt), is)
+
+pub in_order : (log : Log) (plan : SetPlan) (lists : List (List LockAt)) (call from : ℕ) (own : List LockAt) → HaveLocks log lists → call < length lists → own ≡ locks_at lists call → AllByRecursion (IsFollowed plan from own) own
+    → IsLastPhase log plan call from
+in_order log plan lists call from own have low is followed i k low_replica high_replica le lt one other =
+    let at : (n replica : ℕ) (a : IsAsked log plan call n replica) → Contains own (record { at = n; brick = a.brick }) =
+    λ n replica a. subst (λ (l : List LockAt). Contains l (record { at = n; brick = a.brick })) (sym is) (have call n a.brick a.wind a.cells a.lock low) in
+    let behind : AllByRecursion (IsBehind plan (record { at = i; brick = one.brick })) own = all_in (IsFollowed plan from own) own (record { at = i; brick = one.brick }) followed (at i low_replica one) le in
+    all_in (IsBehind plan (record { at = i; brick = one.brick })) own (record { at = k; brick = other.brick }) behind (at k high_replica other) lt low_replica high_replica one.brick_is other.brick_is
+
+-- ---- a lock
+
+pub lock_there : (log : Log) (call at brick wind : ℕ) (cells : List Cell) (line : SentLine) → slice_get log.sent at ≡ Some line → line.brick ≡ brick → IsLockOn call wind cells (input_in line.bytes) → IsLock log call at brick wind cells
+lock_there log call at brick wind cells line there brick_is on = by (input_in line.bytes) refl on where
+  by : (m : Message Input) → input_in line.bytes ≡ m → IsLockOn call wind cells m → IsLock log call at brick wind cells
+  by (Whole x) e l = record { line = line; there = there; brick_is = brick_is; graph = l.graph; shared = l.shared; read = e ∙ ap Whole l.is }
+  by (Wrong place) e l = absurd l
+
+-- the same lists, as they are read
+pub same_locks : {V : Type 0} (log : Log) (f : V → List LockAt) (qs rs : List V) → rs ≡ qs → HaveLocks log (map f qs) → HaveLocks log (map f rs)
+same_locks {V = V} log f qs rs same have = subst (λ (l : List V). HaveLocks log (map f l)) (sym same) have

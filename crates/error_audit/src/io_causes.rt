@@ -1,0 +1,433 @@
+//! Whether each I/O error has its cause.
+ghost use Rattle.std.specs.Prelude.{◌≡◌, ◌≢◌, ◌<◌, ◌≤◌, ◌^◌, [], true, map, option_copied, IfOk, IfSome};
+ghost use Rattle.std.specs.List.{AllByRecursion};
+ghost use Rattle.mount_log.specs.Causes.{IsLost, IsFaulted, IsQuorumLost, IsFault, set_of_call, set_named, HasEvidence, HasCause, IsCaused, AreCaused};
+ghost use Rattle.mount_log.specs.Connections.{graph_of_call};
+ghost use Rattle.mount_log.specs.Submissions.{submitted_at};
+ghost use Rattle.error_audit.specs.Evidence.{HaveNumbers};
+ghost use Rattle.error_audit.specs.IoCauses.{AreTables, IsPlain};
+ghost use Rattle.error_audit.specs.LockTable.{HaveLocks};
+
+use crate::brick_replies::is_faulted;
+use crate::connections::{Opening, by_brick, openings_at, openings_of};
+use crate::enough::{are_enough, push_failed, push_lost};
+use crate::evidence::{Clues, Found, clues_of, find_loss};
+use crate::locks::{LockAt, locks_of};
+use crate::losses::{Span, is_lost};
+use crate::splits::is_split;
+use fop_types::{Answer, IoError, SetPlan};
+use graph_build::Plan;
+use log_audit::call_graphs::{CallAt, call_at, calls_of, graphs_of, set_of};
+use mount_log::{Log, ReplyLine};
+use script_lang::Script;
+use std::alloc::{AllocError, Global};
+use wire_messages::messages_read_back;
+
+/// What is looked up in a log: its calls, the volfiles of its graphs, the connections that were opened, the locks of each
+/// call, and clues to where the evidence is.
+#[derive(Drop)]
+pub struct Tables {
+    pub calls: Vec<CallAt>,
+    pub volfiles: Vec<u8>,
+    pub openings: Vec<Vec<Opening>>,
+    pub locks: Vec<Vec<LockAt>>,
+    pub clues: Clues,
+}
+
+fn tables_of(alloc: Global, script: &Script, log: &Log) -> Result<Tables, AllocError>
+    ensures { IfOk result (AreTables script.now log.now) }
+{
+    let calls = calls_of(alloc, log.events.as_slice())?;
+    let volfiles = graphs_of(alloc, script, log)?;
+    let all = openings_of(alloc, log.sent.as_slice())?;
+    let openings = by_brick(alloc, all.as_slice())?;
+    let locks = locks_of(alloc, log, calls.len().saturating_add(1))?;
+    let clues = clues_of(alloc, log)?;
+    Ok(Tables {
+        calls,
+        volfiles,
+        openings,
+        locks,
+        clues,
+    })
+}
+
+// ---- lost quorum
+
+fn is_pair_lost(
+    alloc: Global,
+    log: &Log,
+    tables: &Tables,
+    plan: &SetPlan,
+    reply: &ReplyLine,
+    span: Span,
+    pair: &(u8, u32),
+) -> Result<bool, AllocError>
+    requires numbers { HaveNumbers log.now span.graph (map (λ l. l.items) tables.now.openings.items) }
+    requires graph { span.graph ≡ graph_of_call log.now reply.now.call }
+    requires since { span.since ≡ submitted_at log.now reply.now.call }
+    ensures { IfOk result (λ yes. yes ≡ true → IsLost log.now plan.now reply.now.call reply.now.event pair.now) }
+{
+    let openings = openings_at(tables.openings.as_slice(), pair.0);
+    let loss = find_loss(openings, &tables.clues, span, reply.event, pair);
+    let yes = is_lost(alloc, log, openings, plan, reply, span, pair, loss)?;
+    Ok(yes)
+}
+
+fn are_lost(
+    alloc: Global,
+    log: &Log,
+    tables: &Tables,
+    plan: &SetPlan,
+    reply: &ReplyLine,
+    span: Span,
+    lost: &[(u8, u32)],
+) -> Result<bool, AllocError>
+    requires numbers { HaveNumbers log.now span.graph (map (λ l. l.items) tables.now.openings.items) }
+    requires graph { span.graph ≡ graph_of_call log.now reply.now.call }
+    requires since { span.since ≡ submitted_at log.now reply.now.call }
+    ensures { IfOk result (λ yes. yes ≡ true → AllByRecursion (IsLost log.now plan.now reply.now.call reply.now.event) lost.now) }
+{
+    for pair in lost {
+        if !is_pair_lost(alloc, log, tables, plan, reply, span, pair)? {
+            return Ok(false);
+        }
+    }
+    Ok(true)
+}
+
+fn is_quorum_lost(
+    alloc: Global,
+    log: &Log,
+    tables: &Tables,
+    plan: &SetPlan,
+    reply: &ReplyLine,
+    span: Span,
+    lost: &[(u8, u32)],
+) -> Result<bool, AllocError>
+    requires numbers { HaveNumbers log.now span.graph (map (λ l. l.items) tables.now.openings.items) }
+    requires graph { span.graph ≡ graph_of_call log.now reply.now.call }
+    requires since { span.since ≡ submitted_at log.now reply.now.call }
+    ensures { IfOk result (λ yes. yes ≡ true → IsQuorumLost log.now plan.now reply.now.call reply.now.event lost.now) }
+{
+    let mut bricks = Vec::new(alloc);
+    if !push_lost(&mut bricks, lost)? || !are_enough(plan, bricks.as_slice()) {
+        return Ok(false);
+    }
+    let yes = are_lost(alloc, log, tables, plan, reply, span, lost)?;
+    Ok(yes)
+}
+
+// ---- faults
+
+fn is_fault_found(
+    alloc: Global,
+    log: &Log,
+    plan: &SetPlan,
+    reply: &ReplyLine,
+    pair: &(u8, u64),
+    found: &[Found],
+) -> Result<bool, AllocError>
+    ensures { IfOk result (λ yes. yes ≡ true → IsFaulted log.now plan.now reply.now.call reply.now.event pair.now) }
+{
+    for one in found {
+        if one.brick != pair.0 || one.taken != pair.1 {
+            continue;
+        }
+        if is_faulted(alloc, log, plan, reply, pair, one.at)? {
+            return Ok(true);
+        }
+    }
+    Ok(false)
+}
+
+fn are_faulted(
+    alloc: Global,
+    log: &Log,
+    plan: &SetPlan,
+    reply: &ReplyLine,
+    found: &[Found],
+    faults: &[(u8, u64)],
+) -> Result<bool, AllocError>
+    ensures { IfOk result (λ yes. yes ≡ true → AllByRecursion (IsFaulted log.now plan.now reply.now.call reply.now.event) faults.now) }
+{
+    for pair in faults {
+        if !is_fault_found(alloc, log, plan, reply, pair, found)? {
+            return Ok(false);
+        }
+    }
+    Ok(true)
+}
+
+fn is_some(faults: &[(u8, u64)]) -> bool
+    ensures { result ≡ true → faults.now ≢ [] }
+{
+    !faults.is_empty()
+}
+
+fn is_fault(
+    alloc: Global,
+    log: &Log,
+    tables: &Tables,
+    plan: &SetPlan,
+    reply: &ReplyLine,
+    span: Span,
+    faults: &[(u8, u64)],
+    lost: &[(u8, u32)],
+) -> Result<bool, AllocError>
+    requires numbers { HaveNumbers log.now span.graph (map (λ l. l.items) tables.now.openings.items) }
+    requires graph { span.graph ≡ graph_of_call log.now reply.now.call }
+    requires since { span.since ≡ submitted_at log.now reply.now.call }
+    ensures { IfOk result (λ yes. yes ≡ true → IsFault log.now plan.now reply.now.call reply.now.event faults.now lost.now) }
+{
+    let mut bricks = Vec::new(alloc);
+    if !is_some(faults) || !push_failed(&mut bricks, faults)? {
+        return Ok(false);
+    }
+    if !push_lost(&mut bricks, lost)? || !are_enough(plan, bricks.as_slice()) {
+        return Ok(false);
+    }
+    if !are_faulted(alloc, log, plan, reply, tables.clues.of(reply.call), faults)? {
+        return Ok(false);
+    }
+    let yes = are_lost(alloc, log, tables, plan, reply, span, lost)?;
+    Ok(yes)
+}
+
+// ---- all
+
+fn set_named(error: &IoError) -> u8
+    ensures { result ≡ set_named error.now }
+{
+    match error {
+        IoError::Quorum { set, .. } => *set,
+        IoError::Split { set, .. } => *set,
+        IoError::Fault { set, .. } => *set,
+    }
+}
+
+fn has_evidence(
+    alloc: Global,
+    log: &Log,
+    tables: &Tables,
+    plan: &SetPlan,
+    reply: &ReplyLine,
+    span: Span,
+    error: &IoError,
+) -> Result<bool, AllocError>
+    requires numbers { HaveNumbers log.now span.graph (map (λ l. l.items) tables.now.openings.items) }
+    requires locks { HaveLocks log.now (map (λ l. l.items) tables.now.locks.items) }
+    requires graph { span.graph ≡ graph_of_call log.now reply.now.call }
+    requires since { span.since ≡ submitted_at log.now reply.now.call }
+    ensures { IfOk result (λ yes. yes ≡ true → HasEvidence log.now plan.now reply.now.call reply.now.event error.now) }
+{
+    match error {
+        IoError::Quorum { lost, .. } => {
+            let lost = lost.as_slice();
+            let yes = is_quorum_lost(alloc, log, tables, plan, reply, span, lost)?;
+            Ok(yes)
+        }
+        IoError::Split { rows, .. } => {
+            let yes = is_split(alloc, log, tables, plan, reply, span, rows.as_slice())?;
+            Ok(yes)
+        }
+        IoError::Fault { faults, lost, .. } => {
+            let faults = faults.as_slice();
+            let lost = lost.as_slice();
+            let yes = is_fault(alloc, log, tables, plan, reply, span, faults, lost)?;
+            Ok(yes)
+        }
+    }
+}
+
+fn fits(graph: u64) -> bool
+    ensures { result ≡ true → graph < 2 ^ 32 }
+{
+    graph <= 4294967295
+}
+
+fn unit_of(graph: u64) -> u32
+    requires { graph < 2 ^ 32 }
+    ensures { result ≡ graph }
+{
+    graph as u32
+}
+
+// The graph and the submission of a reply's call, where the graph has a number that an input has.
+fn span_of(script: &Script, log: &Log, tables: &Tables, reply: &ReplyLine) -> Option<Span>
+    requires { AreTables script.now log.now tables.now }
+    ensures graph { IfSome result (λ span. span.graph ≡ graph_of_call log.now reply.now.call) }
+    ensures since { IfSome result (λ span. span.since ≡ submitted_at log.now reply.now.call) }
+    ensures from_one { IfSome result (λ span. 1 ≤ span.graph) }
+    ensures numbers { IfSome result (λ span. HaveNumbers log.now span.graph (map (λ l. l.items) tables.now.openings.items)) }
+{
+    let _ = script;
+    let _ = log;
+    messages_read_back();
+    let Some(at) = call_at(tables.calls.as_slice(), reply.call) else {
+        return None;
+    };
+    if !fits(at.graph) {
+        return None;
+    }
+    Some(Span {
+        graph: unit_of(at.graph),
+        since: at.event,
+    })
+}
+
+// A set of the graph of a reply's call.
+fn plan_of<'a>(
+    script: &Script,
+    plans: &'a [Plan],
+    log: &Log,
+    tables: &Tables,
+    reply: &ReplyLine,
+    span: Span,
+    set: u8,
+) -> Option<&'a SetPlan>
+    requires tables { AreTables script.now log.now tables.now }
+    requires graph { span.graph ≡ graph_of_call log.now reply.now.call }
+    requires from_one { 1 ≤ span.graph }
+    ensures { option_copied result ≡ set_of_call script.now plans.now log.now reply.now.call set }
+{
+    let _ = script;
+    let _ = log;
+    let _ = reply;
+    set_of(plans, tables.volfiles.as_slice(), span.graph as u64, set)
+}
+
+fn has_cause_in(
+    alloc: Global,
+    script: &Script,
+    plans: &[Plan],
+    log: &Log,
+    tables: &Tables,
+    reply: &ReplyLine,
+    span: Span,
+    error: &IoError,
+) -> Result<bool, AllocError>
+    requires tables { AreTables script.now log.now tables.now }
+    requires graph { span.graph ≡ graph_of_call log.now reply.now.call }
+    requires since { span.since ≡ submitted_at log.now reply.now.call }
+    requires from_one { 1 ≤ span.graph }
+    requires numbers { HaveNumbers log.now span.graph (map (λ l. l.items) tables.now.openings.items) }
+    ensures { IfOk result (λ yes. yes ≡ true → HasCause script.now plans.now log.now reply.now error.now) }
+{
+    let Some(plan) = plan_of(script, plans, log, tables, reply, span, set_named(error)) else {
+        return Ok(false);
+    };
+    let yes = has_evidence(alloc, log, tables, plan, reply, span, error)?;
+    Ok(yes)
+}
+
+fn has_cause(
+    alloc: Global,
+    script: &Script,
+    plans: &[Plan],
+    log: &Log,
+    tables: &Tables,
+    reply: &ReplyLine,
+    error: &IoError,
+) -> Result<bool, AllocError>
+    requires { AreTables script.now log.now tables.now }
+    ensures { IfOk result (λ yes. yes ≡ true → HasCause script.now plans.now log.now reply.now error.now) }
+{
+    let Some(span) = span_of(script, log, tables, reply) else {
+        return Ok(false);
+    };
+    let yes = has_cause_in(alloc, script, plans, log, tables, reply, span, error)?;
+    Ok(yes)
+}
+
+fn is_caused(
+    alloc: Global,
+    script: &Script,
+    plans: &[Plan],
+    log: &Log,
+    tables: &Tables,
+    reply: &ReplyLine,
+) -> Result<bool, AllocError>
+    requires { AreTables script.now log.now tables.now }
+    ensures { IfOk result (λ yes. yes ≡ true → IsCaused script.now plans.now log.now reply.now reply.now.answer) }
+{
+    match &reply.answer {
+        Answer::Io(error) => {
+            let yes = has_cause(alloc, script, plans, log, tables, reply, error)?;
+            Ok(yes)
+        }
+        _ => Ok(true),
+    }
+}
+
+fn are_caused(
+    alloc: Global,
+    script: &Script,
+    plans: &[Plan],
+    log: &Log,
+    tables: &Tables,
+    replies: &[ReplyLine],
+) -> Result<bool, AllocError>
+    requires { AreTables script.now log.now tables.now }
+    ensures { IfOk result (λ yes. yes ≡ true → AllByRecursion (λ reply. IsCaused script.now plans.now log.now reply reply.answer) replies.now) }
+{
+    for reply in replies {
+        if !is_caused(alloc, script, plans, log, tables, reply)? {
+            return Ok(false);
+        }
+    }
+    Ok(true)
+}
+
+// Whether a reply is no I/O error.
+fn is_plain(reply: &ReplyLine) -> bool
+    ensures { result ≡ true → IsPlain reply.now.answer }
+{
+    match &reply.answer {
+        Answer::Io(_) => false,
+        _ => true,
+    }
+}
+
+fn are_plain(replies: &[ReplyLine]) -> bool
+    ensures { result ≡ true → AllByRecursion (λ reply. IsPlain reply.answer) replies.now }
+{
+    for reply in replies {
+        if !is_plain(reply) {
+            return false;
+        }
+    }
+    true
+}
+
+// Whether no reply is an I/O error.
+fn have_none(script: &Script, plans: &[Plan], log: &Log) -> bool
+    ensures { result ≡ true → AreCaused script.now plans.now log.now }
+{
+    let _ = script;
+    let _ = plans;
+    are_plain(log.replies.as_slice())
+}
+
+/// Whether each reply that is an I/O error has its cause: bricks that were lost to the call's graph, bricks that answered a
+/// request of the call by a fault, or rows that bricks showed in its last lock phase, by which there is no source. `plans` are
+/// those of the script's volfiles.
+///
+/// # Errors
+/// Out of memory.
+pub fn io_errors_are_caused(
+    alloc: Global,
+    script: &Script,
+    plans: &[Plan],
+    log: &Log,
+) -> Result<bool, AllocError>
+    ensures { IfOk result (λ yes. yes ≡ true → AreCaused script.now plans.now log.now) }
+{
+    if have_none(script, plans, log) {
+        return Ok(true);
+    }
+    let tables = tables_of(alloc, script, log)?;
+    let replies = log.replies.as_slice();
+    let yes = are_caused(alloc, script, plans, log, &tables, replies)?;
+    Ok(yes)
+}

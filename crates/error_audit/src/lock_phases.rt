@@ -1,0 +1,172 @@
+//! The last lock phase of a call.
+ghost use Rattle.std.specs.Prelude.{◌≡◌, ◌<◌, ℕ, true, Some, map, slice_get, IfOk, IfSome};
+ghost use Rattle.std.specs.List.{AllByRecursion};
+ghost use Rattle.fop_types.specs.declared.messages.Input.TheVariants as input;
+ghost use Rattle.wire_messages.specs.Messages.{input_in};
+ghost use Rattle.mount_log.specs.Locks.{IsLock, IsLastPhase};
+ghost use Rattle.error_audit.specs.LockTable.{HaveLocks, AreBehind, IsBehind, IsLockOf, IsLockOn, IsFollowed};
+
+use crate::locks::{LockAt, locks_at};
+use fop_types::{BrickReq, Cell, Input, Seq, SetPlan};
+use log_audit::by_place::line_at;
+use mount_log::{Log, SentLine};
+use std::alloc::{AllocError, Global};
+use wire_messages::{Message, input_of};
+
+/// A lock request: the number of its wind, and its cells.
+#[derive(Drop)]
+pub struct Lock {
+    pub wind: u64,
+    pub cells: Seq<Cell>,
+}
+
+// ---- a lock
+
+fn lock_in(wind: u64, req: BrickReq, call: u32) -> Option<Lock>
+    ensures { (graph : ℕ) → IfSome result (λ lock. IsLockOf call lock.wind lock.cells (input.Request wind graph req)) }
+{
+    match req {
+        BrickReq::Lock {
+            call: named,
+            shared: _,
+            cells,
+        } => {
+            if named == call {
+                Some(Lock { wind, cells })
+            } else {
+                None
+            }
+        }
+        _ => None,
+    }
+}
+
+fn lock_of(sent: Input, call: u32) -> Option<Lock>
+    ensures { IfSome result (λ lock. IsLockOf call lock.wind lock.cells sent) }
+{
+    match sent {
+        Input::Request {
+            wind,
+            graph: _,
+            req,
+        } => lock_in(wind, req, call),
+        _ => None,
+    }
+}
+
+fn lock_on(alloc: Global, line: &SentLine, call: u32, brick: u8) -> Result<Option<Lock>, AllocError>
+    ensures brick { IfOk result (λ found. IfSome found (λ lock. line.now.brick ≡ brick)) }
+    ensures lock { IfOk result (λ found. IfSome found (λ lock. IsLockOn call lock.wind lock.cells (input_in line.now.bytes))) }
+{
+    if line.brick != brick {
+        return Ok(None);
+    }
+    match input_of(alloc, line.bytes.as_slice())? {
+        Message::Whole(sent) => Ok(lock_of(sent, call)),
+        Message::Wrong { place: _ } => Ok(None),
+    }
+}
+
+/// The call's lock request to a brick at this place among what was sent, if there is one.
+///
+/// # Errors
+/// Out of memory.
+pub fn lock_at(
+    alloc: Global,
+    log: &Log,
+    at: usize,
+    call: u32,
+    brick: u8,
+) -> Result<Option<Lock>, AllocError>
+    ensures { IfOk result (λ found. IfSome found (λ lock. IsLock log.now call at brick lock.wind lock.cells)) }
+{
+    match line_at(log, at) {
+        Some(line) => {
+            let found = lock_on(alloc, line, call, brick)?;
+            Ok(found)
+        }
+        None => Ok(None),
+    }
+}
+
+// ---- the order of locks
+
+fn is_behind_all(bricks: &[u8], low: usize, other: u8) -> bool
+    ensures { result ≡ true → (high : ℕ) → slice_get bricks.now high ≡ Some other → low < high }
+{
+    for high in 0..bricks.len() {
+        if bricks[high] == other && high <= low {
+            return false;
+        }
+    }
+    true
+}
+
+fn are_behind(bricks: &[u8], one: u8, other: u8) -> bool
+    ensures { result ≡ true → AreBehind bricks.now one other }
+{
+    for low in 0..bricks.len() {
+        if bricks[low] == one && !is_behind_all(bricks, low, other) {
+            return false;
+        }
+    }
+    true
+}
+
+fn is_behind(plan: &SetPlan, one: LockAt, other: LockAt) -> bool
+    ensures { result ≡ true → IsBehind plan.now one other }
+{
+    if other.at <= one.at {
+        return true;
+    }
+    are_behind(plan.bricks.as_slice(), one.brick, other.brick)
+}
+
+fn all_behind(plan: &SetPlan, one: LockAt, locks: &[LockAt]) -> bool
+    ensures { result ≡ true → AllByRecursion (IsBehind plan.now one) locks.now }
+{
+    for other in locks {
+        if !is_behind(plan, one, *other) {
+            return false;
+        }
+    }
+    true
+}
+
+fn is_followed(plan: &SetPlan, one: LockAt, locks: &[LockAt], from: usize) -> bool
+    ensures { result ≡ true → IsFollowed plan.now from locks.now one }
+{
+    if one.at < from {
+        return true;
+    }
+    all_behind(plan, one, locks)
+}
+
+fn are_in_order(plan: &SetPlan, locks: &[LockAt], from: usize) -> bool
+    ensures { result ≡ true → AllByRecursion (IsFollowed plan.now from locks.now) locks.now }
+{
+    for one in locks {
+        if !is_followed(plan, *one, locks, from) {
+            return false;
+        }
+    }
+    true
+}
+
+/// Whether from a place on the call asks replicas of the set in their order, each at most once.
+pub fn is_last_phase(
+    log: &Log,
+    plan: &SetPlan,
+    locks: &[Vec<LockAt>],
+    call: u32,
+    from: usize,
+) -> bool
+    requires { HaveLocks log.now (map (λ l. l.items) locks.now) }
+    ensures { result ≡ true → IsLastPhase log.now plan.now call from }
+{
+    let _ = log;
+    match locks_at(locks, call) {
+        Some(own) => are_in_order(plan, own, from),
+        None => false,
+    }
+}

@@ -1,0 +1,130 @@
+//! Whether a call was answered by the rows of its last lock phase, where they leave no source.
+ghost use Rattle.std.specs.Prelude.{◌≡◌, ◌≤◌, true, is_some, map, IfOk};
+ghost use Rattle.std.specs.List.{AllZip, count_by};
+ghost use Rattle.mount_log.specs.Causes.{HasShown, IsSplit};
+ghost use Rattle.mount_log.specs.Connections.{graph_of_call};
+ghost use Rattle.mount_log.specs.Locks.{IsLastPhase};
+ghost use Rattle.mount_log.specs.Submissions.{submitted_at};
+ghost use Rattle.error_audit.specs.Evidence.{HaveNumbers};
+ghost use Rattle.error_audit.specs.LockTable.{HaveLocks};
+
+use crate::grants::{LockPhase, shown_in};
+use crate::io_causes::Tables;
+use crate::lock_phases::is_last_phase;
+use crate::losses::Span;
+use crate::sources::{has_no_source, is_sized};
+use crate::split_clues::{find_phase, places_of};
+use crate::split_rows::are_rows;
+use fop_types::{Row, Seq, SetPlan, SplitRow};
+use mount_log::{Log, ReplyLine};
+use std::alloc::{AllocError, Global};
+
+fn are_quorum(plan: &SetPlan, shown: &[Option<Seq<Row>>]) -> bool
+    ensures { result ≡ true → plan.now.q ≤ count_by is_some shown.now }
+{
+    plan.q as usize <= shown.iter().filter(|one| one.is_some()).count()
+}
+
+// Whether by what the bricks of a set showed these rows are answered, and leave no source.
+fn is_answered(
+    alloc: Global,
+    log: &Log,
+    tables: &Tables,
+    plan: &SetPlan,
+    reply: &ReplyLine,
+    phase: &LockPhase,
+    shown: &[Option<Seq<Row>>],
+    rows: &[SplitRow],
+) -> Result<bool, AllocError>
+    requires phase { IsLastPhase log.now plan.now reply.now.call phase.now.from }
+    requires shown { AllZip (HasShown log.now plan.now reply.now.call reply.now.event phase.now.from phase.now.cells) plan.now.bricks shown.now }
+    ensures { IfOk result (λ yes. yes ≡ true → IsSplit log.now plan.now reply.now.call reply.now.event rows.now) }
+{
+    if !is_sized(plan) || !are_quorum(plan, shown) {
+        return Ok(false);
+    }
+    let cells = phase.cells.as_slice();
+    let places = places_of(alloc, rows, cells)?;
+    if !are_rows(
+        alloc,
+        rows,
+        plan.bricks.as_slice(),
+        shown,
+        cells,
+        places.as_slice(),
+    )? {
+        return Ok(false);
+    }
+    let marks = tables.clues.marks_of(cells);
+    let yes = has_no_source(alloc, log, plan, phase, shown, places.as_slice(), marks)?;
+    Ok(yes)
+}
+
+// Whether these are the rows of a lock phase, and leave no source.
+fn is_split_in(
+    alloc: Global,
+    log: &Log,
+    tables: &Tables,
+    plan: &SetPlan,
+    reply: &ReplyLine,
+    span: Span,
+    phase: &LockPhase,
+    rows: &[SplitRow],
+) -> Result<bool, AllocError>
+    requires numbers { HaveNumbers log.now span.graph (map (λ l. l.items) tables.now.openings.items) }
+    requires locks { HaveLocks log.now (map (λ l. l.items) tables.now.locks.items) }
+    requires graph { span.graph ≡ graph_of_call log.now reply.now.call }
+    requires since { span.since ≡ submitted_at log.now reply.now.call }
+    ensures { IfOk result (λ yes. yes ≡ true → IsSplit log.now plan.now reply.now.call reply.now.event rows.now) }
+{
+    if !is_last_phase(log, plan, tables.locks.as_slice(), reply.call, phase.from) {
+        return Ok(false);
+    }
+    let found = shown_in(alloc, log, tables, plan, reply, span, phase, rows)?;
+    match found {
+        Some(shown) => {
+            let yes = is_answered(
+                alloc,
+                log,
+                tables,
+                plan,
+                reply,
+                phase,
+                shown.as_slice(),
+                rows,
+            )?;
+            Ok(yes)
+        }
+        None => Ok(false),
+    }
+}
+
+/// Whether the rows are those that the bricks of a set showed in the last lock phase of a call, but for bricks that were out,
+/// and leave no source.
+///
+/// # Errors
+/// Out of memory.
+pub fn is_split(
+    alloc: Global,
+    log: &Log,
+    tables: &Tables,
+    plan: &SetPlan,
+    reply: &ReplyLine,
+    span: Span,
+    rows: &[SplitRow],
+) -> Result<bool, AllocError>
+    requires numbers { HaveNumbers log.now span.graph (map (λ l. l.items) tables.now.openings.items) }
+    requires locks { HaveLocks log.now (map (λ l. l.items) tables.now.locks.items) }
+    requires graph { span.graph ≡ graph_of_call log.now reply.now.call }
+    requires since { span.since ≡ submitted_at log.now reply.now.call }
+    ensures { IfOk result (λ yes. yes ≡ true → IsSplit log.now plan.now reply.now.call reply.now.event rows.now) }
+{
+    let found = find_phase(alloc, log, tables.locks.as_slice(), reply.call, rows)?;
+    match found {
+        Some(phase) => {
+            let yes = is_split_in(alloc, log, tables, plan, reply, span, &phase, rows)?;
+            Ok(yes)
+        }
+        None => Ok(false),
+    }
+}

@@ -1,0 +1,61 @@
+-- The causes of what was sent, from what an audit finds.
+use Rattle.std.proofs.Common.{◌≡◌, refl, sym, ap, ◌∙◌, arith}
+use Rattle.std.specs.Prelude.{ℕ, zero, suc, ◌≢◌, ◌≤◌, ◌-◌, ◌==◌, if◌then◌else◌, Bool, true, false, List, Option, None, Some, is_some, Result, Ok, Err, IfOk, slice_get}
+use Rattle.std.proofs.lemmas.Bool.{eqb-false}
+use Rattle.fop_types.specs.declared.messages.Input.TheVariants as input
+use Rattle.fop_types.specs.declared.messages.Proc.{Proc}
+use Rattle.wire_xdr.specs.WireText.{input_text}
+use Rattle.mount_log.specs.Connects.{IsForDown, ByArmed}
+use Rattle.mount_log.specs.Follows.{IsEvent, IsArmedLine}
+use Rattle.mount_log.specs.Procedures.{proc_in}
+use Rattle.mount_log.specs.declared.logs.HubEvent.{HubEvent}
+use Rattle.mount_log.specs.declared.logs.Log.{Log}
+use Rattle.mount_log.specs.declared.logs.SentLine.{SentLine}
+use Rattle.log_audit.specs.Switches.{event_of}
+use Rattle.line_audit.specs.Caused.{IsBeforeRequest}
+use Rattle.log_audit.specs.Armed.{AreArmedFrom}
+use Rattle.log_audit.specs.declared.armed_lines.ArmedLines.{ArmedLines}
+
+-- a true answer means more
+pub ok_gives : {E A B : Type 0} → (r : Result Bool E) → IfOk r (λ yes. yes ≡ true → A) → (A → B) → IfOk r (λ yes. yes ≡ true → B)
+ok_gives (Ok b) a f = λ is. f (a is)
+ok_gives (Err e) a f = a
+
+pub event_there : (log : Log) (number : ℕ) (e : HubEvent) → event_of log number ≡ Some e → IsEvent log number e
+event_there log number e is = by (number == 0) refl is where
+  from_one : (n : ℕ) → n ≢ 0 → 1 ≤ n
+  from_one zero ne = absurd (ne refl)
+  from_one (suc n) ne = omega arith
+
+  by : (b : Bool) → (number == 0) ≡ b → (if b then None else slice_get log.events (number - 1)) ≡ Some e → IsEvent log number e
+  by true z none = absurd cc
+  by false z there = record { from_one = from_one number (eqb-false number 0 z); there = there }
+
+-- ---- downs
+
+-- two armed lines of one stretch are of the same event and brick
+alike : {event brick : ℕ} {a b : SentLine} → IsArmedLine event brick a → IsArmedLine event brick b → IsArmedLine a.event a.brick b
+alike x y = record { armable = y.armable; same_brick = y.same_brick ∙ sym x.same_brick; same_event = y.same_event ∙ sym x.same_event }
+
+abbrev with_bytes : SentLine → List ℕ → SentLine
+with_bytes line bytes = record { event = line.event; brick = line.brick; bytes = bytes }
+
+pub down_armed : (log : Log) (k : ℕ) (line : SentLine) (serve : ℕ) (armed : ArmedLines) → slice_get log.sent k ≡ Some line → line.bytes ≡ input_text (input.Down serve) → AreArmedFrom log.sent k armed
+    → IsBeforeRequest log.sent k armed.stop line → IsForDown log line serve
+down_armed log k line serve armed there bytes is_run before = by (proc_in before.request.bytes) refl before.is_request where
+  by : (o : Option Proc) → proc_in before.request.bytes ≡ o → is_some o ≡ true → IsForDown log line serve
+  by None is none = absurd cc
+  by (Some p) is some = ByArmed p (record {
+    place = k;
+    request_at = armed.stop;
+    sent = input.Down serve;
+    request = before.request;
+    is_input = refl;
+    there = there ∙ ap (λ (b : List ℕ). Some (with_bytes line b)) bytes;
+    later = before.later;
+    between = λ j other behind below is_there. alike (is_run.each k line (omega arith) before.later there) (is_run.each j other (omega (arith, behind)) below is_there);
+    request_there = before.there;
+    same_brick = before.same_brick;
+    same_event = before.same_event;
+    is_request = is;
+  })

@@ -1,0 +1,9 @@
+pub mod Causing
+pub mod Carrying
+pub mod Tying
+pub mod Ending
+pub mod Linking
+pub mod Effecting
+pub mod Passing
+pub mod Wanting
+pub mod Lasting

@@ -1,0 +1,5 @@
+use Rattle.line_audit.specs.Linked.{AreZeros}
+use Rattle.line_audit.proofs.last_uses.zeros.Given as goal
+
+abbrev pub invariant-loop : goal.invariant-loop
+invariant-loop l = AreZeros l.until.items

@@ -1,0 +1,11 @@
+use Rattle.line_audit.proofs.ties.lines_tie.Goals as goal
+
+pub returns : goal.returns
+returns c = λ yes. record {
+  numbers = c.all_numbers_rise.ensures c.if-not-all_numbers_rise.false;
+  replies = c.replies_are_tied.ensures c.if-not-replies_are_tied.false;
+  winds = c.winds_are_tied.ensures c.if-not-winds_are_tied.false;
+  all = c.as_slice-sent_for.result.now;
+  requests = c.in_ok-requests_are_tied.ensures c.if-not-branch.false;
+  ends = c.in_ok-yes.ensures yes;
+}

@@ -1,0 +1,5 @@
+-- In reading order: causes of what was sent; connections, and what events do to them; ends of winds; ties.
+pub mod Caused
+pub mod Linked
+pub mod Ended
+pub mod Tied

@@ -1,0 +1,185 @@
+//! Whether each input that has a brick go down or up was sent for a cause.
+ghost use Rattle.std.specs.Prelude.{◌≡◌, Some, true, is_some, slice_get, IfOk};
+ghost use Rattle.script_lang.specs.declared.scripts.Action.TheVariants as action;
+ghost use Rattle.mount_log.specs.declared.logs.HubEvent.TheVariants as logged;
+ghost use Rattle.mount_log.specs.Connects.{IsForDown};
+ghost use Rattle.mount_log.specs.Follows.{IsEvent};
+ghost use Rattle.mount_log.specs.Procedures.{proc_in};
+ghost use Rattle.fop_types.specs.declared.messages.Input.TheVariants as input;
+ghost use Rattle.wire_xdr.specs.WireText.{input_text};
+ghost use Rattle.wire_messages.specs.Messages.{input_in};
+ghost use Rattle.log_audit.specs.Armed.{AreArmedFrom};
+ghost use Rattle.line_audit.specs.Caused.{IsBeforeRequest, IsInputCaused, IsCaused, AreCaused};
+
+use fop_types::Input;
+use log_audit::armed_lines::{ArmedLines, armed_at, none_armed};
+use log_audit::by_number::event_at;
+use log_audit::by_place::line_at;
+use log_audit::requests::is_request;
+use mount_log::{HubEvent, Log, SentLine};
+use script_lang::Action;
+use std::alloc::{AllocError, Global};
+use wire_messages::{Message, input_of};
+
+// ---- up
+
+fn is_up(a: &Action, brick: u8) -> bool
+    ensures { result ≡ true → a.now ≡ action.Up brick }
+{
+    match a {
+        Action::Up(at) => *at == brick,
+        _ => false,
+    }
+}
+
+fn acts_up(event: &HubEvent, brick: u8) -> bool
+    ensures { result ≡ true → event.now ≡ logged.Act (action.Up brick) }
+{
+    match event {
+        HubEvent::Act(a) => is_up(a, brick),
+        _ => false,
+    }
+}
+
+fn is_up_caused(log: &Log, line: &SentLine) -> bool
+    ensures { result ≡ true → IsEvent log.now line.now.event (logged.Act (action.Up line.now.brick)) }
+{
+    match event_at(log, line.event) {
+        Some(event) => acts_up(event, line.brick),
+        None => false,
+    }
+}
+
+// ---- down
+
+fn is_down(a: &Action, brick: u8, serve: u32) -> bool
+    ensures { result ≡ true → a.now ≡ action.Down brick serve }
+{
+    match a {
+        Action::Down(at, number) => *at == brick && *number == serve,
+        _ => false,
+    }
+}
+
+fn acts_down(event: &HubEvent, brick: u8, serve: u32) -> bool
+    ensures { result ≡ true → event.now ≡ logged.Act (action.Down brick serve) }
+{
+    match event {
+        HubEvent::Act(a) => is_down(a, brick, serve),
+        _ => false,
+    }
+}
+
+fn is_act_of_down(log: &Log, line: &SentLine, serve: u32) -> bool
+    ensures { result ≡ true → IsEvent log.now line.now.event (logged.Act (action.Down line.now.brick serve)) }
+{
+    match event_at(log, line.event) {
+        Some(event) => acts_down(event, line.brick, serve),
+        None => false,
+    }
+}
+
+fn is_request_line(line: &SentLine) -> bool
+    ensures { result ≡ is_some (proc_in line.now.bytes) }
+{
+    is_request(line.bytes.as_slice())
+}
+
+// Whether two lines were sent to the same brick in the same event.
+fn are_together(a: &SentLine, b: &SentLine) -> bool
+    ensures brick { result ≡ true → a.now.brick ≡ b.now.brick }
+    ensures event { result ≡ true → a.now.event ≡ b.now.event }
+{
+    a.brick == b.brick && a.event == b.event
+}
+
+// Whether the line at a place behind another is a request to the same brick in the same event.
+fn is_before_request(log: &Log, k: usize, next: usize, line: &SentLine) -> bool
+    ensures { result ≡ true → IsBeforeRequest log.now.sent k next line.now }
+{
+    if next <= k {
+        return false;
+    }
+    match line_at(log, next) {
+        Some(request) => are_together(request, line) && is_request_line(request),
+        None => false,
+    }
+}
+
+// The armed lines that the line at a place is among, behind those that the line before was.
+fn armed_by(
+    alloc: Global,
+    log: &Log,
+    at: usize,
+    before: ArmedLines,
+) -> Result<ArmedLines, AllocError>
+    requires { AreArmedFrom log.now.sent at before }
+    ensures { IfOk result (λ armed. AreArmedFrom log.now.sent at armed) }
+{
+    armed_at(alloc, log.sent.as_slice(), at, before)
+}
+
+// The armed lines that it is among are given.
+fn is_down_caused(log: &Log, k: usize, line: &SentLine, serve: u32, armed: ArmedLines) -> bool
+    requires there { slice_get log.now.sent k ≡ Some line.now }
+    requires bytes { line.now.bytes ≡ input_text (input.Down serve) }
+    requires armed { AreArmedFrom log.now.sent k armed }
+    ensures { result ≡ true → IsForDown log.now line.now serve }
+{
+    if is_act_of_down(log, line, serve) {
+        return true;
+    }
+    is_before_request(log, k, armed.stop, line)
+}
+
+// ---- all
+
+fn is_input_caused(log: &Log, k: usize, line: &SentLine, input: &Input, armed: ArmedLines) -> bool
+    requires there { slice_get log.now.sent k ≡ Some line.now }
+    requires bytes { line.now.bytes ≡ input_text input.now }
+    requires armed { AreArmedFrom log.now.sent k armed }
+    ensures { result ≡ true → IsInputCaused log.now line.now input.now }
+{
+    match input {
+        Input::Up => is_up_caused(log, line),
+        Input::Down { serve } => is_down_caused(log, k, line, *serve, armed),
+        _ => true,
+    }
+}
+
+fn is_caused(
+    alloc: Global,
+    log: &Log,
+    k: usize,
+    line: &SentLine,
+    armed: ArmedLines,
+) -> Result<bool, AllocError>
+    requires there { slice_get log.now.sent k ≡ Some line.now }
+    requires armed { AreArmedFrom log.now.sent k armed }
+    ensures { IfOk result (λ yes. yes ≡ true → IsCaused log.now line.now (input_in line.now.bytes)) }
+{
+    match input_of(alloc, line.bytes.as_slice())? {
+        Message::Whole(input) => Ok(is_input_caused(log, k, line, &input, armed)),
+        Message::Wrong { place: _ } => Ok(true),
+    }
+}
+
+/// Whether each line that was sent has its cause, as far as it has a brick go down or up.
+///
+/// # Errors
+/// Out of memory.
+pub fn lines_are_caused(alloc: Global, log: &Log) -> Result<bool, AllocError>
+    ensures { IfOk result (λ yes. yes ≡ true → AreCaused log.now) }
+{
+    let mut armed = none_armed();
+    for k in 0..log.sent.len() {
+        let Some(line) = line_at(log, k) else {
+            return Ok(false);
+        };
+        armed = armed_by(alloc, log, k, armed)?;
+        if !is_caused(alloc, log, k, line, armed)? {
+            return Ok(false);
+        }
+    }
+    Ok(true)
+}

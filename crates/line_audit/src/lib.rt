@@ -1,0 +1,33 @@
+//! Audits of the lines of a log: whether each has what it is of, and each that was sent its cause.
+//!
+//! ```text
+//!   lines_are_tied        all lines              replies, winds and requests are of their calls, events and graphs
+//!   connects_are_caused   what was sent, plans   connections and controls are sent exactly where they have a cause
+//! ```
+//!
+//! Each goes through the log a fixed number of times. As each audit of `log_audit`, it knows nothing of how the log came
+//! about: true says that its definition holds of the log; false alone says nothing, and an audit may ask for more than its
+//! definition, where every log of a run has it.
+#![tactic(auto)]
+
+mod causes;
+mod connects;
+mod downs;
+mod due;
+mod effects;
+mod event_links;
+mod in_time;
+mod known;
+mod last_uses;
+mod lines_sent;
+mod linked;
+mod links;
+mod tie_notes;
+mod tied_ends;
+mod tied_replies;
+mod tied_requests;
+mod tied_winds;
+mod ties;
+
+pub use connects::connects_are_caused;
+pub use ties::lines_are_tied;

@@ -1,0 +1,215 @@
+//! Whether graphs connect and disconnect in each event exactly as they are to.
+ghost use Rattle.std.specs.Prelude.{◌≡◌, ◌<◌, ◌≤◌, ◌+◌, ℕ, [], true, length, map, option_copied, slice_get, IfOk, IfSome};
+ghost use Rattle.wire_messages.specs.Messages.{MessagesReadBack};
+ghost use Rattle.line_audit.specs.Linked.{items_of, in_event, AreByEvent, IsEffectAt, IsKnown, AreGraphTables, IsLinked, AreLinked};
+
+use crate::due::{GraphTables, Moment};
+use crate::effects::{Effect, effect_of, newest_after};
+use crate::event_links::is_linked;
+use crate::known::Known;
+use crate::last_uses::last_uses;
+use crate::lines_sent::{Item, by_event, items_at};
+use graph_build::Plan;
+use log_audit::call_graphs::graphs_of;
+use mount_log::{HubEvent, Log};
+use script_lang::Script;
+use std::alloc::{AllocError, Global};
+use wire_messages::messages_read_back;
+
+// ---- an event
+
+// The start: graph 1 is made and connected.
+fn starts(
+    alloc: Global,
+    script: &Script,
+    plans: &[Plan],
+    log: &Log,
+    tables: &GraphTables,
+    known: &mut Known,
+    items: &[Item],
+) -> Result<bool, AllocError>
+    requires read { MessagesReadBack }
+    requires tables { AreGraphTables script.now log.now tables.now }
+    requires items { items.now ≡ in_event 0 (items_of log.now.sent) }
+    requires links { known.old.links.items ≡ [] }
+    requires closed { known.old.closed.items ≡ [] }
+    requires newest { known.old.newest ≡ 1 }
+    ensures linked { IfOk result (λ yes. yes ≡ true → IsLinked script.now plans.now log.now 0) }
+    ensures known { IfOk result (λ yes. yes ≡ true → IsKnown log.now 0 known.new) }
+{
+    let _ = script;
+    let now = Moment {
+        number: 0,
+        newest: 1,
+        effect: Effect::Started,
+    };
+    if !is_linked(log, plans, tables, known, now, items) {
+        return Ok(false);
+    }
+    known.pass(alloc, Effect::Started, 1, items)?;
+    Ok(true)
+}
+
+// The event at a place, behind what is known.
+fn passes(
+    alloc: Global,
+    script: &Script,
+    plans: &[Plan],
+    log: &Log,
+    tables: &GraphTables,
+    known: &mut Known,
+    k: usize,
+    number: u64,
+    effect: Effect,
+    items: &[Item],
+) -> Result<bool, AllocError>
+    requires read { MessagesReadBack }
+    requires number { number ≡ k + 1 }
+    requires tables { AreGraphTables script.now log.now tables.now }
+    requires items { items.now ≡ in_event (k + 1) (items_of log.now.sent) }
+    requires effect { IsEffectAt log.now k effect }
+    requires low { k < length log.now.events }
+    requires known { IsKnown log.now k known.old }
+    ensures linked { IfOk result (λ yes. yes ≡ true → IsLinked script.now plans.now log.now (k + 1)) }
+    ensures known { IfOk result (λ yes. yes ≡ true → IsKnown log.now (k + 1) known.new) }
+{
+    let _ = script;
+    let _ = k;
+    let Some(newest) = newest_after(known.newest, effect) else {
+        return Ok(false);
+    };
+    let now = Moment {
+        number,
+        newest,
+        effect,
+    };
+    if !is_linked(log, plans, tables, known, now, items) {
+        return Ok(false);
+    }
+    known.pass(alloc, effect, newest, items)?;
+    Ok(true)
+}
+
+fn event_in(log: &Log, k: usize) -> Option<&HubEvent>
+    ensures { option_copied result ≡ slice_get log.now.events k }
+{
+    log.events.as_slice().get(k)
+}
+
+fn effect_at(alloc: Global, log: &Log, k: usize) -> Result<Option<Effect>, AllocError>
+    ensures { IfOk result (λ found. IfSome found (λ e. IsEffectAt log.now k e)) }
+{
+    match event_in(log, k) {
+        Some(event) => {
+            let effect = effect_of(alloc, event)?;
+            Ok(Some(effect))
+        }
+        None => Ok(None),
+    }
+}
+
+fn next_passes(
+    alloc: Global,
+    script: &Script,
+    plans: &[Plan],
+    log: &Log,
+    tables: &GraphTables,
+    known: &mut Known,
+    k: usize,
+    number: u64,
+    items: &[Item],
+) -> Result<bool, AllocError>
+    requires read { MessagesReadBack }
+    requires number { number ≡ k + 1 }
+    requires tables { AreGraphTables script.now log.now tables.now }
+    requires items { items.now ≡ in_event (k + 1) (items_of log.now.sent) }
+    requires low { k < length log.now.events }
+    requires known { IsKnown log.now k known.old }
+    ensures linked { IfOk result (λ yes. yes ≡ true → IsLinked script.now plans.now log.now (k + 1)) }
+    ensures known { IfOk result (λ yes. yes ≡ true → IsKnown log.now (k + 1) known.new) }
+{
+    let Some(effect) = effect_at(alloc, log, k)? else {
+        return Ok(false);
+    };
+    let yes = passes(
+        alloc, script, plans, log, tables, known, k, number, effect, items,
+    )?;
+    Ok(yes)
+}
+
+// ---- all events
+
+fn tables_of(alloc: Global, script: &Script, log: &Log) -> Result<Option<GraphTables>, AllocError>
+    ensures { IfOk result (λ found. IfSome found (AreGraphTables script.now log.now)) }
+{
+    let volfiles = graphs_of(alloc, script, log)?;
+    if volfiles.len() == usize::MAX {
+        return Ok(None);
+    }
+    match last_uses(alloc, log, volfiles.len() + 1)? {
+        Some(until) => Ok(Some(GraphTables { volfiles, until })),
+        None => Ok(None),
+    }
+}
+
+fn all_pass(
+    alloc: Global,
+    script: &Script,
+    plans: &[Plan],
+    log: &Log,
+    tables: &GraphTables,
+    lists: &[Vec<Item>],
+) -> Result<bool, AllocError>
+    requires tables { AreGraphTables script.now log.now tables.now }
+    requires lists { AreByEvent (items_of log.now.sent) (map (λ l. l.items) lists.now) }
+    ensures { IfOk result (λ yes. yes ≡ true → (number : ℕ) → number ≤ length log.now.events → IsLinked script.now plans.now log.now number) }
+{
+    messages_read_back();
+    let mut known = Known::new(alloc);
+    if !starts(
+        alloc,
+        script,
+        plans,
+        log,
+        tables,
+        &mut known,
+        items_at(lists, 0),
+    )? {
+        return Ok(false);
+    }
+    for k in 0..log.events.len() {
+        let items = items_at(lists, k + 1);
+        let number = k as u64 + 1;
+        if !next_passes(
+            alloc, script, plans, log, tables, &mut known, k, number, items,
+        )? {
+            return Ok(false);
+        }
+    }
+    Ok(true)
+}
+
+/// Whether graphs connect and disconnect in each event exactly as they are to.
+///
+/// # Errors
+/// Out of memory.
+pub fn are_linked(
+    alloc: Global,
+    script: &Script,
+    plans: &[Plan],
+    log: &Log,
+) -> Result<bool, AllocError>
+    ensures { IfOk result (λ yes. yes ≡ true → AreLinked script.now plans.now log.now) }
+{
+    let Some(tables) = tables_of(alloc, script, log)? else {
+        return Ok(false);
+    };
+    let Some(lists) = by_event(alloc, log)? else {
+        return Ok(false);
+    };
+    if lists.is_empty() || lists.len() - 1 != log.events.len() {
+        return Ok(false);
+    }
+    let yes = all_pass(alloc, script, plans, log, &tables, lists.as_slice())?;
+    Ok(yes)
+}

@@ -1,0 +1,257 @@
+//! Whether the winds of requests end by what arrives, or with their connections.
+ghost use Rattle.std.specs.Prelude.{◌≡◌, Some, true, IfOk, option_copied, slice_get};
+ghost use Rattle.fop_types.specs.declared.messages.Input.TheVariants as input;
+ghost use Rattle.wire_messages.specs.Messages.{input_in, output_in};
+ghost use Rattle.mount_log.specs.Ties.{IsNumberOf, EndsWind, IsEndedBy, HasEnd};
+ghost use Rattle.line_audit.specs.Ended.{SaysEnd, IsEndEvent, SaysDisconnect, IsDisconnect, IsDisconnectAt, IsEndingOf, IsInputEnded, IsEnded, AreEnded};
+
+use crate::tied_replies::wind_at;
+use crate::tied_requests::is_number_of_open;
+use fop_types::{Input, OutKind};
+use log_audit::by_number::event_at;
+use log_audit::by_place::line_at;
+use mount_log::{HubEvent, Log, SentLine, WindLine};
+use std::alloc::{AllocError, Global};
+use wire_messages::{Message, input_of, output_of};
+use xlator_law::WindNo;
+
+/// Where the end of a request's wind is, and the Disconnect of its graph in the same event.
+#[derive(Clone, Copy)]
+pub struct EndedAt {
+    pub end: usize,
+    pub disconnect: usize,
+}
+
+/// Whether a number on the wire is that of a wind, or of the open before its request.
+pub fn is_number_of(wind: WindNo, number: u64) -> bool
+    ensures { result ≡ true → IsNumberOf wind number }
+{
+    if wind.number() == number {
+        return true;
+    }
+    is_number_of_open(wind, number)
+}
+
+// ---- by an output
+
+fn ends_wind(kind: &OutKind, wind: WindNo) -> bool
+    ensures { result ≡ true → EndsWind wind kind.now }
+{
+    match kind {
+        OutKind::Reply { wind: number, .. } => is_number_of(wind, *number),
+        OutKind::Closed => true,
+        _ => false,
+    }
+}
+
+fn says_end(alloc: Global, bytes: &[u8], wind: WindNo) -> Result<bool, AllocError>
+    ensures { IfOk result (λ yes. yes ≡ true → SaysEnd wind (output_in bytes.now)) }
+{
+    match output_of(alloc, bytes)? {
+        Message::Whole(output) => Ok(ends_wind(&output.kind, wind)),
+        Message::Wrong { place: _ } => Ok(false),
+    }
+}
+
+fn is_end_event(
+    alloc: Global,
+    event: &HubEvent,
+    brick: u8,
+    wind: WindNo,
+) -> Result<bool, AllocError>
+    ensures { IfOk result (λ yes. yes ≡ true → IsEndEvent brick wind event.now) }
+{
+    match event {
+        HubEvent::Arrive { brick: from, bytes } => {
+            if *from != brick {
+                return Ok(false);
+            }
+            says_end(alloc, bytes.as_slice(), wind)
+        }
+        _ => Ok(false),
+    }
+}
+
+fn is_ended_by_output(
+    alloc: Global,
+    log: &Log,
+    brick: u8,
+    line: &WindLine,
+) -> Result<bool, AllocError>
+    ensures { IfOk result (λ yes. yes ≡ true → IsEndedBy log.now brick line.now) }
+{
+    match event_at(log, line.event) {
+        Some(event) => is_end_event(alloc, event, brick, line.wind),
+        None => Ok(false),
+    }
+}
+
+// ---- by a Disconnect
+
+fn disconnects(found: &Input, graph: u32) -> bool
+    ensures { result ≡ true → found.now ≡ input.Disconnect graph }
+{
+    match found {
+        Input::Disconnect { graph: of } => *of == graph,
+        _ => false,
+    }
+}
+
+fn says_disconnect(alloc: Global, bytes: &[u8], graph: u32) -> Result<bool, AllocError>
+    ensures { IfOk result (λ yes. yes ≡ true → SaysDisconnect graph (input_in bytes.now)) }
+{
+    match input_of(alloc, bytes)? {
+        Message::Whole(found) => Ok(disconnects(&found, graph)),
+        Message::Wrong { place: _ } => Ok(false),
+    }
+}
+
+fn sends_disconnect(
+    alloc: Global,
+    line: &SentLine,
+    number: u64,
+    brick: u8,
+    graph: u32,
+) -> Result<bool, AllocError>
+    ensures { IfOk result (λ yes. yes ≡ true → IsDisconnect number brick graph line.now) }
+{
+    if line.event != number || line.brick != brick {
+        return Ok(false);
+    }
+    let yes = says_disconnect(alloc, line.bytes.as_slice(), graph)?;
+    Ok(yes)
+}
+
+fn is_disconnect_at(
+    alloc: Global,
+    log: &Log,
+    at: usize,
+    number: u64,
+    brick: u8,
+    graph: u32,
+) -> Result<bool, AllocError>
+    ensures { IfOk result (λ yes. yes ≡ true → IsDisconnectAt log.now.sent at number brick graph) }
+{
+    let Some(line) = line_at(log, at) else {
+        return Ok(false);
+    };
+    let yes = sends_disconnect(alloc, line, number, brick, graph)?;
+    Ok(yes)
+}
+
+// ---- of a request
+
+fn is_ended_by(
+    alloc: Global,
+    log: &Log,
+    disconnect: usize,
+    brick: u8,
+    line: &WindLine,
+) -> Result<bool, AllocError>
+    ensures { IfOk result (λ yes. yes ≡ true → IsEndedBy log.now brick line.now) }
+{
+    if is_ended_by_output(alloc, log, brick, line)? {
+        return Ok(true);
+    }
+    let yes = is_disconnect_at(alloc, log, disconnect, line.event, brick, line.graph)?;
+    Ok(yes)
+}
+
+fn is_ending_of(line: &WindLine, number: u64, graph: u32) -> bool
+    ensures { result ≡ true → IsEndingOf number graph line.now }
+{
+    !line.opened && line.graph == graph && is_number_of(line.wind, number)
+}
+
+// Whether the wind of a request ends at a place.
+fn has_end(
+    alloc: Global,
+    log: &Log,
+    ended: EndedAt,
+    brick: u8,
+    number: u64,
+    graph: u32,
+) -> Result<bool, AllocError>
+    ensures { IfOk result (λ yes. yes ≡ true → HasEnd log.now brick number graph) }
+{
+    let Some(line) = wind_at(log, ended.end) else {
+        return Ok(false);
+    };
+    if !is_ending_of(line, number, graph) {
+        return Ok(false);
+    }
+    let yes = is_ended_by(alloc, log, ended.disconnect, brick, line)?;
+    Ok(yes)
+}
+
+fn is_input_ended(
+    alloc: Global,
+    log: &Log,
+    ended: EndedAt,
+    brick: u8,
+    found: &Input,
+) -> Result<bool, AllocError>
+    ensures { IfOk result (λ yes. yes ≡ true → IsInputEnded log.now brick found.now) }
+{
+    match found {
+        Input::Request { wind, graph, .. } => has_end(alloc, log, ended, brick, *wind, *graph),
+        _ => Ok(true),
+    }
+}
+
+fn is_message_ended(
+    alloc: Global,
+    log: &Log,
+    ended: EndedAt,
+    brick: u8,
+    message: &Message<Input>,
+) -> Result<bool, AllocError>
+    ensures { IfOk result (λ yes. yes ≡ true → IsEnded log.now brick message.now) }
+{
+    match message {
+        Message::Whole(found) => is_input_ended(alloc, log, ended, brick, found),
+        Message::Wrong { place: _ } => Ok(true),
+    }
+}
+
+fn is_line_ended(
+    alloc: Global,
+    log: &Log,
+    ended: EndedAt,
+    line: &SentLine,
+) -> Result<bool, AllocError>
+    ensures { IfOk result (λ yes. yes ≡ true → IsEnded log.now line.now.brick (input_in line.now.bytes)) }
+{
+    let message = input_of(alloc, line.bytes.as_slice())?;
+    let yes = is_message_ended(alloc, log, ended, line.brick, &message)?;
+    Ok(yes)
+}
+
+fn ended_at(all: &[EndedAt], k: usize) -> EndedAt {
+    match all.get(k) {
+        Some(ended) => *ended,
+        None => EndedAt {
+            end: 0,
+            disconnect: 0,
+        },
+    }
+}
+
+/// Whether the wind of each request ends, in its graph, as the reply to it or to the open before it arrives, or Closed of
+/// the brick, or as a Disconnect of the graph is sent to the brick. `all` has, for each line that was sent, where that is.
+///
+/// # Errors
+/// Out of memory.
+pub fn requests_are_ended(alloc: Global, log: &Log, all: &[EndedAt]) -> Result<bool, AllocError>
+    ensures { IfOk result (λ yes. yes ≡ true → AreEnded log.now) }
+{
+    for k in 0..log.sent.len() {
+        let Some(line) = line_at(log, k) else {
+            return Ok(false);
+        };
+        if !is_line_ended(alloc, log, ended_at(all, k), line)? {
+            return Ok(false);
+        }
+    }
+    Ok(true)
+}

@@ -1,0 +1,186 @@
+//! Whether requests are tied to their winds.
+ghost use Rattle.std.specs.Prelude.{◌≡◌, true, IfOk};
+ghost use Rattle.fop_types.specs.declared.messages.Input.TheVariants as input;
+ghost use Rattle.wire_messages.specs.Messages.{input_in};
+ghost use Rattle.xlator_law.specs.Numbers.{wind_number, open_before};
+ghost use Rattle.mount_log.specs.Ties.{IsOfCall, IsOpen, HasNumberOf, HasWind};
+ghost use Rattle.line_audit.specs.Tied.{request_at, open_at, IsInputTied, IsTied, AreRequestsTied};
+
+use crate::tied_replies::wind_at;
+use fop_types::{BrickReq, Input};
+use log_audit::by_place::line_at;
+use mount_log::{Log, SentLine, WindLine};
+use std::alloc::{AllocError, Global};
+use wire_messages::{Message, input_of};
+use xlator_law::WindNo;
+
+/// By the place of a wind's opening: where the request is that was sent for it, and the open before that.
+#[derive(Clone, Copy)]
+pub struct SentFor {
+    pub request: usize,
+    pub open: usize,
+}
+
+fn is_of_call(req: &BrickReq, call: u32) -> bool
+    ensures { result ≡ true → IsOfCall call req.now }
+{
+    match req {
+        BrickReq::Lock { call: named, .. } => *named == call,
+        BrickReq::Unlock { call: named } => *named == call,
+        _ => true,
+    }
+}
+
+fn is_open(req: &BrickReq) -> bool
+    ensures { result ≡ true → IsOpen req.now }
+{
+    match req {
+        BrickReq::Open { .. } => true,
+        _ => false,
+    }
+}
+
+/// Whether a number is that of the open before a wind's request.
+pub fn is_number_of_open(wind: WindNo, number: u64) -> bool
+    ensures { result ≡ true → wind_number (open_before wind) ≡ number }
+{
+    if wind.slot >= 2147483648 {
+        return false;
+    }
+    wind.open_before().number() == number
+}
+
+// Whether the line at a place has the number of an opened wind, as the notes say.
+fn has_number_of(line: &WindLine, sent_for: SentFor, k: usize, number: u64, req: &BrickReq) -> bool
+    ensures { result ≡ true → HasNumberOf line.now sent_for.request sent_for.open k number req.now }
+{
+    if line.wind.number() == number {
+        return sent_for.request == k;
+    }
+    sent_for.open == k && is_open(req) && is_number_of_open(line.wind, number)
+}
+
+fn is_opening(line: &WindLine, graph: u32, event: u64) -> bool
+    ensures opened { result ≡ true → line.now.opened ≡ true }
+    ensures graph { result ≡ true → line.now.graph ≡ graph }
+    ensures event { result ≡ true → line.now.event ≡ event }
+{
+    line.opened && line.graph == graph && line.event == event
+}
+
+// The notes of the wind that is opened at a place.
+fn sent_for_at(all: &[SentFor], place: usize) -> SentFor
+    ensures request { result.request ≡ request_at all.now place }
+    ensures open { result.open ≡ open_at all.now place }
+{
+    match all.get(place) {
+        Some(sent_for) => *sent_for,
+        None => SentFor {
+            request: 0,
+            open: 0,
+        },
+    }
+}
+
+// Whether the request was sent for the wind that is opened at a place.
+fn has_wind(
+    log: &Log,
+    all: &[SentFor],
+    place: usize,
+    k: usize,
+    number: u64,
+    graph: u32,
+    event: u64,
+    req: &BrickReq,
+) -> bool
+    ensures { result ≡ true → HasWind log.now (request_at all.now) (open_at all.now) k number graph event req.now }
+{
+    match wind_at(log, place) {
+        Some(line) => {
+            is_opening(line, graph, event)
+                && is_of_call(req, line.call)
+                && has_number_of(line, sent_for_at(all, place), k, number, req)
+        }
+        None => false,
+    }
+}
+
+fn is_input_tied(
+    log: &Log,
+    all: &[SentFor],
+    place: usize,
+    k: usize,
+    event: u64,
+    found: &Input,
+) -> bool
+    ensures { result ≡ true → IsInputTied log.now all.now k event found.now }
+{
+    match found {
+        Input::Request { wind, graph, req } => {
+            has_wind(log, all, place, k, *wind, *graph, event, req)
+        }
+        _ => true,
+    }
+}
+
+fn is_message_tied(
+    log: &Log,
+    all: &[SentFor],
+    place: usize,
+    k: usize,
+    event: u64,
+    message: &Message<Input>,
+) -> bool
+    ensures { result ≡ true → IsTied log.now all.now k event message.now }
+{
+    match message {
+        Message::Whole(found) => is_input_tied(log, all, place, k, event, found),
+        Message::Wrong { place: _ } => true,
+    }
+}
+
+fn is_line_tied(
+    alloc: Global,
+    log: &Log,
+    all: &[SentFor],
+    place: usize,
+    k: usize,
+    line: &SentLine,
+) -> Result<bool, AllocError>
+    ensures { IfOk result (λ yes. yes ≡ true → IsTied log.now all.now k line.now.event (input_in line.now.bytes)) }
+{
+    let message = input_of(alloc, line.bytes.as_slice())?;
+    let yes = is_message_tied(log, all, place, k, line.event, &message);
+    Ok(yes)
+}
+
+fn place_of(openings: &[usize], k: usize) -> usize {
+    match openings.get(k) {
+        Some(place) => *place,
+        None => 0,
+    }
+}
+
+/// Whether each request was sent for a wind that was opened in its event and graph. `openings` has the place of a request's
+/// opening, and `all`, by that place, where the request and the open before it are.
+///
+/// # Errors
+/// Out of memory.
+pub fn requests_are_tied(
+    alloc: Global,
+    log: &Log,
+    openings: &[usize],
+    all: &[SentFor],
+) -> Result<bool, AllocError>
+    ensures { IfOk result (λ yes. yes ≡ true → AreRequestsTied log.now all.now) }
+{
+    for k in 0..log.sent.len() {
+        let Some(line) = line_at(log, k) else {
+            return Ok(false);
+        };
+        if !is_line_tied(alloc, log, all, place_of(openings, k), k, line)? {
+            return Ok(false);
+        }
+    }
+    Ok(true)
+}

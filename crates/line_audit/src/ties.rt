@@ -1,0 +1,55 @@
+//! Whether the lines of a log are tied to its events.
+ghost use Rattle.std.specs.Prelude.{◌≡◌, true, IfOk};
+ghost use Rattle.script_lang.specs.Accepted.{IsAccepted};
+ghost use Rattle.mount_log.specs.Ties.{AreTied};
+ghost use Rattle.line_audit.specs.Tied.{AreLinesTied};
+
+use crate::in_time::all_numbers_rise;
+use crate::tie_notes::tie_notes_of;
+use crate::tied_ends::requests_are_ended;
+use crate::tied_replies::replies_are_tied;
+use crate::tied_requests::requests_are_tied;
+use crate::tied_winds::winds_are_tied;
+use log_audit::calls_made::{CallMade, calls_made};
+use mount_log::Log;
+use script_lang::Script;
+use std::alloc::{AllocError, Global};
+
+// Whether the lines are tied to one another and to the calls.
+fn lines_tie(alloc: Global, log: &Log, calls: &[CallMade]) -> Result<bool, AllocError>
+    ensures { IfOk result (λ yes. yes ≡ true → AreLinesTied log.now calls.now) }
+{
+    if !all_numbers_rise(log) {
+        return Ok(false);
+    }
+    let notes = tie_notes_of(alloc, log)?;
+    if !winds_are_tied(log, calls, notes.replied.as_slice()) {
+        return Ok(false);
+    }
+    if !replies_are_tied(log, calls, notes.ends.as_slice()) {
+        return Ok(false);
+    }
+    let sent_for = notes.sent_for.as_slice();
+    if !requests_are_tied(alloc, log, notes.openings.as_slice(), sent_for)? {
+        return Ok(false);
+    }
+    let yes = requests_are_ended(alloc, log, notes.ended.as_slice())?;
+    Ok(yes)
+}
+
+/// Whether the lines of a log are tied to its events and to one another: numbers of events rise, replies are to their calls,
+/// winds are of their calls' graphs, each request has its wind, and that its end. It is false, too, where a session submits more lines than
+/// it has.
+///
+/// # Errors
+/// Out of memory.
+pub fn lines_are_tied(alloc: Global, script: &Script, log: &Log) -> Result<bool, AllocError>
+    requires { IsAccepted script.now }
+    ensures { IfOk result (λ yes. yes ≡ true → AreTied log.now) }
+{
+    let Some(calls) = calls_made(alloc, script, log)? else {
+        return Ok(false);
+    };
+    let yes = lines_tie(alloc, log, calls.as_slice())?;
+    Ok(yes)
+}

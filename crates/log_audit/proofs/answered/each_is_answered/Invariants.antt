@@ -1,6 +1,0 @@
-use Rattle.std.specs.Prelude.{ℕ, ◌<◌}
-use Rattle.log_audit.specs.Counting.{IsAnsweredAt}
-use Rattle.log_audit.proofs.answered.each_is_answered.Given as goal
-
-abbrev pub invariant-loop-i : goal.invariant-loop-i
-invariant-loop-i l = (j : ℕ) → j < l.i → IsAnsweredAt l.acts l.answers j

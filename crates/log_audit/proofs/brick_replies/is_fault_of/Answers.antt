@@ -1,6 +1,0 @@
-use Rattle.std.proofs.Common.{◌≡◌}
-use Rattle.log_audit.proofs.Evident.{fault_of}
-use Rattle.log_audit.proofs.brick_replies.is_fault_of.Goals as goal
-
-pub returns-in-Reply : goal.returns-in-Reply
-returns-in-Reply c = λ yes. fault_of c.args.log.now c.args.call _ c.args.kind.now _ c.in-Reply.is (c.is_faulty.ensures.fault yes) (c.is_faulty.ensures.wind yes)

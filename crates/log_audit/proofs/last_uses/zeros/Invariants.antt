@@ -1,5 +1,0 @@
-use Rattle.log_audit.specs.Linked.{AreZeros}
-use Rattle.log_audit.proofs.last_uses.zeros.Given as goal
-
-abbrev pub invariant-loop : goal.invariant-loop
-invariant-loop l = AreZeros l.until.items

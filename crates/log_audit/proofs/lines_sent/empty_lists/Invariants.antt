@@ -1,6 +1,0 @@
-use Rattle.std.proofs.Common.{[], map}
-use Rattle.log_audit.specs.Linked.{AreByEvent}
-use Rattle.log_audit.proofs.lines_sent.empty_lists.Given as goal
-
-abbrev pub invariant-loop : goal.invariant-loop
-invariant-loop l = AreByEvent [] (map (λ q. q.items) l.lists.items)

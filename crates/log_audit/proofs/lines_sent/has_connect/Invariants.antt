@@ -1,6 +1,0 @@
-use Rattle.std.proofs.Common.{◌≡◌, drop}
-use Rattle.log_audit.specs.Linked.{has_connect}
-use Rattle.log_audit.proofs.lines_sent.has_connect.Given as goal
-
-abbrev pub invariant-loop-item : goal.invariant-loop-item
-invariant-loop-item l = has_connect l.graph l.brick (drop l.item-index l.items) ≡ has_connect l.graph l.brick l.items

@@ -1,6 +1,0 @@
-use Rattle.std.proofs.Common.{◌≡◌, drop}
-use Rattle.log_audit.specs.Linked.{dropped}
-use Rattle.log_audit.proofs.links.drop_all.Given as goal
-
-abbrev pub invariant-loop-item : goal.invariant-loop-item
-invariant-loop-item l = dropped (drop l.item-index l.items) l.links.items ≡ dropped l.items l.fn.links.items

@@ -1,6 +1,0 @@
-use Rattle.std.proofs.Common.{◌≡◌, drop}
-use Rattle.log_audit.specs.Linked.{has_link}
-use Rattle.log_audit.proofs.links.has_link.Given as goal
-
-abbrev pub invariant-loop-link : goal.invariant-loop-link
-invariant-loop-link l = has_link l.graph l.brick (drop l.link-index l.links) ≡ has_link l.graph l.brick l.links

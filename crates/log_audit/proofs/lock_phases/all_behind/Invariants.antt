@@ -1,7 +1,0 @@
-use Rattle.std.proofs.Common.{take}
-use Rattle.std.specs.List.{AllByRecursion}
-use Rattle.log_audit.specs.LockTable.{IsBehind}
-use Rattle.log_audit.proofs.lock_phases.all_behind.Given as goal
-
-abbrev pub invariant-loop-other : goal.invariant-loop-other
-invariant-loop-other l = AllByRecursion (IsBehind l.plan l.one) (take l.other-index l.locks)

@@ -1,6 +1,0 @@
-use Rattle.std.proofs.Common.{◌≡◌}
-use Rattle.log_audit.proofs.Evident.{ends_left}
-use Rattle.log_audit.proofs.losses.ends_by_closed.Goals as goal
-
-pub returns : goal.returns
-returns c = λ yes. ends_left _ _ (c.in_ok-yes.ensures yes)

@@ -1,5 +1,0 @@
-use Rattle.log_audit.specs.Timed.{AreEarlier}
-use Rattle.log_audit.proofs.moments.are_earlier.Given as goal
-
-abbrev pub invariant-loop-j : goal.invariant-loop-j
-invariant-loop-j l = AreEarlier l.controls l.carried l.at l.number l.j

@@ -1,7 +1,0 @@
-use Rattle.std.specs.Prelude.{ℕ, ◌≡◌, ◌<◌, Some, slice_get}
-use Rattle.script_lang.specs.declared.scripts.ControlLine.{ControlLine}
-use Rattle.log_audit.specs.Timed.{IsHowTimely}
-use Rattle.log_audit.proofs.moments.is_phase_timely.Given as goal
-
-abbrev pub invariant-loop-at : goal.invariant-loop-at
-invariant-loop-at l = (i : ℕ) (c : ControlLine) → i < l.at → slice_get l.controls i ≡ Some c → IsHowTimely l.script l.log l.notes l.phase i c (slice_get l.carried i)

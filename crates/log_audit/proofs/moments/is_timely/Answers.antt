@@ -1,4 +1,0 @@
-use Rattle.log_audit.proofs.moments.is_timely.Goals as goal
-
-pub returns : goal.returns
-returns c = λ yes _. c.is_moment.ensures yes

@@ -1,6 +1,0 @@
-use Rattle.std.proofs.Common.{◌≡◌, ◌++◌, ◌+◌, drop, map}
-use Rattle.mount_log.specs.Phases.{ended_in}
-use Rattle.log_audit.proofs.numbers.ended_by.Given as goal
-
-abbrev pub invariant-loop-line : goal.invariant-loop-line
-invariant-loop-line l = l.numbers.items ++ ended_in (drop l.line-index l.winds) ≡ ended_in l.winds

@@ -1,8 +1,0 @@
-use Rattle.std.specs.Prelude.{ℕ, ◌≤◌, ◌-◌, length}
-use Rattle.log_audit.proofs.phase_ends.phase_from.Given as goal
-
-abbrev pub invariant-loop-phase : goal.invariant-loop-phase
-invariant-loop-phase l = l.from ≤ l.phase
-
-abbrev pub decreases-loop-phase : goal.decreases-loop-phase
-decreases-loop-phase l = length l.ended - l.phase

@@ -1,0 +1,15 @@
+//! Events by their numbers.
+ghost use Rattle.std.specs.Prelude.{◌≡◌, option_copied};
+ghost use Rattle.log_audit.specs.Switches.{event_of};
+
+use mount_log::{HubEvent, Log};
+
+/// The event of this number, from 1.
+pub fn event_at(log: &Log, number: u64) -> Option<&HubEvent>
+    ensures { option_copied result ≡ event_of log.now number }
+{
+    if number == 0 {
+        return None;
+    }
+    log.events.as_slice().get((number - 1) as usize)
+}

@@ -1,0 +1,18 @@
+//! Events and lines that were sent, by their places.
+ghost use Rattle.std.specs.Prelude.{◌≡◌, option_copied, slice_get};
+
+use mount_log::{HubEvent, Log, SentLine};
+
+/// The event at this place, from 0.
+pub fn event_at(log: &Log, k: usize) -> Option<&HubEvent>
+    ensures { option_copied result ≡ slice_get log.now.events k }
+{
+    log.events.as_slice().get(k)
+}
+
+/// The line that was sent at this place.
+pub fn line_at(log: &Log, at: usize) -> Option<&SentLine>
+    ensures { option_copied result ≡ slice_get log.now.sent at }
+{
+    log.sent.as_slice().get(at)
+}

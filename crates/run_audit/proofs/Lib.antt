@@ -1,0 +1,9 @@
+pub mod Cutting
+pub mod Phased
+pub mod Controlling
+pub mod OneByOne
+pub mod Settling
+pub mod Timing
+pub mod Sending
+pub mod Running
+pub mod Numbering

@@ -1,0 +1,17 @@
+use Rattle.std.proofs.Common.{◌≡◌, ◌<◌, ◌≤◌, sym, subst, arith}
+use Rattle.std.specs.Prelude.{ℕ, ◌+◌, length, slice_get}
+use Rattle.std.proofs.lemmas.Option.{slice_get_within}
+use Rattle.mount_log.specs.declared.logs.HubEvent.{HubEvent}
+use Rattle.run_audit.specs.Controlled.{IsOfControl}
+use Rattle.log_audit.proofs.Lists.{each_next}
+use Rattle.run_audit.proofs.acts.acts_are_of_controls.Goals as goal
+
+pub loop-k-preserved : goal.loop-k-preserved
+loop-k-preserved c =
+    each_next (λ (n : ℕ) (e : HubEvent). IsOfControl c.args.script.now c.args.notes.now c.len-last.result (n + 1) e) c.args.log.now.events c.loop-k.k c.in-Some.event.now (sym c.in-Some.ensures)
+    (c.is_of_control.ensures c.if-not-is_of_control.false) c.loop-k.invariant
+
+pub returns : goal.returns
+returns c = λ _ k e is.
+    subst (λ (n : ℕ). IsOfControl c.args.script.now c.args.notes.now n (k + 1) e) c.len-last.ensures
+    (c.loop-k.invariant k e (let lt = slice_get_within c.args.log.now.events k e is in omega (arith, lt, c.loop-k-test.false, c.len-k-end.ensures)) is)

@@ -1,0 +1,150 @@
+//! Whether each action of a log is that of a control, and what is armed is a control.
+ghost use Rattle.std.specs.Prelude.{◌≡◌, true, slice_get, option_copied};
+ghost use Rattle.script_lang.specs.declared.scripts.When.TheVariants as moment;
+ghost use Rattle.mount_log.specs.Controls.{control_at, IsCarriedAt, IsControlBefore};
+ghost use Rattle.run_audit.specs.Noted.{how_at, carried_at, sent_at, armed_at, course_of};
+ghost use Rattle.run_audit.specs.Controlled.{IsOfControl, AreOfControls};
+
+use crate::carried::is_same;
+use crate::run_notes::{Carried, ControlAt, RunNotes, control_of};
+use fop_types::Proc;
+use log_audit::by_place::event_at;
+use mount_log::{HubEvent, Log};
+use script_lang::{Action, ControlLine, Script, When};
+
+// How the control at a place was carried out.
+fn how_of(notes: &RunNotes, at: ControlAt) -> Option<&Carried>
+    ensures { option_copied result ≡ how_at notes.now.carried at.phase at.at }
+{
+    match notes.carried.as_slice().get(at.phase) {
+        Some(carried) => carried.as_slice().get(at.at),
+        None => None,
+    }
+}
+
+/// The event in which the control at a place was carried out, 0 where there is none.
+pub fn number_of(notes: &RunNotes, at: ControlAt) -> u64
+    ensures { result ≡ carried_at notes.now.carried at.phase at.at }
+{
+    match how_of(notes, at) {
+        Some(how) => how.event,
+        None => 0,
+    }
+}
+
+/// The place of the line that carried out the control at a place, if one did.
+pub fn sent_of(notes: &RunNotes, at: ControlAt) -> Option<usize>
+    ensures { result ≡ sent_at notes.now.carried at.phase at.at }
+{
+    match how_of(notes, at) {
+        Some(how) => how.sent,
+        None => None,
+    }
+}
+
+fn armed_of(notes: &RunNotes, at: ControlAt) -> u64
+    ensures { result ≡ armed_at notes.now.carried at.phase at.at }
+{
+    match how_of(notes, at) {
+        Some(how) => how.armed,
+        None => 0,
+    }
+}
+
+// Whether the control at a place has the action, and was carried out by the event.
+fn is_carried_at(
+    script: &Script,
+    notes: &RunNotes,
+    last: u64,
+    at: ControlAt,
+    number: u64,
+    action: Action,
+) -> bool
+    ensures { result ≡ true → IsCarriedAt script.now (course_of notes.now last) number action }
+{
+    if number_of(notes, at) != number || sent_of(notes, at).is_some() {
+        return false;
+    }
+    match control_of(script, at) {
+        Some(control) => is_same(control.action, action),
+        None => false,
+    }
+}
+
+fn is_before(when: When, brick: u8, proc: Proc, count: u32) -> bool
+    ensures { result ≡ true → when ≡ moment.Before brick proc count }
+{
+    match when {
+        When::Before(at, which, nth) => at == brick && which == proc && nth == count,
+        _ => false,
+    }
+}
+
+fn is_control(control: &ControlLine, brick: u8, proc: Proc, count: u32, action: Action) -> bool
+    ensures when { result ≡ true → control.now.when ≡ moment.Before brick proc count }
+    ensures action { result ≡ true → control.now.action ≡ action }
+{
+    is_before(control.when, brick, proc, count) && is_same(control.action, action)
+}
+
+// Whether the control at a place has the action, to be carried out before the request, and was armed in the event.
+fn is_control_before(
+    script: &Script,
+    notes: &RunNotes,
+    last: u64,
+    at: ControlAt,
+    number: u64,
+    brick: u8,
+    proc: Proc,
+    count: u32,
+    action: Action,
+) -> bool
+    ensures { result ≡ true → IsControlBefore script.now (course_of notes.now last) number brick proc count action }
+{
+    match control_of(script, at) {
+        Some(control) => {
+            is_control(control, brick, proc, count, action) && armed_of(notes, at) == number
+        }
+        None => false,
+    }
+}
+
+fn is_of_control(
+    script: &Script,
+    notes: &RunNotes,
+    last: u64,
+    at: ControlAt,
+    number: u64,
+    event: &HubEvent,
+) -> bool
+    ensures { result ≡ true → IsOfControl script.now notes.now last number event.now }
+{
+    match event {
+        HubEvent::Act(action) => is_carried_at(script, notes, last, at, number, *action),
+        HubEvent::Arm(brick, proc, count, action) => {
+            is_control_before(
+                script, notes, last, at, number, *brick, *proc, *count, *action,
+            )
+        }
+        _ => true,
+    }
+}
+
+/// Whether each action of the log is that of a control which is carried out there, and what is armed are controls.
+pub fn acts_are_of_controls(script: &Script, log: &Log, notes: &RunNotes) -> bool
+    ensures { result ≡ true → AreOfControls script.now notes.now log.now }
+{
+    let last = log.events.len() as u64;
+    for k in 0..log.events.len() {
+        let Some(event) = event_at(log, k) else {
+            return false;
+        };
+        let Some(at) = notes.by_event.as_slice().get(k) else {
+            return false;
+        };
+        if !is_of_control(script, notes, last, *at, k as u64 + 1, event) {
+            return false;
+        }
+    }
+    true
+}
