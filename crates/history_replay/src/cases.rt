@@ -4,9 +4,10 @@ ghost use Rattle.flat_fs.specs.Walks.{objects};
 ghost use Rattle.fop_types.specs.Calls.{Descriptors, last_op as last_op_of};
 ghost use Rattle.fop_types.specs.Flat.{is_change as is_change_of};
 ghost use Rattle.fop_types.specs.Replies.{is_ok as is_ok_of};
-ghost use Rattle.history_replay.specs.code.Cases.{Adds, is_none as is_none_of, is_before as is_before_of, are_at_most as are_at_most_of, is_free as is_free_of, is_late as is_late_of, is_first as is_first_of, lookup_places, last_place as last_place_of, is_whole as is_whole_of, part_claims, first_by, entry_by, done_by, read_by, placed_by, answered_by, last_by, op_claims, stopped_by, unfound_by, said_by, found_by, once_by, case_claims, file_given as file_given_of};
+ghost use Rattle.history_replay.specs.code.Cases.{Adds, is_none as is_none_of, is_before as is_before_of, are_at_most as are_at_most_of, is_free as is_free_of, is_late as is_late_of, is_done as is_done_of, is_first as is_first_of, lookup_places, last_place as last_place_of, is_whole as is_whole_of, part_claims, first_by, entry_by, done_by, read_by, placed_by, answered_by, last_by, op_claims, stopped_by, unfound_by, said_by, found_by, once_by, case_claims, file_given as file_given_of};
 
 use crate::claims::Claim;
+use crate::copies::{rename_of, unlink_of};
 use crate::lookups::{ROOT, claim_walk, last_found, next_lookup};
 use crate::places::{are_at_most, is_app, is_change, is_io, is_ok, is_same_name};
 use flat_fs::at_once::at_once;
@@ -121,6 +122,13 @@ impl<'a> Case<'a> {
         self.submitted <= index && self.looks_up_by(index)
     }
 
+    // Whether an entry of this index may be that of a change that is done, which stands at the last place.
+    fn is_done(&self, index: u32) -> bool
+        ensures { result ≡ is_done_of self.now index }
+    {
+        self.is_late(index) && index.checked_add(1) == Some(self.last_place())
+    }
+
     // Whether an entry of this index may be a rename's part 1.
     fn is_first(&self, index: u32) -> bool
         ensures { result ≡ is_first_of self.now index }
@@ -207,20 +215,10 @@ fn claim_unlink(
     if is_same_name(parent, name.as_slice(), target, new_name.as_slice()) {
         return Ok(false);
     }
-    let unlink = FlatOp::Unlink {
-        parent: target,
-        name: new_name.copy(alloc)?,
-    };
-    let rename = FlatOp::Rename {
-        parent,
-        name: name.copy(alloc)?,
-        target,
-        new_name: new_name.copy(alloc)?,
-    };
-    enter(claims, index, unlink, None)?;
+    enter(claims, index, unlink_of(alloc, target, new_name)?, None)?;
     claims.push(Claim::Accepts {
         place: seen,
-        op: rename,
+        op: rename_of(alloc, parent, name, target, new_name)?,
     })?;
     Ok(true)
 }
@@ -272,7 +270,7 @@ fn claim_done(
     match case.last {
         None => Ok(false),
         Some(index) => {
-            if !case.is_late(index) || index.checked_add(1) != Some(case.last_place()) {
+            if !case.is_done(index) {
                 return Ok(false);
             }
             enter(claims, index, last, Some(reply))?;
@@ -348,6 +346,20 @@ fn claim_last(case: &Case, last: FlatOp, claims: &mut Seq<Claim>) -> Result<bool
 }
 
 #[tactic(auto, using(crate::proofs::Adding::adds_both, crate::proofs::Adding::adds_stop))]
+fn claim_parts(
+    alloc: Global,
+    case: &Case,
+    last: FlatOp,
+    claims: &mut Seq<Claim>,
+) -> Result<bool, AllocError>
+    ensures { IfOk result (λ did. Adds did claims.old claims.new (op_claims case.now (Some last))) }
+{
+    match claim_first(alloc, case, &last, claims) {
+        Ok(true) => claim_last(case, last, claims),
+        other => other,
+    }
+}
+
 fn claim_op(
     alloc: Global,
     case: &Case,
@@ -358,12 +370,7 @@ fn claim_op(
 {
     match last {
         None => Ok(false),
-        Some(last) => {
-            if !claim_first(alloc, case, &last, claims)? {
-                return Ok(false);
-            }
-            claim_last(case, last, claims)
-        }
+        Some(last) => claim_parts(alloc, case, last, claims),
     }
 }
 

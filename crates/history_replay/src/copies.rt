@@ -54,14 +54,14 @@ fn create_of(
     })
 }
 
-fn unlink_of(alloc: Global, parent: Gfid, name: &Seq<u8>) -> Result<FlatOp, AllocError>
+pub(crate) fn unlink_of(alloc: Global, parent: Gfid, name: &Seq<u8>) -> Result<FlatOp, AllocError>
     ensures { IfOk result (λ o. o ≡ FlatOp.Unlink parent name.now) }
 {
     let name = name.copy(alloc)?;
     Ok(FlatOp::Unlink { parent, name })
 }
 
-fn rename_of(
+pub(crate) fn rename_of(
     alloc: Global,
     parent: Gfid,
     name: &Seq<u8>,

@@ -167,6 +167,24 @@ fn would_rename(files: &FlatFs, op: Option<&FlatOp>) -> bool {
     }
 }
 
+// The places where renames were possible, 0 where none was.
+fn seen_places(alloc: Global, known: &[Known]) -> Result<Vec<u32>, AllocError> {
+    let mut seen = Vec::new(alloc);
+    for known in known {
+        seen.push(known.seen.unwrap_or(0))?;
+    }
+    Ok(seen)
+}
+
+// What the lookups of each call found.
+fn found_gfids(alloc: Global, known: Vec<Known>) -> Result<Vec<Seq<Gfid>>, AllocError> {
+    let mut found = Vec::new(alloc);
+    for known in known {
+        found.push(Seq::from_vec(known.found))?;
+    }
+    Ok(found)
+}
+
 impl<'t, 'a> Walk<'t, 'a> {
     fn new(alloc: Global, trace: &'t Trace<'a>) -> Result<Walk<'t, 'a>, AllocError> {
         Ok(Walk {
@@ -362,6 +380,13 @@ impl<'t, 'a> Walk<'t, 'a> {
         session.fds.after_answer(call, file, found.answer)
     }
 
+    // Keeps the last operation of a call.
+    fn keep(&mut self, at: usize, last: Option<FlatOp>) {
+        if let Some(known) = self.known.get_mut(at) {
+            known.last = last;
+        }
+    }
+
     // Keeps what the lookups of a call led to.
     fn settle(
         &mut self,
@@ -371,9 +396,7 @@ impl<'t, 'a> Walk<'t, 'a> {
         at: usize,
     ) -> Result<(), AllocError> {
         let last = self.last_op(alloc, session, call, at)?;
-        if let Some(known) = self.known.get_mut(at) {
-            known.last = last;
-        }
+        self.keep(at, last);
         if let Some(Some(_)) = self.parts.first.get(at) {
             self.watched.push(at)?;
         }
@@ -523,12 +546,8 @@ impl<'t, 'a> Walk<'t, 'a> {
     }
 
     fn walked(self, alloc: Global) -> Result<Walked, AllocError> {
-        let mut found = Vec::new(alloc);
-        let mut seen = Vec::new(alloc);
-        for known in self.known {
-            found.push(Seq::from_vec(known.found))?;
-            seen.push(known.seen.unwrap_or(0))?;
-        }
+        let seen = seen_places(alloc, self.known.as_slice())?;
+        let found = found_gfids(alloc, self.known)?;
         Ok(Walked {
             findings: Findings {
                 found: Seq::from_vec(found),

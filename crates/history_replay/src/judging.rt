@@ -352,11 +352,49 @@ fn first_failing(fails: Option<usize>, are_lines: bool, count: usize) -> Option<
     }
 }
 
+// The verdict on a report whose calls have these lines, of which the call of this number fails.
+#[tactic(auto, using(crate::proofs::Showing::lawful_report))]
+fn judge_assigned(
+    alloc: Global,
+    script: &Script,
+    report: &Report,
+    lines: &[Named],
+    fails: Option<usize>,
+) -> Result<Verdict, AllocError>
+    ensures { IfOk result (λ v. v ≡ verdict.Lawful → IsLawfulReport script.now report.now) }
+{
+    let calls = report.calls.as_slice();
+    if lines.len() != calls.len() {
+        return Ok(Verdict::Call(0));
+    }
+    let are_lines = are_the_lines(alloc, script, calls, lines)?;
+    let fails = first_failing(fails, are_lines, lines.len());
+    Ok(judge_lines(alloc, calls, report.history.as_slice(), lines, fails)?)
+}
+
+// The verdict on a report, with an idle line for the calls whose number no line has.
+fn judge_calls(
+    alloc: Global,
+    script: &Script,
+    report: &Report,
+    idle: &CallLine,
+) -> Result<Verdict, AllocError>
+    ensures { IfOk result (λ v. v ≡ verdict.Lawful → IsLawfulReport script.now report.now) }
+{
+    let assigned = assign(alloc, script, report.calls.as_slice(), idle)?;
+    judge_assigned(
+        alloc,
+        script,
+        report,
+        assigned.lines.as_slice(),
+        assigned.fails,
+    )
+}
+
 /// Judges a report of a script.
 ///
 /// # Errors
 /// Out of memory.
-#[tactic(auto, using(crate::proofs::Showing::lawful_report))]
 pub fn judge(alloc: Global, script: &Script, report: &Report) -> Result<Verdict, AllocError>
     ensures lawful { IfOk result (λ v. v ≡ verdict.Lawful → IsLawfulReport script.now report.now) }
 {
@@ -369,13 +407,5 @@ pub fn judge(alloc: Global, script: &Script, report: &Report) -> Result<Verdict,
             },
         },
     };
-    let calls = report.calls.as_slice();
-    let assigned = assign(alloc, script, calls, &idle)?;
-    let lines = assigned.lines.as_slice();
-    if lines.len() != calls.len() {
-        return Ok(Verdict::Call(0));
-    }
-    let are_lines = are_the_lines(alloc, script, calls, lines)?;
-    let fails = first_failing(assigned.fails, are_lines, lines.len());
-    Ok(judge_lines(alloc, calls, report.history.as_slice(), lines, fails)?)
+    judge_calls(alloc, script, report, &idle)
 }

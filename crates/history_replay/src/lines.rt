@@ -57,6 +57,17 @@ impl<'a> Lines<'a> {
     fn place(&self, number: u32) -> Option<usize> {
         self.by_number.get(&number).copied()
     }
+
+    // The line at a place, and the idle one where there is none.
+    fn line_or(&self, place: Option<usize>, idle: &'a CallLine) -> &'a CallLine {
+        let Some(place) = place else {
+            return idle;
+        };
+        match self.calls.get(place) {
+            Some(line) => *line,
+            None => idle,
+        }
+    }
 }
 
 // The order of calls: each is the next one of its session, and none is of a phase before one that came.
@@ -104,6 +115,24 @@ impl Order {
         *passed = (*passed).saturating_add(1);
         in_phase
     }
+
+    // Whether a call of a report is that at this place, which comes in its turn.
+    fn fits(
+        &mut self,
+        script: &Script,
+        lines: &Lines,
+        place: Option<usize>,
+        number: usize,
+        call: &ReportCall,
+    ) -> bool {
+        let Some(place) = place else {
+            return false;
+        };
+        match lines.calls.get(place) {
+            Some(line) => self.takes(lines, place) && is_call_of(script, number, *line, call),
+            None => false,
+        }
+    }
 }
 
 /// The lines of a report's calls, by their numbers, and an idle one where no call has the number; and the number of the first
@@ -112,6 +141,43 @@ impl Order {
 pub(crate) struct Assigned<'a> {
     pub lines: Vec<Named<'a>>,
     pub fails: Option<usize>,
+}
+
+impl<'a> Assigned<'a> {
+    // Keeps the number of a call that fails, unless one before it does.
+    fn fail(&mut self, number: usize) {
+        if self.fails.is_none() {
+            self.fails = Some(number);
+        }
+    }
+}
+
+// The lines of calls, which come in this order of these lines.
+fn assign_by<'a>(
+    alloc: Global,
+    script: &Script,
+    lines: &Lines<'a>,
+    order: &mut Order,
+    calls: &[ReportCall],
+    idle: &'a CallLine,
+) -> Result<Assigned<'a>, AllocError> {
+    let mut assigned = Assigned {
+        lines: Vec::new(alloc),
+        fails: None,
+    };
+    for at in 0..calls.len() {
+        let place = lines.place(calls[at].line);
+        if !order.fits(script, lines, place, at + 1, &calls[at]) {
+            assigned.fail(at + 1);
+        }
+        assigned.lines.push(Named {
+            line: lines.line_or(place, idle),
+        })?;
+    }
+    if calls.len() < lines.calls.len() {
+        assigned.fail(calls.len() + 1);
+    }
+    Ok(assigned)
 }
 
 /// Finds the line of each call by its number.
@@ -126,34 +192,7 @@ pub(crate) fn assign<'a>(
 ) -> Result<Assigned<'a>, AllocError> {
     let lines = Lines::new(alloc, script)?;
     let mut order = Order::new(alloc, &lines)?;
-    let mut assigned = Assigned {
-        lines: Vec::new(alloc),
-        fails: None,
-    };
-    for at in 0..calls.len() {
-        let place = lines.place(calls[at].line);
-        let line = match place {
-            Some(place) => lines.calls.get(place).copied(),
-            None => None,
-        };
-        let fits = match (place, line) {
-            (Some(place), Some(line)) => {
-                order.takes(&lines, place) && is_call_of(script, at + 1, line, &calls[at])
-            }
-            _ => false,
-        };
-        if !fits && assigned.fails.is_none() {
-            assigned.fails = Some(at + 1);
-        }
-        match line {
-            Some(line) => assigned.lines.push(Named { line })?,
-            None => assigned.lines.push(Named { line: idle })?,
-        }
-    }
-    if assigned.fails.is_none() && calls.len() < lines.calls.len() {
-        assigned.fails = Some(calls.len() + 1);
-    }
-    Ok(assigned)
+    assign_by(alloc, script, &lines, &mut order, calls, idle)
 }
 
 // ---- whether these are the lines

@@ -38,34 +38,37 @@ fn same_attr(one: &Attr, other: &Attr) -> bool
         && same_bytes(one.value.as_slice(), other.value.as_slice())
 }
 
-fn same_call(one: &Call, other: &Call) -> bool
+// Whether two calls of a descriptor are the same.
+fn same_fd_call(one: &Call, other: &Call) -> bool
     ensures { result ≡ true → one.now ≡ other.now }
 {
     match one {
-        Call::Mkdir { path, mode } => match other {
-            Call::Mkdir { path: p, mode: m } => same_path(path, p) && *mode == *m,
+        Call::Read { fd, count } => match other {
+            Call::Read { fd: f, count: c } => *fd == *f && *count == *c,
             _ => false
         },
-        Call::Rmdir { path } => match other {
-            Call::Rmdir { path: p } => same_path(path, p),
+        Call::Write { fd, bytes } => match other {
+            Call::Write { fd: f, bytes: b } => *fd == *f
+                && same_bytes(bytes.as_slice(), b.as_slice()),
             _ => false
         },
-        Call::Create { fd, path, mode } => match other {
-            Call::Create {
-                fd: f,
-                path: p,
-                mode: m,
-            } => *fd == *f && (same_path(path, p) && *mode == *m),
+        Call::Seek { fd, offset } => match other {
+            Call::Seek { fd: f, offset: o } => *fd == *f && *offset == *o,
             _ => false
         },
-        Call::Unlink { path } => match other {
-            Call::Unlink { path: p } => same_path(path, p),
+        Call::Close { fd } => match other {
+            Call::Close { fd: f } => *fd == *f,
             _ => false
         },
-        Call::Rename { path, target } => match other {
-            Call::Rename { path: p, target: t } => same_path(path, p) && same_path(target, t),
-            _ => false
-        },
+        _ => false,
+    }
+}
+
+// Whether two calls of a file are the same, by its path or its descriptor.
+fn same_file_call(one: &Call, other: &Call) -> bool
+    ensures { result ≡ true → one.now ≡ other.now }
+{
+    match one {
         Call::Open { fd, path } => match other {
             Call::Open { fd: f, path: p } => *fd == *f && same_path(path, p),
             _ => false
@@ -100,23 +103,39 @@ fn same_call(one: &Call, other: &Call) -> bool
                 && same_bytes(name.as_slice(), n.as_slice()),
             _ => false
         },
-        Call::Read { fd, count } => match other {
-            Call::Read { fd: f, count: c } => *fd == *f && *count == *c,
+        _ => same_fd_call(one, other),
+    }
+}
+
+fn same_call(one: &Call, other: &Call) -> bool
+    ensures { result ≡ true → one.now ≡ other.now }
+{
+    match one {
+        Call::Mkdir { path, mode } => match other {
+            Call::Mkdir { path: p, mode: m } => same_path(path, p) && *mode == *m,
             _ => false
         },
-        Call::Write { fd, bytes } => match other {
-            Call::Write { fd: f, bytes: b } => *fd == *f
-                && same_bytes(bytes.as_slice(), b.as_slice()),
+        Call::Rmdir { path } => match other {
+            Call::Rmdir { path: p } => same_path(path, p),
             _ => false
         },
-        Call::Seek { fd, offset } => match other {
-            Call::Seek { fd: f, offset: o } => *fd == *f && *offset == *o,
+        Call::Create { fd, path, mode } => match other {
+            Call::Create {
+                fd: f,
+                path: p,
+                mode: m,
+            } => *fd == *f && (same_path(path, p) && *mode == *m),
             _ => false
         },
-        Call::Close { fd } => match other {
-            Call::Close { fd: f } => *fd == *f,
+        Call::Unlink { path } => match other {
+            Call::Unlink { path: p } => same_path(path, p),
             _ => false
         },
+        Call::Rename { path, target } => match other {
+            Call::Rename { path: p, target: t } => same_path(path, p) && same_path(target, t),
+            _ => false
+        },
+        _ => same_file_call(one, other),
     }
 }
 

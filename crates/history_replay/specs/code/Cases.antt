@@ -103,6 +103,10 @@ is_whole c = (length c.found == c.lookups) && nat_le c.lookups (length c.places)
 abbrev pub is_late : Case → ℕ → Bool
 is_late c index = nat_le c.submitted index && are_at_most (lookup_places c) index
 
+-- such an entry is that of a change that is done, which stands at the last place
+abbrev pub is_done : Case → ℕ → Bool
+is_done c index = is_late c index && (index + 1 == last_place c)
+
 abbrev pub is_before : ℕ → Option ℕ → Bool
 is_before index None = true
 is_before index (Some other) = nat_lt index other
@@ -126,11 +130,10 @@ abbrev pub entry_by : Option ℕ → Case → FlatOp → Option (List Claim)
 entry_by None c last = Some []
 entry_by (Some index) c last = when (is_late c index) (claim.Enters index last None ∷ [])
 
--- the entry of a change that is done stands at the last place
 abbrev pub done_by : Option ℕ → Case → ℕ → FlatOp → Option (List Claim)
 done_by None c reply last = None
 done_by (Some index) c reply last =
-    when (is_late c index && (index + 1 == last_place c)) (claim.Enters index last (Some reply) ∷ [])
+    when (is_done c index) (claim.Enters index last (Some reply) ∷ [])
 
 abbrev pub read_by : Case → ℕ → FlatOp → Option (List Claim)
 read_by c reply last = when (is_free c) (claim.Answers (last_place c) last reply ∷ [])
