@@ -42,8 +42,13 @@ fn begun(alloc: Global, on: &Planned) -> Result<Parts, Stop>
     requires { IsAccepted on.now.script }
 {
     let mut parts = Parts::new(alloc, on)?;
-    parts.begin_script(alloc, on)?;
-    Ok(parts)
+    match parts.begin_script(alloc, on) {
+        Ok(()) => Ok(parts),
+        Err(stop) => {
+            drop(parts);
+            Err(stop)
+        }
+    }
 }
 
 impl Hub {

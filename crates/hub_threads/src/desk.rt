@@ -30,8 +30,13 @@ impl Desk {
     /// Out of memory.
     pub fn new(alloc: Global, hub: Hub, ends: Vec<HubEnd>) -> Result<Desk, AllocError> {
         let mut desk = Desk::of(alloc, hub, ends);
-        desk.send_first(alloc)?;
-        Ok(desk)
+        match desk.send_first(alloc) {
+            Ok(()) => Ok(desk),
+            Err(error) => {
+                drop(desk);
+                Err(error)
+            }
+        }
     }
 
     fn of(alloc: Global, hub: Hub, ends: Vec<HubEnd>) -> Desk {

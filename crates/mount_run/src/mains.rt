@@ -117,6 +117,7 @@ fn carry_out<R: Input + Print + Eprint + AllocGlobal>(rt: &R, words: &[String]) 
     let mut sink = HeadSink::new(StdSink::new(io::writer(rt)));
     let mut rack = Rack::new(rt.alloc());
     let status = top(rt.alloc(), words, &mut source, &mut sink, &mut rack);
+    drop(rack);
     explain(rt, status, sink.head())
 }
 
@@ -132,6 +133,7 @@ fn carry_out_mount<R: Input + Print + Eprint + AllocGlobal + Threads + Wait + Sy
     let mut sink = HeadSink::new(StdSink::new(io::writer(rt)));
     let mut rack = Rack::new(rt.alloc());
     let status = top_mount(rt, rt.alloc(), words, &mut source, &mut sink, &mut rack);
+    drop(rack);
     explain(rt, status, sink.head())
 }
 

@@ -140,12 +140,19 @@ fn plan(alloc: Global, script: Script) -> Result<Accepted, NotRead>
     match plans(alloc, script.volfiles.as_slice(), script.bricks.as_slice()) {
         Ok(plans) => match follow_phases(plans.as_slice(), script.start, script.phases.as_slice()) {
             Ok(_) => Ok(Accepted { script, plans }),
-            Err(line) => Err(NotRead::Refused(Refusal::OfScript {
-                line,
-                kind: ScriptKind::NotFollowing,
-            })),
+            Err(line) => {
+                drop(script);
+                drop(plans);
+                Err(NotRead::Refused(Refusal::OfScript {
+                    line,
+                    kind: ScriptKind::NotFollowing,
+                }))
+            }
         },
-        Err(error) => Err(error),
+        Err(error) => {
+            drop(script);
+            Err(error)
+        }
     }
 }
 

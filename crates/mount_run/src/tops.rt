@@ -1,4 +1,4 @@
-ghost use Rattle.std.specs.Prelude.{◌≡◌, ◌≢◌, ◌<◌, ◌≤◌, ◌-◌, ◌^◌, ◌↔◌, ◌⊎◌, Some, None, Err, length, map, IfOk, IfSome, IfNone, IsErrOf};
+ghost use Rattle.std.specs.Prelude.{◌≡◌, ◌≢◌, ◌<◌, ◌≤◌, ◌-◌, ◌^◌, ◌↔◌, ◌⊎◌, Some, None, Ok, Err, length, map, IfOk, OnErr, IfSome, IfNone, IsErrOf};
 ghost use Rattle.std.specs.String.{string_bytes};
 ghost use Rattle.std.specs.Io.KnownBytes.{Appends};
 ghost use Rattle.xl_base.specs.Writes.{WrotePrefix};
@@ -33,6 +33,7 @@ use report_text::print;
 use run_report::{has_report, report_of, summary_line};
 use script_lang::{Script, ScriptKind};
 use std::alloc::{AllocError, Global};
+use std::mem;
 use std::sync::Wait;
 use std::thread::Threads;
 use world_bricks::World;
@@ -195,8 +196,13 @@ fn read_twice<S: Source>(alloc: Global, source: &mut S) -> Result<(Accepted, Acc
 {
     let text = read_text(alloc, source)?;
     let read = accept(alloc, text.as_slice())?;
-    let again = accept(alloc, text.as_slice())?;
-    Ok((read, again))
+    match accept(alloc, text.as_slice()) {
+        Ok(again) => Ok((read, again)),
+        Err(not_read) => {
+            drop(read);
+            Err(not_read)
+        }
+    }
 }
 
 fn mount_read<R: Threads + Wait + Sync, K: Sink>(
@@ -221,14 +227,16 @@ fn mount_read<R: Threads + Wait + Sync, K: Sink>(
     let Accepted { script, plans } = read;
     let mut left = Rack::new(alloc);
     let ran = mount(rt, alloc, script, plans, workers, &OpenGate, &mut left);
-    match report_left(
+    let made = report_left(
         alloc,
         &again.script,
         again.plans.as_slice(),
         ran_well(ran),
         left,
         rack,
-    ) {
+    );
+    drop(again);
+    match made {
         Ok(Some(report)) => write(sink, report.as_slice(), 0),
         Ok(None) => 6,
         Err(Stop::Mem) => 5,
@@ -329,14 +337,31 @@ fn line_left(
     ensures winds { IsErrOf result Stop.Winds → IsStopped script.now rack.new }
     ensures memory { IsErrOf result Stop.Mem → rack.new ≡ rack.old }
 {
-    if let Err(stop) = ran {
-        return stopped(alloc, script, left, stop, rack);
+    match ran {
+        Ok(()) => {
+            let made = summed_up(alloc, number, script, plans, &left);
+            put_left(made, left, rack)
+        }
+        Err(stop) => stopped(alloc, script, left, stop, rack),
     }
-    if !is_lawful(alloc, script, plans, &left)? {
+}
+
+// The line that sums up what a run left; `None` where it fails an audit.
+fn summed_up(
+    alloc: Global,
+    number: u64,
+    script: &Script,
+    plans: &[Plan],
+    left: &Rack,
+) -> Result<Option<Vec<u8>>, AllocError>
+    requires { IsScript script.now plans.now }
+    ensures ran { IfOk result (λ o. IfSome o (λ line. IsLawfulRun script.now plans.now left.now)) }
+    ensures line { IfOk result (λ o. IfSome o (λ line. line.items ≡ summary_text number left.now.log)) }
+{
+    if !is_lawful(alloc, script, plans, left)? {
         return Ok(None);
     }
     let line = summary_line(alloc, number, &left.log)?;
-    *rack = left;
     Ok(Some(line))
 }
 
@@ -498,15 +523,58 @@ fn report_left(
     ensures winds { IsErrOf result Stop.Winds → IsStopped script.now rack.new }
     ensures memory { IsErrOf result Stop.Mem → rack.new ≡ rack.old }
 {
-    if let Err(stop) = ran {
-        return stopped(alloc, script, left, stop, rack);
+    match ran {
+        Ok(()) => {
+            let made = judged(alloc, script, plans, &left);
+            put_left(made, left, rack)
+        }
+        Err(stop) => stopped(alloc, script, left, stop, rack),
     }
-    if !has_report(&left.log) || !is_lawful(alloc, script, plans, &left)? {
+}
+
+// The report of what a run left; `None` where it fails an audit.
+fn judged(
+    alloc: Global,
+    script: &Script,
+    plans: &[Plan],
+    left: &Rack,
+) -> Result<Option<Vec<u8>>, AllocError>
+    requires { IsScript script.now plans.now }
+    ensures ran { IfOk result (λ o. IfSome o (λ report. IsLawfulRun script.now plans.now left.now)) }
+    ensures report { IfOk result (λ o. IfSome o (λ report. report.items ≡ text_of script.now plans.now left.now)) }
+{
+    if !has_report(&left.log) || !is_lawful(alloc, script, plans, left)? {
         return Ok(None);
     }
     let text = report(alloc, script, plans, &left.log)?;
-    *rack = left;
     Ok(Some(text))
+}
+
+// What a run left goes into the rack where a text was made of it, and ends else.
+fn put_left(
+    made: Result<Option<Vec<u8>>, AllocError>,
+    left: Rack,
+    rack: &mut Rack,
+) -> Result<Option<Vec<u8>>, Stop>
+    ensures made { IfOk result (λ o. made ≡ Ok o) }
+    ensures put { IfOk result (λ o. IfSome o (λ text. rack.new ≡ left)) }
+    ensures unlawful { IfOk result (λ o. IfNone o (rack.new ≡ rack.old)) }
+    ensures memory { OnErr result ((result ≡ Err Stop.Mem) × (rack.new ≡ rack.old)) }
+{
+    match made {
+        Ok(Some(text)) => {
+            drop(mem::replace(rack, left));
+            Ok(Some(text))
+        }
+        Ok(None) => {
+            drop(left);
+            Ok(None)
+        }
+        Err(_) => {
+            drop(left);
+            Err(Stop::Mem)
+        }
+    }
 }
 
 fn report(alloc: Global, script: &Script, plans: &[Plan], log: &Log) -> Result<Vec<u8>, AllocError>
@@ -531,12 +599,24 @@ fn stopped(
     ensures winds { IsErrOf result Stop.Winds → IsStopped script.now rack.new }
     ensures memory { IsErrOf result Stop.Mem → rack.new ≡ rack.old }
 {
-    if stop == Stop::Mem {
-        return Err(Stop::Mem);
+    match stop {
+        Stop::Mem => {
+            drop(left);
+            Err(Stop::Mem)
+        }
+        Stop::Winds => match has_stopped(alloc, script, &left) {
+            Ok(true) => {
+                drop(mem::replace(rack, left));
+                Err(Stop::Winds)
+            }
+            Ok(false) => {
+                drop(left);
+                Ok(None)
+            }
+            Err(_) => {
+                drop(left);
+                Err(Stop::Mem)
+            }
+        },
     }
-    if !has_stopped(alloc, script, &left)? {
-        return Ok(None);
-    }
-    *rack = left;
-    Err(Stop::Winds)
 }
