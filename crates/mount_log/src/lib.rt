@@ -11,7 +11,7 @@
 //!
 //! The hub writes an event's lines whole, or, where it was cut, its winds alone. `specs/` has what may be said of a log: which
 //! calls were submitted, whether it follows its script and is finished, whether its winds are balanced, which connections were
-//! open and for what they were made, and what an I/O error rests on. `log_audit` finds out whether it is so.
+//! open and for what they were made, and what an I/O error rests on. The audits find out whether it is so.
 #![tactic(auto)]
 
 mod logs;
