@@ -64,13 +64,8 @@ fn returned(alloc: Global, tree: Tree) -> Result<Tree, AllocError> {
     let mut down = tree;
     match down.sent() {
         Some((wind, _)) => answered(alloc, down, wind),
-        None => unanswered(down),
+        None => Err(AllocError),
     }
-}
-
-// Ends the relays, of which no wind went outside.
-fn unanswered(_tree: Tree) -> Result<Tree, AllocError> {
-    Err(AllocError)
 }
 
 // The lines of the winds are let go, so that they take no memory.

@@ -63,12 +63,12 @@ fn four_posts<'a>(
     requires words { hub.words ≡ words.now }
     requires hub { hub.view.role ≡ Hub }
 {
-    let mut posts = Vec::with_capacity(alloc, THREADS)?;
     let mut hub = hub;
-    posts.push_reserved(Post::reader(words, &mut hub));
-    posts.push_reserved(Post::reader(words, &mut hub));
-    posts.push_reserved(Post::reader(words, &mut hub));
-    posts.push_reserved(Post::hub(words, hub));
+    let mut posts = Vec::new(alloc);
+    posts.push(Post::reader(words, &mut hub))?;
+    posts.push(Post::reader(words, &mut hub))?;
+    posts.push(Post::reader(words, &mut hub))?;
+    posts.push(Post::hub(words, hub))?;
     Ok(posts)
 }
 

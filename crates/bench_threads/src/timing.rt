@@ -1,7 +1,7 @@
 use crate::posts::act_beside_readers;
 use crate::rings::{ROOM, through_link, through_ring};
 use crate::winds::{Act, Desk, THREADS, WINDS, act_on_each};
-use std::alloc::{AllocError, Global};
+use std::alloc::Global;
 use std::io;
 use std::rt::Runtime;
 use std::thread::Threads;
@@ -20,34 +20,12 @@ pub fn report<R: Runtime + Threads + Sync>(rt: &R, alloc: Global) -> io::Result<
     report_messages(rt, alloc, 65536, 64)
 }
 
-// The nanoseconds of one thread, of four with words of their own, and of four with the same words.
-#[derive(Clone, Copy)]
-struct WindTimes {
-    one: u64,
-    own: u64,
-    same: u64,
-}
-
 fn report_winds<R: Runtime + Threads + Sync>(
     rt: &R,
     alloc: Global,
     act: Act,
     name: &str,
 ) -> io::Result<()> {
-    let times = quickest_of_winds(rt, alloc, act)?;
-    let one = thousands(u64::from(WINDS), times.one);
-    let own = thousands(u64::from(WINDS) * THREADS as u64, times.own);
-    let same = thousands(u64::from(WINDS) * THREADS as u64, times.same);
-    eprintln!(rt;
-        "  {name}: {one} with one thread, {own} with four on their own words, {same} on the same"
-    )
-}
-
-fn quickest_of_winds<R: Runtime + Threads + Sync>(
-    rt: &R,
-    alloc: Global,
-    act: Act,
-) -> io::Result<WindTimes> {
     let mut one = u64::MAX;
     let mut own = u64::MAX;
     let mut same = u64::MAX;
@@ -56,7 +34,12 @@ fn quickest_of_winds<R: Runtime + Threads + Sync>(
         own = own.min(time_of_four(rt, alloc, act)?);
         same = same.min(time_beside_readers(rt, alloc, act)?);
     }
-    Ok(WindTimes { one, own, same })
+    let one = thousands(u64::from(WINDS), one);
+    let own = thousands(u64::from(WINDS) * THREADS as u64, own);
+    let same = thousands(u64::from(WINDS) * THREADS as u64, same);
+    eprintln!(rt;
+        "  {name}: {one} with one thread, {own} with four on their own words, {same} on the same"
+    )
 }
 
 fn time_of_one<R: Runtime>(rt: &R, alloc: Global, act: Act) -> io::Result<u64> {
@@ -67,26 +50,12 @@ fn time_of_one<R: Runtime>(rt: &R, alloc: Global, act: Act) -> io::Result<u64> {
 }
 
 fn time_of_four<R: Runtime + Threads + Sync>(rt: &R, alloc: Global, act: Act) -> io::Result<u64> {
-    let mut desks = desks(alloc, act)?;
-    time_of_each(rt, &mut desks, act)
-}
-
-// A desk for each thread.
-fn desks(alloc: Global, act: Act) -> Result<Vec<Desk>, AllocError> {
     let mut desks = Vec::new(alloc);
     for _ in 0..THREADS {
         desks.push(Desk::prepared(alloc, act)?)?;
     }
-    Ok(desks)
-}
-
-fn time_of_each<R: Runtime + Threads + Sync>(
-    rt: &R,
-    desks: &mut [Desk],
-    act: Act,
-) -> io::Result<u64> {
     let start = Instant::now(rt)?;
-    act_on_each(rt, desks, act);
+    act_on_each(rt, &mut desks, act);
     Ok(nanoseconds_of(start.elapsed(rt)?))
 }
 
@@ -101,42 +70,15 @@ fn time_beside_readers<R: Runtime + Threads + Sync>(
     Ok(nanoseconds_of(start.elapsed(rt)?))
 }
 
-// The nanoseconds of messages through a plain ring and through a link.
-#[derive(Clone, Copy)]
-struct MessageTimes {
-    plain: u64,
-    linked: u64,
-}
-
+// The plain ring and the link are timed in turn, so that both meet the same load.
 fn report_messages<R: Runtime>(rt: &R, alloc: Global, size: usize, rounds: u32) -> io::Result<()> {
     let bytes = vec![in alloc; 7u8; size]?;
-    let times = quickest_of_messages(rt, alloc, &bytes, rounds);
-    report_times(rt, size, rounds, times?)
-}
-
-// The plain ring and the link are timed in turn, so that both meet the same load.
-fn quickest_of_messages<R: Runtime>(
-    rt: &R,
-    alloc: Global,
-    bytes: &[u8],
-    rounds: u32,
-) -> io::Result<MessageTimes> {
     let mut plain = u64::MAX;
     let mut linked = u64::MAX;
     for _ in 0..PASSES {
-        plain = plain.min(time_of_ring(rt, alloc, bytes, rounds)?);
-        linked = linked.min(time_of_link(rt, alloc, bytes, rounds)?);
+        plain = plain.min(time_of_ring(rt, alloc, &bytes, rounds)?);
+        linked = linked.min(time_of_link(rt, alloc, &bytes, rounds)?);
     }
-    Ok(MessageTimes { plain, linked })
-}
-
-fn report_times<R: Runtime>(
-    rt: &R,
-    size: usize,
-    rounds: u32,
-    times: MessageTimes,
-) -> io::Result<()> {
-    let MessageTimes { plain, linked } = times;
     let messages = u64::from(rounds) * ROOM as u64;
     let of_ring = thousands(messages, plain);
     let of_link = thousands(messages, linked);
