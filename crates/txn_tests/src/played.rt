@@ -154,8 +154,9 @@ fn set_of(alloc: Global, n: u8) -> Result<SetPlan, AllocError> {
     })
 }
 
-// A ledger in which change 1 touches these cells, where it is unsettled.
-fn ledger_of(alloc: Global, unsettled: bool, cells: Seq<Cell>) -> Result<Ledger<Cell>, AllocError> {
+// A ledger in which change 1 touches the cells of the job, where it is unsettled.
+fn ledger_of(alloc: Global, unsettled: bool, work: Work) -> Result<Ledger<Cell>, AllocError> {
+    let cells = touched(alloc, work)?;
     let mut ledger = Ledger::new(alloc);
     if !unsettled {
         return Ok(ledger);
@@ -391,26 +392,23 @@ fn goes_on(
     links.takes(alloc, &mut begun.0, ledger, turns)
 }
 
-// The same of a job on this set.
-fn begins(
+// The same of a job that memory may not have been enough for.
+fn goes_on_if_begun(
     alloc: Global,
-    set: &SetPlan,
-    job: Job,
+    begun: &mut Result<(Txn, Need), AllocError>,
     live: u8,
     ledger: &mut Ledger<Cell>,
     first: Want,
     turns: &[(Turn, Want)],
-) -> Result<bool, AllocError>
-    requires odd { length set.now.bricks % 2 ≡ 1 }
-    requires few { length set.now.bricks ≤ 5 }
-    requires quorum { set.now.q ≡ (length set.now.bricks + 1) / 2 }
-{
-    let mut begun = Txn::begin(alloc, set, 3, job, Mask(live), &LAST, ledger)?;
-    goes_on(alloc, &mut begun, live, ledger, first, turns)
+) -> Result<bool, AllocError> {
+    match begun {
+        Ok(begun) => goes_on(alloc, begun, live, ledger, first, turns),
+        Err(_) => Err(AllocError),
+    }
 }
 
-// The same of a job by its kind.
-fn is_begun(
+// The same of a job on this set.
+fn begins(
     alloc: Global,
     set: &SetPlan,
     work: Work,
@@ -424,7 +422,26 @@ fn is_begun(
     requires quorum { set.now.q ≡ (length set.now.bricks + 1) / 2 }
 {
     let job = job_of(alloc, work)?;
-    begins(alloc, set, job, live, ledger, first, turns)
+    let mut begun = Txn::begin(alloc, set, 3, job, Mask(live), &LAST, ledger);
+    goes_on_if_begun(alloc, &mut begun, live, ledger, first, turns)
+}
+
+// The same of a job by its kind, where change 1 may be unsettled.
+fn is_begun(
+    alloc: Global,
+    set: &SetPlan,
+    work: Work,
+    live: u8,
+    unsettled: bool,
+    first: Want,
+    turns: &[(Turn, Want)],
+) -> Result<bool, AllocError>
+    requires odd { length set.now.bricks % 2 ≡ 1 }
+    requires few { length set.now.bricks ≤ 5 }
+    requires quorum { set.now.q ≡ (length set.now.bricks + 1) / 2 }
+{
+    let mut ledger = ledger_of(alloc, unsettled, work)?;
+    begins(alloc, set, work, live, &mut ledger, first, turns)
 }
 
 /// Whether a job on `n` replicas, of which these are live, asks first for this, and at each turn for that.
@@ -442,6 +459,5 @@ pub(crate) fn is_played(
     if count % 2 != 1 || count > 5 || set.q as usize != (count + 1) / 2 {
         return Ok(false);
     }
-    let mut ledger = ledger_of(alloc, unsettled, touched(alloc, work)?)?;
-    is_begun(alloc, &set, work, live, &mut ledger, first, turns)
+    is_begun(alloc, &set, work, live, unsettled, first, turns)
 }
