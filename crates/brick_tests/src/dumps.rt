@@ -1,6 +1,9 @@
+ghost use Rattle.std.specs.Prelude.{◌≡◌, []};
+
 use crate::tables::serve;
 use brick_machine::Brick;
 use fop_types::Seq;
+use std::alloc::{AllocError, Global};
 use std::test::Fail;
 
 // Graph 1 connects; the data of gfid 2 is replaced by `hi`, marked, and posted with replica 2 accused; gfid 3 is made as
@@ -27,19 +30,40 @@ const SHOWN: &[u8] =
 00000000000000000000000000000003/foo 01000 trusted.glusterfs.dht.linkto v-replicate-0
 ";
 
-#[test]
-fn attributes_and_links_are_shown(rt: HostRuntime) -> Result<(), Fail> {
-    let alloc = rt.alloc();
-    let mut brick = Brick::new(alloc)?;
+fn names(alloc: Global) -> Result<Seq<Seq<u8>>, AllocError> {
     let mut names = Seq::new(alloc);
     for name in &NAMES {
         names.push(Seq::from_bytes(alloc, name)?)?;
     }
-    brick.bind_names(names);
+    Ok(names)
+}
+
+// What a brick without inputs shows, once its replicas have names and the inputs are served.
+fn shown_by(alloc: Global, brick: &mut Brick) -> Result<Vec<u8>, AllocError>
+    requires { brick.old.journal ≡ [] }
+{
+    brick.bind_names(names(alloc)?);
     for input in &INPUTS {
-        serve(alloc, &mut brick, input)?;
+        serve(alloc, brick, input)?;
     }
-    let shown = brick.dump(alloc)?;
-    assert!(rt; shown.as_slice() == SHOWN);
+    brick.dump(alloc)
+}
+
+// Whether it shows this.
+fn shows(alloc: Global, brick: &mut Brick, wanted: &[u8]) -> Result<bool, AllocError>
+    requires { brick.old.journal ≡ [] }
+{
+    let shown = shown_by(alloc, brick)?;
+    Ok(shown.as_slice() == wanted)
+}
+
+fn is_shown(alloc: Global, wanted: &[u8]) -> Result<bool, AllocError> {
+    let mut brick = Brick::new(alloc)?;
+    shows(alloc, &mut brick, wanted)
+}
+
+#[test]
+fn attributes_and_links_are_shown(rt: HostRuntime) -> Result<(), Fail> {
+    assert!(rt; is_shown(rt.alloc(), SHOWN)?);
     Ok(())
 }

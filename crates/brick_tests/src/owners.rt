@@ -1,4 +1,5 @@
-use brick_locks::{Asked, BrickLocks, Owner};
+use self::Step::*;
+use brick_locks::{Asked, BrickLocks, Dropped, Owner};
 use fop_types::{Aspect, Cell, Gfid};
 use std::alloc::{AllocError, Global};
 use std::test::*;
@@ -26,48 +27,77 @@ const LATER: Owner = Owner { graph: 2, call: 5 };
 
 const APART: Owner = Owner { graph: 2, call: 6 };
 
-// An owner, the cells that it asks for, whether shared, and the answer.
-const ASKS: [(Owner, &[Cell], bool, Asked); 4] = [
-    (READER, &[A, B], true, Asked::Granted),
-    (WRITER, &[B], false, Asked::Queued),
-    (LATER, &[B], true, Asked::Queued),
-    (APART, &[C], false, Asked::Granted),
-];
-
-// An owner that releases, and the owners that this grants.
-const RELEASES: [(Owner, &[Owner]); 2] = [(LATER, &[]), (READER, &[WRITER])];
+// What is done with the locks, and what comes of it.
+#[derive(Clone, Copy)]
+enum Step {
+    // An owner that neither holds nor waits, the cells that it asks for, whether shared, and the answer.
+    Asks(Owner, &'static [Cell], bool, Asked),
+    // An owner that releases, and the owners that this grants.
+    Releases(Owner, &'static [Owner]),
+    // A graph that ends: who waited and is gone, and who is granted.
+    DropsGraph(u32, &'static [Owner], &'static [Owner]),
+    // All end: the same.
+    DropsAll(&'static [Owner], &'static [Owner]),
+}
 
 // A reader holds two cells, a writer waits for one of them, a later reader waits behind the writer, and
 // a writer of another cell waits for nobody.
+const STEPS: [Step; 9] = [
+    Asks(READER, &[A, B], true, Asked::Granted),
+    Asks(WRITER, &[B], false, Asked::Queued),
+    Asks(LATER, &[B], true, Asked::Queued),
+    Asks(APART, &[C], false, Asked::Granted),
+    Releases(LATER, &[]),
+    Releases(READER, &[WRITER]),
+    DropsGraph(1, &[], &[LATER]),
+    Asks(WRITER, &[A, B], false, Asked::Queued),
+    DropsAll(&[WRITER], &[]),
+];
+
 #[test]
 fn basic(rt: HostRuntime) -> Result<(), Fail> {
     let alloc = rt.alloc();
     let mut locks = BrickLocks::new(alloc);
-    for (owner, cells, shared, asked) in &ASKS {
-        assert!(rt; ask_once(alloc, &mut locks, *owner, cells, *shared)? == Some(*asked));
+    for step in &STEPS {
+        assert!(rt; comes_out(alloc, &mut locks, *step)?);
     }
-    for (owner, granted) in &RELEASES {
-        assert!(rt; locks.release(alloc, *owner)?.as_slice() == *granted);
-    }
-    let dropped = locks.drop_graph(alloc, 1)?;
-    assert!(rt; dropped.gone.is_empty() && dropped.granted.as_slice() == [LATER].as_slice());
-    assert!(rt; ask_once(alloc, &mut locks, WRITER, &[A, B], false)? == Some(Asked::Queued));
-    let all = locks.drop_all(alloc)?;
-    assert!(rt; all.gone.as_slice() == [WRITER].as_slice() && all.granted.is_empty());
     Ok(())
 }
 
-// Asks for an owner that neither holds nor waits, and for no other.
+fn comes_out(alloc: Global, locks: &mut BrickLocks, step: Step) -> Result<bool, AllocError> {
+    match step {
+        Asks(owner, cells, shared, asked) => ask_once(alloc, locks, owner, cells, shared, asked),
+        Releases(owner, granted) => {
+            let freed = locks.release(alloc, owner)?;
+            Ok(freed.as_slice() == granted)
+        }
+        DropsGraph(graph, gone, granted) => {
+            let dropped = locks.drop_graph(alloc, graph)?;
+            Ok(are_dropped(&dropped, gone, granted))
+        }
+        DropsAll(gone, granted) => {
+            let dropped = locks.drop_all(alloc)?;
+            Ok(are_dropped(&dropped, gone, granted))
+        }
+    }
+}
+
+// Whether an owner neither holds nor waits, and has this answer when it asks.
 fn ask_once(
     alloc: Global,
     locks: &mut BrickLocks,
     owner: Owner,
     cells: &[Cell],
     shared: bool,
-) -> Result<Option<Asked>, AllocError> {
+    asked: Asked,
+) -> Result<bool, AllocError> {
     if locks.knows(owner) {
-        return Ok(None);
+        return Ok(false);
     }
-    let asked = locks.ask(alloc, owner, cells, shared)?;
-    Ok(Some(asked))
+    let answer = locks.ask(alloc, owner, cells, shared)?;
+    Ok(answer == asked)
+}
+
+fn are_dropped(dropped: &Dropped, gone: &[Owner], granted: &[Owner]) -> bool {
+    dropped.gone.as_slice() == gone && dropped.granted.as_slice() == granted
 }

@@ -41,18 +41,37 @@ fn has_outputs(
     Ok(at == brick.outputs().len())
 }
 
-/// The number of the first case, from 1, whose outputs a new brick does not put out when it serves the inputs in
-/// order; 0 where it puts out those of each.
-pub(crate) fn first_wrong(alloc: Global, cases: &[Case]) -> Result<usize, AllocError> {
-    let mut brick = Brick::new(alloc)?;
+// Whether a brick puts out these when it serves an input.
+fn puts_out(
+    alloc: Global,
+    brick: &mut Brick,
+    input: &[u32],
+    outputs: &[&[u32]],
+) -> Result<bool, AllocError> {
+    let before = brick.outputs().len();
+    serve(alloc, brick, input)?;
+    has_outputs(alloc, brick, before, outputs)
+}
+
+/// The number of the first case, from 1, whose outputs a brick does not put out; 0 where it puts out those of each.
+pub(crate) fn wrong_of(
+    alloc: Global,
+    brick: &mut Brick,
+    cases: &[Case],
+) -> Result<usize, AllocError> {
     let mut number: usize = 0;
     for (input, outputs) in cases {
         number = number.saturating_add(1);
-        let before = brick.outputs().len();
-        serve(alloc, &mut brick, input)?;
-        if !has_outputs(alloc, &brick, before, outputs)? {
+        if !puts_out(alloc, brick, input, outputs)? {
             return Ok(number);
         }
     }
     Ok(0)
+}
+
+/// The number of the first case, from 1, whose outputs a new brick does not put out when it serves the inputs in
+/// order; 0 where it puts out those of each.
+pub(crate) fn first_wrong(alloc: Global, cases: &[Case]) -> Result<usize, AllocError> {
+    let mut brick = Brick::new(alloc)?;
+    wrong_of(alloc, &mut brick, cases)
 }

@@ -187,21 +187,20 @@ fn learn(alloc: Global, play: &Play, kept: &mut Kept) -> Result<(), AllocError> 
 // Whether a row goes as it says, where these layouts are kept; what it reads is kept with them.
 fn runs(alloc: Global, row: &str, failing: usize, kept: &mut Kept) -> Result<bool, AllocError> {
     let (words, turns) = cut(row.as_bytes(), b':');
-    let play = begin(alloc, words, kept)?;
-    ends(alloc, play, turns, failing, kept)
+    let mut play = begin(alloc, words, kept)?;
+    ends(alloc, &mut play, turns, failing, kept)
 }
 
-// The same of a fop that has begun. It is dropped at one place alone.
+// The same of a fop that has begun.
 fn ends(
     alloc: Global,
-    begun: Play,
+    play: &mut Play,
     turns: &[u8],
     failing: usize,
     kept: &mut Kept,
 ) -> Result<bool, AllocError> {
-    let mut play = begun;
-    let did = goes(alloc, &mut play, turns, failing);
-    let learnt = learn(alloc, &play, kept);
+    let did = goes(alloc, play, turns, failing);
+    let learnt = learn(alloc, play, kept);
     both(did, learnt)
 }
 

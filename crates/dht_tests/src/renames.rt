@@ -65,10 +65,12 @@ const REPLACED: [&str; 11] = [
     "3 rename / new / fo: 0 names new:file; 1 names none; 0 names none; 2 names fo:file:3; 2 drop.1 3; 0 move.2 4; 1 link+ ok; ok 4",
 ];
 
+const TABLES: [&[&str]; 3] = [&REFUSED, &MOVED, &REPLACED];
+
 #[test]
 fn renames(rt: HostRuntime) -> Result<(), Fail> {
-    assert_eq!(rt; first_wrong(rt.alloc(), &REFUSED)?, "");
-    assert_eq!(rt; first_wrong(rt.alloc(), &MOVED)?, "");
-    assert_eq!(rt; first_wrong(rt.alloc(), &REPLACED)?, "");
+    for rows in &TABLES {
+        assert_eq!(rt; first_wrong(rt.alloc(), rows)?, "");
+    }
     Ok(())
 }

@@ -211,21 +211,34 @@ fn lookups(rt: HostRuntime) -> Result<(), Fail> {
     Ok(())
 }
 
-// What a reply to a read of names shows: whether there is a copy, and how many names.
-#[test]
-fn names_of_a_set(rt: HostRuntime) -> Result<(), Fail> {
-    let alloc = rt.alloc();
-    let dir = Gfid { hi: 0, lo: 1 };
-    assert!(rt; matches!(names_job(alloc, dir)?, Job::Read { .. }));
+fn reads_names(alloc: Global) -> Result<bool, AllocError> {
+    let job = names_job(alloc, Gfid { hi: 0, lo: 1 })?;
+    Ok(matches!(job, Job::Read { .. }))
+}
+
+// The reply of a set that has one name.
+fn one_name(alloc: Global) -> Result<SetReply, AllocError> {
     let items = item(alloc, Kind::File, b"")?;
     let mut contents = Seq::new(alloc);
     contents.push(Some(Content::Names {
         removed: false,
         items,
     }))?;
-    match names_in(alloc, SetReply::Contents(contents, 5)) {
-        Ok(shown) => assert!(rt; shown.has_copy && shown.items.len() == 1 && shown.place == 5),
-        Err(_) => assert!(rt; false),
+    Ok(SetReply::Contents(contents, 5))
+}
+
+fn shows_one_name(alloc: Global, reply: SetReply) -> bool {
+    match names_in(alloc, reply) {
+        Ok(shown) => shown.has_copy && shown.items.len() == 1 && shown.place == 5,
+        Err(_) => false,
     }
+}
+
+// What a reply to a read of names shows: whether there is a copy, and how many names.
+#[test]
+fn names_of_a_set(rt: HostRuntime) -> Result<(), Fail> {
+    let alloc = rt.alloc();
+    assert!(rt; reads_names(alloc)?);
+    assert!(rt; shows_one_name(alloc, one_name(alloc)?));
     Ok(())
 }

@@ -67,47 +67,87 @@ fn attr(alloc: Global, name: &[u8], value: &[u8]) -> Result<Attr, AllocError> {
     Ok(Attr { name, value })
 }
 
+// What a call on a path does.
+#[derive(Clone, Copy)]
+enum Verb {
+    Mkdir,
+    Rmdir,
+    Unlink,
+    Rename,
+    Stat,
+    List,
+    Chmod,
+    Truncate,
+    SetAttr,
+    GetAttr,
+    DelAttr,
+}
+
+fn verb_of(word: &[u8]) -> Verb {
+    match word {
+        b"mkdir" => Verb::Mkdir,
+        b"rmdir" => Verb::Rmdir,
+        b"unlink" => Verb::Unlink,
+        b"rename" => Verb::Rename,
+        b"stat" => Verb::Stat,
+        b"list" => Verb::List,
+        b"chmod" => Verb::Chmod,
+        b"truncate" => Verb::Truncate,
+        b"setattr" => Verb::SetAttr,
+        b"getattr" => Verb::GetAttr,
+        _ => Verb::DelAttr,
+    }
+}
+
+fn rename(alloc: Global, path: Path, word: &[u8]) -> Result<Call, AllocError> {
+    let target = self::path(alloc, word)?;
+    Ok(Call::Rename { path, target })
+}
+
+fn set_attr(alloc: Global, path: Path, name: &[u8], value: &[u8]) -> Result<Call, AllocError> {
+    let attr = attr(alloc, name, value)?;
+    Ok(Call::SetAttr { path, attr })
+}
+
+fn get_attr(alloc: Global, path: Path, word: &[u8]) -> Result<Call, AllocError> {
+    let name = bytes(alloc, word)?;
+    Ok(Call::GetAttr { path, name })
+}
+
+fn del_attr(alloc: Global, path: Path, word: &[u8]) -> Result<Call, AllocError> {
+    let name = bytes(alloc, word)?;
+    Ok(Call::DelAttr { path, name })
+}
+
 // A call on a path, from its words.
 fn path_call(
     alloc: Global,
-    call: &[u8],
+    verb: Verb,
     path: Path,
     second: &[u8],
     third: &[u8],
 ) -> Result<Call, AllocError> {
-    match call {
-        b"mkdir" => Ok(Call::Mkdir {
+    match verb {
+        Verb::Mkdir => Ok(Call::Mkdir {
             path,
             mode: mode(second),
         }),
-        b"rmdir" => Ok(Call::Rmdir { path }),
-        b"unlink" => Ok(Call::Unlink { path }),
-        b"rename" => {
-            let target = self::path(alloc, second)?;
-            Ok(Call::Rename { path, target })
-        }
-        b"stat" => Ok(Call::Stat { path }),
-        b"list" => Ok(Call::List { path }),
-        b"chmod" => Ok(Call::Chmod {
+        Verb::Rmdir => Ok(Call::Rmdir { path }),
+        Verb::Unlink => Ok(Call::Unlink { path }),
+        Verb::Rename => rename(alloc, path, second),
+        Verb::Stat => Ok(Call::Stat { path }),
+        Verb::List => Ok(Call::List { path }),
+        Verb::Chmod => Ok(Call::Chmod {
             path,
             mode: mode(second),
         }),
-        b"truncate" => Ok(Call::Truncate {
+        Verb::Truncate => Ok(Call::Truncate {
             path,
             size: decimal(second),
         }),
-        b"setattr" => {
-            let attr = attr(alloc, second, third)?;
-            Ok(Call::SetAttr { path, attr })
-        }
-        b"getattr" => {
-            let name = bytes(alloc, second)?;
-            Ok(Call::GetAttr { path, name })
-        }
-        _ => {
-            let name = bytes(alloc, second)?;
-            Ok(Call::DelAttr { path, name })
-        }
+        Verb::SetAttr => set_attr(alloc, path, second, third),
+        Verb::GetAttr => get_attr(alloc, path, second),
+        Verb::DelAttr => del_attr(alloc, path, second),
     }
 }
 
@@ -142,7 +182,7 @@ fn call(alloc: Global, line: &[u8]) -> Result<Call, AllocError> {
         b"close" => Ok(Call::Close { fd }),
         _ => {
             let path = path(alloc, first)?;
-            path_call(alloc, call, path, second, third)
+            path_call(alloc, verb_of(call), path, second, third)
         }
     }
 }
@@ -207,10 +247,32 @@ fn push_answer(alloc: Global, text: &mut Vec<u8>, answer: &Answer) -> Result<(),
     Ok(())
 }
 
-/// The answers to a script of at most 64 lines on a new file system, each with a space behind it.
-pub(crate) fn answers(alloc: Global, script: &[u8]) -> Result<Vec<u8>, AllocError> {
-    let mut mount = FlatMount::new(alloc)?;
-    let mut text = Vec::new(alloc);
+// Takes a line of a session: a call, whose answer is put behind the text, or the session of the lines from here on, which
+// it gives.
+fn take_line(
+    alloc: Global,
+    mount: &mut FlatMount,
+    session: u8,
+    line: &[u8],
+    text: &mut Vec<u8>,
+) -> Result<u8, AllocError> {
+    match line {
+        [b'@', b' ', number @ ..] => Ok(small(number)),
+        _ => {
+            let call = call(alloc, line)?;
+            let answer = mount.call(alloc, session, &call)?;
+            push_answer(alloc, text, &answer)?;
+            Ok(session)
+        }
+    }
+}
+
+fn take_lines(
+    alloc: Global,
+    mount: &mut FlatMount,
+    script: &[u8],
+    text: &mut Vec<u8>,
+) -> Result<(), AllocError> {
     let mut session: u8 = 0;
     let mut rest = script;
     for _ in 0..64 {
@@ -219,14 +281,15 @@ pub(crate) fn answers(alloc: Global, script: &[u8]) -> Result<Vec<u8>, AllocErro
         }
         let (line, more) = cut(rest, b';');
         rest = more;
-        match line {
-            [b'@', b' ', number @ ..] => session = small(number),
-            _ => {
-                let call = call(alloc, line)?;
-                let answer = mount.call(alloc, session, &call)?;
-                push_answer(alloc, &mut text, &answer)?;
-            }
-        }
+        session = take_line(alloc, mount, session, line, text)?;
     }
+    Ok(())
+}
+
+/// The answers to a script of at most 64 lines on a new file system, each with a space behind it.
+pub(crate) fn answers(alloc: Global, script: &[u8]) -> Result<Vec<u8>, AllocError> {
+    let mut text = Vec::new(alloc);
+    let mut mount = FlatMount::new(alloc)?;
+    take_lines(alloc, &mut mount, script, &mut text)?;
     Ok(text)
 }

@@ -37,18 +37,43 @@ fn with_removed(alloc: Global) -> Result<FlatFs, AllocError> {
     Ok(files)
 }
 
+fn refuses(
+    alloc: Global,
+    files: &mut FlatFs,
+    op: FlatOp,
+    error: AppError,
+) -> Result<bool, AllocError> {
+    let answer = files.apply(alloc, op)?;
+    Ok(answer == FlatAnswer::Call(Answer::App(error)))
+}
+
+// Whether a look-up of a name of so many bytes gives this error.
+fn lacks(
+    alloc: Global,
+    files: &mut FlatFs,
+    length: usize,
+    error: AppError,
+) -> Result<bool, AllocError> {
+    let name = named(alloc, length)?;
+    refuses(alloc, files, FlatOp::Lookup { parent: MADE, name }, error)
+}
+
+// Whether each look-up and a listing of the removed directory give their errors.
+fn is_removed(alloc: Global, files: &mut FlatFs) -> Result<bool, AllocError> {
+    for (length, error) in &NAMES {
+        if !lacks(alloc, files, *length, *error)? {
+            return Ok(false);
+        }
+    }
+    refuses(alloc, files, FlatOp::List { gfid: MADE }, AppError::Enoent)
+}
+
 // A removed directory stays under its gfid, which a call that looked it up before may still have: it has no names and
 // takes none.
 #[test]
 fn removed(rt: HostRuntime) -> Result<(), Fail> {
     let alloc = rt.alloc();
     let mut files = with_removed(alloc)?;
-    for (length, error) in &NAMES {
-        let name = named(alloc, *length)?;
-        let answer = files.apply(alloc, FlatOp::Lookup { parent: MADE, name })?;
-        assert!(rt; answer == FlatAnswer::Call(Answer::App(*error)));
-    }
-    let listed = files.apply(alloc, FlatOp::List { gfid: MADE })?;
-    assert!(rt; listed == FlatAnswer::Call(Answer::App(AppError::Enoent)));
+    assert!(rt; is_removed(alloc, &mut files)?);
     Ok(())
 }

@@ -1,6 +1,8 @@
+ghost use Rattle.std.specs.Prelude.{◌≡◌, ◌+◌, ◌/◌, ◌%◌, ◌≤◌, length};
+
 use crate::summary::{Want, summary};
 use afr_ledger::{Ledger, Unsettled};
-use afr_transaction::Txn;
+use afr_transaction::{Need, Txn};
 use fop_types::{
     Aspect, BrickRep, Cell, Content, CopyDone, DoneArm, Entry, Gfid, Job, Mask, Out, Row, Seq,
     SetPlan, StoreOp,
@@ -50,10 +52,9 @@ pub(crate) enum Work {
     ReadNames,
 }
 
+/// The connections: which are live, and the last number of each.
 #[derive(Drop)]
-struct Play {
-    txn: Txn,
-    ledger: Ledger<Cell>,
+struct Links {
     live: u8,
     last: [u32; 5],
 }
@@ -153,8 +154,9 @@ fn set_of(alloc: Global, n: u8) -> Result<SetPlan, AllocError> {
     })
 }
 
-// A ledger in which change 1 touches these cells, where it is unsettled.
-fn ledger_of(alloc: Global, unsettled: bool, cells: Seq<Cell>) -> Result<Ledger<Cell>, AllocError> {
+// A ledger in which change 1 touches the cells of the job, where it is unsettled.
+fn ledger_of(alloc: Global, unsettled: bool, work: Work) -> Result<Ledger<Cell>, AllocError> {
+    let cells = touched(alloc, work)?;
     let mut ledger = Ledger::new(alloc);
     if !unsettled {
         return Ok(ledger);
@@ -219,33 +221,67 @@ fn cells_of(alloc: Global) -> Result<BrickRep, AllocError> {
     Ok(BrickRep::Done(DoneArm::Cells(cells)))
 }
 
-impl Play {
-    fn answer(&mut self, alloc: Global, k: u8, rep: BrickRep) -> Result<Want, AllocError> {
-        if k >= 5 || !self.txn.wave.is_asked(k) {
+// Settles change 1, where it is unsettled.
+fn settled(alloc: Global, ledger: &mut Ledger<Cell>, adopted: bool) -> Result<Want, AllocError> {
+    if ledger.unsettled(1).is_none() || ledger.history().len() >= 9 {
+        return Ok(Want::Other(1));
+    }
+    ledger.decide(alloc, 1, adopted)?;
+    Ok(Want::Wait)
+}
+
+// Begins a change of the cell, where none touches it.
+fn begun(alloc: Global, ledger: &mut Ledger<Cell>) -> Result<Want, AllocError> {
+    if ledger.drawn() >= 9 {
+        return Ok(Want::Other(9));
+    }
+    let change = ledger.draw();
+    let mut cells = Seq::new(alloc);
+    cells.push(cell())?;
+    if ledger.touching(1, cells.as_slice()).is_some() || ledger.unsettled(change).is_some() {
+        return Ok(Want::Other(1));
+    }
+    let u = Unsettled {
+        change,
+        set: 1,
+        cells,
+        effect: None,
+    };
+    ledger.begin(alloc, u)?;
+    Ok(Want::Wait)
+}
+
+impl Links {
+    fn answer(
+        &mut self,
+        alloc: Global,
+        txn: &mut Txn,
+        ledger: &mut Ledger<Cell>,
+        k: u8,
+        rep: BrickRep,
+    ) -> Result<Want, AllocError> {
+        if k >= 5 || !txn.wave.is_asked(k) {
             return Ok(Want::Other(k));
         }
-        let need = self.txn.answer(
-            alloc,
-            k,
-            rep,
-            9,
-            Mask(self.live),
-            &self.last,
-            &mut self.ledger,
-        )?;
+        let need = txn.answer(alloc, k, rep, 9, Mask(self.live), &self.last, ledger)?;
         Ok(summary(&need))
     }
 
-    fn copied(&mut self, alloc: Global, current: u8, outs: u8) -> Result<Want, AllocError> {
+    fn copied(
+        &mut self,
+        alloc: Global,
+        txn: &mut Txn,
+        ledger: &mut Ledger<Cell>,
+        current: u8,
+        outs: u8,
+    ) -> Result<Want, AllocError> {
         let done = CopyDone {
             held: Mask(current),
             current: Mask(current),
             outs: outs_of(alloc, outs)?,
             records: Seq::new(alloc),
         };
-        let need = self
-            .txn
-            .copied(alloc, done, Mask(self.live), &self.last, &mut self.ledger)?;
+        let need = txn.copied(alloc, done, Mask(self.live), &self.last, ledger)?;
         Ok(summary(&need))
     }
 
@@ -257,42 +293,18 @@ impl Play {
         Want::Wait
     }
 
-    fn settled(&mut self, alloc: Global, adopted: bool) -> Result<Want, AllocError> {
-        if self.ledger.unsettled(1).is_none() || self.ledger.history().len() >= 9 {
-            return Ok(Want::Other(1));
-        }
-        self.ledger.decide(alloc, 1, adopted)?;
-        Ok(Want::Wait)
-    }
-
-    fn begun(&mut self, alloc: Global) -> Result<Want, AllocError> {
-        if self.ledger.drawn() >= 9 {
-            return Ok(Want::Other(9));
-        }
-        let change = self.ledger.draw();
-        let mut cells = Seq::new(alloc);
-        cells.push(cell())?;
-        if self.ledger.touching(1, cells.as_slice()).is_some()
-            || self.ledger.unsettled(change).is_some()
-        {
-            return Ok(Want::Other(1));
-        }
-        let u = Unsettled {
-            change,
-            set: 1,
-            cells,
-            effect: None,
-        };
-        self.ledger.begin(alloc, u)?;
-        Ok(Want::Wait)
-    }
-
-    fn turn(&mut self, alloc: Global, turn: Turn) -> Result<Want, AllocError> {
+    fn turn(
+        &mut self,
+        alloc: Global,
+        txn: &mut Txn,
+        ledger: &mut Ledger<Cell>,
+        turn: Turn,
+    ) -> Result<Want, AllocError> {
         match turn {
-            Turn::Done(k) => self.answer(alloc, k, BrickRep::Done(DoneArm::Nothing)),
+            Turn::Done(k) => self.answer(alloc, txn, ledger, k, BrickRep::Done(DoneArm::Nothing)),
             Turn::Rows(k, accused, last) => {
                 let rep = rows_of(alloc, row(accused, last, true))?;
-                self.answer(alloc, k, rep)
+                self.answer(alloc, txn, ledger, k, rep)
             }
             Turn::Pair(k, one, one_last, other, other_last) => {
                 let rep = pair_of(
@@ -300,50 +312,136 @@ impl Play {
                     row(one, one_last, true),
                     row(other, other_last, true),
                 )?;
-                self.answer(alloc, k, rep)
+                self.answer(alloc, txn, ledger, k, rep)
             }
             Turn::Absent(k) => {
                 let rep = rows_of(alloc, row(0, 0, false))?;
-                self.answer(alloc, k, rep)
+                self.answer(alloc, txn, ledger, k, rep)
             }
             Turn::Bytes(k) => {
                 let content = Content::Bytes(Seq::new(alloc));
-                self.answer(alloc, k, BrickRep::Done(DoneArm::Content(content, 1)))
+                self.answer(
+                    alloc,
+                    txn,
+                    ledger,
+                    k,
+                    BrickRep::Done(DoneArm::Content(content, 1)),
+                )
             }
             Turn::Names(k) => {
                 let content = Content::Names {
                     removed: false,
                     items: Seq::new(alloc),
                 };
-                self.answer(alloc, k, BrickRep::Done(DoneArm::Content(content, 1)))
+                self.answer(
+                    alloc,
+                    txn,
+                    ledger,
+                    k,
+                    BrickRep::Done(DoneArm::Content(content, 1)),
+                )
             }
             Turn::Cells(k) => {
                 let rep = cells_of(alloc)?;
-                self.answer(alloc, k, rep)
+                self.answer(alloc, txn, ledger, k, rep)
             }
-            Turn::Gone(k) => self.answer(alloc, k, BrickRep::Gone),
-            Turn::Fault(k) => self.answer(alloc, k, BrickRep::Fault),
-            Turn::Copied(current) => self.copied(alloc, current, 0),
-            Turn::CopyOuts(current, outs) => self.copied(alloc, current, outs),
+            Turn::Gone(k) => self.answer(alloc, txn, ledger, k, BrickRep::Gone),
+            Turn::Fault(k) => self.answer(alloc, txn, ledger, k, BrickRep::Fault),
+            Turn::Copied(current) => self.copied(alloc, txn, ledger, current, 0),
+            Turn::CopyOuts(current, outs) => self.copied(alloc, txn, ledger, current, outs),
             Turn::Cut(live) => {
                 self.live = live;
                 Ok(Want::Wait)
             }
             Turn::Back(k) => Ok(self.back(k)),
-            Turn::Settled(adopted) => self.settled(alloc, adopted),
-            Turn::Begun => self.begun(alloc),
+            Turn::Settled(adopted) => settled(alloc, ledger, adopted),
+            Turn::Begun => begun(alloc, ledger),
         }
     }
 
     // Whether the turns need these in order.
-    fn takes(&mut self, alloc: Global, turns: &[(Turn, Want)]) -> Result<bool, AllocError> {
+    fn takes(
+        &mut self,
+        alloc: Global,
+        txn: &mut Txn,
+        ledger: &mut Ledger<Cell>,
+        turns: &[(Turn, Want)],
+    ) -> Result<bool, AllocError> {
         for (turn, want) in turns {
-            if self.turn(alloc, *turn)? != *want {
+            if self.turn(alloc, txn, ledger, *turn)? != *want {
                 return Ok(false);
             }
         }
         Ok(true)
     }
+}
+
+// Whether a job that has begun asks first for this, and at each turn for that.
+fn goes_on(
+    alloc: Global,
+    begun: &mut (Txn, Need),
+    live: u8,
+    ledger: &mut Ledger<Cell>,
+    first: Want,
+    turns: &[(Turn, Want)],
+) -> Result<bool, AllocError> {
+    if summary(&begun.1) != first {
+        return Ok(false);
+    }
+    let mut links = Links { live, last: LAST };
+    links.takes(alloc, &mut begun.0, ledger, turns)
+}
+
+// The same of a job that memory may not have been enough for.
+fn goes_on_if_begun(
+    alloc: Global,
+    begun: &mut Result<(Txn, Need), AllocError>,
+    live: u8,
+    ledger: &mut Ledger<Cell>,
+    first: Want,
+    turns: &[(Turn, Want)],
+) -> Result<bool, AllocError> {
+    match begun {
+        Ok(begun) => goes_on(alloc, begun, live, ledger, first, turns),
+        Err(_) => Err(AllocError),
+    }
+}
+
+// The same of a job on this set.
+fn begins(
+    alloc: Global,
+    set: &SetPlan,
+    work: Work,
+    live: u8,
+    ledger: &mut Ledger<Cell>,
+    first: Want,
+    turns: &[(Turn, Want)],
+) -> Result<bool, AllocError>
+    requires odd { length set.now.bricks % 2 ≡ 1 }
+    requires few { length set.now.bricks ≤ 5 }
+    requires quorum { set.now.q ≡ (length set.now.bricks + 1) / 2 }
+{
+    let job = job_of(alloc, work)?;
+    let mut begun = Txn::begin(alloc, set, 3, job, Mask(live), &LAST, ledger);
+    goes_on_if_begun(alloc, &mut begun, live, ledger, first, turns)
+}
+
+// The same of a job by its kind, where change 1 may be unsettled.
+fn is_begun(
+    alloc: Global,
+    set: &SetPlan,
+    work: Work,
+    live: u8,
+    unsettled: bool,
+    first: Want,
+    turns: &[(Turn, Want)],
+) -> Result<bool, AllocError>
+    requires odd { length set.now.bricks % 2 ≡ 1 }
+    requires few { length set.now.bricks ≤ 5 }
+    requires quorum { set.now.q ≡ (length set.now.bricks + 1) / 2 }
+{
+    let mut ledger = ledger_of(alloc, unsettled, work)?;
+    begins(alloc, set, work, live, &mut ledger, first, turns)
 }
 
 /// Whether a job on `n` replicas, of which these are live, asks first for this, and at each turn for that.
@@ -361,17 +459,5 @@ pub(crate) fn is_played(
     if count % 2 != 1 || count > 5 || set.q as usize != (count + 1) / 2 {
         return Ok(false);
     }
-    let ledger = ledger_of(alloc, unsettled, touched(alloc, work)?)?;
-    let job = job_of(alloc, work)?;
-    let (txn, need) = Txn::begin(alloc, &set, 3, job, Mask(live), &LAST, &ledger)?;
-    if summary(&need) != first {
-        return Ok(false);
-    }
-    let mut play = Play {
-        txn,
-        ledger,
-        live,
-        last: LAST,
-    };
-    play.takes(alloc, turns)
+    is_begun(alloc, &set, work, live, unsettled, first, turns)
 }
