@@ -354,9 +354,10 @@ fn claim_parts(
 ) -> Result<bool, AllocError>
     ensures { IfOk result (λ did. Adds did claims.old claims.new (op_claims case.now (Some last))) }
 {
-    match claim_first(alloc, case, &last, claims) {
-        Ok(true) => claim_last(case, last, claims),
-        other => other,
+    if claim_first(alloc, case, &last, claims)? {
+        claim_last(case, last, claims)
+    } else {
+        Ok(false)
     }
 }
 

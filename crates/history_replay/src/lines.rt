@@ -152,34 +152,6 @@ impl<'a> Assigned<'a> {
     }
 }
 
-// The lines of calls, which come in this order of these lines.
-fn assign_by<'a>(
-    alloc: Global,
-    script: &Script,
-    lines: &Lines<'a>,
-    order: &mut Order,
-    calls: &[ReportCall],
-    idle: &'a CallLine,
-) -> Result<Assigned<'a>, AllocError> {
-    let mut assigned = Assigned {
-        lines: Vec::new(alloc),
-        fails: None,
-    };
-    for at in 0..calls.len() {
-        let place = lines.place(calls[at].line);
-        if !order.fits(script, lines, place, at + 1, &calls[at]) {
-            assigned.fail(at + 1);
-        }
-        assigned.lines.push(Named {
-            line: lines.line_or(place, idle),
-        })?;
-    }
-    if calls.len() < lines.calls.len() {
-        assigned.fail(calls.len() + 1);
-    }
-    Ok(assigned)
-}
-
 /// Finds the line of each call by its number.
 ///
 /// # Errors
@@ -192,7 +164,23 @@ pub(crate) fn assign<'a>(
 ) -> Result<Assigned<'a>, AllocError> {
     let lines = Lines::new(alloc, script)?;
     let mut order = Order::new(alloc, &lines)?;
-    assign_by(alloc, script, &lines, &mut order, calls, idle)
+    let mut assigned = Assigned {
+        lines: Vec::new(alloc),
+        fails: None,
+    };
+    for at in 0..calls.len() {
+        let place = lines.place(calls[at].line);
+        if !order.fits(script, &lines, place, at + 1, &calls[at]) {
+            assigned.fail(at + 1);
+        }
+        assigned.lines.push(Named {
+            line: lines.line_or(place, idle),
+        })?;
+    }
+    if calls.len() < lines.calls.len() {
+        assigned.fail(calls.len() + 1);
+    }
+    Ok(assigned)
 }
 
 // ---- whether these are the lines
