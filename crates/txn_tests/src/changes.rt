@@ -1,7 +1,9 @@
-use crate::played::Turn::*;
-use crate::played::{Case, Turn, Work, is_played};
+use crate::jobs::Work;
+use crate::played::{Case, is_played};
 use crate::summary::Want;
 use crate::summary::Want::*;
+use crate::turns::Turn;
+use crate::turns::Turn::*;
 use std::test::*;
 
 // A change on three and five replicas: a post accuses all that have no confirmed op, the unreached ones too; too few are

@@ -1,6 +1,7 @@
-use crate::played::Turn::*;
-use crate::played::{Case, Work, is_played};
+use crate::jobs::Work;
+use crate::played::{Case, is_played};
 use crate::summary::Want::*;
+use crate::turns::Turn::*;
 use fop_types::SkipCause;
 use std::test::*;
 

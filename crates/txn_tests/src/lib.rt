@@ -9,6 +9,8 @@ mod five_replicas;
 #[cfg(test)]
 mod heals;
 #[cfg(test)]
+mod jobs;
+#[cfg(test)]
 mod losses;
 #[cfg(test)]
 mod one_replica;
@@ -20,5 +22,7 @@ mod settlings;
 mod summary;
 #[cfg(test)]
 mod three_replicas;
+#[cfg(test)]
+mod turns;
 #[cfg(test)]
 mod two_cells;

@@ -1,7 +1,9 @@
-use crate::played::Turn::*;
-use crate::played::{Case, Turn, Work, is_played};
+use crate::jobs::Work;
+use crate::played::{Case, is_played};
 use crate::summary::Want;
 use crate::summary::Want::*;
+use crate::turns::Turn;
+use crate::turns::Turn::*;
 use std::test::*;
 
 // One replica: each job to its end, and each way to fail.
