@@ -3,9 +3,9 @@
 //! ```text
 //!   io_errors_are_caused   the replies, plans   each I/O error has its cause
 //!
-//!   lost     a quorum of a set of the call's graph, or of its pair, was not connected or was disconnected meanwhile
-//!   fault    a brick answered a request of the call by a fault
-//!   split    in the call's last lock phase bricks showed rows by which there is no source
+//!   lost     bricks of a set were without a connection at a moment of the call, so many that the others are no quorum
+//!   fault    bricks answered the call's requests by a fault, so many, with lost ones, that the others are no quorum
+//!   split    in the call's last lock phase a quorum of bricks showed rows by which there is no source
 //! ```
 //!
 //! Evidence is searched for without a contract (`evidence`, `split_clues`). What was found is then checked where it is, and

@@ -1,4 +1,5 @@
-//! Audits of the lines of a log: whether each has what it is of, and each that was sent its cause.
+//! Audits of the lines of a log: whether replies, winds and requests are tied to calls, events and graphs, and connections
+//! and controls were sent exactly where they have a cause.
 //!
 //! ```text
 //!   lines_are_tied        all lines              replies, winds and requests are of their calls, events and graphs
