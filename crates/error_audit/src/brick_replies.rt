@@ -6,8 +6,9 @@ ghost use Rattle.mount_log.specs.Causes.{IsWindOf, IsFaulted};
 ghost use Rattle.mount_log.specs.declared.logs.HubEvent.TheVariants as logged;
 ghost use Rattle.error_audit.specs.Evidence.{IsArrived, IsFaultOf};
 
-use crate::losses::{event_at, has_brick};
+use crate::losses::has_brick;
 use fop_types::{BrickRep, OutKind, Output, SetPlan};
+use log_audit::by_place::event_at;
 use mount_log::{HubEvent, Log, ReplyLine, WindLine};
 use std::alloc::{AllocError, Global};
 use wire_messages::{Message, output_of};

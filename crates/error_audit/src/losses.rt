@@ -1,5 +1,5 @@
 //! Whether a brick was lost to a call's graph.
-ghost use Rattle.std.specs.Prelude.{◌≡◌, ◌≤◌, ◌+◌, ◌-◌, ℕ, true, false, Some, Contains, option_copied, slice_get, IfOk};
+ghost use Rattle.std.specs.Prelude.{◌≡◌, ◌≤◌, ◌+◌, ◌-◌, ℕ, true, false, Some, Contains, slice_get, IfOk};
 ghost use Rattle.fop_types.specs.declared.messages.Input.TheVariants as input;
 ghost use Rattle.wire_messages.specs.Messages.{output_in};
 ghost use Rattle.wire_xdr.specs.WireText.{input_text};
@@ -11,6 +11,7 @@ ghost use Rattle.error_audit.specs.Opened.{openings_to};
 
 use crate::connections::{Opening, count_openings};
 use fop_types::{Input, OutKind, SetPlan};
+use log_audit::by_place::{event_at, line_at};
 use mount_log::{HubEvent, Log, ReplyLine, SentLine};
 use std::alloc::{AllocError, Global};
 use wire_messages::{Message, input_of, output_of};
@@ -80,13 +81,6 @@ fn closes(alloc: Global, event: &HubEvent, brick: u8) -> Result<bool, AllocError
     }
 }
 
-/// The event at this place, from 0.
-pub fn event_at(log: &Log, place: usize) -> Option<&HubEvent>
-    ensures { option_copied result ≡ slice_get log.now.events place }
-{
-    log.events.as_slice().get(place)
-}
-
 // Whether the event of a number, from 1, is the arrival of a Closed of the brick.
 fn is_closing(alloc: Global, log: &Log, number: u64, brick: u8) -> Result<bool, AllocError>
     ensures { IfOk result (λ yes. yes ≡ true → closes_by brick (slice_get log.now.events (number - 1)) ≡ true) }
@@ -135,12 +129,6 @@ fn disconnects(
     }
     let yes = is_disconnect_text(alloc, line.bytes.as_slice(), graph)?;
     Ok(yes)
-}
-
-fn line_at(log: &Log, place: usize) -> Option<&SentLine>
-    ensures { option_copied result ≡ slice_get log.now.sent place }
-{
-    log.sent.as_slice().get(place)
 }
 
 // Whether the line at a place is a Disconnect of the graph that an event sent to the brick.
