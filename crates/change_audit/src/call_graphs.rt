@@ -1,11 +1,12 @@
 //! The graph of each call, and the set that a number means there.
-ghost use Rattle.std.specs.Prelude.{◌≡◌, ◌+◌, ◌-◌, ◌++◌, ◌≤◌, ℕ, List, Some, length, option_copied, slice_get, IfOk, IfSome, OnOk};
+ghost use Rattle.std.specs.Prelude.{◌≡◌, ◌-◌, ◌++◌, ℕ, List, Some, option_copied, slice_get, IfOk, IfSome, OnOk};
 ghost use Rattle.mount_log.specs.Causes.{plan_of_volfile, set_of_plan};
-ghost use Rattle.mount_log.specs.Graphs.{switched_by, with_switch, volfiles_of as volfiles_in};
+ghost use Rattle.mount_log.specs.Graphs.{volfiles_of as volfiles_in};
 ghost use Rattle.change_audit.specs.CallGraphs.{submitted_in, graphs_from, AreGraphsOf, HasGraph};
 
 use fop_types::{Seq, SetPlan};
 use graph_build::Plan;
+use log_audit::switches::switch_in;
 use mount_log::{HubEvent, Log};
 use script_lang::{Action, Script};
 use std::alloc::{AllocError, Global};
@@ -18,26 +19,6 @@ pub struct CallGraphs {
 }
 
 // ---- the tables
-
-fn switch_of(a: &Action) -> usize
-    ensures value { (rest : List ℕ) → length (with_switch a.now rest) ≡ result + length rest }
-    ensures few { result ≤ 1 }
-{
-    match a {
-        Action::Switch(_) => 1,
-        _ => 0,
-    }
-}
-
-fn switch_in(event: &HubEvent) -> usize
-    ensures value { (rest : List ℕ) → length (switched_by event.now rest) ≡ result + length rest }
-    ensures few { result ≤ 1 }
-{
-    match event {
-        HubEvent::Act(a) => switch_of(a),
-        _ => 0,
-    }
-}
 
 // Adds the graph of the call that an event submits, if it does.
 fn add_graph(graphs: &mut Vec<usize>, event: &HubEvent, graph: usize) -> Result<(), AllocError>

@@ -1,20 +1,7 @@
 -- A prefix of a list that grows by one item, beside a function of what is left of another list.
 use Rattle.std.proofs.Common.{◌≡◌, refl, sym, ap, ◌∙◌, arith}
-use Rattle.std.specs.Prelude.{ℕ, zero, suc, ◌+◌, ◌≤◌, ◌==◌, ◌&&◌, Bool, true, false, List, [], ◌∷◌, ◌++◌, length, take, drop, slice_get, Option, None, Some}
-use Rattle.std.specs.Cmp.Lexicographic.{pointwise}
-use Rattle.std.proofs.lemmas.Bool.{eqb-true}
+use Rattle.std.specs.Prelude.{ℕ, zero, suc, ◌+◌, ◌≤◌, List, [], ◌∷◌, ◌++◌, length, take, slice_get, Some}
 use Rattle.mount_log.proofs.Items.{some_is}
-
--- lists that are compared item by item
-both : (a b : Bool) → (a && b) ≡ true → (a ≡ true) × (b ≡ true)
-both true b e = (refl, e)
-both false b e = absurd cc
-
-pub same_list : (xs ys : List ℕ) → pointwise ◌==◌ xs ys ≡ true → xs ≡ ys
-same_list [] [] e = refl
-same_list [] (y ∷ ys) e = absurd cc
-same_list (x ∷ xs) [] e = absurd cc
-same_list (x ∷ xs) (y ∷ ys) e = let p = both (x == y) (pointwise ◌==◌ xs ys) e in ap (λ l. x ∷ l) (same_list xs ys p.1) ∙ ap (λ z. z ∷ ys) (eqb-true x y p.0)
 
 module _ {X : Type 0} where
   head_is : (a b : X) (us vs : List X) → a ∷ us ≡ b ∷ vs → a ≡ b

@@ -13,7 +13,8 @@ pub struct Switched {
     pub count: usize,
 }
 
-fn switch_of(a: &Action) -> usize
+/// How often an action switches to another volfile: 1 for a switch, 0 for each other action.
+pub fn switch_of(a: &Action) -> usize
     ensures value { (rest : List ℕ) → length (with_switch a.now rest) ≡ result + length rest }
     ensures few { result ≤ 1 }
 {
@@ -23,7 +24,8 @@ fn switch_of(a: &Action) -> usize
     }
 }
 
-fn switch_in(event: &HubEvent) -> usize
+/// How often an event switches to another volfile: 1 where it carries out a switch, 0 for each other event.
+pub fn switch_in(event: &HubEvent) -> usize
     ensures value { (rest : List ℕ) → length (switched_by event.now rest) ≡ result + length rest }
     ensures few { result ≤ 1 }
 {
