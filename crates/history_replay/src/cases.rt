@@ -122,7 +122,7 @@ impl<'a> Case<'a> {
         self.submitted <= index && self.looks_up_by(index)
     }
 
-    // Whether an entry of this index may be that of a change that is done, which stands at the last place.
+    // Whether an entry of this index may be that of a change that is done, whose place is the last.
     fn is_done(&self, index: u32) -> bool
         ensures { result ≡ is_done_of self.now index }
     {

@@ -116,7 +116,7 @@ impl Order {
         in_phase
     }
 
-    // Whether a call of a report is that at this place, which comes in its turn.
+    // Takes the line at this place as the next of its session: false where it isn't its turn, or isn't the call's.
     fn fits(
         &mut self,
         script: &Script,

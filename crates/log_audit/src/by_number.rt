@@ -4,7 +4,7 @@ ghost use Rattle.log_audit.specs.Switches.{event_of};
 
 use mount_log::{HubEvent, Log};
 
-/// The event of this number, from 1.
+/// The event of this number, from 1; `None` for 0, and where the log has fewer events.
 pub fn event_at(log: &Log, number: u64) -> Option<&HubEvent>
     ensures { option_copied result ≡ event_of log.now number }
 {

@@ -75,7 +75,7 @@ pub fn calls_of(alloc: Global, events: &[HubEvent]) -> Result<Vec<CallAt>, Alloc
     Ok(calls)
 }
 
-/// The call of a number, from 1.
+/// The call of a number, from 1; `None` for 0, and where there are fewer calls.
 pub fn call_at(calls: &[CallAt], number: u32) -> Option<CallAt>
     ensures { result ≡ call_at calls.now number }
 {
@@ -133,7 +133,7 @@ fn volfile_of(volfiles: &[u8], graph: u64) -> Option<u8>
     volfiles.get((graph - 1) as usize).copied()
 }
 
-/// The plan of a volfile.
+/// The plan of a volfile, by its place among the plans, from 0; `None` where no volfile is given, or none is at that place.
 pub fn plan_of(plans: &[Plan], volfile: Option<u8>) -> Option<&Plan>
     ensures { option_copied result ≡ plan_of_volfile plans.now volfile }
 {
@@ -149,7 +149,8 @@ fn set_in(plan: &Plan, set: u8) -> Option<&SetPlan>
     plan.sets.as_slice().get(set as usize)
 }
 
-/// A set of a graph, whose number is from 1.
+/// A set of a graph, whose number is from 1, by its place in the plan of the graph's volfile, from 0; `None` where there is no
+/// such graph, its volfile has no plan, or the plan has no such set.
 pub fn set_of<'a>(plans: &'a [Plan], volfiles: &[u8], graph: u64, set: u8) -> Option<&'a SetPlan>
     requires { 1 ≤ graph }
     ensures { option_copied result ≡ set_of_plan (plan_of_volfile plans.now (slice_get volfiles.now (graph - 1))) set }

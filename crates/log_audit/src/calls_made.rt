@@ -66,7 +66,7 @@ pub fn calls_made(
     Ok(Some(calls))
 }
 
-/// The call of this number, from 1.
+/// The call of this number, from 1; `None` for 0, and where fewer calls were submitted.
 pub fn call_of(calls: &[CallMade], number: u32) -> Option<&CallMade>
     ensures { option_copied result ≡ call_by calls.now number }
 {

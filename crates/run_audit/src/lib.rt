@@ -1,9 +1,9 @@
 //! The audits of a run: whether a log is that of a run of its script.
 //!
 //! ```text
-//!   is_run_of        the whole log, a script   each phase ends with nothing else left, each control is carried out once,
-//!                                              in its moment, and calls are submitted one at a time, within their phases
-//!   follows_script   the whole log, a script   that, and each session submits its lines in order
+//!   follows_script   the whole log, a script   each session submits its lines in order, each phase ends with nothing else
+//!                                              left, each control is carried out once, in its moment, and calls are
+//!                                              submitted one at a time, within their phases
 //! ```
 //!
 //! `noting` notes how the log carried out its script, without a contract: of which control an event or a line is, and where
@@ -30,4 +30,4 @@ mod run_notes;
 mod sent_for;
 mod settled;
 
-pub use run::{follows_script, is_run_of};
+pub use run::follows_script;

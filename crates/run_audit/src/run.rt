@@ -200,14 +200,8 @@ fn is_shown(alloc: Global, script: &Script, log: &Log, notes: &RunNotes) -> Resu
     Ok(yes)
 }
 
-/// Whether the log is that of a run of the script: each phase ends with nothing else left, each control was carried out once, in
-/// its moment, as an event of its own or before its request, there is no other action, and calls are submitted one at a time and
-/// answered within their phases. It is false, too, where a reply is to no call, or lines do not stand in the order of their
-/// events.
-///
-/// # Errors
-/// Out of memory.
-pub fn is_run_of(alloc: Global, script: &Script, log: &Log) -> Result<bool, AllocError>
+// Whether the log is that of a run of the script: what `follows_script` says, but for the order of each session's lines.
+pub(crate) fn is_run_of(alloc: Global, script: &Script, log: &Log) -> Result<bool, AllocError>
     requires { IsAccepted script.now }
     ensures { IfOk result (λ yes. yes ≡ true → RunOf script.now log.now) }
 {
@@ -216,7 +210,10 @@ pub fn is_run_of(alloc: Global, script: &Script, log: &Log) -> Result<bool, Allo
     Ok(yes)
 }
 
-/// Whether the log follows the script: sessions submit their lines in order, and it is that of a run (`is_run_of`).
+/// Whether the log follows the script: sessions submit their lines in order, each phase ends with nothing else left, each control
+/// was carried out once, in its moment, as an event of its own or before its request, there is no other action, and calls are
+/// submitted one at a time and answered within their phases. It is false, too, where a reply is to no call, or lines are not in
+/// the order of their events.
 ///
 /// # Errors
 /// Out of memory.

@@ -103,7 +103,7 @@ is_whole c = (length c.found == c.lookups) && nat_le c.lookups (length c.places)
 abbrev pub is_late : Case → ℕ → Bool
 is_late c index = nat_le c.submitted index && are_at_most (lookup_places c) index
 
--- such an entry is that of a change that is done, which stands at the last place
+-- such an entry is that of a change that is done, whose place is the last
 abbrev pub is_done : Case → ℕ → Bool
 is_done c index = is_late c index && (index + 1 == last_place c)
 
