@@ -3,8 +3,7 @@ use Rattle.std.proofs.Common.{◌≡◌, ℕ, List, Option, Result, Ok, Err, ap,
 use Rattle.volfile.specs.TextLines.{is_text}
 use Rattle.fop_types.specs.declared.calls.Call.{Call}
 use Rattle.script_lang.specs.WordForms.{place_of}
-use Rattle.script_lang.specs.StatementText.{call_said}
-use Rattle.script_lang.specs.code.Sessions.{call_named}
+use Rattle.script_lang.specs.StatementText.{call_named, call_said}
 use Rattle.script_lang.specs.declared.drafts.Draft.{Draft}
 use Rattle.script_lang.specs.declared.errors.ScriptKind.{ScriptKind}
 

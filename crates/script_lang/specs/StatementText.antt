@@ -96,16 +96,25 @@ phase_begun d (more ∷ rest) = Err WordCount
 abbrev pub with_call : Draft → ℕ → ℕ → Call → Draft
 with_call d number session call = record d { calls = d.calls ++ record { line = number; session = session; call = call } ∷ []; call_count = d.call_count + 1 }
 
+-- the draft with a call of the session that has this number, or of a new one
+abbrev pub call_placed : Draft → ℕ → List ℕ → Option ℕ → Call → Draft
+call_placed d number name (Some session) call = with_call d number session call
+call_placed d number name None call = with_call (record d { sessions = d.sessions ++ name ∷ [] }) number (length d.sessions) call
+
 -- the session has its number, or the next one where no `do` line named it before
 abbrev pub call_added : Draft → ℕ → List ℕ → Option ℕ → Call → Result Reading ScriptKind
-call_added d number name (Some session) call = if nat_le 4096 d.call_count then Err TooMany else Ok (InScript (with_call d number session call))
+call_added d number name (Some session) call = if nat_le 4096 d.call_count then Err TooMany else Ok (InScript (call_placed d number name (Some session) call))
 call_added d number name None call =
     if nat_le 4096 d.call_count || nat_le 64 (length d.sessions) then Err TooMany
-    else Ok (InScript (with_call (record d { sessions = d.sessions ++ name ∷ [] }) number (length d.sessions) call))
+    else Ok (InScript (call_placed d number name None call))
+
+-- a call of a session with this name, which has this number, or none yet
+abbrev pub call_named : Draft → ℕ → List ℕ → Option ℕ → Call → Result Reading ScriptKind
+call_named d number name place call = if is_name name then call_added d number name place call else Err BadWord
 
 abbrev pub call_said : Draft → ℕ → List ℕ → Result Call ScriptKind → Result Reading ScriptKind
 call_said d number name (Err kind) = Err kind
-call_said d number name (Ok call) = if is_name name then call_added d number name (place_of (λ s. is_text s name) d.sessions) call else Err BadWord
+call_said d number name (Ok call) = call_named d number name (place_of (λ s. is_text s name) d.sessions) call
 
 abbrev pub call_read : Draft → ℕ → List (List ℕ) → Result Reading ScriptKind
 call_read d number [] = Err WordCount

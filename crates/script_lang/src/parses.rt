@@ -43,7 +43,7 @@ fn lines_of(alloc: Global, text: &[u8]) -> Result<Script, ScriptError>
     }
 }
 
-// Reads the lines of a text into an empty draft, and gives their number. No volfile is left open.
+// Reads the lines of a text into an empty draft, leaves no volfile open, and gives the last one's number.
 fn read_text(alloc: Global, draft: &mut Draft, text: &[u8]) -> Result<u32, ScriptError>
     requires { InScript draft.old ≡ nothing_said }
     ensures { HasRead result draft.new (parsed text.now) }

@@ -1,7 +1,7 @@
 ghost use Rattle.std.specs.Prelude.{◌≡◌, ◌<◌, [], map, IfOk, OnOk};
 ghost use Rattle.script_lang.specs.code.Readings.{Leaves};
-ghost use Rattle.script_lang.specs.code.Sessions.{HasNumber, TakesCalls, call_placed};
-ghost use Rattle.script_lang.specs.StatementText.{call_read, call_said, control_added, control_read, is_great_action, new_phase, phases_read, phases_with, with_call as call_put};
+ghost use Rattle.script_lang.specs.code.Sessions.{HasNumber, TakesCalls};
+ghost use Rattle.script_lang.specs.StatementText.{call_placed, call_read, call_said, control_added, control_read, is_great_action, new_phase, phases_read, phases_with, with_call as call_put};
 ghost use Rattle.script_lang.specs.declared.drafts.Reading.TheVariants.{InScript};
 
 use crate::calls::call_of;

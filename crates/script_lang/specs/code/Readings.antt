@@ -24,7 +24,8 @@ abbrev pub Leaves : Result Reading ScriptKind → Option ScriptKind → Reading 
 Leaves read None after = read ≡ Ok after
 Leaves read (Some kind) after = read ≡ Err kind
 
--- the lines up to the last leave this draft, whose end is what the text says, or the text is refused
+-- the lines leave this draft, and its end is what the text says; or the text is refused as it says, unless memory
+-- ran out
 abbrev pub HasRead : Result ℕ ScriptError → Draft → Result Script ScriptError → Type 0
 HasRead (Ok number) after wanted = text_ended (InScript after) number ≡ wanted
 HasRead (Err e) after wanted = IsButForMemory (Err e) wanted
