@@ -1,4 +1,4 @@
-ghost use Rattle.std.specs.Prelude.{map, ◌≡◌, [], ◌∷◌, ◌++◌, Some, None, Ok, Err, IfOk, IfSome, OnOk, OnErr, codes};
+ghost use Rattle.std.specs.Prelude.{map, ◌≡◌, [], ◌∷◌, ◌++◌, Some, None, Ok, Err, IfOk, OnOk, OnErr, codes};
 ghost use Rattle.std.specs.Option.{MatchOption};
 ghost use Rattle.volfile.specs.VolfileText.{block_ended, line_read, nothing_read, said_in, said_outside, statement, text_ended, volfile_of, volume_begun};
 
@@ -195,7 +195,7 @@ impl Held {
 
     // Puts the open block, if there is one, behind the volumes whose blocks have ended.
     fn put_block(&mut self, alloc: Global) -> Result<(), AllocError>
-        ensures ok { OnOk result (IfSome self.old.block (λ v. self.new ≡ record { volumes = self.old.volumes ++ v ∷ []; block = None })) }
+        ensures ok { OnOk result (MatchOption self.old.block (self.new ≡ self.old) (λ v. self.new ≡ record { volumes = self.old.volumes ++ v ∷ []; block = None })) }
         ensures err { OnErr result (self.new ≡ self.old) }
     {
         match self.block.take() {
