@@ -1,5 +1,6 @@
 ghost use Rattle.std.specs.Prelude.{◌≡◌, false, true, None, Some, OnOk, IfOk, IfErr};
 ghost use Rattle.hub_calls.specs.Arming.{is_armable};
+ghost use Rattle.hub_calls.specs.Hubs.{StaysStopped};
 ghost use Rattle.hub_calls.specs.Plans.{IsScript};
 ghost use Rattle.script_lang.specs.Accepted.{IsAccepted};
 
@@ -20,8 +21,8 @@ use xlator_law::Stop;
 /// The hub: it submits the calls of a script, sends their fops down the graphs, takes the outputs of the bricks, carries
 /// out the script's controls, and keeps the log.
 ///
-/// A call that stops has spent the hub: it answers the same from then on, and its log ends with the last whole event.
-/// After `Winds` the log also has the winds of the event that was cut.
+/// A call that stops has spent the hub: each later call that may change it answers the same, and changes nothing. Its log
+/// ends with the last whole event; after `Winds` it also has the winds of the event that was cut.
 #[derive(Drop)]
 pub struct Hub {
     planned: Planned,
@@ -89,6 +90,7 @@ impl Hub {
     pub fn submit(&mut self, alloc: Global, session: u8) -> Result<bool, Stop>
         ensures same { (self.new.script ≡ self.old.script) × (self.new.plans ≡ self.old.plans) }
         ensures unchanged { IfOk result (λ did. did ≡ false → self.new ≡ self.old) }
+        ensures spent { StaysStopped self.old.stop self.old self.new result }
         ensures goes { OnOk result (self.new.stop ≡ None) }
         ensures stops { IfErr result (λ s. self.new.stop ≡ Some s) }
     {
@@ -113,6 +115,7 @@ impl Hub {
     /// As for [`Hub::submit`].
     pub fn arrive(&mut self, alloc: Global, brick: u8, output: Bytes) -> Result<(), Stop>
         ensures same { (self.new.script ≡ self.old.script) × (self.new.plans ≡ self.old.plans) }
+        ensures spent { StaysStopped self.old.stop self.old self.new result }
         ensures goes { OnOk result (self.new.stop ≡ None) }
         ensures stops { IfErr result (λ s. self.new.stop ≡ Some s) }
     {
@@ -136,6 +139,7 @@ impl Hub {
     pub fn run(&mut self, alloc: Global, graph: u32, task: u32) -> Result<bool, Stop>
         ensures same { (self.new.script ≡ self.old.script) × (self.new.plans ≡ self.old.plans) }
         ensures unchanged { IfOk result (λ did. did ≡ false → self.new ≡ self.old) }
+        ensures spent { StaysStopped self.old.stop self.old self.new result }
         ensures goes { OnOk result (self.new.stop ≡ None) }
         ensures stops { IfErr result (λ s. self.new.stop ≡ Some s) }
     {
@@ -165,6 +169,8 @@ impl Hub {
         arrived: &mut VecDeque<(u8, Bytes)>,
     ) -> Result<Turned, Stop>
         ensures same { (self.new.script ≡ self.old.script) × (self.new.plans ≡ self.old.plans) }
+        ensures spent { StaysStopped self.old.stop self.old self.new result }
+        ensures arrived { StaysStopped self.old.stop arrived.old arrived.new result }
         ensures goes { OnOk result (self.new.stop ≡ None) }
         ensures stops { IfErr result (λ s. self.new.stop ≡ Some s) }
     {
@@ -195,6 +201,7 @@ impl Hub {
     pub fn act(&mut self, alloc: Global, action: Action) -> Result<bool, Stop>
         ensures same { (self.new.script ≡ self.old.script) × (self.new.plans ≡ self.old.plans) }
         ensures unchanged { IfOk result (λ did. did ≡ false → self.new ≡ self.old) }
+        ensures spent { StaysStopped self.old.stop self.old self.new result }
         ensures goes { OnOk result (self.new.stop ≡ None) }
         ensures stops { IfErr result (λ s. self.new.stop ≡ Some s) }
     {
@@ -229,6 +236,7 @@ impl Hub {
         ensures same { (self.new.script ≡ self.old.script) × (self.new.plans ≡ self.old.plans) }
         ensures unchanged { IfOk result (λ did. did ≡ false → self.new ≡ self.old) }
         ensures armable { IfOk result (λ did. did ≡ true → is_armable brick action ≡ true) }
+        ensures spent { StaysStopped self.old.stop self.old self.new result }
         ensures goes { OnOk result (self.new.stop ≡ None) }
         ensures stops { IfErr result (λ s. self.new.stop ≡ Some s) }
     {

@@ -1,4 +1,5 @@
 ghost use Rattle.std.specs.Prelude.{◌≡◌, None, Some, OnOk, IfOk, IfErr};
+ghost use Rattle.hub_calls.specs.Hubs.{StaysStopped};
 ghost use Rattle.hub_calls.specs.Plans.{IsScript};
 
 use crate::enabled::{Choice, Enabled};
@@ -18,8 +19,8 @@ const EVENTS: u64 = 18446744073709551615;
 
 /// The hub with its bricks.
 ///
-/// A call that stops has spent the world: it answers the same from then on, its log ends with the last whole event, and each
-/// brick's journal with the last input that it served.
+/// A call that stops has spent the world: each later call that may change it answers the same, and changes nothing. Its log
+/// ends with the last whole event, and each brick's journal with the last input that it served.
 #[derive(Drop)]
 pub struct World {
     hub: Hub,
@@ -159,6 +160,7 @@ impl World {
     /// As for [`hub_calls::Hub::submit`].
     pub fn apply(&mut self, alloc: Global, event: Event) -> Result<bool, Stop>
         ensures same { (self.new.script ≡ self.old.script) × (self.new.plans ≡ self.old.plans) }
+        ensures spent { StaysStopped self.old.stop self.old self.new result }
         ensures goes { OnOk result (self.new.stop ≡ None) }
         ensures stops { IfErr result (λ s. self.new.stop ≡ Some s) }
     {
@@ -213,6 +215,21 @@ impl World {
     /// As for [`hub_calls::Hub::submit`].
     pub fn run(&mut self, alloc: Global, seed: u64) -> Result<(), Stop>
         ensures same { (self.new.script ≡ self.old.script) × (self.new.plans ≡ self.old.plans) }
+        ensures spent { StaysStopped self.old.stop self.old self.new result }
+        ensures goes { OnOk result (self.new.stop ≡ None) }
+        ensures stops { IfErr result (λ s. self.new.stop ≡ Some s) }
+    {
+        match self.stop {
+            Some(stop) => Err(stop),
+            None => self.run_on(alloc, seed),
+        }
+    }
+
+    // Runs the events of a seed's schedule where nothing has stopped.
+    fn run_on(&mut self, alloc: Global, seed: u64) -> Result<(), Stop>
+        requires { self.old.stop ≡ None }
+        ensures same { (self.new.script ≡ self.old.script) × (self.new.plans ≡ self.old.plans) }
+        ensures goes { OnOk result (self.new.stop ≡ None) }
         ensures stops { IfErr result (λ s. self.new.stop ≡ Some s) }
     {
         let mut schedule = Schedule::new(seed);

@@ -1,5 +1,0 @@
-use Rattle.std.proofs.Common.{◌≡◌}
-use Rattle.world_bricks.proofs.world.World.run.Given as goal
-
-abbrev pub invariant-loop : goal.invariant-loop
-invariant-loop l = (l.self.script ≡ l.fn.self.script) × (l.self.plans ≡ l.fn.self.plans)
