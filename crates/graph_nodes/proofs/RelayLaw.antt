@@ -56,7 +56,7 @@ units_some sets (down.Fop f) = fop_some sets f
 units_some sets (down.Job j) = omega arith
 units_some sets (down.Request q) = omega arith
 
--- one hand-down is paid, where a unit costs one or three more than below
+-- one wind is paid, where a unit costs one or three more than below
 pub paid_one : (units more weight : ℕ) → 1 ≤ units → 1 ≤ more → 1 + units * weight + 0 ≤ units * (more + weight)
 paid_one units more weight some least =
     let m = mul-add units more weight in

@@ -11,10 +11,14 @@ pub mod caching;
 pub mod client;
 mod copies;
 pub mod distribute;
+mod distribute_asks;
+mod distribute_begins;
 pub mod pass;
 pub mod queuing;
 mod records;
 pub mod replicate;
+mod replicate_copies;
+mod replicate_sends;
 pub mod root;
 mod winds;
 

@@ -1,62 +1,27 @@
 //! The distribute node: it runs a fop over the sets, one job at a time, and keeps the layouts that fops have read.
-ghost use Rattle.std.specs.Prelude.{◌≡◌, ◌≤◌, ◌<◌, ◌-◌, IfOk, OnOk, Some, length, drop, true, is_none};
+ghost use Rattle.std.specs.Prelude.{◌≡◌, IfOk, OnOk, Some, length, drop, true, is_none};
 ghost use Rattle.dht_fops.specs.code.Fops.{course_on, goes_on_with, learnt_with, asked_of};
-ghost use Rattle.fop_types.specs.Bounds.{IsFop};
-ghost use Rattle.fop_types.specs.Jobs.{IsJob, IsSetReply};
-ghost use Rattle.graph_nodes.specs.Distribute.{IsBegun, Begins, IsFopBegun, GoesOn, OnReply, OnExtended, TakesReply, IsHeld, Gives, IsKept, AreJobs, are_below, names_sets, refused, first_asked, asked_move, kept_with, waiting};
+ghost use Rattle.fop_types.specs.Jobs.{IsSetReply};
+ghost use Rattle.graph_nodes.specs.Distribute.{IsBegun, GoesOn, OnReply, OnExtended, TakesReply, IsHeld, IsKept, refused, kept_with};
 ghost use Rattle.graph_nodes.specs.Kept.{IsFopKept};
-ghost use Rattle.graph_nodes.specs.Moves.{IsMove, to_child};
-ghost use Rattle.graph_nodes.specs.Moves.Move.{Waits};
+ghost use Rattle.graph_nodes.specs.Moves.{IsMove};
 ghost use Rattle.graph_nodes.specs.Turns.{IsFopTurn};
 
-use crate::context::{Context, HoldWait};
-use crate::costs::{fop_units, jobs_for};
+use crate::context::Context;
 use crate::kinds::Distribute;
 use crate::locals::{FopFrame, FopState, Local};
-use crate::nodes::{lost, one};
-use dht_fops::{DhtFop, DhtNext, Layout, fops_keep_bounds};
-use fop_types::{Answer, Fop, FopAnswer, Gfid, Job, OpenFd, Seq, SetReply};
-use frame_driver::Queue;
-use graph_items::{Down, SetJob, Up};
+use crate::nodes::lost;
+use dht_fops::{DhtNext, Layout, fops_keep_bounds};
+use fop_types::{Answer, FopAnswer, SetReply};
+use graph_items::{Down, Up};
 use std::alloc::{AllocError, Global};
 use xlator_law::{Entry, Step};
 
-// The answer where a fop can't be run: that of a set without a quorum. What the fop has ends.
-fn refuse<T: Drop>(alloc: Global, _ended: T) -> Step<Down, Up, Local>
+/// The answer where a fop can't be run: that of a set without a quorum. Drops what the fop had.
+pub(crate) fn refuse<T: Drop>(alloc: Global, _ended: T) -> Step<Down, Up, Local>
     ensures { IsMove refused result }
 {
     Step::Unwind(Up::Answer(FopAnswer::Call(Answer::Io(lost(alloc, 0))), None))
-}
-
-// Whether the sets of descriptors are among so many.
-fn are_below(fds: &[OpenFd], sets: u8) -> bool
-    ensures { result ≡ are_below sets fds.now }
-{
-    for open_fd in fds {
-        if open_fd.set >= sets {
-            return false;
-        }
-    }
-    true
-}
-
-// Whether the sets that a fop names are among so many.
-fn names_sets(fop: &Fop, sets: u8) -> bool
-    ensures { result ≡ names_sets sets fop.now }
-{
-    match fop {
-        Fop::Open { object, .. } => object.set < sets,
-        Fop::Stat { object } => object.set < sets,
-        Fop::Chmod { object, .. } => object.set < sets,
-        Fop::Truncate { object, .. } => object.set < sets,
-        Fop::SetAttr { object, .. } => object.set < sets,
-        Fop::GetAttr { object, .. } => object.set < sets,
-        Fop::DelAttr { object, .. } => object.set < sets,
-        Fop::Read { object, .. } => object.set < sets,
-        Fop::Write { object, .. } => object.set < sets,
-        Fop::Migrate { fds } => are_below(fds.as_slice(), sets),
-        _ => true,
-    }
 }
 
 impl Distribute {
@@ -81,59 +46,6 @@ impl Distribute {
             Down::Job(job) => Ok(refuse(alloc, job)),
             Down::Request(request) => Ok(refuse(alloc, request)),
         }
-    }
-
-    // A fop begins where the first graph's sets are sets of this node, and it names none but those.
-    fn begin(
-        &self,
-        alloc: Global,
-        cx: &mut Context,
-        entry: Entry,
-        fop: Fop,
-    ) -> Result<Step<Down, Up, Local>, AllocError>
-        requires fop { IsFop fop }
-        ensures { IfOk result (λ step. Begins self.now cx.old entry fop step cx.new) }
-    {
-        if 1 <= cx.root_sets && cx.root_sets <= self.sets && names_sets(&fop, self.sets) {
-            let step = self.begin_over(alloc, cx, entry, fop)?;
-            return Ok(step);
-        }
-        Ok(refuse(alloc, fop))
-    }
-
-    #[tactic(auto, using(crate::proofs::FopTurns::begun_turn, crate::proofs::FopTurns::named_sets, crate::proofs::FopSteps::fop_begun))]
-    fn begin_over(
-        &self,
-        alloc: Global,
-        cx: &mut Context,
-        entry: Entry,
-        fop: Fop,
-    ) -> Result<Step<Down, Up, Local>, AllocError>
-        requires fop { IsFop fop }
-        requires some { 1 ≤ cx.old.root_sets }
-        requires within { cx.old.root_sets ≤ self.now.sets }
-        requires named { names_sets self.now.sets fop ≡ true }
-        ensures { IfOk result (λ step. IsFopBegun self.now cx.old entry fop step cx.new) }
-    {
-        fops_keep_bounds();
-        let jobs = jobs_for(self.sets, fop_units(&fop, self.sets));
-        let (fop, next) = DhtFop::begin(
-            alloc,
-            entry.call,
-            fop,
-            self.sets,
-            self.names.as_slice(),
-            cx.root_sets,
-            &self.kept,
-        )?;
-        let state = FopState {
-            entry,
-            fop,
-            learnt: 0,
-            jobs,
-        };
-        let step = self.go(alloc, cx, state, next)?;
-        Ok(step)
     }
 
     /// Takes the reply of the set that was asked.
@@ -209,7 +121,7 @@ impl Distribute {
         }
     }
 
-    // The fop takes the reply, and the node keeps the layouts that it has read since.
+    // The fop takes the reply, and the node keeps the layouts that the fop has read since.
     #[tactic(auto, using(crate::proofs::FopTurns::answer_turn))]
     fn answer(
         &mut self,
@@ -296,119 +208,4 @@ impl Distribute {
         }
         Ok(())
     }
-
-    // What the fop does next.
-    fn go(
-        &self,
-        alloc: Global,
-        cx: &mut Context,
-        state: FopState,
-        next: DhtNext,
-    ) -> Result<Step<Down, Up, Local>, AllocError>
-        requires turn { IsFopTurn state.fop next }
-        ensures { IfOk result (λ step. Gives self.now.sets state next cx.old step cx.new) }
-    {
-        match next {
-            DhtNext::Jobs(jobs) => {
-                let step = self.ask(alloc, state, jobs)?;
-                Ok(step)
-            }
-            DhtNext::Hold(gfid) => {
-                let step = hold(alloc, cx, state, gfid)?;
-                Ok(step)
-            }
-            DhtNext::Done(answer, place) => {
-                drop(state);
-                Ok(Step::Unwind(Up::Answer(answer, place)))
-            }
-        }
-    }
-
-    // The first of the jobs that a fop asks for is asked. It asks for one at a time.
-    fn ask(
-        &self,
-        alloc: Global,
-        state: FopState,
-        jobs: Seq<(u8, Job)>,
-    ) -> Result<Step<Down, Up, Local>, AllocError>
-        requires jobs { AreJobs jobs }
-        requires kept { IsFopKept state.fop }
-        ensures { IfOk result (λ step. IsMove (first_asked self.now.sets state jobs) step) }
-    {
-        let mut jobs = Queue::from_vec(jobs.into_vec());
-        match jobs.pop() {
-            Some((set, job)) => {
-                let step = self.ask_set(alloc, state, set, job)?;
-                Ok(step)
-            }
-            None => Ok(refuse(alloc, state)),
-        }
-    }
-
-    // A set is asked for a job, where there is such a set and the fop has a job left.
-    fn ask_set(
-        &self,
-        alloc: Global,
-        state: FopState,
-        set: u8,
-        job: Job,
-    ) -> Result<Step<Down, Up, Local>, AllocError>
-        requires job { IsJob job }
-        requires kept { IsFopKept state.fop }
-        ensures { IfOk result (λ step. IsMove (asked_move self.now.sets state set job) step) }
-    {
-        if set < self.sets && 0 < state.jobs {
-            let step = asked(alloc, state, set, job)?;
-            return Ok(step);
-        }
-        Ok(refuse(alloc, (state, job)))
-    }
-}
-
-// A set is asked for a job, and the fop has one job less left.
-fn asked(
-    alloc: Global,
-    state: FopState,
-    set: u8,
-    job: Job,
-) -> Result<Step<Down, Up, Local>, AllocError>
-    requires some { 0 < state.jobs }
-    requires job { IsJob job }
-    requires kept { IsFopKept state.fop }
-    ensures { IfOk result (λ step. IsMove (to_child set (Down.Job job) (Local.Distribute (record state { jobs = state.jobs - 1 }))) step) }
-{
-    let mut state = state;
-    state.jobs -= 1;
-    match FopFrame::new(alloc, state) {
-        Ok(frame) => {
-            let asked = Down::Job(SetJob::new(job));
-            let step = one(alloc, set as u16, asked, Local::Distribute(frame))?;
-            Ok(step)
-        }
-        Err(error) => {
-            drop(job);
-            Err(error)
-        }
-    }
-}
-
-// The fop waits until its call's hold is extended.
-fn hold(
-    alloc: Global,
-    cx: &mut Context,
-    state: FopState,
-    gfid: Gfid,
-) -> Result<Step<Down, Up, Local>, AllocError>
-    requires kept { IsFopKept state.fop }
-    ensures step { IfOk result (λ step. IsMove (Waits (Local.Distribute state)) step) }
-    ensures cx { OnOk result (cx.new ≡ waiting cx.old state.entry gfid) }
-{
-    let wait = HoldWait {
-        call: state.entry.call,
-        frame: state.entry.frame,
-        gfid,
-    };
-    let frame = FopFrame::new(alloc, state)?;
-    cx.holds.push(wait)?;
-    Ok(Step::Wait(Local::Distribute(frame)))
 }
