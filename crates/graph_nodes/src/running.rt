@@ -67,7 +67,7 @@ fn collect(
     collected.and(Ok(moved))
 }
 
-// What came out is put into `moved`, whose lists are empty.
+// Puts what came out behind the lists of `moved`; `winds` is replaced.
 fn collect_into(
     alloc: Global,
     nodes: &[Node],
@@ -135,7 +135,7 @@ fn send(
     }
 }
 
-// What a client hands out.
+// The request that was handed out, if it is one.
 fn request_of(down: Down) -> Option<Request> {
     match down {
         Down::Request(request) => Some(request),
