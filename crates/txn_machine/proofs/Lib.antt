@@ -1,0 +1,5 @@
+pub mod EachTurn
+pub mod LockSteps
+pub mod Met
+pub mod Rows
+pub mod Turns

@@ -1,0 +1,6 @@
+-- In reading order: requests as the machine has them; the record of a transaction; what a transaction keeps between two turns;
+-- the moment of a turn, and the laws.
+pub mod Asks
+pub mod Records
+pub mod Works
+pub mod Guards

@@ -1,0 +1,10 @@
+ghost use Rattle.txn_machine.specs.Guards.{BeginsMeet, AnswersMeet, CopiesMeet};
+
+/// Each request that a turn sends meets its guard: whenever the state of the machine is that of the moment after the turn,
+/// it may be asked there, or its lock was lost with its connection, and it is missed there. The begin, each answer and each
+/// copy that is done keep what this rests on. The call does nothing: its contract exports this.
+pub fn requests_meet_guards()
+    ensures begin { BeginsMeet }
+    ensures answers { AnswersMeet }
+    ensures copies { CopiesMeet }
+{}
