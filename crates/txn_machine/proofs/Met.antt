@@ -1,5 +1,6 @@
 -- A request of a phase meets its guard, in a state that is that of the moment after the turn.
 use Rattle.std.proofs.Common.{◌≡◌, ◌∙◌, ℕ, ◌<◌, ◌⊎◌, inl, inr, Bool, true, false, ◌&&◌, ◌||◌, ◌==◌, not, nat_lt, List, [], ◌∷◌, Option, Some, None, is_none, is_some, length, slice_index, slice_index_or, refl, sym, ap, subst, arith}
+use Rattle.std.specs.Prelude.{slice_get}
 use Rattle.std.proofs.lemmas.Bool.{and_parts, or_parts, eqb-true, eq-eqb, not-true, true≢false}
 use Rattle.fop_types.specs.Bounds.{Each}
 use Rattle.fop_types.specs.Jobs.{cells_of}
@@ -18,6 +19,7 @@ use Rattle.afr_machine.specs.Replicas.{Size}
 use Rattle.afr_machine.specs.Sending.{HasGrant, IsMember, IsNext, MayLock, MayUnlock, MayMark, MayApply, MayBear, MayPost, MaySettle, MayRead, MayPoll, MayOpen, MayIndex}
 use Rattle.afr_machine.specs.States.{State, is_current, link_of, phase_of}
 use Rattle.afr_machine.specs.Steps.{MayMiss}
+use Rattle.afr_machine.specs.Touching.{has_cell}
 use Rattle.afr_machine.specs.Transactions.{Grant, Stage, Work, cells_of_job}
 use Rattle.afr_machine.specs.Turns.{is_granted, open_grants}
 use Rattle.afr_phases.specs.declared.wave.Wave.{Wave}
@@ -37,6 +39,7 @@ use Rattle.afr_transaction.specs.declared.txn.Txn.{Txn}
 use Rattle.afr_transaction.specs.Changes.{unsettled_of}
 use Rattle.afr_transaction.specs.Jobs.{kind_of, birth_op, change_op}
 use Rattle.afr_transaction.specs.Locked.{is_read}
+use Rattle.afr_transaction.specs.Reads.{sound_on}
 use Rattle.afr_transaction.specs.Requests.{HasGranted, IsOfPhase, Sends}
 use Rattle.afr_transaction.specs.Shapes.{is_asking, suits}
 use Rattle.afr_transaction.specs.Txns.{alive}
@@ -199,7 +202,7 @@ module _ (size : Size) (m : State) (t : ℕ) (txn : Txn) (wave : Wave) (ledger :
       ap (λ (p : ℕ × StoreOp). p.1) pair
 
   drawn_apart : (change : ℕ) → own_in txn.phase ≡ Some change → AreLeftAlone m t (cells_of (births (m.changes change).op))
-  drawn_apart change at = subst (AreBirthsApart m t) (after.itself.own change at).is after.apart
+  drawn_apart change at = subst (λ (j : Job). AreBirthsApart m t j) (after.itself.own change at).is after.apart
 
   -- ---- one request
 
