@@ -12,7 +12,7 @@ use Rattle.afr_transaction.specs.Begins.{fresh, started}
 use Rattle.afr_transaction.specs.Shapes.{GoesOn, AfterAnswer}
 use Rattle.afr_transaction.proofs.EachTurn.{begins, begin_sends, answers, answer_sends, copies, copy_sends}
 use Rattle.txn_machine.specs.Guards.{BeginsMeet, AnswersMeet, CopiesMeet}
-use Rattle.txn_machine.proofs.Met.{IsAskingFor, all_met}
+use Rattle.txn_machine.proofs.OneRequest.{IsAskingFor, all_met}
 use Rattle.txn_machine.proofs.Turns.{begun_fits, answer_fits, done_fits}
 
 asking_on : (size : Size) (txn : Txn) (turned : Need) → GoesOn size txn turned → IsAskingFor txn turned

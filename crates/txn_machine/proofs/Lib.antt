@@ -1,6 +1,6 @@
 pub mod EachTurn
 pub mod LockSteps
-pub mod Met
+pub mod OneRequest
 pub mod Others
 pub mod Rows
 pub mod Turns

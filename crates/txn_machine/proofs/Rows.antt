@@ -93,8 +93,8 @@ and_same : (b c d : Bool) → (b ≡ true → c ≡ d) → (b && not c) ≡ (b &
 and_same true c d same = ap not (same refl)
 and_same false c d same = refl
 
-pub accused_are : (size : Size) (mask : Mask) (n : ℕ) (flags : List Bool) (set : Replicas) → IsMask mask → AccusesBut mask n flags → n ≤ 5 → size.replicas ≡ n → ((k : ℕ) → k < n → flag flags k ≡ set k) → names mask ≡ outside size set
-accused_are size mask n flags set small exactly few replicas same = fun_ext (λ k. by k (nat_lt k 5) refl) where
+pub accuses_outside : (size : Size) (mask : Mask) (n : ℕ) (flags : List Bool) (set : Replicas) → IsMask mask → AccusesBut mask n flags → n ≤ 5 → size.replicas ≡ n → ((k : ℕ) → k < n → flag flags k ≡ set k) → names mask ≡ outside size set
+accuses_outside size mask n flags set small exactly few replicas same = fun_ext (λ k. by k (nat_lt k 5) refl) where
   by : (k : ℕ) (b : Bool) → nat_lt k 5 ≡ b → names mask k ≡ outside size set k
   by k true e =
       exactly k (ltb-true k 5 e) ∙ and_same (nat_lt k n) (flag flags k) (set k) (λ low. same k (ltb-true k n low))

@@ -26,7 +26,7 @@ use Rattle.fop_types.specs.declared.messages.BrickReq.TheVariants as req
 use Rattle.fop_types.specs.declared.store_ops.StoreOp.{StoreOp}
 use Rattle.fop_types.proofs.MapLemmas.{lookup-put_same}
 use Rattle.afr_ledger.specs.Changes.{numbered}
-use Rattle.afr_ledger.specs.Ledger.{State as Ledger}
+use Rattle.afr_ledger.specs.Ledger.{State as Ledger, with_begun}
 use Rattle.afr_phases.specs.declared.locking.LockStep.{LockStep}
 use Rattle.afr_phases.specs.declared.locking.LockStep.TheVariants as step
 use Rattle.afr_phases.specs.declared.outs.Outs.{Outs}
@@ -367,7 +367,7 @@ module _ (txn : Txn) (k mark : ℕ) (rep : BrickRep) (ledger : Ledger Cell) (liv
   op_answer None change reaches own = unlock_fits with_answer live last now next.Again ledger
   op_answer (Some op) change reaches own =
       cond_both (may_begin now change ledger) (begun now change op.0 op.1 ledger) _ TurnWith
-      (λ e. sends_fit with_answer live last now (alive now) (req.Op change op.0 op.1) (phase.Writing change) _ (still reaches, own)
+      (λ e. sends_fit with_answer live last now (alive now) (req.Op change op.0 op.1) (phase.Writing change) (with_begun ledger (unsettled_of now change)) (still reaches, own)
       (λ j f. (f, lookup-put_same nat_cmp exact_unsigned nat_cmp_total ledger.unsettled change (unsettled_of now change))))
       (λ e. unlock_fits with_answer live last now next.Again ledger)
 

@@ -39,7 +39,7 @@ use Rattle.afr_transaction.specs.declared.txn.Txn.{Txn}
 use Rattle.afr_transaction.specs.Changes.{unsettled_of}
 use Rattle.afr_transaction.specs.Jobs.{kind_of, birth_op, change_op}
 use Rattle.afr_transaction.specs.Locked.{is_read}
-use Rattle.afr_transaction.specs.Reads.{sound_on}
+use Rattle.afr_transaction.specs.Reads.{fd_of, sound_on}
 use Rattle.afr_transaction.specs.Requests.{HasGranted, IsOfPhase, Sends}
 use Rattle.afr_transaction.specs.Shapes.{is_asking, suits}
 use Rattle.afr_transaction.specs.Txns.{alive}
@@ -47,7 +47,7 @@ use Rattle.txn_machine.specs.Asks.{settle_of, ask_of, MayBeAsked}
 use Rattle.txn_machine.specs.Guards.{IsAfter, MeetsGuard, AreMet}
 use Rattle.txn_machine.specs.Records.{IsStageOf, asks_members, asks_at_once, own_in, work_of, connection_of, IsDrawnFor, AreBirthsApart}
 use Rattle.txn_machine.specs.Works.{AreReached, WorksIn, Works}
-use Rattle.txn_machine.proofs.Rows.{has_at, sound_in, accused_are}
+use Rattle.txn_machine.proofs.Rows.{has_at, sound_in, accuses_outside}
 use Rattle.txn_machine.proofs.Turns.{AsksIn, Asks, AreAsked}
 
 -- ---- jobs by their kind
@@ -226,11 +226,11 @@ module _ (size : Size) (m : State) (t : ℕ) (txn : Txn) (wave : Wave) (ledger :
     }
 
     locked : (at : ℕ) (r : BrickReq) → txn.phase ≡ phase.Locking at → IsOfPhase (phase.Locking at) txn k r → AsksIn (phase.Locking at) txn wave ledger live last k → Meets k r
-    locked at r e of asks = plain (phase.Locking at) r e refl (subst (λ (q : BrickReq). MayBeAsked size m t k (ask_of txn.settles q)) (sym of.1) guard) where
+    locked at r e fits asks = plain (phase.Locking at) r e refl (subst (λ (q : BrickReq). MayBeAsked size m t k (ask_of txn.settles q)) (sym fits.1) guard) where
       guard : MayLock size m t k (is_read txn.job && is_none txn.settles) txn.cells
       guard = record {
         replica = low;
-        turn = stage_in (phase.Locking at) e ∙ ap (λ (j : ℕ). Stage.Locking txn.cells (is_read txn.job && is_none txn.settles) j) (sym of.0);
+        turn = stage_in (phase.Locking at) e ∙ ap (λ (j : ℕ). Stage.Locking txn.cells (is_read txn.job && is_none txn.settles) j) (sym fits.0);
         not_out = not_out k asks.0;
         answered = after.itself.answered k asked;
         connected = after.links.opened k low ∙ asks.1;
@@ -250,13 +250,13 @@ module _ (size : Size) (m : State) (t : ℕ) (txn : Txn) (wave : Wave) (ledger :
     fetched : (p : Phase) (r : BrickReq) (c fd : ℕ) (cell : Cell) → txn.phase ≡ p → asks_members p ≡ true → asks_at_once p ≡ false → (m.txns t).stage ≡ Stage.Locked
         → AreReached txn → txn.settles ≡ None → kind_of txn.job ≡ kind.Read → HasGranted txn k → slice_get txn.cells c ≡ Some cell → r ≡ req.Fetch fd cell
         → flag (alive txn) k ≡ true → flag (sound_on txn c) k ≡ true → Meets k r
-    fetched p r c fd cell e members once stage reaches own is_read granted at is used sound =
+    fetched p r c fd cell e members once stage reaches own reads granted at is used sound =
         of_member r (ap asks_members e ∙ members) granted
         (λ holds. subst (λ (q : BrickReq). MayBeAsked size m t k (ask_of txn.settles q)) (sym is) (inl (guard holds)))
         (λ all lost. absurd (true≢false (sym all ∙ ap asks_at_once e ∙ once)))
       where
         read : IsReadJob txn.job
-        read = read_of txn.job is_read
+        read = read_of txn.job reads
 
         guard : stands txn.locks k live last ≡ true → MayRead size m t k cell
         guard holds = record {
@@ -280,69 +280,69 @@ module _ (size : Size) (m : State) (t : ℕ) (txn : Txn) (wave : Wave) (ledger :
         (λ all lost. missing k asked low all (λ polls. apart (sym is ∙ polls)) lost)
 
     by_phase : (p : Phase) (r : BrickReq) → txn.phase ≡ p → WorksIn p txn → IsOfPhase p txn k r → AsksIn p txn wave ledger live last k → Meets k r
-    by_phase (phase.Locking at) r e works of asks = locked at r e of asks
-    by_phase (phase.Unlocking how) r e works of asks = unlocked (phase.Unlocking how) r e refl refl (stage_in (phase.Unlocking how) e) of.1 asks
-    by_phase (phase.Fetching place from contents) r e works of asks =
-        fetched (phase.Fetching place from contents) r (length contents) _ of.1.cell e refl refl (stage_in (phase.Fetching place from contents) e) works.0 works.1.0 works.1.1 of.0 of.1.at of.1.is asks.0 asks.1
-    by_phase (phase.Copying sinks rest) r e works of asks = absurd of
-    by_phase (phase.Marking change) r e works of asks =
-        to_members (phase.Marking change) r (Stage.Marking change) e refl refl (stage_in (phase.Marking change) e) (λ h. absurd cc) works.0 asks of.0
-        (λ is. subst (λ (q : BrickReq). MayBeAsked size m t k (ask_of txn.settles q)) (sym of.1)
+    by_phase (phase.Locking at) r e works fits asks = locked at r e fits asks
+    by_phase (phase.Unlocking how) r e works fits asks = unlocked (phase.Unlocking how) r e refl refl (stage_in (phase.Unlocking how) e) fits.1 asks
+    by_phase (phase.Fetching place from contents) r e works fits asks =
+        fetched (phase.Fetching place from contents) r (length contents) (fd_of txn.job) fits.1.cell e refl refl (stage_in (phase.Fetching place from contents) e) works.0 works.1.0 works.1.1 fits.0 fits.1.at fits.1.is asks.0 asks.1
+    by_phase (phase.Copying sinks rest) r e works fits asks = absurd fits
+    by_phase (phase.Marking change) r e works fits asks =
+        to_members (phase.Marking change) r (Stage.Marking change) e refl refl (stage_in (phase.Marking change) e) (λ h. absurd cc) works.0 asks fits.0
+        (λ is. subst (λ (q : BrickReq). MayBeAsked size m t k (ask_of txn.settles q)) (sym fits.1)
         (record { next = is; turn = stage_in (phase.Marking change) e; cells_are = drawn_cells change (ap own_in e) works.1 }))
-    by_phase (phase.Writing change) r e works of asks =
-        to_members (phase.Writing change) r (Stage.Applying change) e refl refl (stage_in (phase.Writing change) e) (λ h. absurd cc) works.0 asks.0 of.0
-        (λ is. subst (λ (q : BrickReq). MayBeAsked size m t k (ask_of txn.settles q)) (sym of.1.is)
+    by_phase (phase.Writing change) r e works fits asks =
+        to_members (phase.Writing change) r (Stage.Applying change) e refl refl (stage_in (phase.Writing change) e) (λ h. absurd cc) works.0 asks.0 fits.0
+        (λ is. subst (λ (q : BrickReq). MayBeAsked size m t k (ask_of txn.settles q)) (sym fits.1.is)
         (inl (record {
           next = is;
           turn = stage_in (phase.Writing change) e;
-          op_is = drawn_op change of.1.op (ap own_in e) of.1.at;
+          op_is = drawn_op change fits.1.op (ap own_in e) fits.1.at;
           unsettled = after.unsettled change (unsettled_of txn change) asks.1 refl;
-          births_apart = subst (λ (op : StoreOp). AreLeftAlone m t (cells_of (births op))) (sym (drawn_op change of.1.op (ap own_in e) of.1.at)) (drawn_apart change (ap own_in e));
+          births_apart = subst (λ (op : StoreOp). AreLeftAlone m t (cells_of (births op))) (sym (drawn_op change fits.1.op (ap own_in e) fits.1.at)) (drawn_apart change (ap own_in e));
         })))
-    by_phase (phase.Posting change adopted) r e works of asks =
-        to_members (phase.Posting change adopted) r (Stage.Posting change) e refl refl (stage_in (phase.Posting change adopted) e) (λ h. absurd cc) works.0 asks.0 of.0
-        (λ is. subst (λ (q : BrickReq). MayBeAsked size m t k (ask_of txn.settles q)) (sym of.1.is)
+    by_phase (phase.Posting change adopted) r e works fits asks =
+        to_members (phase.Posting change adopted) r (Stage.Posting change) e refl refl (stage_in (phase.Posting change adopted) e) (λ h. absurd cc) works.0 asks.0 fits.0
+        (λ is. subst (λ (q : BrickReq). MayBeAsked size m t k (ask_of txn.settles q)) (sym fits.1.is)
         (record {
           next = is;
           turn = stage_in (phase.Posting change adopted) e;
           cells_are = drawn_cells change (ap own_in e) works.1;
-          accused_are = accused_are size of.1.accused txn.size.n (alive txn) (m.changes change).done of.1.small of.1.exactly txn.size.few after.itself.replicas
+          accused_are = accuses_outside size fits.1.accused txn.size.n (alive txn) (m.changes change).done fits.1.small fits.1.exactly txn.size.few after.itself.replicas
               (λ j below. asks.1 j (omega (arith, below, txn.size.few)) ∙ sym (after.done change adopted e j (omega (arith, below, after.itself.replicas))));
         }))
-    by_phase (phase.Settling verdict) r e works of asks =
-        to_members (phase.Settling verdict) r (Stage.Settling verdict.change (flag verdict.group) verdict.held) e refl refl (stage_in (phase.Settling verdict) e) (λ h. absurd cc) works.0 asks of.0
-        (λ is. subst (λ (q : BrickReq). MayBeAsked size m t k (ask_of txn.settles q)) (sym of.1.is)
-        (subst (λ (s : Option ℕ). MayBeAsked size m t k (settle_of s txn.cells of.1.accused)) (sym works.1)
+    by_phase (phase.Settling verdict) r e works fits asks =
+        to_members (phase.Settling verdict) r (Stage.Settling verdict.change (flag verdict.group) verdict.held) e refl refl (stage_in (phase.Settling verdict) e) (λ h. absurd cc) works.0 asks fits.0
+        (λ is. subst (λ (q : BrickReq). MayBeAsked size m t k (ask_of txn.settles q)) (sym fits.1.is)
+        (subst (λ (s : Option ℕ). MayBeAsked size m t k (settle_of s txn.cells fits.1.accused)) (sym works.1)
         (record {
           next = is;
           group = flag verdict.group;
           adopts = verdict.held;
           turn = stage_in (phase.Settling verdict) e;
           cells_are = settled_cells verdict.change works.1;
-          accused_are = accused_are size of.1.accused txn.size.n verdict.group (flag verdict.group) of.1.small of.1.exactly txn.size.few after.itself.replicas (λ j below. refl);
+          accused_are = accuses_outside size fits.1.accused txn.size.n verdict.group (flag verdict.group) fits.1.small fits.1.exactly txn.size.few after.itself.replicas (λ j below. refl);
         })))
-    by_phase phase.Bearing r e works of asks =
-        to_members phase.Bearing r Stage.Bearing e refl refl (stage_in phase.Bearing e) (λ h. absurd cc) works asks of.0
-        (λ is. subst (λ (q : BrickReq). MayBeAsked size m t k (ask_of txn.settles q)) (sym of.1.is)
+    by_phase phase.Bearing r e works fits asks =
+        to_members phase.Bearing r Stage.Bearing e refl refl (stage_in phase.Bearing e) (λ h. absurd cc) works asks fits.0
+        (λ is. subst (λ (q : BrickReq). MayBeAsked size m t k (ask_of txn.settles q)) (sym fits.1.is)
         (inr (record {
           next = is;
           turn = stage_in phase.Bearing e;
-          cells = (birth_of txn.job of.1.op of.1.at).cells;
-          job_is = after.itself.job_is ∙ (birth_of txn.job of.1.op of.1.at).is;
+          cells = (birth_of txn.job fits.1.op fits.1.at).cells;
+          job_is = after.itself.job_is ∙ (birth_of txn.job fits.1.op fits.1.at).is;
           no_number = refl;
         })))
-    by_phase phase.Opening r e works of asks =
-        plain phase.Opening r e refl (subst (λ (q : BrickReq). MayBeAsked size m t k (ask_of txn.settles q)) (sym of.is)
+    by_phase phase.Opening r e works fits asks =
+        plain phase.Opening r e refl (subst (λ (q : BrickReq). MayBeAsked size m t k (ask_of txn.settles q)) (sym fits.is)
         (record {
           poll = poll k asked low (ap asks_at_once e) (stage_in phase.Opening e) asks.0 asks.1;
-          fd = of.fd;
-          gfid = of.gfid;
-          job_is = after.itself.job_is ∙ open_of txn.job of.fd of.gfid of.at;
+          fd = fits.fd;
+          gfid = fits.gfid;
+          job_is = after.itself.job_is ∙ open_of txn.job fits.fd fits.gfid fits.at;
         }))
-    by_phase (phase.Listing all) r e works of asks =
-        plain (phase.Listing all) r e refl (subst (λ (q : BrickReq). MayBeAsked size m t k (ask_of txn.settles q)) (sym of)
+    by_phase (phase.Listing all) r e works fits asks =
+        plain (phase.Listing all) r e refl (subst (λ (q : BrickReq). MayBeAsked size m t k (ask_of txn.settles q)) (sym fits)
         (record { poll = poll k asked low (ap asks_at_once e) (stage_in (phase.Listing all) e) asks.0 asks.1; job_is = after.itself.job_is ∙ index_of txn.job works }))
-    by_phase phase.Over r e works of asks = absurd of
+    by_phase phase.Over r e works fits asks = absurd fits
 
 -- ---- all requests of a turn
 
@@ -359,9 +359,9 @@ asked_low txn k asking asked =
     within_at txn.size.n k txn.wave.asked (and_parts (not (is_over txn.wave)) (is_within txn.size.n txn.wave.asked) a.0).1 asked
 
 pub all_met : (txn : Txn) (turned : Need) (wave : Wave) (ledger : Ledger Cell) (live : Mask) (last : List ℕ) → IsAskingFor txn turned → Sends txn turned → Works txn → AreAsked txn turned wave ledger live last → AreMet txn turned wave ledger live last
-all_met txn (need.Send list) wave ledger live last asking sends works asks size m t after =
+all_met txn (need.Send list) wave ledger live last asking sends works asks = λ size m t after.
     each_with (λ (r : ℕ × BrickReq). IsOfPhase txn.phase txn r.0 r.1) (λ (r : ℕ × BrickReq). Asks txn wave ledger live last r.0) (λ (r : ℕ × BrickReq). MeetsGuard size m t txn live last r.0 r.1)
-    (λ r of a. by_phase size m t txn wave ledger live last after r.0 a.0 (omega (arith, asked_low txn r.0 asking a.0, after.itself.replicas)) txn.phase r.1 refl works of a.1) list sends.1 asks
+    (λ r fits a. by_phase size m t txn wave ledger live last after r.0 a.0 (omega (arith, asked_low txn r.0 asking a.0, after.itself.replicas)) txn.phase r.1 refl works fits a.1) list sends.1 asks
 all_met txn (need.Copy job rows) wave ledger live last asking sends works asks = tt
 all_met txn (need.Reply reply) wave ledger live last asking sends works asks = tt
 all_met txn need.Wait wave ledger live last asking sends works asks = tt
