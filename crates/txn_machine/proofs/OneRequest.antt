@@ -120,7 +120,8 @@ module _ (size : Size) (m : State) (t : ℕ) (txn : Txn) (wave : Wave) (ledger :
 
   current_is : (k connection : ℕ) → k < size.replicas → is_current (link_of m t k) connection ≡ (names live k && slice_index last k == connection)
   current_is k connection low =
-      ap (λ (b : Bool). b && connection == (link_of m t k).last) (after.links.opened k low)
+      let opened : is_current (link_of m t k) connection ≡ (names live k && connection == (link_of m t k).last) = ap (λ (b : Bool). b && connection == (link_of m t k).last) (after.links.opened k low) in
+      opened
       ∙ ap (λ (n : ℕ). names live k && connection == n) (after.links.lasts k low)
       ∙ ap (λ (b : Bool). names live k && b) (swapped connection (slice_index last k))
 
@@ -129,7 +130,9 @@ module _ (size : Size) (m : State) (t : ℕ) (txn : Txn) (wave : Wave) (ledger :
   granted_is k low = by ((m.txns t).grants k) (after.itself.grants k) where
     by : (g : Option Grant) → connection_of g ≡ slice_index_or txn.locks.at k None → is_granted g m t k ≡ stands txn.locks k live last
     by None e = ap (λ (o : Option ℕ). is_open o k live last) e
-    by (Some grant) e = current_is k grant.connection low ∙ ap (λ (o : Option ℕ). is_open o k live last) e
+    by (Some grant) e =
+        let held : (names live k && slice_index last k == grant.connection) ≡ stands txn.locks k live last = ap (λ (o : Option ℕ). is_open o k live last) e in
+        current_is k grant.connection low ∙ held
 
   has_grant : (k : ℕ) → k < size.replicas → stands txn.locks k live last ≡ true → HasGrant m t k
   has_grant k low h = by ((m.txns t).grants k) refl (granted_is k low ∙ h) where
@@ -183,16 +186,22 @@ module _ (size : Size) (m : State) (t : ℕ) (txn : Txn) (wave : Wave) (ledger :
 
   own_cells : txn.settles ≡ None → cells_of_job txn.job ≡ txn.cells
   own_cells own =
-      ap cells_of_job (sym after.itself.job_is)
-      ∙ sym (ap (λ (w : Work). cells_of_work m.changes (m.txns t) w) (after.itself.work_is ∙ ap work_of own))
-      ∙ after.itself.cells
+      let own_is : work_of txn.settles ≡ Work.Own = ap work_of own in
+      let works : (m.txns t).work ≡ Work.Own = after.itself.work_is ∙ own_is in
+      let locked : cells_of_work m.changes (m.txns t) (m.txns t).work ≡ cells_of_job (m.txns t).job = ap (λ (w : Work). cells_of_work m.changes (m.txns t) w) works in
+      ap cells_of_job (sym after.itself.job_is) ∙ sym locked ∙ after.itself.cells
 
   settled_cells : (change : ℕ) → txn.settles ≡ Some change → txn.cells ≡ (m.changes change).cells
   settled_cells change is =
-      sym (sym (ap (λ (w : Work). cells_of_work m.changes (m.txns t) w) (after.itself.work_is ∙ ap work_of is)) ∙ after.itself.cells)
+      let settles : work_of txn.settles ≡ Work.Settles change = ap work_of is in
+      let works : (m.txns t).work ≡ Work.Settles change = after.itself.work_is ∙ settles in
+      let locked : cells_of_work m.changes (m.txns t) (m.txns t).work ≡ (m.changes change).cells = ap (λ (w : Work). cells_of_work m.changes (m.txns t) w) works in
+      sym after.itself.cells ∙ locked
 
   drawn_cells : (change : ℕ) → own_in txn.phase ≡ Some change → txn.settles ≡ None → txn.cells ≡ (m.changes change).cells
-  drawn_cells change at own = sym (own_cells own) ∙ ap cells_of_job (after.itself.own change at).is
+  drawn_cells change at own =
+      let drawn : cells_of_job txn.job ≡ (m.changes change).cells = ap cells_of_job (after.itself.own change at).is in
+      sym (own_cells own) ∙ drawn
 
   drawn_op : (change : ℕ) (op : ℕ × StoreOp) → own_in txn.phase ≡ Some change → ◌≡◌ {A = Option (ℕ × StoreOp)} (change_op txn.job) (Some op) → op.1 ≡ (m.changes change).op
   drawn_op change op at is =
@@ -227,10 +236,13 @@ module _ (size : Size) (m : State) (t : ℕ) (txn : Txn) (wave : Wave) (ledger :
 
     locked : (at : ℕ) (r : BrickReq) → txn.phase ≡ phase.Locking at → IsOfPhase (phase.Locking at) txn k r → AsksIn (phase.Locking at) txn wave ledger live last k → Meets k r
     locked at r e fits asks = plain (phase.Locking at) r e refl (subst (λ (q : BrickReq). MayBeAsked size m t k (ask_of txn.settles q)) (sym fits.1) guard) where
+      stage : (m.txns t).stage ≡ Stage.Locking txn.cells (is_read txn.job && is_none txn.settles) at
+      stage = stage_in (phase.Locking at) e
+
       guard : MayLock size m t k (is_read txn.job && is_none txn.settles) txn.cells
       guard = record {
         replica = low;
-        turn = stage_in (phase.Locking at) e ∙ ap (λ (j : ℕ). Stage.Locking txn.cells (is_read txn.job && is_none txn.settles) j) (sym fits.0);
+        turn = stage ∙ ap (λ (j : ℕ). Stage.Locking txn.cells (is_read txn.job && is_none txn.settles) j) (sym fits.0);
         not_out = not_out k asks.0;
         answered = after.itself.answered k asked;
         connected = after.links.opened k low ∙ asks.1;
@@ -258,16 +270,21 @@ module _ (size : Size) (m : State) (t : ℕ) (txn : Txn) (wave : Wave) (ledger :
         read : IsReadJob txn.job
         read = read_of txn.job reads
 
+        named : txn.cells ≡ read.cells
+        named =
+            let own_are : cells_of_job txn.job ≡ read.cells = ap cells_of_job read.is in
+            sym (own_cells own) ∙ own_are
+
         guard : stands txn.locks k live last ≡ true → MayRead size m t k cell
         guard holds = record {
           member = member k asked low (ap asks_members e ∙ members) reaches used holds;
           turn = stage;
-          work_is = after.itself.work_is ∙ ap work_of own;
+          work_is = (let works : work_of txn.settles ≡ Work.Own = ap work_of own in after.itself.work_is ∙ works);
           cells = read.cells;
           fd = read.fd;
           dir = read.dir;
           job_is = after.itself.job_is ∙ read.is;
-          of_job = subst (λ (cells : List Cell). has_cell cells cell ≡ true) (sym (own_cells own) ∙ ap cells_of_job read.is) (has_at txn.cells c cell at);
+          of_job = subst (λ (cells : List Cell). has_cell cells cell ≡ true) named (has_at txn.cells c cell at);
           sound = sound_in size (phase_of m t) txn (after.itself.shown (ap asks_members e ∙ members)) after.itself.replicas after.itself.quorum c k cell at sound;
         }
 

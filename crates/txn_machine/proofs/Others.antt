@@ -240,8 +240,19 @@ module _ (size : Size) (m : State) (t k j : ℕ) (apart : j ≢ k) where
 
     phase_is : phase_of (after_asking m t k first ask) t ≡ wrote_if (writes ask) (phase_of m t)
     phase_is =
-        ap (λ (x : Record). with_at m.phases (m.txns t).phase (wrote_if (writes ask) (phase_of m t)) x.phase) now_is
-        ∙ at_same m.phases (m.txns t).phase (wrote_if (writes ask) (phase_of m t))
+        let moved : phase_of (after_asking m t k first ask) t ≡ with_at m.phases (m.txns t).phase (wrote_if (writes ask) (phase_of m t)) (m.txns t).phase =
+            ap (λ (x : Record). with_at m.phases (m.txns t).phase (wrote_if (writes ask) (phase_of m t)) x.phase) now_is in
+        moved ∙ at_same m.phases (m.txns t).phase (wrote_if (writes ask) (phase_of m t))
+
+    waits_is : ((after_asking m t k first ask).txns t).waits j ≡ (m.txns t).waits j
+    waits_is =
+        let moved : ((after_asking m t k first ask).txns t).waits j ≡ with_at (m.txns t).waits k true j = ap (λ (x : Record). x.waits j) now_is in
+        moved ∙ at_other (m.txns t).waits k true j apart
+
+    left_is_same : ((after_asking m t k first ask).txns t).left j ≡ (m.txns t).left j
+    left_is_same =
+        let moved : ((after_asking m t k first ask).txns t).left j ≡ with_at (m.txns t).left k false j = ap (λ (x : Record). x.left j) now_is in
+        moved ∙ at_other (m.txns t).left k false j apart
 
     after_sending : IsSameFor m (after_asking m t k first ask) t j
     after_sending = record {
@@ -253,8 +264,8 @@ module _ (size : Size) (m : State) (t k j : ℕ) (apart : j ≢ k) where
       stage = ap (λ (x : Record). x.stage) now_is;
       grants = ap (λ (x : Record). x.grants) now_is;
       out = ap (λ (x : Record). x.out j) now_is;
-      waits = ap (λ (x : Record). x.waits j) now_is ∙ at_other (m.txns t).waits k true j apart;
-      left_is = ap (λ (x : Record). x.left j) now_is ∙ at_other (m.txns t).left k false j apart;
+      waits = waits_is;
+      left_is = left_is_same;
       reached = ap (λ (p : Phase). p.reached) phase_is ∙ wrote_reached (writes ask) (phase_of m t);
       rows = ap (λ (p : Phase). p.rows) phase_is ∙ wrote_rows (writes ask) (phase_of m t);
       others = λ other ne. at_other m.txns t asker other ne;
@@ -266,6 +277,16 @@ module _ (size : Size) (m : State) (t k j : ℕ) (apart : j ≢ k) where
   missed_is : (after size m (Step.Misses t k)).txns t ≡ misser
   missed_is = at_same m.txns t misser
 
+  missed_out : ((after size m (Step.Misses t k)).txns t).out j ≡ (m.txns t).out j
+  missed_out =
+      let moved : ((after size m (Step.Misses t k)).txns t).out j ≡ with_at (m.txns t).out k true j = ap (λ (x : Record). x.out j) missed_is in
+      moved ∙ at_other (m.txns t).out k true j apart
+
+  missed_left : ((after size m (Step.Misses t k)).txns t).left j ≡ (m.txns t).left j
+  missed_left =
+      let moved : ((after size m (Step.Misses t k)).txns t).left j ≡ with_at (m.txns t).left k false j = ap (λ (x : Record). x.left j) missed_is in
+      moved ∙ at_other (m.txns t).left k false j apart
+
   after_missing : IsSameFor m (after size m (Step.Misses t k)) t j
   after_missing = record {
     links = refl;
@@ -275,9 +296,9 @@ module _ (size : Size) (m : State) (t k j : ℕ) (apart : j ≢ k) where
     work_is = ap (λ (x : Record). x.work) missed_is;
     stage = ap (λ (x : Record). x.stage) missed_is;
     grants = ap (λ (x : Record). x.grants) missed_is;
-    out = ap (λ (x : Record). x.out j) missed_is ∙ at_other (m.txns t).out k true j apart;
+    out = missed_out;
     waits = ap (λ (x : Record). x.waits j) missed_is;
-    left_is = ap (λ (x : Record). x.left j) missed_is ∙ at_other (m.txns t).left k false j apart;
+    left_is = missed_left;
     reached = ap (λ (x : Record). (m.phases x.phase).reached) missed_is;
     rows = ap (λ (x : Record). (m.phases x.phase).rows) missed_is;
     others = λ other ne. at_other m.txns t misser other ne;

@@ -66,7 +66,8 @@ module _ (rows : List (Option Row)) (n q k : ℕ) where
 module _ (size : Size) (ended : LockPhase) (txn : Txn) (shows : IsShownBy size ended txn) (replicas : size.replicas ≡ txn.size.n) (quorum : size.quorum ≡ txn.size.q) where
   rows_are : (c : ℕ) (cell : Cell) → slice_get txn.cells c ≡ Some cell → rows_in size ended cell ≡ take txn.size.n (rows_at txn.shown c)
   rows_are c cell at =
-      rows_same (shown_in ended cell) (shown_at txn.shown c) size.replicas (λ k low. shows.rows k c cell low at)
+      let shown : rows_in size ended cell ≡ rows_up_to size.replicas (shown_at txn.shown c) = rows_same (shown_in ended cell) (shown_at txn.shown c) size.replicas (λ k low. shows.rows k c cell low at) in
+      shown
       ∙ ap (λ (n : ℕ). rows_up_to n (shown_at txn.shown c)) replicas
       ∙ rows_taken txn.shown c txn.size.n txn.size.few
 
@@ -97,8 +98,10 @@ pub accuses_outside : (size : Size) (mask : Mask) (n : ℕ) (flags : List Bool) 
 accuses_outside size mask n flags set small exactly few replicas same = fun_ext (λ k. by k (nat_lt k 5) refl) where
   by : (k : ℕ) (b : Bool) → nat_lt k 5 ≡ b → names mask k ≡ outside size set k
   by k true e =
-      exactly k (ltb-true k 5 e) ∙ and_same (nat_lt k n) (flag flags k) (set k) (λ low. same k (ltb-true k n low))
-      ∙ ap (λ (m : ℕ). nat_lt k m && not (set k)) (sym replicas)
+      let named : names mask k ≡ (nat_lt k n && not (flag flags k)) = exactly k (ltb-true k 5 e) in
+      let apart : (nat_lt k n && not (set k)) ≡ outside size set k = ap (λ (m : ℕ). nat_lt k m && not (set k)) (sym replicas) in
+      named ∙ and_same (nat_lt k n) (flag flags k) (set k) (λ low. same k (ltb-true k n low)) ∙ apart
   by k false e =
       let high : 5 ≤ k = ltb-false k 5 e in
-      none_named mask k small high ∙ sym (ap (λ (b : Bool). b && not (set k)) (not_low k size.replicas (omega (arith, few, replicas)) high))
+      let apart : outside size set k ≡ false = ap (λ (b : Bool). b && not (set k)) (not_low k size.replicas (omega (arith, few, replicas)) high) in
+      none_named mask k small high ∙ sym apart

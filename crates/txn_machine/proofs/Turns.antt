@@ -33,7 +33,7 @@ use Rattle.afr_phases.specs.declared.outs.Outs.{Outs}
 use Rattle.afr_phases.specs.declared.wave.Wave.{Wave}
 use Rattle.afr_phases.specs.Answers.{is_fault, is_plain_done, rows_in, content_in, cells_in}
 use Rattle.afr_phases.specs.Asked.{is_within, is_waiting, are_granted_within}
-use Rattle.afr_phases.specs.Flags.{flag, flags_of, names, lowest, both, mask_of, outside}
+use Rattle.afr_phases.specs.Flags.{flag, flags_by, flags_of, names, lowest, both, mask_of, outside}
 use Rattle.afr_phases.specs.Locking.{kept_only, next_lock}
 use Rattle.afr_phases.specs.Locks.{no_locks, granted, stands, standing}
 use Rattle.afr_phases.specs.Outs.{is_out, is_short, left, used}
@@ -307,7 +307,8 @@ module _ (wave : Wave) (live : Mask) (last : List ℕ) where
   polled_live : (txn : Txn) (k : ℕ) → length txn.outs.at ≡ 5 → flag (alive (polled txn live last)) k ≡ true → names live k ≡ true
   polled_live txn k five h =
       let low : k < 5 = below_five (λ j. nat_lt j txn.size.n && not (is_out (polled txn live last).outs j)) k h in
-      sym (flag_by (names live) k low) ∙ are_kept txn.outs (flags_of live) txn.size.n last five k low h
+      let kept_is : flag (flags_by (names live)) k ≡ true = are_kept txn.outs (flags_of live) txn.size.n last five k low h in
+      sym (flag_by (names live) k low) ∙ kept_is
 
   open_fits : (txn : Txn) (fd : ℕ) (gfid : Gfid) (ledger : Ledger Cell) → ((k : ℕ) → flag (alive txn) k ≡ true → names live k ≡ true) → Fits ledger (opening txn fd gfid)
   open_fits txn fd gfid ledger connected =
