@@ -1,5 +1,5 @@
 -- Each turn of a transaction: what it sends meets its guards.
-use Rattle.std.proofs.Common.{◌≡◌, ℕ, true, List}
+use Rattle.std.proofs.Common.{ℕ}
 use Rattle.afr_phases.specs.declared.wave.Wave.{Wave}
 use Rattle.afr_phases.specs.Answers.{is_plain_done}
 use Rattle.afr_phases.specs.Waves.{quiet, taken}
@@ -29,21 +29,27 @@ asking_after size k wave txn need.Wait h = tt
 
 pub begins_meet : BeginsMeet
 begins_meet size set call job ledger live last =
-    let fits = begun_fits size set call job ledger live last in
-    (fits.0, all_met (started (fresh size set call job) ledger live last).0 (started (fresh size set call job) ledger live last).1 quiet ledger live last
-    (asking_on size (started (fresh size set call job) ledger live last).0 (started (fresh size set call job) ledger live last).1 (begins size set call job ledger live last))
-    (begin_sends size set call job ledger live last) fits.0 fits.1)
+    let fits = begun_fits size set call job ledger live last in (
+      fits.0,
+      all_met (started (fresh size set call job) ledger live last).0 (started (fresh size set call job) ledger live last).1 quiet ledger live last
+          (asking_on size (started (fresh size set call job) ledger live last).0 (started (fresh size set call job) ledger live last).1 (begins size set call job ledger live last))
+          (begin_sends size set call job ledger live last) fits.0 fits.1,
+    )
 
 pub answers_meet : AnswersMeet
 answers_meet txn k mark rep ledger live last asking keeps works asked =
-    let fits = answer_fits txn k mark rep ledger live last asking keeps works asked in
-    (fits.0, all_met (answered txn k rep mark ledger live last).0 (answered txn k rep mark ledger live last).1.0 (taken txn.wave k (is_plain_done rep)) (answered txn k rep mark ledger live last).1.1 live last
-    (asking_after txn.size k txn.wave (answered txn k rep mark ledger live last).0 (answered txn k rep mark ledger live last).1.0 (answers txn k mark rep ledger live last asking asked))
-    (answer_sends txn k mark rep ledger live last asking keeps asked) fits.0 fits.1)
+    let fits = answer_fits txn k mark rep ledger live last asking keeps works asked in (
+      fits.0,
+      all_met (answered txn k rep mark ledger live last).0 (answered txn k rep mark ledger live last).1.0 (taken txn.wave k (is_plain_done rep)) (answered txn k rep mark ledger live last).1.1 live last
+          (asking_after txn.size k txn.wave (answered txn k rep mark ledger live last).0 (answered txn k rep mark ledger live last).1.0 (answers txn k mark rep ledger live last asking asked))
+          (answer_sends txn k mark rep ledger live last asking keeps asked) fits.0 fits.1,
+    )
 
 pub copies_meet : CopiesMeet
 copies_meet txn done ledger live last copying keeps works =
-    let fits = done_fits txn done ledger live last copying works in
-    (fits.0, all_met (copied txn done ledger live last).0 (copied txn done ledger live last).1.0 quiet (copied txn done ledger live last).1.1 live last
-    (asking_on txn.size (copied txn done ledger live last).0 (copied txn done ledger live last).1.0 (copies txn done ledger live last copying))
-    (copy_sends txn done ledger live last copying keeps) fits.0 fits.1)
+    let fits = done_fits txn done ledger live last copying works in (
+      fits.0,
+      all_met (copied txn done ledger live last).0 (copied txn done ledger live last).1.0 quiet (copied txn done ledger live last).1.1 live last
+          (asking_on txn.size (copied txn done ledger live last).0 (copied txn done ledger live last).1.0 (copies txn done ledger live last copying))
+          (copy_sends txn done ledger live last copying keeps) fits.0 fits.1,
+    )

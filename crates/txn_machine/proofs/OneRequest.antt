@@ -1,5 +1,5 @@
 -- A request of a phase meets its guard, in a state that is that of the moment after the turn.
-use Rattle.std.proofs.Common.{◌≡◌, ◌∙◌, ℕ, ◌<◌, ◌⊎◌, inl, inr, Bool, true, false, ◌&&◌, ◌||◌, ◌==◌, not, nat_lt, List, [], ◌∷◌, Option, Some, None, is_none, is_some, length, slice_index, slice_index_or, refl, sym, ap, subst, arith}
+use Rattle.std.proofs.Common.{◌≡◌, ◌∙◌, ℕ, ◌<◌, inl, inr, Bool, true, false, ◌&&◌, ◌||◌, ◌==◌, not, nat_lt, List, [], ◌∷◌, Option, Some, None, is_none, is_some, length, slice_index, slice_index_or, refl, sym, ap, subst, arith}
 use Rattle.std.specs.Prelude.{slice_get}
 use Rattle.std.proofs.lemmas.Bool.{and_parts, or_parts, eqb-true, eq-eqb, not-true, true≢false}
 use Rattle.fop_types.specs.Bounds.{Each}
@@ -16,7 +16,7 @@ use Rattle.fop_types.specs.declared.store_ops.StoreOp.{StoreOp}
 use Rattle.afr_ledger.specs.Ledger.{State as Ledger}
 use Rattle.afr_machine.specs.Births.{cells_of_work, AreLeftAlone}
 use Rattle.afr_machine.specs.Replicas.{Size}
-use Rattle.afr_machine.specs.Sending.{HasGrant, IsMember, IsNext, MayLock, MayUnlock, MayMark, MayApply, MayBear, MayPost, MaySettle, MayRead, MayPoll, MayOpen, MayIndex}
+use Rattle.afr_machine.specs.Sending.{HasGrant, IsMember, IsNext, MayLock, MayUnlock, MayRead, MayPoll}
 use Rattle.afr_machine.specs.States.{State, is_current, link_of, phase_of}
 use Rattle.afr_machine.specs.Steps.{MayMiss}
 use Rattle.afr_machine.specs.Touching.{has_cell}
@@ -25,7 +25,7 @@ use Rattle.afr_machine.specs.Turns.{is_granted, open_grants}
 use Rattle.afr_phases.specs.declared.wave.Wave.{Wave}
 use Rattle.afr_phases.specs.Asked.{is_within, is_waiting, are_granted_within}
 use Rattle.afr_phases.specs.Flags.{flag, names}
-use Rattle.afr_phases.specs.Locks.{is_open, keeps, stands}
+use Rattle.afr_phases.specs.Locks.{is_open, stands}
 use Rattle.afr_phases.specs.Outs.{is_out}
 use Rattle.afr_phases.specs.Waves.{is_asked, is_over}
 use Rattle.afr_phases.proofs.Asked.{within_at}

@@ -1,5 +1,5 @@
 -- Sending to one replica, and missing one, leaves the guards of the others.
-use Rattle.std.proofs.Common.{◌≡◌, ◌∙◌, ℕ, ◌⊎◌, inl, inr, Bool, true, false, ◌||◌, ◌==◌, List, [], ◌∷◌, Option, Some, None, refl, sym, ap, subst, if◌then◌else◌}
+use Rattle.std.proofs.Common.{◌≡◌, ◌∙◌, ℕ, ◌⊎◌, inl, inr, Bool, true, false, ◌==◌, List, [], ◌∷◌, Option, Some, None, refl, sym, ap, subst, if◌then◌else◌}
 use Rattle.std.specs.Prelude.{◌≢◌}
 use Rattle.std.proofs.lemmas.Bool.{eq-eqb, or_parts, true≢false}
 use Rattle.fop_types.specs.Bounds.{Each}
@@ -8,7 +8,6 @@ use Rattle.fop_types.specs.StoreOps.{births}
 use Rattle.fop_types.specs.declared.cells.Cell.{Cell}
 use Rattle.fop_types.specs.declared.contents.Mask.{Mask}
 use Rattle.fop_types.specs.declared.contents.Row.{Row}
-use Rattle.fop_types.specs.declared.jobs.Job.{Job}
 use Rattle.fop_types.specs.declared.messages.BrickReq.{BrickReq}
 use Rattle.fop_types.specs.declared.store_ops.StoreOp.{StoreOp}
 use Rattle.afr_changelog.specs.Soundness.{IsSound}
@@ -17,20 +16,18 @@ use Rattle.afr_machine.specs.Changes.{Change, is_unsettled}
 use Rattle.afr_machine.specs.Phases.{Phase, rows_up_to, IsSoundIn}
 use Rattle.afr_machine.specs.Replicas.{Replicas, Size, outside, with_at}
 use Rattle.afr_machine.specs.Requests.{Ask}
-use Rattle.afr_machine.specs.Sending.{HasGrant, IsMember, IsNext, MayLock, MayUnlock, MayMark, MayApply, MayBear, MayPost, MaySettle, MayRead, MayFetch, MayReplace, MayClear, MayPoll, MayOpen, MayIndex, MayAsk, writes, asking, wrote_if, after_asking}
+use Rattle.afr_machine.specs.Sending.{HasGrant, IsMember, IsNext, MayApply, MayBear, MayRead, MayFetch, MayPoll, MayAsk, writes, asking, wrote_if, after_asking}
 use Rattle.afr_machine.specs.States.{State, Link, is_current, link_of, phase_of}
 use Rattle.afr_machine.specs.Steps.{Step, MayMiss, after}
 use Rattle.afr_machine.specs.Touching.{share}
-use Rattle.afr_machine.specs.Transactions.{Grant, Stage, Txn as Record, Work, may_hold}
+use Rattle.afr_machine.specs.Transactions.{Grant, Stage, Txn as Record, may_hold}
 use Rattle.afr_machine.specs.Turns.{is_granted, open_grants}
 use Rattle.afr_machine.proofs.Tables.{at_same, at_other}
-use Rattle.afr_phases.specs.Asked.{is_named, AreApart}
-use Rattle.afr_phases.specs.Locks.{keeps}
+use Rattle.afr_phases.specs.Asked.{is_named}
 use Rattle.afr_transaction.specs.declared.txn.Txn.{Txn}
 use Rattle.txn_machine.specs.Asks.{ask_of, MayBeAsked}
 use Rattle.txn_machine.specs.Guards.{MeetsGuard}
-use Rattle.txn_machine.specs.Records.{asks_members, asks_at_once}
-use Rattle.txn_machine.specs.Sent.{AreAllowed, OneAfterAnother}
+use Rattle.txn_machine.specs.Sent.{OneAfterAnother}
 
 -- What the guards of the requests of transaction t to replica j speak of is the same in both states.
 record IsSameFor (m n : State) (t j : ℕ) : Type 0 where
@@ -241,7 +238,7 @@ module _ (size : Size) (m : State) (t k j : ℕ) (apart : j ≢ k) where
     phase_is : phase_of (after_asking m t k first ask) t ≡ wrote_if (writes ask) (phase_of m t)
     phase_is =
         let moved : phase_of (after_asking m t k first ask) t ≡ with_at m.phases (m.txns t).phase (wrote_if (writes ask) (phase_of m t)) (m.txns t).phase =
-            ap (λ (x : Record). with_at m.phases (m.txns t).phase (wrote_if (writes ask) (phase_of m t)) x.phase) now_is in
+        ap (λ (x : Record). with_at m.phases (m.txns t).phase (wrote_if (writes ask) (phase_of m t)) x.phase) now_is in
         moved ∙ at_same m.phases (m.txns t).phase (wrote_if (writes ask) (phase_of m t))
 
     waits_is : ((after_asking m t k first ask).txns t).waits j ≡ (m.txns t).waits j
@@ -315,20 +312,17 @@ each_other k P Q h (r ∷ rs) none p =
 
 pub one_after_another : OneAfterAnother
 one_after_another size m t txn live last [] apart meets = tt
-one_after_another size m t txn live last (r ∷ rs) apart meets =
-    (
-      λ first ask is carries holds.
-        (
-          (subst (λ (a : Option Ask). MayBeAsked size m t r.0 a) is (meets.0.asked holds), carries),
-          one_after_another size (after_asking m t r.0 first ask) t txn live last rs apart.1
-          (each_other r.0 (λ (q : ℕ × BrickReq). MeetsGuard size m t txn live last q.0 q.1) (λ (q : ℕ × BrickReq). MeetsGuard size (after_asking m t r.0 first ask) t txn live last q.0 q.1)
-          (λ q ne h. meets_same size m (after_asking m t r.0 first ask) t q.0 (after_sending size m t r.0 q.0 ne first ask) txn live last q.1 h) rs apart.0 meets.1),
-        ),
-      λ members once lost.
-        (
-          meets.0.missed members once lost,
-          one_after_another size (after size m (Step.Misses t r.0)) t txn live last rs apart.1
-          (each_other r.0 (λ (q : ℕ × BrickReq). MeetsGuard size m t txn live last q.0 q.1) (λ (q : ℕ × BrickReq). MeetsGuard size (after size m (Step.Misses t r.0)) t txn live last q.0 q.1)
-          (λ q ne h. meets_same size m (after size m (Step.Misses t r.0)) t q.0 (after_missing size m t r.0 q.0 ne) txn live last q.1 h) rs apart.0 meets.1),
-        ),
-    )
+one_after_another size m t txn live last (r ∷ rs) apart meets = (
+  λ first ask is carries holds. (
+    (subst (λ (a : Option Ask). MayBeAsked size m t r.0 a) is (meets.0.asked holds), carries),
+    one_after_another size (after_asking m t r.0 first ask) t txn live last rs apart.1
+        (each_other r.0 (λ (q : ℕ × BrickReq). MeetsGuard size m t txn live last q.0 q.1) (λ (q : ℕ × BrickReq). MeetsGuard size (after_asking m t r.0 first ask) t txn live last q.0 q.1)
+        (λ q ne h. meets_same size m (after_asking m t r.0 first ask) t q.0 (after_sending size m t r.0 q.0 ne first ask) txn live last q.1 h) rs apart.0 meets.1),
+  ),
+  λ members once lost. (
+    meets.0.missed members once lost,
+    one_after_another size (after size m (Step.Misses t r.0)) t txn live last rs apart.1
+        (each_other r.0 (λ (q : ℕ × BrickReq). MeetsGuard size m t txn live last q.0 q.1) (λ (q : ℕ × BrickReq). MeetsGuard size (after size m (Step.Misses t r.0)) t txn live last q.0 q.1)
+        (λ q ne h. meets_same size m (after size m (Step.Misses t r.0)) t q.0 (after_missing size m t r.0 q.0 ne) txn live last q.1 h) rs apart.0 meets.1),
+  ),
+)

@@ -1,5 +1,5 @@
 -- Every turn keeps what its requests rest on, and asks whom it may ask.
-use Rattle.std.proofs.Common.{◌≡◌, ◌∙◌, ℕ, ◌+◌, ◌-◌, ◌<◌, Bool, true, false, ◌&&◌, ◌==◌, not, nat_lt, cond, List, [], ◌∷◌, ◌++◌, Option, Some, None, is_none, is_some, length, refl, sym, ap, subst, arith}
+use Rattle.std.proofs.Common.{◌≡◌, ◌∙◌, ℕ, ◌+◌, ◌-◌, ◌<◌, Bool, true, false, ◌&&◌, ◌==◌, not, nat_lt, cond, List, [], ◌∷◌, ◌++◌, Option, Some, None, is_none, is_some, length, refl, sym, subst, arith}
 use Rattle.std.specs.Prelude.{slice_get, slice_index}
 use Rattle.std.proofs.lemmas.Bool.{cond_both, and_parts, eqb-true, true≢false}
 use Rattle.std.proofs.lemmas.Cmp.{nat_cmp_total}
@@ -34,7 +34,7 @@ use Rattle.afr_phases.specs.declared.wave.Wave.{Wave}
 use Rattle.afr_phases.specs.Answers.{is_fault, is_plain_done, rows_in, content_in, cells_in}
 use Rattle.afr_phases.specs.Asked.{is_within, is_waiting, are_granted_within}
 use Rattle.afr_phases.specs.Flags.{flag, flags_by, flags_of, names, lowest, both, mask_of, outside}
-use Rattle.afr_phases.specs.Locking.{kept_only, next_lock}
+use Rattle.afr_phases.specs.Locking.{next_lock}
 use Rattle.afr_phases.specs.Locks.{no_locks, granted, stands, standing}
 use Rattle.afr_phases.specs.Outs.{is_out, is_short, left, used}
 use Rattle.afr_phases.specs.Shown.{nothing_shown, with_rows, rows_listed}
@@ -58,20 +58,19 @@ use Rattle.afr_transaction.specs.declared.phase.Then.TheVariants as next
 use Rattle.afr_transaction.specs.declared.phase.Verdict.{Verdict}
 use Rattle.afr_transaction.specs.declared.size.Size.{Size}
 use Rattle.afr_transaction.specs.declared.txn.Txn.{Txn}
-use Rattle.afr_transaction.specs.Answers.{lock_step, lock_on, lock_answered, hearing, waiting, write_by, mark_answered, write_answered, post_ended, post_answered, settle_ended, settle_step, settle_answered, birth_answered, unlock_answered, open_answered, list_taken, list_answered, fetch_answered, aspect_at, answered_in, answered, copied_in, copied, idle}
+use Rattle.afr_transaction.specs.Answers.{lock_step, lock_on, hearing, waiting, write_by, mark_answered, write_answered, post_ended, post_answered, settle_step, settle_answered, birth_answered, unlock_answered, open_answered, list_taken, list_answered, aspect_at, answered_in, answered, copied_in, copied, idle}
 use Rattle.afr_transaction.specs.Begins.{fresh, started_by, started}
 use Rattle.afr_transaction.specs.Changes.{has_number, may_begin, marking, begun, drawing, posting, post_decided, unsettled_of}
-use Rattle.afr_transaction.specs.Copied.{healed, is_change, copied_all, copy_by, copy_next, copy_noted, copy_taken}
-use Rattle.afr_transaction.specs.Copies.{has_source, next_part, sinks_left, with_out, with_outs, is_left}
+use Rattle.afr_transaction.specs.Copied.{healed, is_change, copied_all, copy_by, copy_next, copy_taken}
+use Rattle.afr_transaction.specs.Copies.{has_source, next_part, with_out, with_outs, is_left}
 use Rattle.afr_transaction.specs.Jobs.{kind_of, birth_op, change_op}
-use Rattle.afr_transaction.specs.Listing.{with_cells}
 use Rattle.afr_transaction.specs.Locked.{to_settle, cells_for, locking, first_step, again, going, lost_noted, releasing, unlock, fail, lock_taken, reached}
 use Rattle.afr_transaction.specs.Parts.{common_of, is_split, all_parts}
-use Rattle.afr_transaction.specs.Polls.{polled, open_ended, opening, list_ended, listing}
+use Rattle.afr_transaction.specs.Polls.{polled, opening, list_ended, listing}
 use Rattle.afr_transaction.specs.Reads.{fd_of, sound_on, is_split_read, split_rows, with_absent, fetching, fetch_at, fetch_next, fetch_taken, ready_to_read}
-use Rattle.afr_transaction.specs.Ready.{split, skipping, is_touched, ready_to_change, ready_to_heal, settle_by, ready_to_settle, bearing_by, ready_by, ready_for, ready}
+use Rattle.afr_transaction.specs.Ready.{split, skipping, is_touched, ready_to_change, ready_to_heal, settle_by, bearing_by, ready_by, ready_for}
 use Rattle.afr_transaction.specs.Requests.{Keeps, KeepsIn}
-use Rattle.afr_transaction.specs.Settles.{has_it, group_of, settling, settle_decided, settle_parts}
+use Rattle.afr_transaction.specs.Settles.{has_it, group_of, settle_decided, settle_parts}
 use Rattle.afr_transaction.specs.Shapes.{suits, are_copies, is_asking, is_copying}
 use Rattle.afr_transaction.specs.Txns.{only, alive, asking, over, healing, ending, io_of, heal_reply, is_heal, kept}
 use Rattle.txn_machine.specs.Works.{AreReached, WorksIn, Works}

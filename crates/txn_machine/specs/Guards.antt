@@ -1,5 +1,5 @@
 -- Each request that a turn sends meets its guard, in every state of the machine that is that of the moment after the turn.
-use Rattle.std.specs.Prelude.{◌≡◌, ℕ, ◌<◌, Bool, true, false, List, Option}
+use Rattle.std.specs.Prelude.{◌≡◌, ℕ, ◌<◌, true, false, List, Option}
 use Rattle.fop_types.specs.Bounds.{Each}
 use Rattle.fop_types.specs.declared.cells.Cell.{Cell}
 use Rattle.fop_types.specs.declared.contents.Mask.{Mask}

@@ -8,7 +8,6 @@ use Rattle.fop_types.specs.declared.cells.Cell.{Cell}
 use Rattle.fop_types.specs.declared.contents.Mask.{Mask}
 use Rattle.fop_types.specs.declared.jobs.Job.{Job}
 use Rattle.fop_types.specs.declared.jobs.Job.TheVariants as job
-use Rattle.fop_types.specs.declared.store_ops.StoreOp.{StoreOp}
 use Rattle.afr_ledger.specs.Changes.{numbered}
 use Rattle.afr_ledger.specs.Ledger.{State as Ledger}
 use Rattle.afr_ledger.specs.declared.unsettled.Unsettled.{Unsettled}

@@ -1,6 +1,6 @@
 -- That what a turn sends may be sent one after another: sending to one replica, and missing one, leaves the guards of the
 -- others.
-use Rattle.std.specs.Prelude.{◌≡◌, ℕ, Bool, true, false, List, [], ◌∷◌, Option, Some}
+use Rattle.std.specs.Prelude.{◌≡◌, ℕ, Bool, true, false, List, [], ◌∷◌, Some}
 use Rattle.fop_types.specs.Bounds.{Each}
 use Rattle.fop_types.specs.declared.contents.Mask.{Mask}
 use Rattle.fop_types.specs.declared.messages.BrickReq.{BrickReq}
@@ -23,9 +23,9 @@ abbrev pub AreAllowed : Size → State → ℕ → Txn → Mask → List ℕ →
 AreAllowed size m t txn live last [] = Unit {0}
 AreAllowed size m t txn live last (r ∷ rs) =
     ((first : Bool) (ask : Ask) → ask_of txn.settles r.1 ≡ Some ask → (first ≡ true → carries_fd ask ≡ true) → (asks_members txn.phase ≡ true → keeps txn.locks r.0 live last ≡ true)
-        → Allowed size m (Step.Asks t r.0 first ask) × AreAllowed size (after size m (Step.Asks t r.0 first ask)) t txn live last rs)
+    → Allowed size m (Step.Asks t r.0 first ask) × AreAllowed size (after size m (Step.Asks t r.0 first ask)) t txn live last rs)
     × (asks_members txn.phase ≡ true → asks_at_once txn.phase ≡ true → keeps txn.locks r.0 live last ≡ false
-        → Allowed size m (Step.Misses t r.0) × AreAllowed size (after size m (Step.Misses t r.0)) t txn live last rs)
+    → Allowed size m (Step.Misses t r.0) × AreAllowed size (after size m (Step.Misses t r.0)) t txn live last rs)
 
 -- the law: requests to different replicas, each of which meets its guard, may be sent one after another
 abbrev pub OneAfterAnother : Type 0

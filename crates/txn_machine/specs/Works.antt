@@ -1,6 +1,6 @@
 -- What a transaction keeps between two turns, beside `Keeps`: its lock phase reached those who are used, and its phases are of
 -- its work: a read, a mark, an op and a post of its own job, and a settle of the change that it settles.
-use Rattle.std.specs.Prelude.{◌≡◌, ℕ, true, Option, Some, None}
+use Rattle.std.specs.Prelude.{◌≡◌, ℕ, true, Some, None}
 use Rattle.afr_phases.specs.Flags.{flag}
 use Rattle.afr_transaction.specs.declared.jobs.Kind.TheVariants as kind
 use Rattle.afr_transaction.specs.declared.phase.Phase.{Phase}
