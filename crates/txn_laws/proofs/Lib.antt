@@ -1,4 +1,6 @@
 pub mod Counts
+pub mod Elsewhere
+pub mod Ending
 pub mod Failures
 pub mod Freed
 pub mod LostMarks

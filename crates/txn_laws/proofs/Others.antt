@@ -32,7 +32,7 @@ use Rattle.txn_laws.proofs.Counts.{bit_less, bit_most, few_flags}
 use Rattle.txn_laws.proofs.Paying.{again_rounds, moved, same}
 use Rattle.txn_laws.proofs.Unsettled.{decided_pays, fewer_without, numbered_less, one_more, touch_less}
 
-both_less : (u v a d e : ℕ) → u ≤ v → d ≤ e → u + a + d ≤ v + a + e
+pub both_less : (u v a d e : ℕ) → u ≤ v → d ≤ e → u + a + d ≤ v + a + e
 both_less u v a d e h k = omega arith
 
 two_more : (u v a : ℕ) (b c : Bool) → u ≤ v + 1 → u + a + bit b ≤ v + a + bit c + 2
@@ -78,12 +78,12 @@ draws_raise_nothing txn ledger = draw_in txn.phase txn ledger
 
 -- ---- a change that is decided
 
-none_less : {A B : Type 0} (o : Option A) (p : Option B) → (is_some p ≡ true → is_some o ≡ true) → is_none o ≡ true → is_none p ≡ true
+pub none_less : {A B : Type 0} (o : Option A) (p : Option B) → (is_some p ≡ true → is_some o ≡ true) → is_none o ≡ true → is_none p ≡ true
 none_less None None h e = refl
 none_less None (Some y) h e = absurd (true≢false (sym (h refl)))
 none_less (Some x) p h e = absurd (true≢false (sym e))
 
-met_less : (a b c m n e : Bool) → (n ≡ true → m ≡ true) → bit (a || (b || (c || (n || e)))) ≤ bit (a || (b || (c || (m || e))))
+pub met_less : (a b c m n e : Bool) → (n ≡ true → m ≡ true) → bit (a || (b || (c || (n || e)))) ≤ bit (a || (b || (c || (m || e))))
 met_less true b c m n e h = omega arith
 met_less false true c m n e h = omega arith
 met_less false false true m n e h = omega arith
@@ -91,7 +91,7 @@ met_less false false false true n e h = omega (arith, bit_most (n || e))
 met_less false false false false true e h = absurd (true≢false (sym (h refl)))
 met_less false false false false false e h = omega arith
 
-begin_more : (t u d n m c : Bool) → (t ≡ true → u ≡ true) → (n ≡ true → m ≡ true) → bit (not (u && (d && m)) || c) ≤ bit (not (t && (d && n)) || c)
+pub begin_more : (t u d n m c : Bool) → (t ≡ true → u ≡ true) → (n ≡ true → m ≡ true) → bit (not (u && (d && m)) || c) ≤ bit (not (t && (d && n)) || c)
 begin_more false u d n m c h k = omega (arith, bit_most (not (u && (d && m)) || c))
 begin_more true false d n m c h k = absurd (true≢false (sym (h refl)))
 begin_more true true false n m c h k = omega arith

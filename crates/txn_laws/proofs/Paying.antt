@@ -127,7 +127,7 @@ not_late u a b m false e h k = omega arith
 first_rounds : (txn : Txn) (t : Outs × LockStep) (ledger : State Cell) → is_lock_late txn.settles txn.set txn.job txn.cells ledger ≡ false → IsSince txn.size.n txn.outs t.0 → rounds (first_step txn t).0 ledger ≤ occasions txn ledger
 first_rounds txn (outs, step.Ask k) ledger e since =
     not_late (unsettled_on txn.set (job_cells txn.job) ledger.unsettled) (how_many (used outs txn.size.n)) (how_many (alive txn)) (occasions txn ledger)
-    (is_lock_late txn.settles txn.set txn.job txn.cells ledger) e (none_more (used outs txn.size.n) (alive txn) since) (omega arith)
+    (is_lock_late txn.settles txn.set txn.job txn.cells ledger) e (none_more (used outs txn.size.n) (alive txn) since) (same (occasions txn ledger))
 first_rounds txn (outs, step.Short) ledger e since = omega arith
 first_rounds txn (outs, step.Reached) ledger e since = omega arith
 
@@ -214,7 +214,7 @@ settle_pays txn verdict ledger sorted =
     (λ e. done_before (unsettled_on txn.set (job_cells txn.job) ledger.unsettled) verdict.decided (is_settled txn.set txn.job verdict.change ledger) e)
     (λ e. cond_both (decides txn ledger) _ _ (SettlePays txn verdict ledger) (λ d. by (numbered verdict.change ledger.unsettled) refl)
     (λ d. late_or (unsettled_on txn.set (job_cells txn.job) ledger.unsettled) (unsettled_on txn.set (job_cells txn.job) ledger.unsettled + bit (is_settled txn.set txn.job verdict.change ledger)) verdict.decided
-    (is_unsettled_on txn.set (job_cells txn.job) verdict.change ledger.unsettled) (omega arith)))
+    (is_unsettled_on txn.set (job_cells txn.job) verdict.change ledger.unsettled) (same (unsettled_on txn.set (job_cells txn.job) ledger.unsettled + bit (is_settled txn.set txn.job verdict.change ledger)))))
   where
     by : (o : Option (Unsettled Cell)) → numbered verdict.change ledger.unsettled ≡ o → SettlePays txn verdict ledger (true, verdict_by o verdict.change verdict.held ledger)
     by None e = gone_before (unsettled_on txn.set (job_cells txn.job) ledger.unsettled) verdict.decided (is_unsettled_on txn.set (job_cells txn.job) verdict.change ledger.unsettled) (nobody_on txn.set (job_cells txn.job) ledger.unsettled verdict.change e)

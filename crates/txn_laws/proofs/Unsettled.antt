@@ -20,7 +20,7 @@ use Rattle.txn_laws.proofs.Counts.{bit_most}
 at_self : (n : ℕ) → is_eq (nat_cmp n n) ≡ true
 at_self n = grind arith
 
-same_number : (a b : ℕ) → is_eq (nat_cmp a b) ≡ true → a ≡ b
+pub same_number : (a b : ℕ) → is_eq (nat_cmp a b) ≡ true → a ≡ b
 same_number a b h = grind (arith, h)
 
 removed : (touches same rest : Bool) (n : ℕ) → n + bit (not rest) ≤ bit touches + n + bit (not ((same && touches) || rest))
@@ -100,7 +100,7 @@ module _ (set : ℕ) (cells : List Cell) where
     by false e h rest = omega (arith, rest h)
 
   pub touch_less : (n : ℕ) (us : List (ℕ × Unsettled Cell)) → is_some (touching cell_cmp set cells (without n us)) ≡ true → is_some (touching cell_cmp set cells us) ≡ true
-  touch_less n [] h = h
+  touch_less n [] = λ h. h
   touch_less n (u ∷ us) =
       cond_both (is_eq (nat_cmp n u.0)) us (u ∷ without n us) (λ (l : List (ℕ × Unsettled Cell)). is_some (touching cell_cmp set cells l) ≡ true → is_some (touching cell_cmp set cells (u ∷ us)) ≡ true)
       (λ e. gone (touches_any cell_cmp set cells u.1)) (λ e. stays (touches_any cell_cmp set cells u.1) (touch_less n us))
@@ -127,7 +127,7 @@ module _ (set : ℕ) (cells : List Cell) where
 
 -- a number that is unsettled with a change less was so before
 pub numbered_less : (n m : ℕ) (us : List (ℕ × Unsettled Cell)) → is_some (numbered m (without n us)) ≡ true → is_some (numbered m us) ≡ true
-numbered_less n m [] h = h
+numbered_less n m [] = λ h. h
 numbered_less n m (u ∷ us) =
     cond_both (is_eq (nat_cmp n u.0)) us (u ∷ without n us) (λ (l : List (ℕ × Unsettled Cell)). is_some (numbered m l) ≡ true → is_some (numbered m (u ∷ us)) ≡ true)
     (λ e. gone (is_eq (nat_cmp m u.0))) (λ e. stays (is_eq (nat_cmp m u.0)) (numbered_less n m us))

@@ -1,6 +1,6 @@
 -- How often a job may still begin again at its locks: a number that no answer and no finished copy raises, and that each
 -- beginning again lowers. Of what others do only a change that becomes unsettled on the job's cells raises it.
-use Rattle.std.specs.Prelude.{◌≡◌, ℕ, ◌+◌, ◌*◌, ◌≤◌, ◌<◌, ◌⊎◌, Bool, true, false, ◌&&◌, ◌||◌, not, List, [], ◌∷◌, Option, Some, None, is_none, is_some}
+use Rattle.std.specs.Prelude.{◌≡◌, ◌≢◌, ℕ, ◌+◌, ◌*◌, ◌≤◌, ◌<◌, ◌⊎◌, Bool, true, false, ◌&&◌, ◌||◌, not, List, [], ◌∷◌, Option, Some, None, is_none, is_some}
 use Rattle.std.specs.Ordering.{is_eq, nat_cmp}
 use Rattle.fop_types.specs.Orders.{cell_cmp}
 use Rattle.fop_types.specs.declared.cells.Cell.{Cell}
@@ -191,3 +191,13 @@ DecisionsRaiseNothing = (txn : Txn) (ledger : State Cell) (change : ℕ) (adopte
 
 abbrev pub BeginsRaiseByTwo : Type 0
 BeginsRaiseByTwo = (txn : Txn) (ledger : State Cell) (u : Unsettled Cell) → rounds txn (with_begun ledger u) ≤ rounds txn ledger + 2
+
+-- a change that touches neither the job's cells nor those of its lock phase, with a number of its own
+pub record IsElsewhere (txn : Txn) (ledger : State Cell) (u : Unsettled Cell) : Type 0 where
+  pub own : touches_any cell_cmp txn.set (job_cells txn.job) u ≡ false
+  pub locked : touches_any cell_cmp txn.set txn.cells u ≡ false
+  pub number : is_none (numbered u.change ledger.unsettled) ≡ true
+  pub unmarked : txn.phase ≢ phase.Marking u.change
+
+abbrev pub BeginsElsewhereRaiseNothing : Type 0
+BeginsElsewhereRaiseNothing = (txn : Txn) (ledger : State Cell) (u : Unsettled Cell) → IsElsewhere txn ledger u → rounds txn (with_begun ledger u) ≤ rounds txn ledger

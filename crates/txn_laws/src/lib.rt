@@ -8,6 +8,6 @@
 mod laws;
 
 pub use laws::{
-    failures_have_causes, marks_are_handed_in, others_add_few_rounds, quorums_decide, requests_end,
-    rounds_are_paid, rows_are_handed_in, splits_lack_free, turns_move_the_ledger,
+    failures_have_causes, jobs_end, marks_are_handed_in, others_add_few_rounds, quorums_decide,
+    requests_end, rounds_are_paid, rows_are_handed_in, splits_lack_free, turns_move_the_ledger,
 };
