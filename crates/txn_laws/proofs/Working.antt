@@ -229,8 +229,11 @@ module _ (P : Type 0) (live : Mask) (last : List ℕ) where
     mark_low : is_change txn.job ≡ true → (P → AreDrawn ledger.drawn ledger.unsettled) → (P → occasions txn ledger + bit (is_met txn.set txn.job txn.cells ledger) ≤ budget) → LowWith 4 budget (marking txn ledger live last)
     mark_low change drawn pays =
         cond_both (has_number ledger) _ _ (LowWith 4 budget)
-        (λ e. inl (omega arith, λ p. less_late (occasions txn ledger) (bit (is_mark_late txn (ledger.drawn + 1) (with_number ledger))) (bit (is_met txn.set txn.job txn.cells ledger)) budget
-        (bit_less (is_mark_late txn (ledger.drawn + 1) (with_number ledger)) (is_met txn.set txn.job txn.cells ledger) (mark_late txn ledger (drawn p) change)) (pays p)))
+        (λ e. inl (
+          omega arith,
+          λ p. less_late (occasions txn ledger) (bit (is_mark_late txn (ledger.drawn + 1) (with_number ledger))) (bit (is_met txn.set txn.job txn.cells ledger)) budget
+              (bit_less (is_mark_late txn (ledger.drawn + 1) (with_number ledger)) (is_met txn.set txn.job txn.cells ledger) (mark_late txn ledger (drawn p) change)) (pays p),
+        ))
         (λ e. fail_low txn ledger 4 budget (omega arith))
 
     -- copies that are made or to be made, of these parts
