@@ -1,7 +1,7 @@
 -- How many replicas it is true of.
-use Rattle.std.proofs.Common.{◌≡◌, ◌∙◌, ℕ, zero, suc, ◌+◌, ◌<◌, ◌≤◌, Bool, true, false, ◌&&◌, ◌||◌, ◌==◌, not, nat_lt, List, Option, Some, None, is_some, refl, sym, ap, arith}
+use Rattle.std.proofs.Common.{◌≡◌, ◌∙◌, ℕ, zero, suc, ◌+◌, ◌<◌, ◌≤◌, Bool, true, false, ◌&&◌, ◌||◌, ◌==◌, not, nat_lt, List, is_some, refl, sym, ap, arith}
 use Rattle.std.specs.Prelude.{length}
-use Rattle.std.proofs.lemmas.Bool.{and_parts, and_right, and_from, or_parts, not_from_true, eq-eqb, true≢false}
+use Rattle.std.proofs.lemmas.Bool.{and_parts, and_right, and_from, eq-eqb, true≢false}
 use Rattle.afr_phases.specs.declared.outs.Outs.{Outs}
 use Rattle.afr_phases.specs.declared.wave.Wave.{Wave}
 use Rattle.afr_phases.specs.Flags.{bit, flag, but_for, lowest}
@@ -9,8 +9,8 @@ use Rattle.afr_phases.specs.Outs.{left, used}
 use Rattle.afr_phases.specs.Waves.{is_asked, taken}
 use Rattle.afr_phases.proofs.Asked.{asked_after}
 use Rattle.afr_phases.proofs.Stays.{used_left}
-use Rattle.afr_phases.proofs.Tracked.{flag_by, left_same, used_is}
-use Rattle.afr_phases.proofs.Truths.{flags_at, flags_have, lowest_none, lowest_some, some_there}
+use Rattle.afr_phases.proofs.Tracked.{left_same, used_is}
+use Rattle.afr_phases.proofs.Truths.{flags_at, flags_have, lowest_some, some_there}
 use Rattle.txn_laws.specs.Work.{how_many}
 use Rattle.txn_laws.specs.Rounds.{is_one_out}
 
@@ -100,11 +100,11 @@ one_out replicas used k low is off =
     lowest_some (but_for replicas used) k low (flags_have (λ j. flag replicas j && not (flag used j)) k low (and_from (flag replicas k) (not (flag used k)) is (ap not off)))
 
 -- one who went out since some were used
-record Gone (replicas after : List Bool) : Type 0 where
-  replica : ℕ
-  low : replica < 5
-  is : flag replicas replica ≡ true
-  off : flag after replica ≡ false
+pub record Gone (replicas after : List Bool) : Type 0 where
+  pub replica : ℕ
+  pub low : replica < 5
+  pub is : flag replicas replica ≡ true
+  pub off : flag after replica ≡ false
 
 gone : (replicas after : List Bool) → is_one_out replicas after ≡ true → Gone replicas after
 unfolding is_one_out

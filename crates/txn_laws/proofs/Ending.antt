@@ -1,7 +1,6 @@
 -- A job takes a bounded number of turns.
-use Rattle.std.proofs.Common.{◌≡◌, ◌∙◌, ℕ, ◌+◌, ◌-◌, ◌*◌, ◌<◌, ◌≤◌, ◌⊎◌, inl, inr, Bool, true, List, [], ◌∷◌, refl, sym, ap, subst, arith}
+use Rattle.std.proofs.Common.{ℕ, ◌+◌, ◌-◌, ◌*◌, ◌<◌, ◌≤◌, inl, inr, List, [], ◌∷◌, sym, subst, arith}
 use Rattle.std.specs.Prelude.{length}
-use Rattle.fop_types.specs.Bounds.{AreFew}
 use Rattle.fop_types.specs.declared.cells.Cell.{Cell}
 use Rattle.fop_types.specs.declared.contents.Mask.{Mask}
 use Rattle.afr_ledger.specs.Ledger.{State, with_number, with_begun, decided}
@@ -17,9 +16,9 @@ use Rattle.afr_transaction.specs.Answers.{answered, copied}
 use Rattle.afr_transaction.specs.Encodings.{HasBounds, BoundsIn}
 use Rattle.afr_transaction.specs.Locked.{again, cells_for, first_step, to_settle}
 use Rattle.afr_transaction.proofs.Bounds.{answers_bound, copies_bound}
-use Rattle.txn_laws.specs.Work.{how_many, phases_left, work, BeginsAgain}
+use Rattle.txn_laws.specs.Work.{how_many, work}
 use Rattle.txn_laws.specs.Rounds.{rounds, IsPaid}
-use Rattle.txn_laws.specs.Ends.{lock_work, weight, Step, Answer, Finish, Draw, Begin, BeginElsewhere, Decide, after, IsStep, AreSteps, turn_of, begin_of, turns, begins, JobsEnd}
+use Rattle.txn_laws.specs.Ends.{weight, Answer, Finish, Draw, Begin, BeginElsewhere, Decide, turns, begins, JobsEnd}
 use Rattle.txn_laws.proofs.Counts.{few_flags}
 use Rattle.txn_laws.proofs.Elsewhere.{elsewhere_raises_nothing}
 use Rattle.txn_laws.proofs.Others.{draws_raise_nothing, decisions_raise_nothing, begins_raise_by_two}
@@ -77,13 +76,13 @@ jobs_end txn ledger (Answer k mark rep live last ∷ steps) h =
     let a = answered txn k rep mark ledger live last in
     let w = h.0.0 in
     taken (turns steps) (weight txn ledger) (weight a.0 a.1.1) (begins steps)
-    (lighter txn ledger live last a (answers_bound txn k mark rep ledger live last w.bounds w.few).0 (answers_are_paid txn k mark rep ledger live last h.0.1.0 w.keeps w.tracks w.bounds w.ledger h.0.1.1))
+    (lighter txn ledger live last a (answers_bound txn k mark rep ledger live last w.bounds w.few).0 (answers_are_paid txn k mark rep ledger live last h.0.1.0 w.keeps w.tracks w.bounds w.kept h.0.1.1))
     (jobs_end a.0 a.1.1 steps h.1)
 jobs_end txn ledger (Finish done live last ∷ steps) h =
     let a = copied txn done ledger live last in
     let w = h.0.0 in
     taken (turns steps) (weight txn ledger) (weight a.0 a.1.1) (begins steps)
-    (lighter txn ledger live last a (copies_bound txn done ledger live last w.bounds w.few).0 (copies_are_paid txn done ledger live last h.0.1.0 w.keeps w.ledger h.0.1.1))
+    (lighter txn ledger live last a (copies_bound txn done ledger live last w.bounds w.few).0 (copies_are_paid txn done ledger live last h.0.1.0 w.keeps w.kept h.0.1.1))
     (jobs_end a.0 a.1.1 steps h.1)
 jobs_end txn ledger (Draw ∷ steps) h =
     passed (turns steps) (weight txn ledger) (weight txn (with_number ledger)) (begins steps) (same_work (rounds txn (with_number ledger)) (rounds txn ledger) (work txn) (draws_raise_nothing txn ledger))

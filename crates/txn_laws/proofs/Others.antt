@@ -1,11 +1,9 @@
 -- What others do to the ledger between two turns of a job, and what a job begins with.
-use Rattle.std.proofs.Common.{◌≡◌, ◌∙◌, ℕ, zero, suc, ◌+◌, ◌≤◌, Bool, true, false, ◌&&◌, ◌||◌, not, nat_le, List, [], ◌∷◌, Option, Some, None, is_some, is_none, refl, sym, ap, arith}
-use Rattle.std.specs.Prelude.{◌^◌}
+use Rattle.std.proofs.Common.{◌≡◌, ℕ, zero, suc, ◌+◌, ◌≤◌, Bool, true, false, ◌&&◌, ◌||◌, not, nat_le, List, Option, Some, None, is_some, is_none, refl, sym, arith}
 use Rattle.std.proofs.lemmas.Bool.{and_from, and_parts, cond_both, le-leb, leb-true, true≢false}
 use Rattle.fop_types.specs.Orders.{cell_cmp}
 use Rattle.fop_types.specs.declared.cells.Cell.{Cell}
 use Rattle.fop_types.specs.declared.contents.Mask.{Mask}
-use Rattle.fop_types.specs.declared.jobs.Job.{Job}
 use Rattle.afr_ledger.specs.Changes.{numbered, touching, with_change, without}
 use Rattle.afr_ledger.specs.Ledger.{State, with_number, with_begun, decided}
 use Rattle.afr_ledger.specs.declared.unsettled.Unsettled.{Unsettled}
@@ -16,7 +14,6 @@ use Rattle.afr_transaction.specs.declared.jobs.Kind.TheVariants as kind
 use Rattle.afr_transaction.specs.declared.need.Need.{Need}
 use Rattle.afr_transaction.specs.declared.phase.Phase.{Phase}
 use Rattle.afr_transaction.specs.declared.phase.Phase.TheVariants as phase
-use Rattle.afr_transaction.specs.declared.phase.Then.{Then}
 use Rattle.afr_transaction.specs.declared.phase.Then.TheVariants as next
 use Rattle.afr_transaction.specs.declared.txn.Txn.{Txn}
 use Rattle.afr_transaction.specs.Begins.{fresh, started_by}
@@ -24,10 +21,10 @@ use Rattle.afr_transaction.specs.Changes.{is_drawn}
 use Rattle.afr_transaction.specs.Copied.{is_change}
 use Rattle.afr_transaction.specs.Jobs.{kind_of, change_op}
 use Rattle.afr_transaction.specs.Locked.{job_cells, settles_first}
-use Rattle.afr_transaction.specs.Polls.{polled, open_ended, opening, listing}
+use Rattle.afr_transaction.specs.Polls.{polled, open_ended}
 use Rattle.afr_transaction.specs.Txns.{alive, is_heal}
 use Rattle.txn_laws.specs.Work.{how_many}
-use Rattle.txn_laws.specs.Rounds.{unsettled_on, is_unsettled_on, occasions, is_met, is_one_out, lack_sources, is_lock_late, is_read_late, is_copy_late, is_mark_late, is_settle_late, rounds_after, rounds_in, rounds, BeginsHaveFewRounds, DrawsRaiseNothing, DecisionsRaiseNothing, BeginsRaiseByTwo}
+use Rattle.txn_laws.specs.Rounds.{unsettled_on, is_unsettled_on, occasions, is_met, is_one_out, lack_sources, is_lock_late, is_read_late, is_copy_late, is_mark_late, is_settle_late, rounds_in, rounds, BeginsHaveFewRounds, DrawsRaiseNothing, DecisionsRaiseNothing, BeginsRaiseByTwo}
 use Rattle.txn_laws.proofs.Counts.{bit_less, bit_most, few_flags}
 use Rattle.txn_laws.proofs.Paying.{again_rounds, moved, same}
 use Rattle.txn_laws.proofs.Unsettled.{decided_pays, fewer_without, numbered_less, one_more, touch_less}

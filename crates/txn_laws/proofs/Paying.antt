@@ -1,5 +1,5 @@
 -- What pays for the rounds of a job: a change on its cells that is settled, or a replica that is out.
-use Rattle.std.proofs.Common.{◌≡◌, ◌∙◌, ℕ, ◌+◌, ◌≤◌, ◌<◌, Bool, true, false, ◌&&◌, ◌||◌, not, nat_le, nat_lt, cond, List, [], ◌∷◌, Option, Some, None, is_some, is_none, refl, sym, ap, subst, arith}
+use Rattle.std.proofs.Common.{◌≡◌, ◌∙◌, ℕ, ◌+◌, ◌≤◌, ◌<◌, Bool, true, false, ◌&&◌, ◌||◌, not, nat_le, nat_lt, cond, List, Option, Some, None, is_some, is_none, refl, sym, ap, subst, arith}
 use Rattle.std.specs.List.Sorted.{IsStrictlySortedBy}
 use Rattle.std.specs.Map.{keys_of}
 use Rattle.std.specs.Ordering.{nat_cmp}
@@ -12,7 +12,6 @@ use Rattle.fop_types.specs.declared.contents.Mask.{Mask}
 use Rattle.fop_types.specs.declared.copy_jobs.CopyDone.{CopyDone}
 use Rattle.fop_types.specs.declared.jobs.Job.{Job}
 use Rattle.fop_types.specs.declared.jobs.Job.TheVariants as job
-use Rattle.fop_types.specs.declared.store_ops.StoreOp.{StoreOp}
 use Rattle.afr_ledger.specs.Changes.{numbered, touching}
 use Rattle.afr_ledger.specs.Ledger.{State, AreDrawn, with_number, decided}
 use Rattle.afr_ledger.specs.declared.unsettled.Unsettled.{Unsettled}
@@ -30,12 +29,11 @@ use Rattle.afr_phases.proofs.Truths.{below_five, both_left, both_right, flags_at
 use Rattle.afr_transaction.specs.declared.jobs.Kind.TheVariants as kind
 use Rattle.afr_transaction.specs.declared.phase.Part.{Part}
 use Rattle.afr_transaction.specs.declared.phase.Phase.{Phase}
-use Rattle.afr_transaction.specs.declared.phase.Phase.TheVariants as phase
 use Rattle.afr_transaction.specs.declared.phase.Then.{Then}
 use Rattle.afr_transaction.specs.declared.phase.Then.TheVariants as next
 use Rattle.afr_transaction.specs.declared.phase.Verdict.{Verdict}
 use Rattle.afr_transaction.specs.declared.txn.Txn.{Txn}
-use Rattle.afr_transaction.specs.Changes.{is_drawn, may_begin, decides}
+use Rattle.afr_transaction.specs.Changes.{is_drawn, decides}
 use Rattle.afr_transaction.specs.Copied.{is_change, copy_noted}
 use Rattle.afr_transaction.specs.Copies.{has_source, is_left, with_outs}
 use Rattle.afr_transaction.specs.Encodings.{TakesLocks}
@@ -314,9 +312,9 @@ module _ (txn : Txn) (done : CopyDone) (sinks : List Bool) where
 
   went_out : length txn.outs.at ≡ 5 → HasWentOut (alive txn) done.outs → how_many After < how_many (alive txn)
   went_out five w =
-      let low : w.replica < 5 = below_five (λ j. nat_lt j txn.size.n && not (is_out txn.outs j)) w.replica w.used in
-      let p = and_parts (nat_lt w.replica txn.size.n) (not (is_out txn.outs w.replica)) (flags_at (λ j. nat_lt j txn.size.n && not (is_out txn.outs j)) w.replica w.used) in
-      one_less After (alive txn) w.replica low w.used (off_after txn.size.n txn.outs done.outs w.replica low five p.0 w.out) (outs_since txn.size.n txn.outs done.outs)
+      let low : w.replica < 5 = below_five (λ j. nat_lt j txn.size.n && not (is_out txn.outs j)) w.replica w.was_used in
+      let p = and_parts (nat_lt w.replica txn.size.n) (not (is_out txn.outs w.replica)) (flags_at (λ j. nat_lt j txn.size.n && not (is_out txn.outs j)) w.replica w.was_used) in
+      one_less After (alive txn) w.replica low w.was_used (off_after txn.size.n txn.outs done.outs w.replica low five p.0 w.out) (outs_since txn.size.n txn.outs done.outs)
 
   named_not : (b : Bool) → not b ≡ true → b ≡ false
   named_not true e = absurd (true≢false (sym e))

@@ -16,7 +16,7 @@ use Rattle.afr_transaction.specs.declared.phase.Part.{Part}
 use Rattle.afr_transaction.specs.declared.phase.Phase.{Phase}
 use Rattle.afr_transaction.specs.declared.txn.Txn.{Txn}
 use Rattle.afr_transaction.specs.Copies.{has_sink, next_part}
-use Rattle.afr_transaction.specs.Parts.{common_from, common_of, is_split, is_unsound, sources_for, place_of, joined_at, joined, with_copy, parts_from, all_parts}
+use Rattle.afr_transaction.specs.Parts.{common_from, is_split, is_unsound, sources_for, place_of, joined_at, joined, with_copy, parts_from, all_parts}
 use Rattle.afr_transaction.specs.Reads.{is_bare, is_split_read, lacks, sound_on, with_absent}
 use Rattle.afr_transaction.specs.Txns.{alive}
 use Rattle.afr_transaction.proofs.Steps.{one_longer}

@@ -1,15 +1,14 @@
 -- Who is used after a step was used before it, and who went out in a copy is not used any more.
-use Rattle.std.proofs.Common.{◌≡◌, ◌∙◌, ℕ, zero, suc, ◌+◌, ◌-◌, ◌<◌, ◌⊎◌, inl, inr, Bool, true, false, ◌&&◌, not, nat_lt, cond, List, [], ◌∷◌, Option, Some, None, refl, sym, ap, subst, arith}
+use Rattle.std.proofs.Common.{◌≡◌, ◌∙◌, ℕ, zero, suc, ◌+◌, ◌-◌, ◌<◌, inl, inr, Bool, true, false, ◌&&◌, not, nat_lt, List, [], ◌∷◌, Option, Some, None, refl, sym, ap, subst, arith}
 use Rattle.std.specs.Prelude.{length, slice_index}
-use Rattle.std.proofs.lemmas.Bool.{cond_both, and_parts, and_right, true≢false}
+use Rattle.std.proofs.lemmas.Bool.{cond_both, and_right, true≢false}
 use Rattle.fop_types.specs.declared.contents.Mask.{Mask}
 use Rattle.fop_types.specs.declared.copy_jobs.Out.{Out}
 use Rattle.afr_phases.specs.declared.locking.LockStep.{LockStep}
-use Rattle.afr_phases.specs.declared.locking.LockStep.TheVariants as step
 use Rattle.afr_phases.specs.declared.locks.Locks.{Locks}
 use Rattle.afr_phases.specs.declared.outs.Outs.{Outs}
 use Rattle.afr_phases.specs.Flags.{flag, names}
-use Rattle.afr_phases.specs.Locking.{next_to_lock, lost, kept_only, without_lost, ended, ended_with, asked_or_ended, next_lock}
+use Rattle.afr_phases.specs.Locking.{next_to_lock, lost, kept_only, without_lost, ended, asked_or_ended, next_lock}
 use Rattle.afr_phases.specs.Locks.{standing, keeping}
 use Rattle.afr_phases.specs.Outs.{is_out, is_short, left, used}
 use Rattle.afr_phases.proofs.Stays.{used_left}

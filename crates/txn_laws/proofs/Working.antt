@@ -1,5 +1,5 @@
 -- Each answer and each finished copy leaves less to do, unless the job begins again; and each beginning again is paid for.
-use Rattle.std.proofs.Common.{◌≡◌, ◌∙◌, ℕ, zero, suc, ◌+◌, ◌-◌, ◌*◌, ◌<◌, ◌≤◌, ◌⊎◌, inl, inr, Bool, true, false, ◌&&◌, ◌==◌, not, nat_lt, cond, List, [], ◌∷◌, ◌++◌, Option, Some, None, is_none, is_some, refl, sym, ap, subst, arith}
+use Rattle.std.proofs.Common.{◌≡◌, ◌∙◌, ℕ, zero, suc, ◌+◌, ◌-◌, ◌*◌, ◌<◌, ◌≤◌, ◌⊎◌, inl, inr, Bool, true, false, ◌&&◌, not, cond, List, [], ◌∷◌, ◌++◌, Option, Some, None, is_none, is_some, refl, sym, ap, subst, arith}
 use Rattle.std.specs.Prelude.{length, slice_get, slice_index}
 use Rattle.std.specs.List.Sorted.{IsStrictlySortedBy}
 use Rattle.std.specs.Map.{keys_of}
@@ -22,7 +22,6 @@ use Rattle.afr_ledger.specs.Ledger.{State, AreDrawn, with_number}
 use Rattle.afr_phases.specs.declared.locking.LockStep.{LockStep}
 use Rattle.afr_phases.specs.declared.locking.LockStep.TheVariants as step
 use Rattle.afr_phases.specs.declared.outs.Outs.{Outs}
-use Rattle.afr_phases.specs.declared.wave.Wave.{Wave}
 use Rattle.afr_phases.specs.Answers.{is_fault, is_plain_done, rows_in, content_in, cells_in}
 use Rattle.afr_phases.specs.Asked.{is_within, is_waiting, are_granted_within}
 use Rattle.afr_phases.specs.Flags.{bit, flag, lowest, both, but_for}
@@ -207,9 +206,9 @@ module _ (P : Type 0) (live : Mask) (last : List ℕ) where
 
     at_low : (place : ℕ) (contents : List (Option Content)) (cell : Option Cell) (most : ℕ) → slice_get txn.cells (length contents) ≡ cell → 1 ≤ most → (length contents < length txn.cells → phases_left (phase.Fetching place 0 contents) txn ≤ most)
         → (P → occasions txn ledger + bit (is_read_late txn) ≤ budget) → (length txn.cells ≤ length contents) ⊎ (lacks txn (length contents) ≡ false) → Low ledger most budget (fetch_at txn place contents cell ledger live last)
-    at_low place contents None most at least enough pays next = answer_low txn (reply.Contents contents place) ledger most budget least
-    at_low place contents (Some cell) most at least enough pays next =
-        fetching_low place contents cell (lowest (both (sound_on txn (length contents)) (alive txn))) most least (enough within) pays (λ none. read_late txn (length contents) cell at (own next) none)
+    at_low place contents None most at least enough pays stop = answer_low txn (reply.Contents contents place) ledger most budget least
+    at_low place contents (Some cell) most at least enough pays stop =
+        fetching_low place contents cell (lowest (both (sound_on txn (length contents)) (alive txn))) most least (enough within) pays (λ none. read_late txn (length contents) cell at (own stop) none)
       where
         within : length contents < length txn.cells
         within = below_length txn.cells (length contents) cell at

@@ -47,7 +47,7 @@ pub record AreWhole (txn : Txn) (ledger : State Cell) : Type 0 where
   pub keeps : Keeps txn
   pub tracks : Tracks txn
   pub bounds : HasBounds txn
-  pub ledger : LedgerKeeps ledger
+  pub kept : LedgerKeeps ledger
   pub few : HaveFew ledger
 
 -- an answer is of a replica that is asked, and a copy is one that was asked for

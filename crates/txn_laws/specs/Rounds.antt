@@ -1,6 +1,6 @@
 -- How often a job may still begin again at its locks: a number that no answer and no finished copy raises, and that each
 -- beginning again lowers. Of what others do only a change that becomes unsettled on the job's cells raises it.
-use Rattle.std.specs.Prelude.{◌≡◌, ◌≢◌, ℕ, ◌+◌, ◌*◌, ◌≤◌, ◌<◌, ◌⊎◌, Bool, true, false, ◌&&◌, ◌||◌, not, List, [], ◌∷◌, Option, Some, None, is_none, is_some}
+use Rattle.std.specs.Prelude.{◌≡◌, ◌≢◌, ℕ, ◌+◌, ◌≤◌, ◌<◌, ◌⊎◌, Bool, true, false, ◌&&◌, ◌||◌, not, List, [], ◌∷◌, Option, Some, None, is_none, is_some}
 use Rattle.std.specs.Ordering.{is_eq, nat_cmp}
 use Rattle.fop_types.specs.Orders.{cell_cmp}
 use Rattle.fop_types.specs.declared.cells.Cell.{Cell}
@@ -31,7 +31,7 @@ use Rattle.afr_transaction.specs.Causes.{Tracks}
 use Rattle.afr_transaction.specs.Changes.{may_begin}
 use Rattle.afr_transaction.specs.Copied.{is_change}
 use Rattle.afr_transaction.specs.Copies.{with_outs}
-use Rattle.afr_transaction.specs.Encodings.{HasBounds, HaveFew}
+use Rattle.afr_transaction.specs.Encodings.{HasBounds}
 use Rattle.afr_transaction.specs.Jobs.{change_op}
 use Rattle.afr_transaction.specs.Locked.{job_cells, settles_first}
 use Rattle.afr_transaction.specs.Reads.{is_split_read}
@@ -168,7 +168,7 @@ IsOutIn replica (out ∷ outs) = (out.replica ≡ replica) ⊎ IsOutIn replica o
 -- one of these replicas went out in the copy
 pub record HasWentOut (replicas : List Bool) (outs : List Out) : Type 0 where
   pub replica : ℕ
-  pub used : flag replicas replica ≡ true
+  pub was_used : flag replicas replica ≡ true
   pub out : IsOutIn replica outs
 
 abbrev pub LeavesForLoss : List Bool → Txn → CopyDone → Type 0
