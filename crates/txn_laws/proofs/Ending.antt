@@ -32,7 +32,7 @@ no_work asked k = omega arith
 
 -- a lock phase that begins, of few cells
 first_work : (txn : Txn) (t : Outs × LockStep) → BoundsIn (first_step txn t).0.phase (first_step txn t).0 → work (first_step txn t).0 < 228
-first_work txn (outs, step.Ask k) bounds = few_work (length txn.cells) k (how_many (first_step txn (outs, step.Ask k)).0.wave.asked) bounds.1.1.0 (few_flags (first_step txn (outs, step.Ask k)).0.wave.asked)
+first_work txn (outs, step.Ask k) bounds = few_work (length txn.cells) k (how_many (first_step txn (outs, step.Ask k)).0.wave.asked) bounds.1.1 (few_flags (first_step txn (outs, step.Ask k)).0.wave.asked)
 first_work txn (outs, step.Short) bounds = no_work (how_many (first_step txn (outs, step.Short)).0.wave.asked) (few_flags (first_step txn (outs, step.Short)).0.wave.asked)
 first_work txn (outs, step.Reached) bounds = no_work (how_many (first_step txn (outs, step.Reached)).0.wave.asked) (few_flags (first_step txn (outs, step.Reached)).0.wave.asked)
 
