@@ -1,6 +1,14 @@
+pub mod Counts
+pub mod Elsewhere
+pub mod Ending
 pub mod Failures
 pub mod Freed
 pub mod LostMarks
+pub mod Others
+pub mod Paying
 pub mod Quorums
 pub mod ShownRows
+pub mod Sources
+pub mod Unsettled
+pub mod Used
 pub mod Working

@@ -1,8 +1,10 @@
 ghost use Rattle.afr_transaction.specs.Causes.{BeginsHaveCauses, AnswersHaveCauses, CopiesHaveCauses};
+ghost use Rattle.txn_laws.specs.Ends.{JobsEnd};
 ghost use Rattle.txn_laws.specs.Free.{SplitsLackFree};
 ghost use Rattle.txn_laws.specs.Handed.{BeginsShow, AnswersShow, CopiesShow};
 ghost use Rattle.txn_laws.specs.Laws.{DecidesAtQuorum};
 ghost use Rattle.txn_laws.specs.Marks.{BeginsMark, AnswersMark, CopiesMark};
+ghost use Rattle.txn_laws.specs.Rounds.{BeginsHaveFewRounds, EachAnswerIsPaid, EachCopyIsPaid, DrawsRaiseNothing, DecisionsRaiseNothing, BeginsRaiseByTwo, BeginsElsewhereRaiseNothing};
 ghost use Rattle.afr_transaction.specs.Moves.{AnswersMove, CopiesDraw};
 ghost use Rattle.txn_laws.specs.Work.{EachAnswerLeavesLess, EachCopyLeavesLess};
 
@@ -43,6 +45,33 @@ pub fn splits_lack_free()
 pub fn requests_end()
     ensures answers { EachAnswerLeavesLess }
     ensures copies { EachCopyLeavesLess }
+{}
+
+/// How often a job begins again at its locks. It begins with one round at most for each replica of its set and each unsettled
+/// change on its cells. Each answer and each finished copy leaves less work and no more rounds, or the job begins again and
+/// fewer rounds are left. A copy is to leave a sink that is used still, and not up to date, only where a replica that was used
+/// went out. The call does nothing: its contract exports this.
+pub fn rounds_are_paid()
+    ensures begin { BeginsHaveFewRounds }
+    ensures answers { EachAnswerIsPaid }
+    ensures copies { EachCopyIsPaid }
+{}
+
+/// What others do to the ledger between two turns of a job: a number that is drawn and a change that is decided leave it no
+/// more rounds, and a change that becomes unsettled at most two more, and none where it touches other cells alone. The call
+/// does nothing: its contract exports this.
+pub fn others_add_few_rounds()
+    ensures draws { DrawsRaiseNothing }
+    ensures decisions { DecisionsRaiseNothing }
+    ensures begins { BeginsRaiseByTwo }
+    ensures elsewhere { BeginsElsewhereRaiseNothing }
+{}
+
+/// A job ends, whatever the replicas answer and others do: it takes at most as many answers and finished copies as its weight
+/// at first, and 456 more for each change that becomes unsettled on its cells meanwhile. The call does nothing: its contract
+/// exports this.
+pub fn jobs_end()
+    ensures { JobsEnd }
 {}
 
 /// Each replica that is out after a turn was out before with the same mark, is out by the answer or the copy that was handed in,
