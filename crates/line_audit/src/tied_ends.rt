@@ -1,10 +1,10 @@
-//! Whether the winds of requests end by what arrives, or with their connections.
+//! Whether the wind of a request ends by what arrives, or with its connection.
 ghost use Rattle.std.specs.Prelude.{◌≡◌, Some, true, IfOk, option_copied, slice_get};
 ghost use Rattle.fop_types.specs.declared.messages.Input.TheVariants as input;
 ghost use Rattle.wire_messages.specs.Messages.{input_in};
 ghost use Rattle.mount_log.specs.Ties.{IsNumberOf, IsEndedBy, HasEnd};
 ghost use Rattle.log_audit.specs.Heads.{head_of, heads_of};
-ghost use Rattle.line_audit.specs.Ended.{head_by, SaysEnd, IsEndEvent, SaysDisconnect, IsDisconnect, IsDisconnectAt, IsEndingOf, IsInputEnded, IsEnded, AreEnded};
+ghost use Rattle.line_audit.specs.Ended.{head_by, SaysEnd, IsEndEvent, SaysDisconnect, IsDisconnect, IsDisconnectAt, IsEndingOf, IsInputEnded, IsEnded};
 
 use crate::tied_replies::wind_at;
 use crate::tied_requests::is_number_of_open;
@@ -194,12 +194,19 @@ fn is_input_ended(
     ensures { IfOk result (λ yes. yes ≡ true → IsInputEnded log.now brick found.now) }
 {
     match found {
-        Input::Request { wind, graph, .. } => has_end(alloc, log, heads, ended, brick, *wind, *graph),
+        Input::Request { wind, graph, .. } => has_end(
+            alloc, log, heads, ended, brick, *wind, *graph,
+        ),
         _ => Ok(true),
     }
 }
 
-fn is_message_ended(
+/// Whether the wind of what a line is, if it is a request, ends, in its graph, as the reply to it or to the open before it
+/// arrives, or Closed of the brick, or as a Disconnect of the graph is sent to the brick. `ended` says where that is.
+///
+/// # Errors
+/// Out of memory.
+pub fn is_message_ended(
     alloc: Global,
     log: &Log,
     heads: &[Head],
@@ -214,54 +221,4 @@ fn is_message_ended(
         Message::Whole(found) => is_input_ended(alloc, log, heads, ended, brick, found),
         Message::Wrong { place: _ } => Ok(true),
     }
-}
-
-fn is_line_ended(
-    alloc: Global,
-    log: &Log,
-    heads: &[Head],
-    ended: EndedAt,
-    line: &SentLine,
-) -> Result<bool, AllocError>
-    requires { heads.now ≡ heads_of log.now.events }
-    ensures { IfOk result (λ yes. yes ≡ true → IsEnded log.now line.now.brick (input_in line.now.bytes)) }
-{
-    let message = input_of(alloc, line.bytes.as_slice())?;
-    let yes = is_message_ended(alloc, log, heads, ended, line.brick, &message)?;
-    Ok(yes)
-}
-
-fn ended_at(all: &[EndedAt], k: usize) -> EndedAt {
-    match all.get(k) {
-        Some(ended) => *ended,
-        None => EndedAt {
-            end: 0,
-            disconnect: 0,
-        },
-    }
-}
-
-/// Whether the wind of each request ends, in its graph, as the reply to it or to the open before it arrives, or Closed of
-/// the brick, or as a Disconnect of the graph is sent to the brick. `all` has, for each line that was sent, where that is.
-///
-/// # Errors
-/// Out of memory.
-pub fn requests_are_ended(
-    alloc: Global,
-    log: &Log,
-    heads: &[Head],
-    all: &[EndedAt],
-) -> Result<bool, AllocError>
-    requires { heads.now ≡ heads_of log.now.events }
-    ensures { IfOk result (λ yes. yes ≡ true → AreEnded log.now) }
-{
-    for k in 0..log.sent.len() {
-        let Some(line) = line_at(log, k) else {
-            return Ok(false);
-        };
-        if !is_line_ended(alloc, log, heads, ended_at(all, k), line)? {
-            return Ok(false);
-        }
-    }
-    Ok(true)
 }

@@ -7,9 +7,8 @@ ghost use Rattle.line_audit.specs.Tied.{AreLinesTied};
 
 use crate::in_time::all_numbers_rise;
 use crate::tie_notes::tie_notes_of;
-use crate::tied_ends::requests_are_ended;
 use crate::tied_replies::replies_are_tied;
-use crate::tied_requests::requests_are_tied;
+use crate::tied_sent::requests_are_tied;
 use crate::tied_winds::winds_are_tied;
 use log_audit::calls_made::{CallMade, calls_made};
 use log_audit::heads::Head;
@@ -37,11 +36,16 @@ fn lines_tie(
     if !replies_are_tied(log, calls, notes.ends.as_slice()) {
         return Ok(false);
     }
+    let openings = notes.openings.as_slice();
     let sent_for = notes.sent_for.as_slice();
-    if !requests_are_tied(alloc, log, notes.openings.as_slice(), sent_for)? {
-        return Ok(false);
-    }
-    let yes = requests_are_ended(alloc, log, heads, notes.ended.as_slice())?;
+    let yes = requests_are_tied(
+        alloc,
+        log,
+        heads,
+        openings,
+        notes.ended.as_slice(),
+        sent_for,
+    )?;
     Ok(yes)
 }
 
