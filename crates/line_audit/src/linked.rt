@@ -102,9 +102,13 @@ fn effect_at(log: &Log, heads: &[Head], k: usize) -> Option<Effect>
     requires { heads.now ≡ heads_of log.now.events }
     ensures { IfSome result (λ e. IsEffectAt log.now k e) }
 {
-    let event = event_in(log, k)?;
-    let head = head_at(heads, k)?;
-    Some(effect_of(event, head))
+    let Some(head) = head_at(heads, k) else {
+        return None;
+    };
+    match event_in(log, k) {
+        Some(event) => Some(effect_of(event, head)),
+        None => None,
+    }
 }
 
 fn next_passes(
