@@ -1,3 +1,4 @@
+pub mod Heading
 pub mod Bools
 pub mod Counts
 pub mod Lists

@@ -3,6 +3,7 @@
 pub mod Slots
 pub mod Agreeing
 pub mod Prefixes
+pub mod Heads
 pub mod Arriving
 pub mod Honest
 pub mod Submitted

@@ -26,6 +26,7 @@ pub mod call_graphs;
 pub mod calls_made;
 mod ended;
 mod finished;
+pub mod heads;
 mod honest;
 pub mod requests;
 mod slots;
