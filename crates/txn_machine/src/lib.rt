@@ -20,4 +20,4 @@
 
 mod laws;
 
-pub use laws::{requests_go_one_after_another, requests_meet_guards};
+pub use laws::{copies_meet_guards, requests_go_one_after_another, requests_meet_guards};
