@@ -1,11 +1,9 @@
 -- Each request of a copy meets its guard.
-use Rattle.std.proofs.Common.{◌≡◌, ◌∙◌, ℕ, ◌<◌, ◌≤◌, ◌⊎◌, inl, inr, Bool, true, false, ◌&&◌, ◌||◌, ◌==◌, not, nat_lt, cond, List, [], ◌∷◌, ◌++◌, Option, Some, None, is_none, is_some, length, refl, sym, ap, subst, arith}
-use Rattle.std.specs.Prelude.{slice_get}
+use Rattle.std.proofs.Common.{◌≡◌, ◌∙◌, ℕ, ◌<◌, ◌≤◌, inr, Bool, true, false, ◌&&◌, ◌||◌, ◌==◌, not, nat_lt, List, [], ◌∷◌, Option, Some, None, is_none, length, refl, sym, ap, subst, arith}
 use Rattle.std.proofs.lemmas.Bool.{cond_both, and_parts, or_from, eqb-true, ltb-true, ltb-false, not-true, true≢false}
 use Rattle.std.proofs.lemmas.Nat.Bits.{bit_at_above}
 use Rattle.std.proofs.Math.Path.{fun_ext}
 use Rattle.fop_types.specs.Bounds.{Each}
-use Rattle.fop_types.specs.declared.answers.SplitRow.{SplitRow}
 use Rattle.fop_types.specs.declared.cells.Cell.{Cell}
 use Rattle.fop_types.specs.declared.contents.Content.{Content}
 use Rattle.fop_types.specs.declared.copy_jobs.CopyJob.{CopyJob}
@@ -14,17 +12,16 @@ use Rattle.fop_types.specs.declared.messages.BrickReq.{BrickReq}
 use Rattle.fop_types.specs.declared.messages.BrickReq.TheVariants as req
 use Rattle.afr_machine.specs.Copies.{Fetched}
 use Rattle.afr_machine.specs.Replicas.{Replicas, Size}
-use Rattle.afr_machine.specs.Sending.{HasGrant, IsMember, MayFetch, MayReplace, MayClear, is_confirmed_sink, cleared_by}
-use Rattle.afr_machine.specs.States.{State, phase_of}
+use Rattle.afr_machine.specs.Sending.{HasGrant, IsMember, MayFetch, MayClear, is_confirmed_sink, cleared_by}
+use Rattle.afr_machine.specs.States.{State}
 use Rattle.afr_machine.specs.Touching.{has_cell}
 use Rattle.afr_machine.specs.Transactions.{Grant, CopyRun as CopyRecord}
 use Rattle.afr_machine.specs.Turns.{is_granted, open_grants}
 use Rattle.afr_phases.specs.declared.outs.Outs.{Outs}
 use Rattle.afr_phases.specs.declared.wave.Wave.{Wave}
-use Rattle.afr_phases.specs.Answers.{is_fault, is_plain_done, content_in}
+use Rattle.afr_phases.specs.Answers.{is_fault, content_in}
 use Rattle.afr_phases.specs.Asked.{is_within, is_waiting}
-use Rattle.afr_phases.specs.CopyWork.{HasWork}
-use Rattle.afr_phases.specs.Flags.{flag, flags_of, names, mask_of, both, lowest, no_flags}
+use Rattle.afr_phases.specs.Flags.{flag, flags_of, names, mask_of, lowest, no_flags}
 use Rattle.afr_phases.specs.Outs.{is_out, left, used}
 use Rattle.afr_phases.specs.Waves.{is_asked, is_over, sent_to, taken}
 use Rattle.afr_phases.proofs.Asked.{each_sent, within_at}
@@ -38,11 +35,11 @@ use Rattle.self_heal.specs.declared.stage.CopyNeed.TheVariants as need
 use Rattle.self_heal.specs.declared.stage.Origin.{Origin}
 use Rattle.self_heal.specs.declared.stage.Stage.{Stage as CopyStage}
 use Rattle.self_heal.specs.declared.stage.Stage.TheVariants as stage
-use Rattle.self_heal.specs.Runs.{new_run, held_of, sources_of, sinks_of, held_left, sources_left, sinks_left, cleared_of, cleared, only, asking, finished, fetching, fetch_at, clearing, at_cell, current_cell, next_cell, replacing, aspect_at, fetched, wave_taken, with_origin, answered_in, answered}
+use Rattle.self_heal.specs.Runs.{new_run, held_of, sources_of, sinks_of, held_left, sources_left, sinks_left, cleared_of, cleared, only, asking, finished, fetching, clearing, at_cell, current_cell, next_cell, replacing, aspect_at, fetched, wave_taken, with_origin, answered_in, answered}
 use Rattle.self_heal.specs.Turning.{is_staged, is_under_way, Begins, AfterAnswer}
 use Rattle.self_heal.proofs.Turning.{begins, answers_on}
 use Rattle.txn_machine.specs.Asks.{MayBeAsked}
-use Rattle.txn_machine.specs.Copies.{replace_of, copy_ask_of, is_clearing, HasFetched, IsCopyOf, AreCopiesMet, CopiesBeginMeet, CopyAnswersMeet}
+use Rattle.txn_machine.specs.Copies.{replace_of, is_clearing, HasFetched, IsCopyOf, MeetsCopyGuard, AreCopiesMet, CopiesBeginMeet, CopyAnswersMeet}
 use Rattle.txn_machine.proofs.Rows.{has_at}
 
 -- ---- whom a turn asks, and for what
@@ -159,13 +156,13 @@ grant_of m t k h = by ((m.txns t).grants k) refl h where
 
 -- ---- one request
 
-module _ (size : Size) (m : State) (t : ℕ) (run : CopyRun) (shows : Option (Content × ℕ)) (copy : CopyRecord) (is : IsCopyOf size m t run shows copy) (k : ℕ) (asked : is_asked run.wave k ≡ true) (low : k < size.replicas) (holds : open_grants m t k ≡ true) where
+module _ (size : Size) (m : State) (t : ℕ) (run : CopyRun) (shows : Option (Content × ℕ)) (copy : CopyRecord) (is : IsCopyOf size m t run shows copy) (k : ℕ) (asked : is_asked run.wave k ≡ true) (low : k < size.replicas) where
   out_by : flag (held_left run) k ≡ true → (b : Bool) → (m.txns t).out k ≡ b → b ≡ false
   out_by h true e = absurd (true≢false (sym (is.outs k (held_has run.job run.outs k h).0 e) ∙ (held_has run.job run.outs k h).1))
   out_by h false e = refl
 
-  member : flag (held_left run) k ≡ true → IsMember size m t k
-  member h = record {
+  member : open_grants m t k ≡ true → flag (held_left run) k ≡ true → IsMember size m t k
+  member holds h = record {
     replica = low;
     reached = is.members k (held_has run.job run.outs k h).0;
     not_out = out_by h ((m.txns t).out k) refl;
@@ -176,11 +173,11 @@ module _ (size : Size) (m : State) (t : ℕ) (run : CopyRun) (shows : Option (Co
   of_run : (cell : Cell) → current_cell run ≡ Some cell → has_cell copy.cells cell ≡ true
   of_run cell at = ap (λ (cells : List Cell). has_cell cells cell) is.cells ∙ has_at run.job.cells (length run.origins) cell at
 
-  fetch_met : (from : ℕ) (r : BrickReq) → run.stage ≡ stage.Fetching from → flag (sources_left run) k ≡ true → IsFetchOf run r → MayBeAsked size m t k (copy_ask_of copy.fetched r)
-  fetch_met from r e source f = subst (λ (q : BrickReq). MayBeAsked size m t k (copy_ask_of copy.fetched q)) (sym f.is) (inr guard) where
-    guard : MayFetch size m t k f.cell
-    guard = record {
-      member = member (source_has run.job run.outs k source).1;
+  fetch_met : (from : ℕ) (r : BrickReq) → run.stage ≡ stage.Fetching from → flag (sources_left run) k ≡ true → IsFetchOf run r → MeetsCopyGuard size m t copy k r
+  fetch_met from r e source f = subst (λ (q : BrickReq). MeetsCopyGuard size m t copy k q) (sym f.is) (λ holds. inr (guard holds), tt) where
+    guard : open_grants m t k ≡ true → MayFetch size m t k f.cell
+    guard holds = record {
+      member = member holds (source_has run.job run.outs k source).1;
       run = copy;
       turn = is.stage_is;
       replacing = is.clears ∙ ap is_clearing e;
@@ -189,13 +186,13 @@ module _ (size : Size) (m : State) (t : ℕ) (run : CopyRun) (shows : Option (Co
       not_fetched = is.not_fetched from f.cell e f.at;
     }
 
-  replace_met : (origin : Origin) (r : BrickReq) → run.stage ≡ stage.Replacing origin → flag (sinks_left run) k ≡ true → IsReplaceOf run origin shows r → MayBeAsked size m t k (copy_ask_of copy.fetched r)
+  replace_met : (origin : Origin) (r : BrickReq) → run.stage ≡ stage.Replacing origin → flag (sinks_left run) k ≡ true → IsReplaceOf run origin shows r → MeetsCopyGuard size m t copy k r
   replace_met origin r e sink f =
       let has : HasFetched copy.fetched f.cell f.content origin.last = is.fetched origin f.cell f.content e f.at f.shown in
-      subst (λ (q : BrickReq). MayBeAsked size m t k (copy_ask_of copy.fetched q)) (sym f.is)
-      (subst (λ (o : Option Fetched). MayBeAsked size m t k (replace_of f.cell o)) (sym has.there)
+      subst (λ (q : BrickReq). MeetsCopyGuard size m t copy k q) (sym f.is)
+      (λ holds. subst (λ (o : Option Fetched). MayBeAsked size m t k (replace_of f.cell o)) (sym has.there)
       (record {
-        member = member (sink_has run.job run.outs k sink).1;
+        member = member holds (sink_has run.job run.outs k sink).1;
         run = copy;
         turn = is.stage_is;
         replacing = is.clears ∙ ap is_clearing e;
@@ -203,10 +200,10 @@ module _ (size : Size) (m : State) (t : ℕ) (run : CopyRun) (shows : Option (Co
         sink = ap (λ (s : Replicas). s k) is.sinks ∙ (sink_has run.job run.outs k sink).0;
         fetched = has.there;
         not_replaced = is.not_replaced origin f.cell k e f.at;
-      }))
+      }), has)
 
-  clear_met : (current : List Bool) (r : BrickReq) → run.stage ≡ stage.Clearing current → flag (held_left run) k ≡ true → IsClearOf run current r → MayBeAsked size m t k (copy_ask_of copy.fetched r)
-  clear_met current r e h f = subst (λ (q : BrickReq). MayBeAsked size m t k (copy_ask_of copy.fetched q)) (sym f.is) guard where
+  clear_met : (current : List Bool) (r : BrickReq) → run.stage ≡ stage.Clearing current → flag (held_left run) k ≡ true → IsClearOf run current r → MeetsCopyGuard size m t copy k r
+  clear_met current r e h f = subst (λ (q : BrickReq). MeetsCopyGuard size m t copy k q) (sym f.is) (guard, tt) where
     ends : (j : ℕ) → (j < 5 → ⊥) → flag current j ≡ false
     ends j high = ap (λ (flags : List Bool). flag flags j) f.left_are ∙ sinks_end run.job run.outs j high
 
@@ -216,9 +213,9 @@ module _ (size : Size) (m : State) (t : ℕ) (run : CopyRun) (shows : Option (Co
         let sink : (flag (flags_of run.job.sources) j || is_confirmed_sink copy j) ≡ (flag (flags_of run.job.sources) j || flag current j) = ap (λ (b : Bool). flag (flags_of run.job.sources) j || b) (is.confirmed current j e) in
         cleared_names run.job current j (ends j) ∙ sym (source ∙ sink)
 
-    guard : MayClear size m t k run.job.cells (names (mask_of (cleared run current)))
-    guard = record {
-      next = record { member = member h; is_left = is.is_left (ap is_clearing e) k asked };
+    guard : open_grants m t k ≡ true → MayClear size m t k run.job.cells (names (mask_of (cleared run current)))
+    guard holds = record {
+      next = record { member = member holds h; is_left = is.is_left (ap is_clearing e) k asked };
       run = copy;
       turn = is.stage_is;
       clearing = is.clears ∙ ap is_clearing e;
@@ -226,7 +223,7 @@ module _ (size : Size) (m : State) (t : ℕ) (run : CopyRun) (shows : Option (Co
       who_are = fun_ext who_at;
     }
 
-  by_stage : (s : CopyStage) (r : BrickReq) → run.stage ≡ s → AsksIn s run shows k r → MayBeAsked size m t k (copy_ask_of copy.fetched r)
+  by_stage : (s : CopyStage) (r : BrickReq) → run.stage ≡ s → AsksIn s run shows k r → MeetsCopyGuard size m t copy k r
   by_stage (stage.Fetching from) r e asks = fetch_met from r e asks.0 asks.1
   by_stage (stage.Replacing origin) r e asks = replace_met origin r e asks.0 asks.1
   by_stage (stage.Clearing current) r e asks = clear_met current r e asks.0 asks.1
@@ -250,8 +247,8 @@ asked_low n run k way asked =
 
 all_met : (n : ℕ) (run : CopyRun) (turned : CopyNeed) (shows : Option (Content × ℕ)) → IsUnderWay n run turned → AreAsked run turned shows → AreCopiesMet n run turned shows
 all_met n run (need.Send list) shows way asks = λ size m t copy replicas is.
-    each_from (λ (r : ℕ × BrickReq). (is_asked run.wave r.0 ≡ true) × AsksIn run.stage run shows r.0 r.1) (λ (r : ℕ × BrickReq). open_grants m t r.0 ≡ true → MayBeAsked size m t r.0 (copy_ask_of copy.fetched r.1))
-    (λ r a holds. by_stage size m t run shows copy is r.0 a.0 (omega (arith, asked_low n run r.0 way a.0, replicas)) holds run.stage r.1 refl a.1) list asks
+    each_from (λ (r : ℕ × BrickReq). (is_asked run.wave r.0 ≡ true) × AsksIn run.stage run shows r.0 r.1) (λ (r : ℕ × BrickReq). MeetsCopyGuard size m t copy r.0 r.1)
+    (λ r a. by_stage size m t run shows copy is r.0 a.0 (omega (arith, asked_low n run r.0 way a.0, replicas)) run.stage r.1 refl a.1) list asks
 all_met n run (need.Done done) shows way asks = tt
 all_met n run need.Wait shows way asks = tt
 

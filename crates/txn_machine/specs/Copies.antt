@@ -37,7 +37,7 @@ abbrev pub replace_of : Cell → Option Fetched → Option Ask
 replace_of cell None = None
 replace_of cell (Some found) = Some (Ask.Replace cell found)
 
--- A request of a copy as the machine has it, where this was fetched: a replacement carries what was fetched of its cell.
+-- A request of a copy as the machine has it, where this was fetched: a replacement is one of what was fetched of its cell.
 abbrev pub copy_ask_of : (Cell → Option Fetched) → BrickReq → Option Ask
 copy_ask_of fetched (req.Fetch fd cell) = Some (Ask.Fetch cell)
 copy_ask_of fetched (req.Replace cell last content) = replace_of cell (fetched cell)
@@ -67,6 +67,21 @@ pub record HasFetched (fetched : Cell → Option Fetched) (cell : Cell) (content
   pub content_is : found.copy.content ≡ content
   pub last_is : found.last ≡ last
 
+-- a replacement carries what was fetched of its cell
+abbrev pub IsCarried : (Cell → Option Fetched) → BrickReq → Type 0
+IsCarried fetched (req.Replace cell last content) = HasFetched fetched cell content last
+IsCarried fetched (req.Fetch fd cell) = Unit {0}
+IsCarried fetched (req.Clear cells mask) = Unit {0}
+IsCarried fetched (req.Lock call is_shared cells) = Unit {0}
+IsCarried fetched (req.Unlock call) = Unit {0}
+IsCarried fetched (req.Mark change cells) = Unit {0}
+IsCarried fetched (req.Op change fd op) = Unit {0}
+IsCarried fetched (req.Post change cells mask) = Unit {0}
+IsCarried fetched (req.Settle cells mask) = Unit {0}
+IsCarried fetched req.Index = Unit {0}
+IsCarried fetched (req.Open fd gfid) = Unit {0}
+IsCarried fetched (req.Release fd) = Unit {0}
+
 -- `shows` is the content that the answer of this turn carried. Those whose locks are held are members of the lock phase, and none
 -- of them is out in the record who is used here; the current cell is not fetched while it is to be, and then as it was shown, and
 -- it is replaced nowhere yet; while the clear is sent, the sinks that confirmed every cell are those that the copy names.
@@ -86,11 +101,14 @@ pub record IsCopyOf (size : Size) (m : State) (t : ℕ) (run : CopyRun) (shows :
   pub confirmed : (current : List Bool) (k : ℕ) → run.stage ≡ stage.Clearing current → is_confirmed_sink copy k ≡ flag current k
 
 -- Each request meets its guard, where the lock of its replica is held still on the connection on which it was granted: else the
--- replica answers Gone, or the machine misses it. That a replacement carries what was fetched is part of it.
+-- replica answers Gone. A replacement carries what was fetched.
+abbrev pub MeetsCopyGuard : Size → State → ℕ → CopyRecord → ℕ → BrickReq → Type 0
+MeetsCopyGuard size m t copy k r = (open_grants m t k ≡ true → MayBeAsked size m t k (copy_ask_of copy.fetched r)) × IsCarried copy.fetched r
+
 abbrev pub AreCopiesMet : ℕ → CopyRun → CopyNeed → Option (Content × ℕ) → Type 0
 AreCopiesMet n run (need.Send list) shows =
     (size : Size) (m : State) (t : ℕ) (copy : CopyRecord) → size.replicas ≡ n → IsCopyOf size m t run shows copy
-    → Each (λ (r : ℕ × BrickReq). open_grants m t r.0 ≡ true → MayBeAsked size m t r.0 (copy_ask_of copy.fetched r.1)) list
+    → Each (λ (r : ℕ × BrickReq). MeetsCopyGuard size m t copy r.0 r.1) list
 AreCopiesMet n run (need.Done done) shows = Unit {0}
 AreCopiesMet n run need.Wait shows = Unit {0}
 
