@@ -1,3 +1,4 @@
+pub mod Copying
 pub mod EachTurn
 pub mod LockSteps
 pub mod OneRequest

@@ -1,3 +1,4 @@
+ghost use Rattle.txn_machine.specs.Copies.{CopiesBeginMeet, CopyAnswersMeet};
 ghost use Rattle.txn_machine.specs.Guards.{BeginsMeet, AnswersMeet, CopiesMeet};
 ghost use Rattle.txn_machine.specs.Sent.{OneAfterAnother};
 
@@ -14,4 +15,11 @@ pub fn requests_meet_guards()
 /// leaves the guards of the others. The call does nothing: its contract exports this.
 pub fn requests_go_one_after_another()
     ensures { OneAfterAnother }
+{}
+
+/// Each request of a copy meets its guard: whenever the state of the machine is that of the moment after the turn, it may be
+/// asked there of a replica whose lock is held still. The call does nothing: its contract exports this.
+pub fn copies_meet_guards()
+    ensures begin { CopiesBeginMeet }
+    ensures answers { CopyAnswersMeet }
 {}
