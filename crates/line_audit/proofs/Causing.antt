@@ -1,10 +1,17 @@
 -- The causes of what was sent, from what an audit finds.
 use Rattle.std.proofs.Common.{◌≡◌, refl, sym, ap, ◌∙◌, arith}
-use Rattle.std.specs.Prelude.{ℕ, zero, suc, ◌≢◌, ◌≤◌, ◌-◌, ◌==◌, if◌then◌else◌, Bool, true, false, List, Option, None, Some, is_some, Result, Ok, Err, IfOk, slice_get}
+use Rattle.std.specs.Prelude.{ℕ, zero, suc, ◌≢◌, ◌<◌, ◌≤◌, ◌+◌, ◌-◌, ◌==◌, if◌then◌else◌, Bool, true, false, List, [], ◌++◌, Option, None, Some, is_some, length, slice_get}
 use Rattle.std.proofs.lemmas.Bool.{eqb-false}
+use Rattle.std.proofs.lemmas.List.{length-append}
+use Rattle.fop_types.specs.declared.messages.Input.{Input}
 use Rattle.fop_types.specs.declared.messages.Input.TheVariants as input
 use Rattle.fop_types.specs.declared.messages.Proc.{Proc}
 use Rattle.wire_xdr.specs.WireText.{input_text}
+use Rattle.wire_xdr.specs.Xdr.{unit}
+use Rattle.wire_xdr.proofs.QuadLaws.{unit_size}
+use Rattle.wire_messages.specs.Messages.{input_in, MessagesReadBack}
+use Rattle.wire_messages.specs.declared.messages.Message.{Message}
+use Rattle.wire_messages.specs.declared.messages.Message.TheVariants.{Whole, Wrong}
 use Rattle.mount_log.specs.Connects.{IsForDown, ByArmed}
 use Rattle.mount_log.specs.Follows.{IsEvent, IsArmedLine}
 use Rattle.mount_log.specs.Procedures.{proc_in}
@@ -12,14 +19,9 @@ use Rattle.mount_log.specs.declared.logs.HubEvent.{HubEvent}
 use Rattle.mount_log.specs.declared.logs.Log.{Log}
 use Rattle.mount_log.specs.declared.logs.SentLine.{SentLine}
 use Rattle.log_audit.specs.Switches.{event_of}
-use Rattle.line_audit.specs.Caused.{IsBeforeRequest}
+use Rattle.line_audit.specs.Caused.{IsBeforeRequest, IsInputCaused, IsCaused}
 use Rattle.log_audit.specs.Armed.{AreArmedFrom}
 use Rattle.log_audit.specs.declared.armed_lines.ArmedLines.{ArmedLines}
-
--- a true answer means more
-pub ok_gives : {E A B : Type 0} → (r : Result Bool E) → IfOk r (λ yes. yes ≡ true → A) → (A → B) → IfOk r (λ yes. yes ≡ true → B)
-ok_gives (Ok b) a f = λ is. f (a is)
-ok_gives (Err e) a f = a
 
 pub event_there : (log : Log) (number : ℕ) (e : HubEvent) → event_of log number ≡ Some e → IsEvent log number e
 event_there log number e is = by (number == 0) refl is where
@@ -59,3 +61,29 @@ down_armed log k line serve armed there bytes is_run before = by (proc_in before
     same_event = before.same_event;
     is_request = is;
   })
+
+-- ---- long inputs
+
+-- what is longer than a Down has no brick go down or up
+pub long_caused : MessagesReadBack → (log : Log) (line : SentLine) → 8 < length line.bytes → IsCaused log line (input_in line.bytes)
+long_caused back log line long = by (input_in line.bytes) refl where
+  whole : (x : Input) → line.bytes ≡ input_text x → IsInputCaused log line x
+  whole input.Up text =
+      let size : length line.bytes ≡ length (unit 2 ++ []) = ap length text in
+      let parts = length-append (unit 2) [] in
+      let first = unit_size 2 in
+      absurd (omega (arith, long, size, parts, first))
+  whole (input.Down serve) text =
+      let size : length line.bytes ≡ length (unit 1 ++ unit serve) = ap length text in
+      let parts = length-append (unit 1) (unit serve) in
+      let first = unit_size 1 in
+      let last = unit_size serve in
+      absurd (omega (arith, long, size, parts, first, last))
+  whole (input.Connect graph version) text = record {}
+  whole (input.Request wind graph req) text = record {}
+  whole (input.Disconnect graph) text = record {}
+  whole (input.FaultAt p number) text = record {}
+
+  by : (m : Message Input) → input_in line.bytes ≡ m → IsCaused log line m
+  by (Whole x) read = whole x (back.0.1 line.bytes x read).1
+  by (Wrong place) read = record {}

@@ -18,7 +18,10 @@ use Rattle.mount_log.specs.Graphs.{switches_in, switched_by}
 use Rattle.mount_log.specs.declared.logs.HubEvent.{HubEvent}
 use Rattle.mount_log.specs.declared.logs.HubEvent.TheVariants as logged
 use Rattle.mount_log.specs.declared.logs.Log.{Log}
-use Rattle.line_audit.specs.Linked.{replies, puts_out, arrives, effect_of, is_started, is_switched, opened_as, closed_as, cut_as, newest_after, IsGoneAs}
+use Rattle.log_audit.specs.Heads.{reply_head, kind_head, head_in}
+use Rattle.log_audit.specs.declared.heads.Said.{Said}
+use Rattle.log_audit.specs.declared.heads.Said.TheVariants as said
+use Rattle.line_audit.specs.Linked.{arrives, effect_of, is_started, is_switched, opened_as, closed_as, cut_as, newest_after, IsGoneAs}
 use Rattle.line_audit.specs.declared.due.Moment.{Moment}
 use Rattle.line_audit.specs.declared.effects.Effect.{Effect}
 use Rattle.line_audit.specs.declared.effects.Effect.TheVariants as effect
@@ -28,60 +31,49 @@ use Rattle.log_audit.proofs.Bools.{and_true, and_false}
 
 -- what arrives has one of these effects
 module _ (P : Effect → Type 0) (brick : ℕ) (other : P effect.Other) (opened : P (effect.Opened brick)) (closed : P (effect.Closed brick)) (gone : (wind : ℕ) → P (effect.Gone brick wind)) where
-  by_reply : (wind : ℕ) (r : BrickRep) → P (replies brick wind r)
-  by_reply wind rep.Gone = gone wind
-  by_reply wind (rep.Done arm) = other
-  by_reply wind rep.Fault = other
-  by_reply wind rep.Unfit = other
-  by_reply wind rep.BadFd = other
-
-  by_kind : (kind : OutKind) → P (puts_out brick kind)
-  by_kind out.Opened = opened
-  by_kind out.Closed = closed
-  by_kind (out.Reply wind r) = by_reply wind r
-  by_kind (out.Connected graph version) = other
-  by_kind (out.Malformed place) = other
-
-  by_message : (m : Message Output) → P (arrives brick m)
-  by_message (Whole x) = by_kind x.kind
-  by_message (Wrong place) = other
+  by_said : (s : Said) → P (arrives brick s)
+  by_said said.Other = other
+  by_said (said.Reply wind) = other
+  by_said (said.Gone wind) = gone wind
+  by_said said.Closed = closed
+  by_said said.Opened = opened
 
 -- ---- a brick closes or opens
 
 module _ (brick from : ℕ) where
-  reply_no_close : (wind : ℕ) (r : BrickRep) → closed_as brick (replies from wind r) ≡ false
+  reply_no_close : (wind : ℕ) (r : BrickRep) → closed_as brick (arrives from (reply_head wind r)) ≡ false
   reply_no_close wind rep.Gone = refl
   reply_no_close wind (rep.Done arm) = refl
   reply_no_close wind rep.Fault = refl
   reply_no_close wind rep.Unfit = refl
   reply_no_close wind rep.BadFd = refl
 
-  kind_closes : (kind : OutKind) → ((from == brick) && is_closed kind) ≡ closed_as brick (puts_out from kind)
+  kind_closes : (kind : OutKind) → ((from == brick) && is_closed kind) ≡ closed_as brick (arrives from (kind_head kind))
   kind_closes out.Closed = and_true (from == brick)
   kind_closes out.Opened = and_false (from == brick)
   kind_closes (out.Reply wind r) = and_false (from == brick) ∙ sym (reply_no_close wind r)
   kind_closes (out.Connected graph version) = and_false (from == brick)
   kind_closes (out.Malformed place) = and_false (from == brick)
 
-  message_closes : (m : Message Output) → ((from == brick) && says_closed m) ≡ closed_as brick (arrives from m)
+  message_closes : (m : Message Output) → ((from == brick) && says_closed m) ≡ closed_as brick (arrives from (head_in m).said)
   message_closes (Whole x) = kind_closes x.kind
   message_closes (Wrong place) = and_false (from == brick)
 
-  reply_no_open : (wind : ℕ) (r : BrickRep) → opened_as brick (replies from wind r) ≡ false
+  reply_no_open : (wind : ℕ) (r : BrickRep) → opened_as brick (arrives from (reply_head wind r)) ≡ false
   reply_no_open wind rep.Gone = refl
   reply_no_open wind (rep.Done arm) = refl
   reply_no_open wind rep.Fault = refl
   reply_no_open wind rep.Unfit = refl
   reply_no_open wind rep.BadFd = refl
 
-  kind_opens : (kind : OutKind) → ((from == brick) && is_opened kind) ≡ opened_as brick (puts_out from kind)
+  kind_opens : (kind : OutKind) → ((from == brick) && is_opened kind) ≡ opened_as brick (arrives from (kind_head kind))
   kind_opens out.Opened = and_true (from == brick)
   kind_opens out.Closed = and_false (from == brick)
   kind_opens (out.Reply wind r) = and_false (from == brick) ∙ sym (reply_no_open wind r)
   kind_opens (out.Connected graph version) = and_false (from == brick)
   kind_opens (out.Malformed place) = and_false (from == brick)
 
-  message_opens : (m : Message Output) → ((from == brick) && says_opened m) ≡ opened_as brick (arrives from m)
+  message_opens : (m : Message Output) → ((from == brick) && says_opened m) ≡ opened_as brick (arrives from (head_in m).said)
   message_opens (Whole x) = kind_opens x.kind
   message_opens (Wrong place) = and_false (from == brick)
 
@@ -112,7 +104,7 @@ opens_is brick (logged.Arm at p count a) = refl
 -- ---- a switch
 
 pub switch_is : (e : HubEvent) → is_switch (Some e) ≡ is_switched (effect_of e)
-switch_is (logged.Arrive from bytes) = by_message (λ (f : Effect). false ≡ is_switched f) from refl refl refl (λ wind. refl) (output_in bytes)
+switch_is (logged.Arrive from bytes) = by_said (λ (f : Effect). false ≡ is_switched f) from refl refl refl (λ wind. refl) (head_in (output_in bytes)).said
 switch_is (logged.Act (action.Switch volfile)) = refl
 switch_is (logged.Act (action.Cut b)) = refl
 switch_is (logged.Act (action.Down b serve)) = refl
@@ -124,7 +116,7 @@ switch_is (logged.Run graph task) = refl
 switch_is (logged.Arm at p count a) = refl
 
 pub none_starts : (e : HubEvent) → is_started (effect_of e) ≡ false
-none_starts (logged.Arrive from bytes) = by_message (λ (f : Effect). is_started f ≡ false) from refl refl refl (λ wind. refl) (output_in bytes)
+none_starts (logged.Arrive from bytes) = by_said (λ (f : Effect). is_started f ≡ false) from refl refl refl (λ wind. refl) (head_in (output_in bytes)).said
 none_starts (logged.Act (action.Switch volfile)) = refl
 none_starts (logged.Act (action.Cut b)) = refl
 none_starts (logged.Act (action.Down b serve)) = refl
@@ -150,7 +142,7 @@ newest_by newest (effect.Gone b wind) = omega arith
 newest_by newest effect.Other = omega arith
 
 made_by : (e : HubEvent) (rest : List ℕ) → length (switched_by e rest) ≡ makes (effect_of e) + length rest
-made_by (logged.Arrive from bytes) rest = by_message (λ (f : Effect). length rest ≡ makes f + length rest) from (omega arith) (omega arith) (omega arith) (λ wind. omega arith) (output_in bytes)
+made_by (logged.Arrive from bytes) rest = by_said (λ (f : Effect). length rest ≡ makes f + length rest) from (omega arith) (omega arith) (omega arith) (λ wind. omega arith) (head_in (output_in bytes)).said
 made_by (logged.Act (action.Switch volfile)) rest = omega arith
 made_by (logged.Act (action.Cut b)) rest = omega arith
 made_by (logged.Act (action.Down b serve)) rest = omega arith
@@ -171,7 +163,7 @@ newest_next log k e there =
 -- ---- a cut
 
 pub cut_is : (brick : ℕ) (e : HubEvent) → cut_as brick (effect_of e) ≡ true → e ≡ logged.Act (action.Cut brick)
-cut_is brick (logged.Arrive from bytes) hits_it = absurd (by_message (λ (f : Effect). cut_as brick f ≡ true → ⊥) from (λ no. absurd cc) (λ no. absurd cc) (λ no. absurd cc) (λ wind no. absurd cc) (output_in bytes) hits_it)
+cut_is brick (logged.Arrive from bytes) hits_it = absurd (by_said (λ (f : Effect). cut_as brick f ≡ true → ⊥) from (λ no. absurd cc) (λ no. absurd cc) (λ no. absurd cc) (λ wind no. absurd cc) (head_in (output_in bytes)).said hits_it)
 cut_is brick (logged.Act (action.Switch volfile)) hits_it = absurd cc
 cut_is brick (logged.Act (action.Cut b)) hits_it = ap (λ (n : ℕ). logged.Act (action.Cut n)) (eqb-true b brick hits_it)
 cut_is brick (logged.Act (action.Down b serve)) hits_it = absurd cc
@@ -189,7 +181,7 @@ cuts_it brick e is = ap (λ (x : HubEvent). cut_as brick (effect_of x)) is ∙ e
 
 module _ (log : Log) (now : Moment) (graph brick : ℕ) where
   gone_reply : (from number : ℕ) (bytes : List ℕ) (x : Output) (wind : ℕ) (r : BrickRep) → now.number ≡ number → IsEvent log number (logged.Arrive from bytes) → output_in bytes ≡ Whole x → x.kind ≡ out.Reply wind r
-      → IsGoneAs log now graph brick (replies from wind r) → IsGone log graph brick number
+      → IsGoneAs log now graph brick (arrives from (reply_head wind r)) → IsGone log graph brick number
   gone_reply from number bytes x wind rep.Gone same event read kind gone = record {
     wind = wind;
     bytes = bytes;
@@ -205,14 +197,14 @@ module _ (log : Log) (now : Moment) (graph brick : ℕ) where
   gone_reply from number bytes x wind rep.BadFd same event read kind gone = absurd gone
 
   gone_kind : (from number : ℕ) (bytes : List ℕ) (x : Output) (kind : OutKind) → now.number ≡ number → IsEvent log number (logged.Arrive from bytes) → output_in bytes ≡ Whole x → x.kind ≡ kind
-      → IsGoneAs log now graph brick (puts_out from kind) → IsGone log graph brick number
+      → IsGoneAs log now graph brick (arrives from (kind_head kind)) → IsGone log graph brick number
   gone_kind from number bytes x (out.Reply wind r) same event read is gone = gone_reply from number bytes x wind r same event read is gone
   gone_kind from number bytes x out.Opened same event read is gone = absurd gone
   gone_kind from number bytes x out.Closed same event read is gone = absurd gone
   gone_kind from number bytes x (out.Connected g version) same event read is gone = absurd gone
   gone_kind from number bytes x (out.Malformed place) same event read is gone = absurd gone
 
-  gone_message : (from number : ℕ) (bytes : List ℕ) (m : Message Output) → now.number ≡ number → IsEvent log number (logged.Arrive from bytes) → output_in bytes ≡ m → IsGoneAs log now graph brick (arrives from m) → IsGone log graph brick number
+  gone_message : (from number : ℕ) (bytes : List ℕ) (m : Message Output) → now.number ≡ number → IsEvent log number (logged.Arrive from bytes) → output_in bytes ≡ m → IsGoneAs log now graph brick (arrives from (head_in m).said) → IsGone log graph brick number
   gone_message from number bytes (Whole x) same event read gone = gone_kind from number bytes x x.kind same event read refl gone
   gone_message from number bytes (Wrong place) same event read gone = absurd gone
 

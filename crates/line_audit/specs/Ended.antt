@@ -1,27 +1,37 @@
 -- What ends the wind of a request, as an audit finds it.
-use Rattle.std.specs.Prelude.{◌≡◌, ℕ, false, List, Some, slice_get}
+use Rattle.std.specs.Prelude.{◌≡◌, ℕ, ◌-◌, ◌==◌, if◌then◌else◌, false, List, Option, None, Some, slice_get}
 use Rattle.fop_types.specs.declared.messages.Input.{Input}
 use Rattle.fop_types.specs.declared.messages.Input.TheVariants as input
-use Rattle.fop_types.specs.declared.messages.Output.{Output}
 use Rattle.wire_messages.specs.Messages.{input_in, output_in}
 use Rattle.wire_messages.specs.declared.messages.Message.{Message}
 use Rattle.wire_messages.specs.declared.messages.Message.TheVariants.{Whole, Wrong}
 use Rattle.xlator_law.specs.declared.winds.WindNo.{WindNo}
-use Rattle.mount_log.specs.Ties.{IsNumberOf, EndsWind, HasEnd}
+use Rattle.mount_log.specs.Ties.{IsNumberOf, HasEnd}
 use Rattle.mount_log.specs.declared.logs.HubEvent.{HubEvent}
 use Rattle.mount_log.specs.declared.logs.HubEvent.TheVariants as logged
 use Rattle.mount_log.specs.declared.logs.Log.{Log}
 use Rattle.mount_log.specs.declared.logs.SentLine.{SentLine}
 use Rattle.mount_log.specs.declared.logs.WindLine.{WindLine}
+use Rattle.log_audit.specs.Heads.{head_in}
+use Rattle.log_audit.specs.declared.heads.Head.{Head}
+use Rattle.log_audit.specs.declared.heads.Said.{Said}
+use Rattle.log_audit.specs.declared.heads.Said.TheVariants as said
 
 -- ---- by an output
 
-abbrev pub SaysEnd : WindNo → Message Output → Type 0
-SaysEnd wind (Whole output) = EndsWind wind output.kind
-SaysEnd wind (Wrong place) = ⊥
+-- the head of the event of this number, from 1
+abbrev pub head_by : List Head → ℕ → Option Head
+head_by heads number = if number == 0 then None else slice_get heads (number - 1)
+
+abbrev pub SaysEnd : WindNo → Said → Type 0
+SaysEnd wind (said.Reply number) = IsNumberOf wind number
+SaysEnd wind (said.Gone number) = IsNumberOf wind number
+SaysEnd wind said.Closed = Unit {0}
+SaysEnd wind said.Opened = ⊥
+SaysEnd wind said.Other = ⊥
 
 abbrev pub IsEndEvent : ℕ → WindNo → HubEvent → Type 0
-IsEndEvent brick wind (logged.Arrive from bytes) = (from ≡ brick) × SaysEnd wind (output_in bytes)
+IsEndEvent brick wind (logged.Arrive from bytes) = (from ≡ brick) × SaysEnd wind (head_in (output_in bytes)).said
 IsEndEvent brick wind (logged.Submit session line) = ⊥
 IsEndEvent brick wind (logged.Run graph task) = ⊥
 IsEndEvent brick wind (logged.Act a) = ⊥

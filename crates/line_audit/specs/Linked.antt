@@ -3,13 +3,8 @@
 -- each graph is left.
 use Rattle.std.specs.Prelude.{◌≡◌, ℕ, ◌+◌, ◌-◌, ◌<◌, ◌≤◌, ◌==◌, ◌⊎◌, nat_lt, Bool, true, false, ◌&&◌, ◌||◌, not, List, [], ◌∷◌, ◌++◌, Some, slice_get, slice_index_or, length, if◌then◌else◌}
 use Rattle.std.specs.List.{list_any, AllByRecursion}
-use Rattle.fop_types.specs.declared.messages.BrickRep.{BrickRep}
-use Rattle.fop_types.specs.declared.messages.BrickRep.TheVariants as rep
 use Rattle.fop_types.specs.declared.messages.Input.{Input}
 use Rattle.fop_types.specs.declared.messages.Input.TheVariants as input
-use Rattle.fop_types.specs.declared.messages.OutKind.{OutKind}
-use Rattle.fop_types.specs.declared.messages.OutKind.TheVariants as out
-use Rattle.fop_types.specs.declared.messages.Output.{Output}
 use Rattle.graph_build.specs.declared.plans.Plan.{Plan}
 use Rattle.script_lang.specs.declared.scripts.Action.{Action}
 use Rattle.script_lang.specs.declared.scripts.Action.TheVariants as action
@@ -29,6 +24,9 @@ use Rattle.mount_log.specs.declared.logs.Log.{Log}
 use Rattle.mount_log.specs.declared.logs.ReplyLine.{ReplyLine}
 use Rattle.mount_log.specs.declared.logs.SentLine.{SentLine}
 use Rattle.mount_log.specs.declared.logs.WindLine.{WindLine}
+use Rattle.log_audit.specs.Heads.{head_in}
+use Rattle.log_audit.specs.declared.heads.Said.{Said}
+use Rattle.log_audit.specs.declared.heads.Said.TheVariants as said
 use Rattle.line_audit.specs.declared.effects.Effect.{Effect}
 use Rattle.line_audit.specs.declared.effects.Effect.TheVariants as effect
 use Rattle.line_audit.specs.declared.lines_sent.Item.{Item}
@@ -104,20 +102,13 @@ count_connects graph brick (i ∷ is) = (if (i.brick == brick) && connects graph
 
 -- ---- what an event does
 
-abbrev pub replies : ℕ → ℕ → BrickRep → Effect
-replies brick wind rep.Gone = effect.Gone brick wind
-replies brick wind other = effect.Other
-
-abbrev pub puts_out : ℕ → OutKind → Effect
-puts_out brick out.Opened = effect.Opened brick
-puts_out brick out.Closed = effect.Closed brick
-puts_out brick (out.Reply wind answer) = replies brick wind answer
-puts_out brick (out.Connected graph version) = effect.Other
-puts_out brick (out.Malformed place) = effect.Other
-
-abbrev pub arrives : ℕ → Message Output → Effect
-arrives brick (Whole x) = puts_out brick x.kind
-arrives brick (Wrong place) = effect.Other
+-- as an output of the brick says this
+abbrev pub arrives : ℕ → Said → Effect
+arrives brick said.Opened = effect.Opened brick
+arrives brick said.Closed = effect.Closed brick
+arrives brick (said.Gone wind) = effect.Gone brick wind
+arrives brick (said.Reply wind) = effect.Other
+arrives brick said.Other = effect.Other
 
 abbrev pub acts : Action → Effect
 acts (action.Switch volfile) = effect.Switched
@@ -129,7 +120,7 @@ acts action.Heal = effect.Other
 
 abbrev pub effect_of : HubEvent → Effect
 effect_of (logged.Act a) = acts a
-effect_of (logged.Arrive brick bytes) = arrives brick (output_in bytes)
+effect_of (logged.Arrive brick bytes) = arrives brick (head_in (output_in bytes)).said
 effect_of (logged.Submit session line) = effect.Other
 effect_of (logged.Run graph task) = effect.Other
 effect_of (logged.Arm at p count a) = effect.Other

@@ -1,11 +1,13 @@
 //! Whether what was sent to connect and disconnect graphs, and for controls, is exactly what has a cause.
 ghost use Rattle.std.specs.Prelude.{◌≡◌, true, IfOk};
 ghost use Rattle.mount_log.specs.Connects.{ConnectsAreCaused};
+ghost use Rattle.log_audit.specs.Heads.{heads_of};
 
 use crate::causes::lines_are_caused;
 use crate::downs::downs_are_carried;
 use crate::linked::are_linked;
 use graph_build::Plan;
+use log_audit::heads::Head;
 use mount_log::Log;
 use script_lang::Script;
 use std::alloc::{AllocError, Global};
@@ -14,7 +16,7 @@ use wire_messages::messages_read_back;
 /// Whether each Connect, Disconnect, Down and Up was sent for a cause, each Connect and each input of an action that has a
 /// cause was sent, each cut disconnects, and requests went to connected bricks. It is false, too, where the first line of the
 /// event of an action that has an input is not that input, a line is of no event, a wind of no graph, or a reply of no call
-/// that there is, or where there are 4,294,967,295 graphs.
+/// that there is, or where there are 4,294,967,295 graphs. `heads` are those of the log's events.
 ///
 /// # Errors
 /// Out of memory.
@@ -23,7 +25,9 @@ pub fn connects_are_caused(
     script: &Script,
     plans: &[Plan],
     log: &Log,
+    heads: &[Head],
 ) -> Result<bool, AllocError>
+    requires heads { heads.now ≡ heads_of log.now.events }
     ensures { IfOk result (λ yes. yes ≡ true → ConnectsAreCaused script.now plans.now log.now) }
 {
     messages_read_back();
@@ -33,6 +37,6 @@ pub fn connects_are_caused(
     if !downs_are_carried(alloc, log)? {
         return Ok(false);
     }
-    let linked = are_linked(alloc, script, plans, log)?;
+    let linked = are_linked(alloc, script, plans, log, heads)?;
     Ok(linked)
 }

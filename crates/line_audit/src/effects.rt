@@ -1,13 +1,11 @@
 //! What an event does to connections.
-ghost use Rattle.std.specs.Prelude.{◌≡◌, IfOk, IfSome};
-ghost use Rattle.wire_messages.specs.Messages.{output_in};
-ghost use Rattle.line_audit.specs.Linked.{replies, puts_out, arrives, acts, effect_of, is_started, is_switched, opened_as, closed_as, cut_as, newest_after};
+ghost use Rattle.std.specs.Prelude.{◌≡◌, IfSome};
+ghost use Rattle.log_audit.specs.Heads.{head_of};
+ghost use Rattle.line_audit.specs.Linked.{arrives, acts, effect_of, is_started, is_switched, opened_as, closed_as, cut_as, newest_after};
 
-use fop_types::{BrickRep, OutKind};
+use log_audit::heads::{Head, Said};
 use mount_log::HubEvent;
 use script_lang::Action;
-use std::alloc::{AllocError, Global};
-use wire_messages::{Message, output_of};
 
 /// What an event does to connections: it is the hub's making, which is none; it switches to another volfile; a brick opens or
 /// closes, has its connections cut, or answers Gone to a wind; or it does nothing to them.
@@ -22,32 +20,14 @@ pub enum Effect {
     Other,
 }
 
-fn replies(brick: u8, wind: u64, rep: &BrickRep) -> Effect
-    ensures { result ≡ replies brick wind rep.now }
+fn arrives(brick: u8, said: Said) -> Effect
+    ensures { result ≡ arrives brick said }
 {
-    match rep {
-        BrickRep::Gone => Effect::Gone(brick, wind),
+    match said {
+        Said::Opened => Effect::Opened(brick),
+        Said::Closed => Effect::Closed(brick),
+        Said::Gone(wind) => Effect::Gone(brick, wind),
         _ => Effect::Other,
-    }
-}
-
-fn puts_out(brick: u8, kind: &OutKind) -> Effect
-    ensures { result ≡ puts_out brick kind.now }
-{
-    match kind {
-        OutKind::Opened => Effect::Opened(brick),
-        OutKind::Closed => Effect::Closed(brick),
-        OutKind::Reply { wind, rep } => replies(brick, *wind, rep),
-        _ => Effect::Other,
-    }
-}
-
-fn arrives(alloc: Global, brick: u8, bytes: &[u8]) -> Result<Effect, AllocError>
-    ensures { IfOk result (λ e. e ≡ arrives brick (output_in bytes.now)) }
-{
-    match output_of(alloc, bytes)? {
-        Message::Whole(output) => Ok(puts_out(brick, &output.kind)),
-        Message::Wrong { place: _ } => Ok(Effect::Other),
     }
 }
 
@@ -61,20 +41,15 @@ fn acts(action: &Action) -> Effect
     }
 }
 
-/// What an event does to connections.
-///
-/// # Errors
-/// Out of memory.
-pub fn effect_of(alloc: Global, event: &HubEvent) -> Result<Effect, AllocError>
-    ensures { IfOk result (λ e. e ≡ effect_of event.now) }
+/// What an event does to connections, by the head of what arrives in it.
+pub fn effect_of(event: &HubEvent, head: Head) -> Effect
+    requires { head ≡ head_of event.now }
+    ensures { result ≡ effect_of event.now }
 {
     match event {
-        HubEvent::Act(action) => Ok(acts(action)),
-        HubEvent::Arrive { brick, bytes } => {
-            let effect = arrives(alloc, *brick, bytes.as_slice())?;
-            Ok(effect)
-        }
-        _ => Ok(Effect::Other),
+        HubEvent::Act(action) => acts(action),
+        HubEvent::Arrive { brick, .. } => arrives(*brick, head.said),
+        _ => Effect::Other,
     }
 }
 

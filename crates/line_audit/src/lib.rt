@@ -27,6 +27,7 @@ mod tie_notes;
 mod tied_ends;
 mod tied_replies;
 mod tied_requests;
+mod tied_sent;
 mod tied_winds;
 mod ties;
 

@@ -1,6 +1,7 @@
 //! Whether graphs connect and disconnect in each event exactly as they are to.
 ghost use Rattle.std.specs.Prelude.{◌≡◌, ◌<◌, ◌≤◌, ◌+◌, ℕ, [], true, length, map, option_copied, slice_get, IfOk, IfSome};
 ghost use Rattle.wire_messages.specs.Messages.{MessagesReadBack};
+ghost use Rattle.log_audit.specs.Heads.{heads_of};
 ghost use Rattle.line_audit.specs.Linked.{items_of, in_event, AreByEvent, IsEffectAt, IsKnown, AreGraphTables, IsLinked, AreLinked};
 
 use crate::due::{GraphTables, Moment};
@@ -11,6 +12,7 @@ use crate::last_uses::last_uses;
 use crate::lines_sent::{Item, by_event, items_at};
 use graph_build::Plan;
 use log_audit::call_graphs::graphs_of;
+use log_audit::heads::{Head, head_at};
 use mount_log::{HubEvent, Log};
 use script_lang::Script;
 use std::alloc::{AllocError, Global};
@@ -96,16 +98,13 @@ fn event_in(log: &Log, k: usize) -> Option<&HubEvent>
     log.events.as_slice().get(k)
 }
 
-fn effect_at(alloc: Global, log: &Log, k: usize) -> Result<Option<Effect>, AllocError>
-    ensures { IfOk result (λ found. IfSome found (λ e. IsEffectAt log.now k e)) }
+fn effect_at(log: &Log, heads: &[Head], k: usize) -> Option<Effect>
+    requires { heads.now ≡ heads_of log.now.events }
+    ensures { IfSome result (λ e. IsEffectAt log.now k e) }
 {
-    match event_in(log, k) {
-        Some(event) => {
-            let effect = effect_of(alloc, event)?;
-            Ok(Some(effect))
-        }
-        None => Ok(None),
-    }
+    let event = event_in(log, k)?;
+    let head = head_at(heads, k)?;
+    Some(effect_of(event, head))
 }
 
 fn next_passes(
@@ -113,6 +112,7 @@ fn next_passes(
     script: &Script,
     plans: &[Plan],
     log: &Log,
+    heads: &[Head],
     tables: &GraphTables,
     known: &mut Known,
     k: usize,
@@ -121,6 +121,7 @@ fn next_passes(
 ) -> Result<bool, AllocError>
     requires read { MessagesReadBack }
     requires number { number ≡ k + 1 }
+    requires heads { heads.now ≡ heads_of log.now.events }
     requires tables { AreGraphTables script.now log.now tables.now }
     requires items { items.now ≡ in_event (k + 1) (items_of log.now.sent) }
     requires low { k < length log.now.events }
@@ -128,7 +129,7 @@ fn next_passes(
     ensures linked { IfOk result (λ yes. yes ≡ true → IsLinked script.now plans.now log.now (k + 1)) }
     ensures known { IfOk result (λ yes. yes ≡ true → IsKnown log.now (k + 1) known.new) }
 {
-    let Some(effect) = effect_at(alloc, log, k)? else {
+    let Some(effect) = effect_at(log, heads, k) else {
         return Ok(false);
     };
     let yes = passes(
@@ -157,9 +158,11 @@ fn all_pass(
     script: &Script,
     plans: &[Plan],
     log: &Log,
+    heads: &[Head],
     tables: &GraphTables,
     lists: &[Vec<Item>],
 ) -> Result<bool, AllocError>
+    requires heads { heads.now ≡ heads_of log.now.events }
     requires tables { AreGraphTables script.now log.now tables.now }
     requires lists { AreByEvent (items_of log.now.sent) (map (λ l. l.items) lists.now) }
     ensures { IfOk result (λ yes. yes ≡ true → (number : ℕ) → number ≤ length log.now.events → IsLinked script.now plans.now log.now number) }
@@ -181,7 +184,7 @@ fn all_pass(
         let items = items_at(lists, k + 1);
         let number = k as u64 + 1;
         if !next_passes(
-            alloc, script, plans, log, tables, &mut known, k, number, items,
+            alloc, script, plans, log, heads, tables, &mut known, k, number, items,
         )? {
             return Ok(false);
         }
@@ -198,7 +201,9 @@ pub fn are_linked(
     script: &Script,
     plans: &[Plan],
     log: &Log,
+    heads: &[Head],
 ) -> Result<bool, AllocError>
+    requires heads { heads.now ≡ heads_of log.now.events }
     ensures { IfOk result (λ yes. yes ≡ true → AreLinked script.now plans.now log.now) }
 {
     let Some(tables) = tables_of(alloc, script, log)? else {
@@ -210,6 +215,6 @@ pub fn are_linked(
     if lists.is_empty() || lists.len() - 1 != log.events.len() {
         return Ok(false);
     }
-    let yes = all_pass(alloc, script, plans, log, &tables, lists.as_slice())?;
+    let yes = all_pass(alloc, script, plans, log, heads, &tables, lists.as_slice())?;
     Ok(yes)
 }

@@ -135,15 +135,20 @@ fn disconnected_in(alloc: Global, line: &SentLine) -> Result<Option<u32>, AllocE
     }
 }
 
+// The number that a request has behind the four bytes of its kind.
+fn wind_in(bytes: &[u8]) -> Option<u64> {
+    if bytes.len() < 12 || request_proc(bytes).is_none() {
+        return None;
+    }
+    Some(u64::from_be_bytes([
+        bytes[4], bytes[5], bytes[6], bytes[7], bytes[8], bytes[9], bytes[10], bytes[11],
+    ]))
+}
+
 // The number of a request's wind, and whether it is that of an open before the request.
-fn number_in(alloc: Global, line: &SentLine) -> Result<Option<(u64, bool)>, AllocError> {
-    if request_proc(line.bytes.as_slice()).is_none() {
-        return Ok(None);
-    }
-    match input_of(alloc, line.bytes.as_slice())? {
-        Message::Whole(Input::Request { wind, .. }) => Ok(Some(request_number(wind))),
-        _ => Ok(None),
-    }
+fn number_in(line: &SentLine) -> Option<(u64, bool)> {
+    let number = wind_in(line.bytes.as_slice())?;
+    Some(request_number(number))
 }
 
 fn request_number(number: u64) -> (u64, bool) {
@@ -165,14 +170,8 @@ impl TieNotes {
         }
     }
 
-    fn add(
-        &mut self,
-        alloc: Global,
-        log: &Log,
-        winds: &Winds,
-        line: &SentLine,
-    ) -> Result<(), AllocError> {
-        match number_in(alloc, line)? {
+    fn add(&mut self, log: &Log, winds: &Winds, line: &SentLine) -> Result<(), AllocError> {
+        match number_in(line) {
             Some((number, is_open)) => {
                 let ended = winds.ended(log, line.brick, number);
                 self.add_request(winds, number, is_open, ended)
@@ -262,7 +261,7 @@ pub fn tie_notes_of(alloc: Global, log: &Log) -> Result<TieNotes, AllocError> {
         notes.sent_for.push(NOT_SENT)?;
     }
     for line in log.sent.as_slice() {
-        notes.add(alloc, log, &winds, line)?;
+        notes.add(log, &winds, line)?;
     }
     Ok(notes)
 }

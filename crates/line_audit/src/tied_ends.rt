@@ -1,18 +1,20 @@
-//! Whether the winds of requests end by what arrives, or with their connections.
+//! Whether the wind of a request ends by what arrives, or with its connection.
 ghost use Rattle.std.specs.Prelude.{◌≡◌, Some, true, IfOk, option_copied, slice_get};
 ghost use Rattle.fop_types.specs.declared.messages.Input.TheVariants as input;
-ghost use Rattle.wire_messages.specs.Messages.{input_in, output_in};
-ghost use Rattle.mount_log.specs.Ties.{IsNumberOf, EndsWind, IsEndedBy, HasEnd};
-ghost use Rattle.line_audit.specs.Ended.{SaysEnd, IsEndEvent, SaysDisconnect, IsDisconnect, IsDisconnectAt, IsEndingOf, IsInputEnded, IsEnded, AreEnded};
+ghost use Rattle.wire_messages.specs.Messages.{input_in};
+ghost use Rattle.mount_log.specs.Ties.{IsNumberOf, IsEndedBy, HasEnd};
+ghost use Rattle.log_audit.specs.Heads.{head_of, heads_of};
+ghost use Rattle.line_audit.specs.Ended.{head_by, SaysEnd, IsEndEvent, SaysDisconnect, IsDisconnect, IsDisconnectAt, IsEndingOf, IsInputEnded, IsEnded};
 
 use crate::tied_replies::wind_at;
 use crate::tied_requests::is_number_of_open;
-use fop_types::{Input, OutKind};
+use fop_types::Input;
 use log_audit::by_number::event_at;
 use log_audit::by_place::line_at;
+use log_audit::heads::{Head, Said, head_at};
 use mount_log::{HubEvent, Log, SentLine, WindLine};
 use std::alloc::{AllocError, Global};
-use wire_messages::{Message, input_of, output_of};
+use wire_messages::{Message, input_of};
 use xlator_law::WindNo;
 
 /// Where the end of a request's wind is, and the Disconnect of its graph in the same event.
@@ -34,55 +36,47 @@ pub fn is_number_of(wind: WindNo, number: u64) -> bool
 
 // ---- by an output
 
-fn ends_wind(kind: &OutKind, wind: WindNo) -> bool
-    ensures { result ≡ true → EndsWind wind kind.now }
+fn says_end(said: Said, wind: WindNo) -> bool
+    ensures { result ≡ true → SaysEnd wind said }
 {
-    match kind {
-        OutKind::Reply { wind: number, .. } => is_number_of(wind, *number),
-        OutKind::Closed => true,
+    match said {
+        Said::Reply(number) => is_number_of(wind, number),
+        Said::Gone(number) => is_number_of(wind, number),
+        Said::Closed => true,
         _ => false,
     }
 }
 
-fn says_end(alloc: Global, bytes: &[u8], wind: WindNo) -> Result<bool, AllocError>
-    ensures { IfOk result (λ yes. yes ≡ true → SaysEnd wind (output_in bytes.now)) }
-{
-    match output_of(alloc, bytes)? {
-        Message::Whole(output) => Ok(ends_wind(&output.kind, wind)),
-        Message::Wrong { place: _ } => Ok(false),
-    }
-}
-
-fn is_end_event(
-    alloc: Global,
-    event: &HubEvent,
-    brick: u8,
-    wind: WindNo,
-) -> Result<bool, AllocError>
-    ensures { IfOk result (λ yes. yes ≡ true → IsEndEvent brick wind event.now) }
+fn is_end_event(event: &HubEvent, head: Head, brick: u8, wind: WindNo) -> bool
+    requires { head ≡ head_of event.now }
+    ensures { result ≡ true → IsEndEvent brick wind event.now }
 {
     match event {
-        HubEvent::Arrive { brick: from, bytes } => {
-            if *from != brick {
-                return Ok(false);
-            }
-            says_end(alloc, bytes.as_slice(), wind)
-        }
-        _ => Ok(false),
+        HubEvent::Arrive { brick: from, .. } => *from == brick && says_end(head.said, wind),
+        _ => false,
     }
 }
 
-fn is_ended_by_output(
-    alloc: Global,
-    log: &Log,
-    brick: u8,
-    line: &WindLine,
-) -> Result<bool, AllocError>
-    ensures { IfOk result (λ yes. yes ≡ true → IsEndedBy log.now brick line.now) }
+// The head of the event of this number, from 1.
+fn head_by(heads: &[Head], number: u64) -> Option<Head>
+    ensures { result ≡ head_by heads.now number }
 {
+    if number == 0 {
+        return None;
+    }
+    head_at(heads, (number - 1) as usize)
+}
+
+fn is_ended_by_output(log: &Log, heads: &[Head], brick: u8, line: &WindLine) -> bool
+    requires { heads.now ≡ heads_of log.now.events }
+    ensures { result ≡ true → IsEndedBy log.now brick line.now }
+{
+    let Some(head) = head_by(heads, line.event) else {
+        return false;
+    };
     match event_at(log, line.event) {
-        Some(event) => is_end_event(alloc, event, brick, line.wind),
-        None => Ok(false),
+        Some(event) => is_end_event(event, head, brick, line.wind),
+        None => false,
     }
 }
 
@@ -144,13 +138,15 @@ fn is_disconnect_at(
 fn is_ended_by(
     alloc: Global,
     log: &Log,
+    heads: &[Head],
     disconnect: usize,
     brick: u8,
     line: &WindLine,
 ) -> Result<bool, AllocError>
+    requires { heads.now ≡ heads_of log.now.events }
     ensures { IfOk result (λ yes. yes ≡ true → IsEndedBy log.now brick line.now) }
 {
-    if is_ended_by_output(alloc, log, brick, line)? {
+    if is_ended_by_output(log, heads, brick, line) {
         return Ok(true);
     }
     let yes = is_disconnect_at(alloc, log, disconnect, line.event, brick, line.graph)?;
@@ -167,11 +163,13 @@ fn is_ending_of(line: &WindLine, number: u64, graph: u32) -> bool
 fn has_end(
     alloc: Global,
     log: &Log,
+    heads: &[Head],
     ended: EndedAt,
     brick: u8,
     number: u64,
     graph: u32,
 ) -> Result<bool, AllocError>
+    requires { heads.now ≡ heads_of log.now.events }
     ensures { IfOk result (λ yes. yes ≡ true → HasEnd log.now brick number graph) }
 {
     let Some(line) = wind_at(log, ended.end) else {
@@ -180,78 +178,47 @@ fn has_end(
     if !is_ending_of(line, number, graph) {
         return Ok(false);
     }
-    let yes = is_ended_by(alloc, log, ended.disconnect, brick, line)?;
+    let yes = is_ended_by(alloc, log, heads, ended.disconnect, brick, line)?;
     Ok(yes)
 }
 
 fn is_input_ended(
     alloc: Global,
     log: &Log,
+    heads: &[Head],
     ended: EndedAt,
     brick: u8,
     found: &Input,
 ) -> Result<bool, AllocError>
+    requires { heads.now ≡ heads_of log.now.events }
     ensures { IfOk result (λ yes. yes ≡ true → IsInputEnded log.now brick found.now) }
 {
     match found {
-        Input::Request { wind, graph, .. } => has_end(alloc, log, ended, brick, *wind, *graph),
+        Input::Request { wind, graph, .. } => has_end(
+            alloc, log, heads, ended, brick, *wind, *graph,
+        ),
         _ => Ok(true),
     }
 }
 
-fn is_message_ended(
+/// Whether the wind of what a line is, if it is a request, ends, in its graph, as the reply to it or to the open before it
+/// arrives, or Closed of the brick, or as a Disconnect of the graph is sent to the brick. `ended` says where that is.
+///
+/// # Errors
+/// Out of memory.
+pub fn is_message_ended(
     alloc: Global,
     log: &Log,
+    heads: &[Head],
     ended: EndedAt,
     brick: u8,
     message: &Message<Input>,
 ) -> Result<bool, AllocError>
+    requires { heads.now ≡ heads_of log.now.events }
     ensures { IfOk result (λ yes. yes ≡ true → IsEnded log.now brick message.now) }
 {
     match message {
-        Message::Whole(found) => is_input_ended(alloc, log, ended, brick, found),
+        Message::Whole(found) => is_input_ended(alloc, log, heads, ended, brick, found),
         Message::Wrong { place: _ } => Ok(true),
     }
-}
-
-fn is_line_ended(
-    alloc: Global,
-    log: &Log,
-    ended: EndedAt,
-    line: &SentLine,
-) -> Result<bool, AllocError>
-    ensures { IfOk result (λ yes. yes ≡ true → IsEnded log.now line.now.brick (input_in line.now.bytes)) }
-{
-    let message = input_of(alloc, line.bytes.as_slice())?;
-    let yes = is_message_ended(alloc, log, ended, line.brick, &message)?;
-    Ok(yes)
-}
-
-fn ended_at(all: &[EndedAt], k: usize) -> EndedAt {
-    match all.get(k) {
-        Some(ended) => *ended,
-        None => EndedAt {
-            end: 0,
-            disconnect: 0,
-        },
-    }
-}
-
-/// Whether the wind of each request ends, in its graph, as the reply to it or to the open before it arrives, or Closed of
-/// the brick, or as a Disconnect of the graph is sent to the brick. `all` has, for each line that was sent, where that is.
-///
-/// # Errors
-/// Out of memory.
-pub fn requests_are_ended(alloc: Global, log: &Log, all: &[EndedAt]) -> Result<bool, AllocError>
-    ensures { IfOk result (λ yes. yes ≡ true → AreEnded log.now) }
-{
-    for k in 0..log.sent.len() {
-        let Some(line) = line_at(log, k) else {
-            return Ok(false);
-        };
-        if !is_line_ended(alloc, log, ended_at(all, k), line)? {
-            return Ok(false);
-        }
-    }
-    Ok(true)
 }

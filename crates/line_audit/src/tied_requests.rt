@@ -1,17 +1,14 @@
-//! Whether requests are tied to their winds.
-ghost use Rattle.std.specs.Prelude.{◌≡◌, true, IfOk};
+//! Whether a request is tied to its wind.
+ghost use Rattle.std.specs.Prelude.{◌≡◌, true};
 ghost use Rattle.fop_types.specs.declared.messages.Input.TheVariants as input;
-ghost use Rattle.wire_messages.specs.Messages.{input_in};
 ghost use Rattle.xlator_law.specs.Numbers.{wind_number, open_before};
 ghost use Rattle.mount_log.specs.Ties.{IsOfCall, IsOpen, HasNumberOf, HasWind};
-ghost use Rattle.line_audit.specs.Tied.{request_at, open_at, IsInputTied, IsTied, AreRequestsTied};
+ghost use Rattle.line_audit.specs.Tied.{request_at, open_at, IsInputTied, IsTied};
 
 use crate::tied_replies::wind_at;
 use fop_types::{BrickReq, Input};
-use log_audit::by_place::line_at;
-use mount_log::{Log, SentLine, WindLine};
-use std::alloc::{AllocError, Global};
-use wire_messages::{Message, input_of};
+use mount_log::{Log, WindLine};
+use wire_messages::Message;
 use xlator_law::WindNo;
 
 /// By the place of a wind's opening: where the request is that was sent for it, and the open before that.
@@ -123,7 +120,9 @@ fn is_input_tied(
     }
 }
 
-fn is_message_tied(
+/// Whether what a line is, if it is a request, was sent for the wind that was opened at a place, in its event and graph.
+/// `all` has, by the place of an opening, where the request and the open before it are.
+pub fn is_message_tied(
     log: &Log,
     all: &[SentFor],
     place: usize,
@@ -137,50 +136,4 @@ fn is_message_tied(
         Message::Whole(found) => is_input_tied(log, all, place, k, event, found),
         Message::Wrong { place: _ } => true,
     }
-}
-
-fn is_line_tied(
-    alloc: Global,
-    log: &Log,
-    all: &[SentFor],
-    place: usize,
-    k: usize,
-    line: &SentLine,
-) -> Result<bool, AllocError>
-    ensures { IfOk result (λ yes. yes ≡ true → IsTied log.now all.now k line.now.event (input_in line.now.bytes)) }
-{
-    let message = input_of(alloc, line.bytes.as_slice())?;
-    let yes = is_message_tied(log, all, place, k, line.event, &message);
-    Ok(yes)
-}
-
-fn place_of(openings: &[usize], k: usize) -> usize {
-    match openings.get(k) {
-        Some(place) => *place,
-        None => 0,
-    }
-}
-
-/// Whether each request was sent for a wind that was opened in its event and graph. `openings` has the place of a request's
-/// opening, and `all`, by that place, where the request and the open before it are.
-///
-/// # Errors
-/// Out of memory.
-pub fn requests_are_tied(
-    alloc: Global,
-    log: &Log,
-    openings: &[usize],
-    all: &[SentFor],
-) -> Result<bool, AllocError>
-    ensures { IfOk result (λ yes. yes ≡ true → AreRequestsTied log.now all.now) }
-{
-    for k in 0..log.sent.len() {
-        let Some(line) = line_at(log, k) else {
-            return Ok(false);
-        };
-        if !is_line_tied(alloc, log, all, place_of(openings, k), k, line)? {
-            return Ok(false);
-        }
-    }
-    Ok(true)
 }

@@ -6,6 +6,6 @@ returns c = λ yes. record {
   replies = c.replies_are_tied.ensures c.if-not-replies_are_tied.false;
   winds = c.winds_are_tied.ensures c.if-not-winds_are_tied.false;
   all = c.as_slice-sent_for.result.now;
-  requests = c.in_ok-requests_are_tied.ensures c.if-not-branch.false;
-  ends = c.in_ok-yes.ensures yes;
+  requests = c.in_ok-yes.ensures.tied yes;
+  ends = c.in_ok-yes.ensures.ended yes;
 }

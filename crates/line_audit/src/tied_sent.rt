@@ -1,0 +1,83 @@
+//! Whether what was sent is tied to winds, and these end.
+ghost use Rattle.std.specs.Prelude.{◌≡◌, true, IfOk};
+ghost use Rattle.wire_messages.specs.Messages.{input_in};
+ghost use Rattle.log_audit.specs.Heads.{heads_of};
+ghost use Rattle.line_audit.specs.Ended.{IsEnded, AreEnded};
+ghost use Rattle.line_audit.specs.Tied.{IsTied, AreRequestsTied};
+
+use crate::tied_ends::{EndedAt, is_message_ended};
+use crate::tied_requests::{SentFor, is_message_tied};
+use log_audit::by_place::line_at;
+use log_audit::heads::Head;
+use mount_log::{Log, SentLine};
+use std::alloc::{AllocError, Global};
+use wire_messages::input_of;
+
+fn place_of(openings: &[usize], k: usize) -> usize {
+    match openings.get(k) {
+        Some(place) => *place,
+        None => 0,
+    }
+}
+
+fn ended_at(ended: &[EndedAt], k: usize) -> EndedAt {
+    match ended.get(k) {
+        Some(at) => *at,
+        None => EndedAt {
+            end: 0,
+            disconnect: 0,
+        },
+    }
+}
+
+fn is_line_tied(
+    alloc: Global,
+    log: &Log,
+    heads: &[Head],
+    all: &[SentFor],
+    place: usize,
+    ended: EndedAt,
+    k: usize,
+    line: &SentLine,
+) -> Result<bool, AllocError>
+    requires { heads.now ≡ heads_of log.now.events }
+    ensures tied { IfOk result (λ yes. yes ≡ true → IsTied log.now all.now k line.now.event (input_in line.now.bytes)) }
+    ensures ended { IfOk result (λ yes. yes ≡ true → IsEnded log.now line.now.brick (input_in line.now.bytes)) }
+{
+    let message = input_of(alloc, line.bytes.as_slice())?;
+    if !is_message_tied(log, all, place, k, line.event, &message) {
+        return Ok(false);
+    }
+    let yes = is_message_ended(alloc, log, heads, ended, line.brick, &message)?;
+    Ok(yes)
+}
+
+/// Whether each request was sent for a wind that was opened in its event and graph, and the wind ends. `openings` and `ended`
+/// have, for each line that was sent, the place of the opening, and where the end is; and `all`, by the place of the opening,
+/// where the request and the open before it are.
+///
+/// # Errors
+/// Out of memory.
+pub fn requests_are_tied(
+    alloc: Global,
+    log: &Log,
+    heads: &[Head],
+    openings: &[usize],
+    ended: &[EndedAt],
+    all: &[SentFor],
+) -> Result<bool, AllocError>
+    requires { heads.now ≡ heads_of log.now.events }
+    ensures tied { IfOk result (λ yes. yes ≡ true → AreRequestsTied log.now all.now) }
+    ensures ended { IfOk result (λ yes. yes ≡ true → AreEnded log.now) }
+{
+    for k in 0..log.sent.len() {
+        let Some(line) = line_at(log, k) else {
+            return Ok(false);
+        };
+        let place = place_of(openings, k);
+        if !is_line_tied(alloc, log, heads, all, place, ended_at(ended, k), k, line)? {
+            return Ok(false);
+        }
+    }
+    Ok(true)
+}
