@@ -1,6 +1,6 @@
 //! The numbers of the events in which something was done, in order.
 ghost use Rattle.std.specs.Prelude.{◌≡◌, true, map, IfOk};
-ghost use Rattle.mount_log.specs.Phases.{is_internal, begins_internal, internal_from, has_output, is_owed, owed_in, opened_in, ended_in};
+ghost use Rattle.mount_log.specs.Phases.{is_internal, begins_internal, internal_from, has_output, is_owed, owed_in, arrived_from, opened_in, ended_in};
 ghost use Rattle.wire_messages.specs.Messages.{input_in};
 ghost use Rattle.log_audit.specs.Heads.{heads_of};
 ghost use Rattle.run_audit.specs.Counting.{does_rise, due_from, is_due_head, AreNumbers, DoAllRise};
@@ -131,6 +131,16 @@ fn arrived_in(alloc: Global, heads: &[Head]) -> Result<Vec<u64>, AllocError>
     Ok(numbers)
 }
 
+// The events in which such outputs arrived, where these are the heads of what arrives in the log's events.
+fn arrivals_of(alloc: Global, log: &Log, heads: &[Head]) -> Result<Vec<u64>, AllocError>
+    requires { heads.now ≡ heads_of log.now.events }
+    ensures { IfOk result (λ numbers. numbers.items ≡ arrived_from 1 log.now.events) }
+{
+    let _ = log;
+    let numbers = arrived_in(alloc, heads)?;
+    Ok(numbers)
+}
+
 // ---- winds
 
 fn opened_by(alloc: Global, winds: &[WindLine]) -> Result<Vec<u64>, AllocError>
@@ -171,7 +181,7 @@ pub fn numbers_of(alloc: Global, log: &Log, heads: &[Head]) -> Result<Numbers, A
     let internal = Seq::from_vec(internal_in(alloc, log.events.as_slice())?);
     let answered = Seq::from_vec(copied(alloc, log.answered.as_slice())?);
     let owed = Seq::from_vec(owed_by(alloc, log.sent.as_slice())?);
-    let arrived = Seq::from_vec(arrived_in(alloc, heads)?);
+    let arrived = Seq::from_vec(arrivals_of(alloc, log, heads)?);
     let opened = Seq::from_vec(opened_by(alloc, log.winds.as_slice())?);
     let ended = Seq::from_vec(ended_by(alloc, log.winds.as_slice())?);
     Ok(Numbers {
