@@ -2,10 +2,10 @@
 
 use crate::answers::{Served, done_wind, whole_output};
 use crate::bearers::Bearer;
-use crate::served::whole_input;
 use brick_machine::Brick;
 use bytes::Bytes;
-use fop_types::{BrickReq, Input, Seq};
+use fop_types::{Proc, Seq};
+use log_audit::requests::request_proc;
 use mount_log::WindLine;
 use std::alloc::{AllocError, Global};
 use std::collections::BTreeMap;
@@ -52,8 +52,15 @@ fn openings_of(alloc: Global, winds: &[WindLine]) -> Result<BTreeMap<u64, Openin
     Ok(openings)
 }
 
-// The wind of an output that is a Done with nothing.
+// The length of the encoding of a Done with nothing, in bytes: the number of inputs, a hyper; a unit for the kind of output; the
+// wind, a hyper; a unit each for the answer and what it is done with.
+const DONE: usize = 28;
+
+// The wind of an output that is a Done with nothing. Longer and shorter ones are not decoded.
 fn wind_done(alloc: Global, bytes: &[u8]) -> Result<Option<u64>, AllocError> {
+    if bytes.len() != DONE {
+        return Ok(None);
+    }
     match whole_output(alloc, bytes)? {
         Some(output) => Ok(done_wind(&output.kind)),
         None => Ok(None),
@@ -86,28 +93,36 @@ struct Asked {
     part: Part,
 }
 
-fn part_of(req: &BrickReq) -> Option<Part> {
-    match req {
-        BrickReq::Op { change, .. } => Some(Part::Op(*change)),
-        BrickReq::Post { change, .. } => Some(Part::Post(*change)),
-        _ => None,
+// Where the wind of a request is in its encoding, and the change of an op or a post: behind a unit for the kind of input; and
+// behind the wind, a hyper, a unit for the graph, and one for the procedure.
+const WIND: usize = 4;
+
+const CHANGE: usize = 20;
+
+// The hyper at a place.
+fn hyper_at(bytes: &[u8], at: usize) -> Option<u64> {
+    let mut number = 0u64;
+    for byte in bytes.get(at..)?.get(..8)? {
+        number = (number << 8) | *byte as u64;
     }
+    Some(number)
 }
 
-fn asked_by(input: &Input) -> Option<Asked> {
-    match input {
-        Input::Request { wind, req, .. } => {
-            let part = part_of(req)?;
-            Some(Asked { wind: *wind, part })
-        }
+// The op or the post that bytes are, read without the rest.
+fn asked_in(bytes: &[u8]) -> Option<Asked> {
+    let proc = request_proc(bytes)?;
+    let wind = hyper_at(bytes, WIND)?;
+    let change = hyper_at(bytes, CHANGE)?;
+    match proc {
+        Proc::Op => Some(Asked {
+            wind,
+            part: Part::Op(change),
+        }),
+        Proc::Post => Some(Asked {
+            wind,
+            part: Part::Post(change),
+        }),
         _ => None,
-    }
-}
-
-fn asked_in(alloc: Global, bytes: &[u8]) -> Result<Option<Asked>, AllocError> {
-    match whole_input(alloc, bytes)? {
-        Some(input) => Ok(asked_by(&input)),
-        None => Ok(None),
     }
 }
 
@@ -193,8 +208,7 @@ impl Search {
         };
         let journal = at.journal();
         for place in 0..journal.len() {
-            let asked = asked_in(alloc, journal[place].as_slice())?;
-            if let Some(asked) = asked {
+            if let Some(asked) = asked_in(journal[place].as_slice()) {
                 self.take(alloc, &mut reading, place, asked)?;
             }
         }

@@ -1,5 +1,5 @@
--- In reading order: the last wind of each slot; what the winds say so far; prefixes; timely arrivals; honest arrivals; lines
--- in order; replies; lines that can be armed; switches so far; calls, and their graphs.
+-- In reading order: the last wind of each slot; what the winds say so far; prefixes; heads of what arrives; timely arrivals;
+-- honest arrivals; lines in order; replies; lines that can be armed; switches so far; calls, and their graphs.
 pub mod Slots
 pub mod Agreeing
 pub mod Prefixes

@@ -1,9 +1,11 @@
 //! Whether what arrived is what the bricks make of what was sent to them.
 ghost use Rattle.std.specs.Prelude.{◌≡◌, true, length, IfOk};
+ghost use Rattle.log_audit.specs.Heads.{heads_of};
 ghost use Rattle.log_audit.specs.Honest.{IsHonestAt, IsFrom, HasHonestArrivals, HasJournals};
 ghost use Rattle.std.specs.List.{AllByRecursion};
 
 use crate::bricks::{was_put_out, was_sent};
+use crate::heads::Head;
 use crate::timely::are_timely;
 use brick_machine::{Brick, outputs_are_in_order};
 use mount_log::{HubEvent, Log};
@@ -31,27 +33,34 @@ fn are_from(events: &[HubEvent], many: usize) -> bool
 }
 
 // Whether the log is honest of one brick.
-fn is_honest(alloc: Global, log: &Log, brick: u8, at: &Brick) -> Result<bool, AllocError>
-    ensures { IfOk result (λ yes. yes ≡ true → IsHonestAt log.now brick at.now) }
+fn is_honest(log: &Log, heads: &[Head], brick: u8, at: &Brick) -> bool
+    requires { heads.now ≡ heads_of log.now.events }
+    ensures { result ≡ true → IsHonestAt log.now brick at.now }
 {
     let sent = log.sent.as_slice();
     let events = log.events.as_slice();
     if !was_sent(brick, sent, at.journal()) {
-        return Ok(false);
+        return false;
     }
     if !was_put_out(brick, events, at.outputs()) {
-        return Ok(false);
+        return false;
     }
-    are_timely(alloc, brick, events, sent)
+    are_timely(brick, events, heads, sent)
 }
 
 /// Whether each brick's journal is a prefix of what was sent to it, and what arrived is honest and of the brick's own
-/// outputs. It is false, too, where there are more than 255 bricks, or what was sent does not stand in the order of its
-/// events.
+/// outputs, by the heads of what arrived. It is false, too, where there are more than 255 bricks, or what was sent does not
+/// stand in the order of its events.
 ///
 /// # Errors
-/// Out of memory.
-pub fn arrivals_are_honest(alloc: Global, log: &Log, bricks: &[Brick]) -> Result<bool, AllocError>
+/// None: it does not allocate.
+pub fn arrivals_are_honest(
+    _alloc: Global,
+    log: &Log,
+    heads: &[Head],
+    bricks: &[Brick],
+) -> Result<bool, AllocError>
+    requires heads { heads.now ≡ heads_of log.now.events }
     ensures honest { IfOk result (λ yes. yes ≡ true → HasHonestArrivals log.now) }
     ensures journals { IfOk result (λ yes. yes ≡ true → HasJournals log.now bricks.now) }
 {
@@ -60,7 +69,7 @@ pub fn arrivals_are_honest(alloc: Global, log: &Log, bricks: &[Brick]) -> Result
     }
     outputs_are_in_order();
     for brick in 0..bricks.len() {
-        if !is_honest(alloc, log, brick as u8, &bricks[brick])? {
+        if !is_honest(log, heads, brick as u8, &bricks[brick]) {
             return Ok(false);
         }
     }

@@ -9,6 +9,8 @@
 //!                          arrived, the bricks
 //! ```
 //!
+//! `heads` decodes what arrives once: audits that need no more of an output than its head take the heads from their caller.
+//!
 //! Each audit goes through the log a fixed number of times, `arrivals_are_honest` once more for each brick. It knows nothing of
 //! how the log came about. True says that its definition holds of the log; false alone says nothing: an audit may ask for
 //! more than its definition, where every log of a run has it. A program calls them before it writes a report.

@@ -1,13 +1,12 @@
 //! Whether outputs arrive after the inputs that they count.
-ghost use Rattle.std.specs.Prelude.{◌≡◌, ◌≤◌, ◌==◌, ℕ, List, true, if◌then◌else◌, IfOk};
+ghost use Rattle.std.specs.Prelude.{◌≡◌, ◌≤◌, ◌==◌, ℕ, List, true, if◌then◌else◌};
 ghost use Rattle.mount_log.specs.declared.logs.SentLine.{SentLine as Line};
 ghost use Rattle.mount_log.specs.Arrivals.{sent_before};
-ghost use Rattle.log_audit.specs.Arriving.{CountsAtMost, IsTimely, AreTimely, IsLow};
-ghost use Rattle.wire_messages.specs.Messages.{output_in};
+ghost use Rattle.log_audit.specs.Arriving.{IsTimely, AreTimely, IsLow};
+ghost use Rattle.log_audit.specs.Heads.{head_of, heads_of};
 
+use crate::heads::{Head, head_at};
 use mount_log::{HubEvent, SentLine};
-use std::alloc::{AllocError, Global};
-use wire_messages::{Message, output_of};
 
 /// How many lines were passed, and how many of them were sent to a brick.
 #[derive(Clone, Copy)]
@@ -44,49 +43,37 @@ fn pass_to(brick: u8, sent: &[SentLine], number: u64, passed: Passed, before: u6
     now
 }
 
-// Whether an output, by its bytes, counts at most so many inputs.
-fn counts_at_most(alloc: Global, bytes: &[u8], many: usize) -> Result<bool, AllocError>
-    ensures { IfOk result (λ yes. yes ≡ true → CountsAtMost (output_in bytes.now) many) }
-{
-    match output_of(alloc, bytes)? {
-        Message::Whole(output) => Ok(output.taken <= many as u64),
-        Message::Wrong { place: _ } => Ok(true),
-    }
-}
-
-// Whether what arrives in an event is timely, where so many inputs were sent to the brick before.
-fn is_timely(alloc: Global, brick: u8, event: &HubEvent, many: usize) -> Result<bool, AllocError>
-    ensures { IfOk result (λ yes. yes ≡ true → (sent : List Line) (number : ℕ) → many ≤ sent_before number brick sent → IsTimely brick sent number event.now) }
+// Whether what arrives in an event is timely, by its head, where so many inputs were sent to the brick before.
+fn is_timely(brick: u8, event: &HubEvent, head: Head, many: usize) -> bool
+    requires { head ≡ head_of event.now }
+    ensures { result ≡ true → (sent : List Line) (number : ℕ) → many ≤ sent_before number brick sent → IsTimely brick sent number event.now }
 {
     match event {
-        HubEvent::Arrive { brick: from, bytes } => {
+        HubEvent::Arrive { brick: from, .. } => {
             if *from != brick {
-                return Ok(true);
+                return true;
             }
-            counts_at_most(alloc, bytes.as_slice(), many)
+            head.taken <= many as u64
         }
-        _ => Ok(true),
+        _ => true,
     }
 }
 
-/// Whether each output that arrives from a brick counts no more inputs than were sent to the brick before.
-///
-/// # Errors
-/// Out of memory.
-pub fn are_timely(
-    alloc: Global,
-    brick: u8,
-    events: &[HubEvent],
-    sent: &[SentLine],
-) -> Result<bool, AllocError>
-    ensures { IfOk result (λ yes. yes ≡ true → AreTimely brick events.now sent.now) }
+/// Whether each output that arrives from a brick counts no more inputs than were sent to the brick before, by the heads of what
+/// arrives.
+pub fn are_timely(brick: u8, events: &[HubEvent], heads: &[Head], sent: &[SentLine]) -> bool
+    requires { heads.now ≡ heads_of events.now }
+    ensures { result ≡ true → AreTimely brick events.now sent.now }
 {
     let mut passed = Passed { next: 0, count: 0 };
     for k in 0..events.len() {
         passed = pass_to(brick, sent, k as u64 + 1, passed, k as u64);
-        if !is_timely(alloc, brick, &events[k], passed.count)? {
-            return Ok(false);
+        let Some(head) = head_at(heads, k) else {
+            return false;
+        };
+        if !is_timely(brick, &events[k], head, passed.count) {
+            return false;
         }
     }
-    Ok(true)
+    true
 }

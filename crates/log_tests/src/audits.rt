@@ -4,6 +4,7 @@ ghost use Rattle.script_lang.specs.Accepted.{IsAccepted};
 use brick_machine::Brick;
 use graph_build::Plan;
 use line_audit::connects_are_caused;
+use log_audit::heads::heads_of;
 use log_audit::{
     arrivals_are_honest, is_finished, submits_are_in_order, winds_are_balanced, winds_are_once,
 };
@@ -23,6 +24,7 @@ pub(crate) fn refusals(
 ) -> Result<Vec<u8>, AllocError>
     requires { IsAccepted script.now }
 {
+    let heads = heads_of(alloc, log.events.as_slice())?;
     let mut letters = Vec::new(alloc);
     note(
         &mut letters,
@@ -34,7 +36,11 @@ pub(crate) fn refusals(
         winds_are_once(alloc, log.winds.as_slice())?,
         b'o',
     )?;
-    note(&mut letters, arrivals_are_honest(alloc, log, bricks)?, b'a')?;
+    note(
+        &mut letters,
+        arrivals_are_honest(alloc, log, heads.as_slice(), bricks)?,
+        b'a',
+    )?;
     note(
         &mut letters,
         submits_are_in_order(alloc, script, log)?,
@@ -42,7 +48,7 @@ pub(crate) fn refusals(
     )?;
     note(
         &mut letters,
-        connects_are_caused(alloc, script, plans, log)?,
+        connects_are_caused(alloc, script, plans, log, heads.as_slice())?,
         b'c',
     )?;
     note(&mut letters, is_finished(alloc, script, log)?, b'f')?;

@@ -7,6 +7,7 @@ ghost use Rattle.mount_log.specs.Follows.{FollowsScript, IsFinished};
 ghost use Rattle.mount_log.specs.Ties.{AreTied};
 ghost use Rattle.mount_log.specs.Winds.{WindsAreBalanced};
 ghost use Rattle.script_lang.specs.Accepted.{IsAccepted};
+ghost use Rattle.log_audit.specs.Heads.{heads_of};
 ghost use Rattle.log_audit.specs.Honest.{HasHonestArrivals};
 ghost use Rattle.mount_run.specs.Headline.{AreBricksOf, HasFiles, IsLawfulRun};
 ghost use Rattle.mount_run.specs.Outcomes.{IsStopped};
@@ -16,6 +17,7 @@ use error_audit::io_errors_are_caused;
 use graph_build::Plan;
 use hub_calls::Rack;
 use line_audit::{connects_are_caused, lines_are_tied};
+use log_audit::heads::{Head, heads_of};
 use log_audit::{arrivals_are_honest, is_finished, winds_are_balanced, winds_are_once};
 use log_replay::one_file_system;
 use mount_log::Log;
@@ -25,26 +27,33 @@ use script_lang::Script;
 use std::alloc::{AllocError, Global};
 
 // Whether the log follows the script, and is finished.
-fn follows(alloc: Global, script: &Script, log: &Log) -> Result<bool, AllocError>
-    requires { IsAccepted script.now }
+fn follows(alloc: Global, script: &Script, log: &Log, heads: &[Head]) -> Result<bool, AllocError>
+    requires accepted { IsAccepted script.now }
+    requires heads { heads.now ≡ heads_of log.now.events }
     ensures follows { IfOk result (λ yes. yes ≡ true → FollowsScript script.now log.now) }
     ensures finished { IfOk result (λ yes. yes ≡ true → IsFinished script.now log.now) }
 {
-    if !follows_script(alloc, script, log)? {
+    if !follows_script(alloc, script, log, heads)? {
         return Ok(false);
     }
     is_finished(alloc, script, log)
 }
 
 // Whether there is a brick for each of the script's, each with what the log says of it.
-fn are_bricks(alloc: Global, script: &Script, left: &Rack) -> Result<bool, AllocError>
+fn are_bricks(
+    alloc: Global,
+    script: &Script,
+    left: &Rack,
+    heads: &[Head],
+) -> Result<bool, AllocError>
+    requires { heads.now ≡ heads_of left.now.log.events }
     ensures honest { IfOk result (λ yes. yes ≡ true → HasHonestArrivals left.now.log) }
     ensures bricks { IfOk result (λ yes. yes ≡ true → AreBricksOf script.now left.now.log left.now.bricks) }
 {
     if left.bricks.len() != script.bricks.len() {
         return Ok(false);
     }
-    arrivals_are_honest(alloc, &left.log, left.bricks.as_slice())
+    arrivals_are_honest(alloc, &left.log, heads, left.bricks.as_slice())
 }
 
 // Whether the replies are those of one plain file system, and each acknowledged change is on a quorum of bricks.
@@ -71,13 +80,20 @@ fn has_files(
 }
 
 // Whether winds, connections and I/O errors are as they should be.
-fn has_causes(alloc: Global, script: &Script, plans: &[Plan], log: &Log) -> Result<bool, AllocError>
+fn has_causes(
+    alloc: Global,
+    script: &Script,
+    plans: &[Plan],
+    log: &Log,
+    heads: &[Head],
+) -> Result<bool, AllocError>
+    requires { heads.now ≡ heads_of log.now.events }
     ensures winds { IfOk result (λ yes. yes ≡ true → WindsAreBalanced log.now.winds) }
     ensures connections { IfOk result (λ yes. yes ≡ true → ConnectsAreCaused script.now plans.now log.now) }
     ensures causes { IfOk result (λ yes. yes ≡ true → AreCaused script.now plans.now log.now) }
 {
     if !winds_are_balanced(alloc, log.winds.as_slice())?
-        || !connects_are_caused(alloc, script, plans, log)?
+        || !connects_are_caused(alloc, script, plans, log, heads)?
     {
         return Ok(false);
     }
@@ -85,17 +101,50 @@ fn has_causes(alloc: Global, script: &Script, plans: &[Plan], log: &Log) -> Resu
 }
 
 // Whether the lines are tied to the events, and winds, connections and I/O errors are as they should be.
-fn is_sound(alloc: Global, script: &Script, plans: &[Plan], log: &Log) -> Result<bool, AllocError>
-    requires { IsAccepted script.now }
+fn is_sound(
+    alloc: Global,
+    script: &Script,
+    plans: &[Plan],
+    log: &Log,
+    heads: &[Head],
+) -> Result<bool, AllocError>
+    requires accepted { IsAccepted script.now }
+    requires heads { heads.now ≡ heads_of log.now.events }
     ensures ties { IfOk result (λ yes. yes ≡ true → AreTied log.now) }
     ensures winds { IfOk result (λ yes. yes ≡ true → WindsAreBalanced log.now.winds) }
     ensures connections { IfOk result (λ yes. yes ≡ true → ConnectsAreCaused script.now plans.now log.now) }
     ensures causes { IfOk result (λ yes. yes ≡ true → AreCaused script.now plans.now log.now) }
 {
-    if !lines_are_tied(alloc, script, log)? {
+    if !lines_are_tied(alloc, script, log, heads)? {
         return Ok(false);
     }
-    has_causes(alloc, script, plans, log)
+    has_causes(alloc, script, plans, log, heads)
+}
+
+// Whether all but the files is as a run promises. What arrived is read once for all of it.
+fn has_course(
+    alloc: Global,
+    script: &Script,
+    plans: &[Plan],
+    left: &Rack,
+) -> Result<bool, AllocError>
+    requires { IsAccepted script.now }
+    ensures follows { IfOk result (λ yes. yes ≡ true → FollowsScript script.now left.now.log) }
+    ensures finished { IfOk result (λ yes. yes ≡ true → IsFinished script.now left.now.log) }
+    ensures honest { IfOk result (λ yes. yes ≡ true → HasHonestArrivals left.now.log) }
+    ensures bricks { IfOk result (λ yes. yes ≡ true → AreBricksOf script.now left.now.log left.now.bricks) }
+    ensures ties { IfOk result (λ yes. yes ≡ true → AreTied left.now.log) }
+    ensures winds { IfOk result (λ yes. yes ≡ true → WindsAreBalanced left.now.log.winds) }
+    ensures connections { IfOk result (λ yes. yes ≡ true → ConnectsAreCaused script.now plans.now left.now.log) }
+    ensures causes { IfOk result (λ yes. yes ≡ true → AreCaused script.now plans.now left.now.log) }
+{
+    let heads = heads_of(alloc, left.log.events.as_slice())?;
+    if !follows(alloc, script, &left.log, heads.as_slice())?
+        || !are_bricks(alloc, script, left, heads.as_slice())?
+    {
+        return Ok(false);
+    }
+    is_sound(alloc, script, plans, &left.log, heads.as_slice())
 }
 
 /// Whether the log of a run, with its bricks, is as a run promises: sessions submit their lines in order, each control is
@@ -114,10 +163,7 @@ pub fn is_lawful(
     requires { IsScript script.now plans.now }
     ensures { IfOk result (λ yes. yes ≡ true → IsLawfulRun script.now plans.now left.now) }
 {
-    if !follows(alloc, script, &left.log)? || !are_bricks(alloc, script, left)? {
-        return Ok(false);
-    }
-    if !is_sound(alloc, script, plans, &left.log)? {
+    if !has_course(alloc, script, plans, left)? {
         return Ok(false);
     }
     has_files(alloc, script, plans, left)
@@ -134,5 +180,6 @@ pub fn has_stopped(alloc: Global, script: &Script, left: &Rack) -> Result<bool, 
     if opened_in(winds) != 4294967295 || !winds_are_once(alloc, winds)? {
         return Ok(false);
     }
-    are_bricks(alloc, script, left)
+    let heads = heads_of(alloc, left.log.events.as_slice())?;
+    are_bricks(alloc, script, left, heads.as_slice())
 }

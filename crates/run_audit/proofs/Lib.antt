@@ -2,6 +2,7 @@ pub mod Cutting
 pub mod Phased
 pub mod Controlling
 pub mod OneByOne
+pub mod Arriving
 pub mod Settling
 pub mod Timing
 pub mod Sending

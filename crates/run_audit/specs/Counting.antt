@@ -1,10 +1,13 @@
 -- Numbers of events that do not fall, and how many of them there are up to one.
-use Rattle.std.specs.Prelude.{◌≡◌, ℕ, ◌+◌, ◌<◌, ◌≤◌, ◌&&◌, nat_le, Bool, true, List, [], ◌∷◌, Some, length, map, slice_get, take}
+use Rattle.std.specs.Prelude.{◌≡◌, ℕ, ◌+◌, ◌<◌, ◌≤◌, ◌&&◌, nat_le, Bool, true, false, List, [], ◌∷◌, Some, length, map, slice_get, take, if◌then◌else◌}
 use Rattle.script_lang.specs.Accepted.{calls_of}
 use Rattle.script_lang.specs.declared.scripts.Script.{Script}
 use Rattle.mount_log.specs.Phases.{internal_from, owed_in, arrived_from, opened_in, ended_in, HasNothingElse}
 use Rattle.mount_log.specs.Submissions.{count_below}
 use Rattle.mount_log.specs.declared.logs.Log.{Log}
+use Rattle.log_audit.specs.declared.heads.Head.{Head}
+use Rattle.log_audit.specs.declared.heads.Said.{Said}
+use Rattle.log_audit.specs.declared.heads.Said.TheVariants as said
 use Rattle.run_audit.specs.Noted.{ended_at}
 use Rattle.run_audit.specs.declared.numbers.Numbers.{Numbers}
 
@@ -28,6 +31,18 @@ pub record IsBetween (numbers : List ℕ) (n low high : ℕ) : Type 0 where
   pub few : high ≤ length numbers
   pub below : (i a : ℕ) → i < low → slice_get numbers i ≡ Some a → a ≤ n
   pub above : (i a : ℕ) → high ≤ i → slice_get numbers i ≡ Some a → n < a
+
+-- the events in which the output of a request, a Down or an Up arrived, by the heads of what arrived
+abbrev pub is_due_head : Said → Bool
+is_due_head said.Other = false
+is_due_head (said.Reply wind) = true
+is_due_head (said.Gone wind) = true
+is_due_head said.Closed = true
+is_due_head said.Opened = true
+
+abbrev pub due_from : ℕ → List Head → List ℕ
+due_from number [] = []
+due_from number (head ∷ heads) = if is_due_head head.said then number ∷ due_from (number + 1) heads else due_from (number + 1) heads
 
 -- the numbers of events of a log
 pub record AreNumbers (log : Log) (numbers : Numbers) : Type 0 where

@@ -1,14 +1,16 @@
 //! The numbers of the events in which something was done, in order.
 ghost use Rattle.std.specs.Prelude.{◌≡◌, true, map, IfOk};
-ghost use Rattle.mount_log.specs.Phases.{is_internal, begins_internal, internal_from, has_output, is_owed, owed_in, is_due, says_due, brings_due, arrived_from, opened_in, ended_in};
-ghost use Rattle.wire_messages.specs.Messages.{input_in, output_in};
-ghost use Rattle.run_audit.specs.Counting.{does_rise, AreNumbers, DoAllRise};
+ghost use Rattle.mount_log.specs.Phases.{is_internal, begins_internal, internal_from, has_output, is_owed, owed_in, arrived_from, opened_in, ended_in};
+ghost use Rattle.wire_messages.specs.Messages.{input_in};
+ghost use Rattle.log_audit.specs.Heads.{heads_of};
+ghost use Rattle.run_audit.specs.Counting.{does_rise, due_from, is_due_head, AreNumbers, DoAllRise};
 
-use fop_types::{Input, OutKind, Output, Seq};
+use fop_types::{Input, Seq};
+use log_audit::heads::{Head, Said};
 use mount_log::{HubEvent, Log, ReplyLine, SentLine, WindLine};
 use script_lang::Action;
 use std::alloc::{AllocError, Global};
-use wire_messages::{Message, input_of, output_of};
+use wire_messages::{Message, input_of};
 
 /// The numbers of events of a log: of its replies; of heals and switches, and of their answers; of what was sent that has an
 /// output, and of the arrivals of such outputs; of the winds that were opened, and of those that ended.
@@ -108,44 +110,34 @@ fn owed_by(alloc: Global, sent: &[SentLine]) -> Result<Vec<u64>, AllocError>
     Ok(numbers)
 }
 
-fn is_due(kind: &OutKind) -> bool
-    ensures { result ≡ is_due kind.now }
+fn is_due(said: Said) -> bool
+    ensures { result ≡ is_due_head said }
 {
-    match kind {
-        OutKind::Reply { .. } => true,
-        OutKind::Closed => true,
-        OutKind::Opened => true,
-        _ => false,
+    match said {
+        Said::Other => false,
+        _ => true,
     }
 }
 
-fn says_due(alloc: Global, bytes: &[u8]) -> Result<bool, AllocError>
-    ensures { IfOk result (λ yes. yes ≡ says_due (output_in bytes.now)) }
-{
-    match output_of(alloc, bytes)? {
-        Message::Whole(output) => Ok(is_due(&output.kind)),
-        Message::Wrong { place: _ } => Ok(false),
-    }
-}
-
-fn brings_due(alloc: Global, event: &HubEvent) -> Result<bool, AllocError>
-    ensures { IfOk result (λ yes. yes ≡ brings_due event.now) }
-{
-    match event {
-        HubEvent::Arrive { bytes, .. } => says_due(alloc, bytes.as_slice()),
-        _ => Ok(false),
-    }
-}
-
-fn arrived_in(alloc: Global, events: &[HubEvent]) -> Result<Vec<u64>, AllocError>
-    ensures { IfOk result (λ numbers. numbers.items ≡ arrived_from 1 events.now) }
+fn arrived_in(alloc: Global, heads: &[Head]) -> Result<Vec<u64>, AllocError>
+    ensures { IfOk result (λ numbers. numbers.items ≡ due_from 1 heads.now) }
 {
     let mut numbers = Vec::new(alloc);
-    for k in 0..events.len() {
-        if brings_due(alloc, &events[k])? {
+    for k in 0..heads.len() {
+        if is_due(heads[k].said) {
             numbers.push(k as u64 + 1)?;
         }
     }
+    Ok(numbers)
+}
+
+// The events in which such outputs arrived, where these are the heads of what arrives in the log's events.
+fn arrivals_of(alloc: Global, log: &Log, heads: &[Head]) -> Result<Vec<u64>, AllocError>
+    requires { heads.now ≡ heads_of log.now.events }
+    ensures { IfOk result (λ numbers. numbers.items ≡ arrived_from 1 log.now.events) }
+{
+    let _ = log;
+    let numbers = arrived_in(alloc, heads)?;
     Ok(numbers)
 }
 
@@ -177,18 +169,19 @@ fn ended_by(alloc: Global, winds: &[WindLine]) -> Result<Vec<u64>, AllocError>
 
 // ---- all
 
-/// The numbers of the events of a log.
+/// The numbers of the events of a log, whose arrivals have these heads.
 ///
 /// # Errors
 /// Out of memory.
-pub fn numbers_of(alloc: Global, log: &Log) -> Result<Numbers, AllocError>
+pub fn numbers_of(alloc: Global, log: &Log, heads: &[Head]) -> Result<Numbers, AllocError>
+    requires { heads.now ≡ heads_of log.now.events }
     ensures { IfOk result (λ numbers. AreNumbers log.now numbers) }
 {
     let replied = Seq::from_vec(replied_in(alloc, log.replies.as_slice())?);
     let internal = Seq::from_vec(internal_in(alloc, log.events.as_slice())?);
     let answered = Seq::from_vec(copied(alloc, log.answered.as_slice())?);
     let owed = Seq::from_vec(owed_by(alloc, log.sent.as_slice())?);
-    let arrived = Seq::from_vec(arrived_in(alloc, log.events.as_slice())?);
+    let arrived = Seq::from_vec(arrivals_of(alloc, log, heads)?);
     let opened = Seq::from_vec(opened_by(alloc, log.winds.as_slice())?);
     let ended = Seq::from_vec(ended_by(alloc, log.winds.as_slice())?);
     Ok(Numbers {

@@ -4,6 +4,7 @@ ghost use Rattle.script_lang.specs.Accepted.{IsAccepted};
 ghost use Rattle.mount_log.specs.Controls.{AreAnswered};
 ghost use Rattle.mount_log.specs.Follows.{RunOf, FollowsScript};
 ghost use Rattle.log_audit.specs.Armed.{AreAllArmed};
+ghost use Rattle.log_audit.specs.Heads.{heads_of};
 ghost use Rattle.run_audit.specs.CallPhases.{AreOneByOne, AreInPhases, AreAnsweredIn, HaveCalls};
 ghost use Rattle.run_audit.specs.Controlled.{AreOfControls, AreCarriedOut, AreTables};
 ghost use Rattle.run_audit.specs.Counting.{AreNumbers, DoAllRise, AreSettled};
@@ -25,6 +26,7 @@ use crate::sent_for::lines_are_sent_for;
 use crate::settled::phases_are_settled;
 use log_audit::armed_lines::{ArmedLines, all_armed};
 use log_audit::calls_made::{CallMade, calls_made};
+use log_audit::heads::Head;
 use log_audit::submits_are_in_order;
 use mount_log::Log;
 use script_lang::Script;
@@ -188,11 +190,18 @@ fn is_shown_by(
     Ok(yes)
 }
 
-fn is_shown(alloc: Global, script: &Script, log: &Log, notes: &RunNotes) -> Result<bool, AllocError>
-    requires { IsAccepted script.now }
+fn is_shown(
+    alloc: Global,
+    script: &Script,
+    log: &Log,
+    heads: &[Head],
+    notes: &RunNotes,
+) -> Result<bool, AllocError>
+    requires accepted { IsAccepted script.now }
+    requires heads { heads.now ≡ heads_of log.now.events }
     ensures { IfOk result (λ yes. yes ≡ true → RunOf script.now log.now) }
 {
-    let numbers = numbers_of(alloc, log)?;
+    let numbers = numbers_of(alloc, log, heads)?;
     if !do_all_rise(&numbers) {
         return Ok(false);
     }
@@ -201,29 +210,41 @@ fn is_shown(alloc: Global, script: &Script, log: &Log, notes: &RunNotes) -> Resu
 }
 
 // Whether the log is that of a run of the script: what `follows_script` says, but for the order of each session's lines.
-pub(crate) fn is_run_of(alloc: Global, script: &Script, log: &Log) -> Result<bool, AllocError>
-    requires { IsAccepted script.now }
+pub(crate) fn is_run_of(
+    alloc: Global,
+    script: &Script,
+    log: &Log,
+    heads: &[Head],
+) -> Result<bool, AllocError>
+    requires accepted { IsAccepted script.now }
+    requires heads { heads.now ≡ heads_of log.now.events }
     ensures { IfOk result (λ yes. yes ≡ true → RunOf script.now log.now) }
 {
     let notes = notes_of(alloc, script, log)?;
-    let yes = is_shown(alloc, script, log, &notes)?;
+    let yes = is_shown(alloc, script, log, heads, &notes)?;
     Ok(yes)
 }
 
 /// Whether the log follows the script: sessions submit their lines in order, each phase ends with nothing else left, each control
 /// was carried out once, in its moment, as an event of its own or before its request, there is no other action, and calls are
-/// submitted one at a time and answered within their phases. It is false, too, where a reply is to no call, or lines are not in
-/// the order of their events.
+/// submitted one at a time and answered within their phases. What arrived is known by its heads. It is false, too, where a reply
+/// is to no call, or lines are not in the order of their events.
 ///
 /// # Errors
 /// Out of memory.
-pub fn follows_script(alloc: Global, script: &Script, log: &Log) -> Result<bool, AllocError>
-    requires { IsAccepted script.now }
+pub fn follows_script(
+    alloc: Global,
+    script: &Script,
+    log: &Log,
+    heads: &[Head],
+) -> Result<bool, AllocError>
+    requires accepted { IsAccepted script.now }
+    requires heads { heads.now ≡ heads_of log.now.events }
     ensures { IfOk result (λ yes. yes ≡ true → FollowsScript script.now log.now) }
 {
     if !submits_are_in_order(alloc, script, log)? {
         return Ok(false);
     }
-    let yes = is_run_of(alloc, script, log)?;
+    let yes = is_run_of(alloc, script, log, heads)?;
     Ok(yes)
 }

@@ -13,7 +13,7 @@ pub loop-brick-preserved : goal.loop-brick-preserved
 loop-brick-preserved c =
     each_next (λ (k : ℕ) (b : Journal). IsHonestAt c.args.log.now k b) c.args.bricks.now c.loop-brick.brick c.index-bricks-brick.result
     (slice_get-get_or c.args.bricks.now c.loop-brick.brick c.index-bricks-brick.result c.loop-brick-test.true ∙ ap Some (sym c.index-bricks-brick.is))
-    (c.in_ok-is_honest.ensures c.if-not-branch.false) c.loop-brick.invariant
+    (c.is_honest.ensures c.if-not-is_honest.false) c.loop-brick.invariant
 
 pub returns-clause-honest : goal.returns-clause-honest
 returns-clause-honest c = λ _.
