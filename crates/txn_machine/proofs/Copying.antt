@@ -189,18 +189,20 @@ module _ (size : Size) (m : State) (t : ℕ) (run : CopyRun) (shows : Option (Co
   replace_met : (origin : Origin) (r : BrickReq) → run.stage ≡ stage.Replacing origin → flag (sinks_left run) k ≡ true → IsReplaceOf run origin shows r → MeetsCopyGuard size m t copy k r
   replace_met origin r e sink f =
       let has : HasFetched copy.fetched f.cell f.content origin.last = is.fetched origin f.cell f.content e f.at f.shown in
-      subst (λ (q : BrickReq). MeetsCopyGuard size m t copy k q) (sym f.is)
-      (λ holds. subst (λ (o : Option Fetched). MayBeAsked size m t k (replace_of f.cell o)) (sym has.there)
-      (record {
-        member = member holds (sink_has run.job run.outs k sink).1;
-        run = copy;
-        turn = is.stage_is;
-        replacing = is.clears ∙ ap is_clearing e;
-        of_run = of_run f.cell f.at;
-        sink = ap (λ (s : Replicas). s k) is.sinks ∙ (sink_has run.job run.outs k sink).0;
-        fetched = has.there;
-        not_replaced = is.not_replaced origin f.cell k e f.at;
-      }), has)
+      subst (λ (q : BrickReq). MeetsCopyGuard size m t copy k q) (sym f.is) (
+        λ holds. subst (λ (o : Option Fetched). MayBeAsked size m t k (replace_of f.cell o)) (sym has.there)
+            (record {
+              member = member holds (sink_has run.job run.outs k sink).1;
+              run = copy;
+              turn = is.stage_is;
+              replacing = is.clears ∙ ap is_clearing e;
+              of_run = of_run f.cell f.at;
+              sink = ap (λ (s : Replicas). s k) is.sinks ∙ (sink_has run.job run.outs k sink).0;
+              fetched = has.there;
+              not_replaced = is.not_replaced origin f.cell k e f.at;
+            }),
+        has,
+      )
 
   clear_met : (current : List Bool) (r : BrickReq) → run.stage ≡ stage.Clearing current → flag (held_left run) k ≡ true → IsClearOf run current r → MeetsCopyGuard size m t copy k r
   clear_met current r e h f = subst (λ (q : BrickReq). MeetsCopyGuard size m t copy k q) (sym f.is) (guard, tt) where

@@ -82,9 +82,11 @@ IsCarried fetched req.Index = Unit {0}
 IsCarried fetched (req.Open fd gfid) = Unit {0}
 IsCarried fetched (req.Release fd) = Unit {0}
 
--- `shows` is the content that the answer of this turn carried. Those whose locks are held are members of the lock phase, and none
--- of them is out in the record who is used here; the current cell is not fetched while it is to be, and then as it was shown, and
--- it is replaced nowhere yet; while the clear is sent, the sinks that confirmed every cell are those that the copy names.
+-- The record of a copy; `shows` is the content that the answer of this turn carried. Its cells, sources and sinks; those whose
+-- locks are held are members of the lock phase, and none of them is out there who is used here; those who are asked owe no
+-- answer, and the clear is still to be sent to them. How far it has come: the current cell is not fetched while it is to be
+-- fetched, and then as it was shown, and it is replaced nowhere yet; while the clear is sent, the sinks that confirmed every cell
+-- are those that the copy has as current.
 pub record IsCopyOf (size : Size) (m : State) (t : ℕ) (run : CopyRun) (shows : Option (Content × ℕ)) (copy : CopyRecord) : Type 0 where
   pub stage_is : (m.txns t).stage ≡ Stage.Copying copy
   pub cells : copy.cells ≡ run.job.cells

@@ -13,9 +13,11 @@
 //!
 //! A turn sends requests; at that moment the machine has a record of the transaction, and each request is one that the
 //! guard of its kind allows. The exceptions are those of the machine: a replica whose lock was lost with its connection
-//! is not asked there but missed, and that births are apart is kept by whoever runs the transactions. So it is with the
-//! copies of `self_heal`, which run under the locks of a transaction: their fetches, replacements and clears meet their
-//! guards. Which sinks confirmed every cell is there what the copy names, as `self_heal` proves of it.
+//! is not asked there but missed, and that births are apart is kept by whoever runs the transactions.
+//!
+//! So it is with the copies of `self_heal`, which run under the locks of a transaction. How far a copy has come is a part
+//! of its record there: what is fetched and replaced of the current cell, and that the sinks which a clear names are those
+//! that confirmed every cell. `self_heal` proves one half of the last: each that is named has confirmed every cell.
 //!
 //! The crate has definitions and laws alone: each public function has no body, and its contract is a law of every turn.
 #![tactic(auto)]
