@@ -80,21 +80,27 @@ abbrev pub lack_sources : List Bool → List Part → Bool
 lack_sources reached [] = false
 lack_sources reached (part ∷ parts) = is_none (lowest (both part.sources reached)) || lack_sources reached parts
 
+-- A lock phase: of a settling its change is settled by now, else an unsettled change touches its cells.
 abbrev pub is_lock_late : Option ℕ → ℕ → Job → List Cell → State Cell → Bool
 is_lock_late (Some change) set job cells ledger = is_settled set job change ledger
 is_lock_late None set job cells ledger = is_met set job cells ledger
 
+-- A read: one that was reached is out. No read goes on where its rows are split.
 abbrev pub is_read_late : Txn → Bool
 is_read_late txn = has_lost txn || is_split_read txn 0 txn.cells
 
+-- Copies: of a settling always; else one that was reached is out, or an unsettled change touches the cells. No copy is asked for
+-- where a part lacks a source, nor by another job than a change and a heal.
 abbrev pub is_copy_late : Txn → List Part → State Cell → Bool
 is_copy_late txn rest ledger =
     has_lost txn || (is_some txn.settles || (lack_sources txn.shown.reached rest
     || (is_met txn.set txn.job txn.cells ledger || not (is_change txn.job || is_heal txn.job))))
 
+-- A mark: its change may not become unsettled any more. No job marks that has no op.
 abbrev pub is_mark_late : Txn → ℕ → State Cell → Bool
 is_mark_late txn change ledger = not (may_begin txn change ledger) || is_none (change_op txn.job)
 
+-- A settle: its change is decided, or settled by another by now.
 abbrev pub is_settle_late : Txn → Verdict → State Cell → Bool
 is_settle_late txn verdict ledger = verdict.decided || is_settled txn.set txn.job verdict.change ledger
 

@@ -67,9 +67,9 @@ pub fn others_add_few_rounds()
     ensures elsewhere { BeginsElsewhereRaiseNothing }
 {}
 
-/// A job ends, whatever the replicas answer and others do: it takes at most as many answers and finished copies as its weight
-/// at first, and 456 more for each change that becomes unsettled on its cells meanwhile. The call does nothing: its contract
-/// exports this.
+/// A job ends, whatever the replicas answer and others do, as long as its copies leave sinks only as said above: it takes at
+/// most as many answers and finished copies as its weight at first, and 456 more for each change that becomes unsettled on its
+/// cells meanwhile. The call does nothing: its contract exports this.
 pub fn jobs_end()
     ensures { JobsEnd }
 {}

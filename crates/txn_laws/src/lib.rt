@@ -1,6 +1,6 @@
 //! What the turns of the transactions of `afr_transaction` keep, whatever the replicas answer: what a turn does to the ledger,
-//! that I/O errors have causes, which replicas and rows they list, that requests end, and how
-//! often a job begins again.
+//! that I/O errors have causes, which replicas and rows they list, that requests end, how often a job begins again, and that it
+//! ends.
 //!
 //! The crate has definitions and laws alone: each public function has no body, and its contract is a law of every turn.
 #![tactic(auto)]
