@@ -1,16 +1,17 @@
 -- Where the report of a text begins: the text line by line, up to the first that is `report 1`.
-use Rattle.std.proofs.Common.{◌≡◌, ℕ, suc, ◌+◌, ◌<◌, ◌≤◌, ◌==◌, Bool, true, false, cond, List, [], ◌∷◌, ◌++◌, length, length-take, length-drop, take, drop, refl, sym, ap, subst, ◌∙◌, arith, eqb-true}
-use Rattle.std.specs.Prelude.{◌≢◌, Err, nat_lt}
+use Rattle.std.proofs.Common.{◌≡◌, ℕ, suc, ◌+◌, ◌-◌, ◌<◌, ◌≤◌, ◌==◌, Bool, true, false, cond, List, [], ◌∷◌, ◌++◌, length, length-take, length-drop, take, drop, refl, sym, ap, subst, ◌∙◌, arith, eqb-true}
+use Rattle.std.specs.Prelude.{◌≢◌, Ok}
 use Rattle.std.specs.List.{AllByRecursion}
-use Rattle.std.proofs.lemmas.Bool.{lt-ltb}
-use Rattle.std.proofs.lemmas.List.{length_push, take_all}
+use Rattle.std.proofs.lemmas.List.{length_push, take_rest}
 use Rattle.std.proofs.Math.Seq.{take-add}
 use Rattle.volfile.specs.TextLines.{lines_of, onto_first, front_len, is_text}
 use Rattle.volfile.proofs.PartLemmas.{front_within, lines_cut}
-use Rattle.volfile.proofs.Places.{same_word, word_itself}
+use Rattle.volfile.proofs.Places.{word_itself}
 use Rattle.history_replay.specs.Reports.{last_or}
 use Rattle.report_reader.specs.Readings.{lines_in, IsRefusedAt}
-use Rattle.mount_run.specs.Replays.{report_line, AreWholeLines, HasNoReport, IsReportAt}
+use Rattle.mount_run.specs.Plans.{accepted}
+use Rattle.mount_run.specs.Replays.{report_line, AreWholeLines, HasNoReport, IsReportAt, IsReportRefused}
+use Rattle.mount_run.specs.declared.plans.Accepted.{Accepted}
 use Rattle.mount_run.proofs.Planning.{all_push}
 
 -- ---- lines of two texts, of which the first ends with a line
@@ -62,7 +63,7 @@ fed_few (b ∷ bs) = elim (b == 10) as (λ t. length (cond t ((10 ∷ []) ∷ li
 ]
 
 -- ---- the first line, with its line feed
-first_len : List ℕ → ℕ
+abbrev first_len : List ℕ → ℕ
 first_len bs = front_len (λ b. b == 10) bs
 
 first_alone : (bs : List ℕ) → 0 < length bs → lines_of (take (first_len bs + 1) bs) ≡ take (first_len bs) bs ∷ []
@@ -95,9 +96,6 @@ pub record AreSearched (text : List ℕ) (at lines : ℕ) : Type 0 where
   pub before : HasNoReport (take at text) lines
   pub whole : at ≤ length text → AreWholeLines (take at text)
   pub few : lines ≤ at
-
-pub none_searched : (text : List ℕ) → AreSearched text 0 0
-none_searched text = record { before = record { none = record {}; count = refl }; whole = λ h. refl; few = omega arith }
 
 other_line : (line : List ℕ) → is_text line report_line ≡ false → line ≢ report_line
 other_line line not = λ same. let is : is_text line report_line ≡ true = ap (λ l. is_text l report_line) same ∙ word_itself report_line in absurd cc
@@ -140,23 +138,20 @@ searched_more text line at lines s within cut not =
     let len : length line ≡ first_len rest = omega (arith, ap length same, length-take (first_len rest) rest, front_within (λ b. b == 10) rest) in
     subst (λ k. AreSearched text (at + (k + 1)) (lines + 1)) (sym len) (searched_on text at lines s within (subst (λ l. l ≢ report_line) same (other_line line not)))
 
--- the next line is `report 1`
-pub found_there : (text line : List ℕ) (at lines : ℕ) → AreSearched text at lines → at < length text → lines_of (drop at text) ≡ line ∷ lines_of (drop (at + (length line + 1)) text)
-    → is_text line report_line ≡ true → IsReportAt text at lines
-found_there text line at lines s within cut is = record {
-  whole = s.whole (omega (arith, within));
-  before = s.before;
-  behind = lines_of (drop (at + (length line + 1)) text);
-  here = cut ∙ ap (λ l. l ∷ lines_of (drop (at + (length line + 1)) text)) (same_word line report_line is);
-}
-
--- no line is left
-pub none_found : (text : List ℕ) (at lines : ℕ) → AreSearched text at lines → length text ≤ at → HasNoReport text lines
-none_found text at lines s end = subst (λ bytes. HasNoReport bytes lines) (take_all at text end) s.before
-
--- a line of the report, counted in the whole text
-pub line_fits : (text : List ℕ) (at lines own : ℕ) → IsReportAt text at lines → at ≤ length text → IsRefusedAt own (drop at text) → lines + own ≤ length text
+-- ---- a line of the report, counted in the whole text
+line_fits : (text : List ℕ) (at lines own : ℕ) → IsReportAt text at lines → at ≤ length text → IsRefusedAt own (drop at text) → lines + own ≤ length text
 line_fits text at lines own report within refused =
     let count = report.before.count in
     let line_is = refused.line_is in
     omega (arith, count, line_is, within, lines_few (take at text), length-take at text, fed_few (drop at text), length-drop at text)
+
+pub line_in_text : (text : List ℕ) (at lines own : ℕ) → IsReportAt text at lines → at ≤ length text → IsRefusedAt own (take (length text - at) (drop at text)) → lines + own ≤ length text
+line_in_text text at lines own report within refused = line_fits text at lines own report within (subst (IsRefusedAt own) (take_rest text at) refused)
+
+pub report_refused : (text : List ℕ) (at lines own : ℕ) (read : Accepted) → IsReportAt text at lines → accepted (take at text) ≡ Ok read → IsRefusedAt own (take (length text - at) (drop at text))
+    → IsReportRefused text (lines + own)
+report_refused text at lines own read report script refused = record {
+  at = at; lines = lines; report = report; read = read; script = script; own_line = own;
+  refused = subst (IsRefusedAt own) (take_rest text at) refused;
+  line_is = refl;
+}

@@ -119,10 +119,12 @@ fn judged_text(
     ensures judged { IfOk result (λ said. IsVerdictOnText script.now bytes.now said.0.items said.1) }
     ensures refused { (line : ℕ) → IsErrOf result (At line) → IsRefusedAt line bytes.now }
 {
-    let report = read(alloc, bytes)?;
-    match judged(alloc, script, &report) {
-        Ok(said) => Ok(said),
-        Err(_) => Err(ReportError::Mem),
+    match read(alloc, bytes) {
+        Ok(report) => match judged(alloc, script, &report) {
+            Ok(said) => Ok(said),
+            Err(_) => Err(ReportError::Mem),
+        },
+        Err(error) => Err(error),
     }
 }
 
