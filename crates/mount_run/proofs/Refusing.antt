@@ -44,7 +44,7 @@ record HasLongText (known : Option (List ℕ)) : Type 0 where
   pub long : 4294967295 < length text
 
 some_long : (n : ℕ) → 4294967295 < n → HasLongText None
-some_long n long = record { text = replicate n 0; is_text = record {}; long = (let l = length-replicate n 0 in omega (arith, long, l)) }
+some_long n long = record { text = replicate n 0; is_text = record {}; long = (let l = length-replicate {A = ℕ} n 0 in omega (arith, long, l)) }
 
 long_text : (known : Option (List ℕ)) → IfSome known (λ bytes. 4294967295 < length bytes) → HasLongText known
 long_text None long = some_long 4294967296 (omega arith)

@@ -1,6 +1,6 @@
 -- Where the report of a text begins: the text line by line, up to the first that is `report 1`.
 use Rattle.std.proofs.Common.{◌≡◌, ℕ, suc, ◌+◌, ◌-◌, ◌<◌, ◌≤◌, ◌==◌, Bool, true, false, cond, List, [], ◌∷◌, ◌++◌, length, length-take, length-drop, take, drop, refl, sym, ap, subst, ◌∙◌, arith, eqb-true}
-use Rattle.std.specs.Prelude.{◌≢◌, Ok}
+use Rattle.std.specs.Prelude.{◌≢◌, Result, Ok, Err}
 use Rattle.std.specs.List.{AllByRecursion}
 use Rattle.std.proofs.lemmas.List.{length_push, take_rest}
 use Rattle.std.proofs.Math.Seq.{take-add}
@@ -151,7 +151,16 @@ line_in_text text at lines own report within refused = line_fits text at lines o
 pub report_refused : (text : List ℕ) (at lines own : ℕ) (read : Accepted) → IsReportAt text at lines → accepted (take at text) ≡ Ok read → IsRefusedAt own (take (length text - at) (drop at text))
     → IsReportRefused text (lines + own)
 report_refused text at lines own read report script refused = record {
-  at = at; lines = lines; report = report; read = read; script = script; own_line = own;
+  at = at;
+  lines = lines;
+  report = report;
+  read = read;
+  script = script;
+  own_line = own;
   refused = subst (IsRefusedAt own) (take_rest text at) refused;
   line_is = refl;
 }
+
+-- an error that is handed on
+pub err_again : {T U E : Type 0} (a b : E) → ◌≡◌ {A = Result T E} (Err a) (Err b) → ◌≡◌ {A = Result U E} (Err a) (Err b)
+err_again a b is = let same : a ≡ b = cc in ap Err same

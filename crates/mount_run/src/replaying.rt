@@ -111,11 +111,7 @@ fn judged(alloc: Global, script: &Script, report: &Report) -> Result<(Vec<u8>, u
 }
 
 // The same of the bytes behind a script.
-fn judged_text(
-    alloc: Global,
-    script: &Script,
-    bytes: &[u8],
-) -> Result<(Vec<u8>, u8), ReportError>
+fn judged_text(alloc: Global, script: &Script, bytes: &[u8]) -> Result<(Vec<u8>, u8), ReportError>
     ensures judged { IfOk result (λ said. IsVerdictOnText script.now bytes.now said.0.items said.1) }
     ensures refused { (line : ℕ) → IsErrOf result (At line) → IsRefusedAt line bytes.now }
 {
