@@ -1,3 +1,4 @@
 pub mod Limits
 pub mod Planning
 pub mod Refusing
+pub mod ReportLines

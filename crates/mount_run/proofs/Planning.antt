@@ -18,7 +18,7 @@ use Rattle.hub_calls.specs.Plans.{IsPlanOver, IsScript}
 use Rattle.mount_run.specs.Plans.{plan_then, plans_of}
 use Rattle.mount_run.specs.declared.refusals.Refusal.{Refusal}
 
-all_push : {X : Type 0} (P : X → Type 0) (xs : List X) (x : X) → AllByRecursion P xs → P x → AllByRecursion P (xs ++ x ∷ [])
+pub all_push : {X : Type 0} (P : X → Type 0) (xs : List X) (x : X) → AllByRecursion P xs → P x → AllByRecursion P (xs ++ x ∷ [])
 all_push P [] x all own = (own, record {})
 all_push P (y ∷ xs) x all own = (all.0, all_push P xs x all.1 own)
 

@@ -1,6 +1,6 @@
 -- When each status of the top calls comes, and what was written. Where the source and the sink show their bytes, the text is
 -- what was read and the bytes written are named.
-use Rattle.std.specs.Prelude.{◌≡◌, ◌≢◌, ◌⊎◌, ℕ, List, [], Option, Some, None, Ok, Err, IfSome}
+use Rattle.std.specs.Prelude.{◌≡◌, ◌⊎◌, ℕ, List, [], Option, Some, None, Ok, Err, IfSome}
 use Rattle.std.specs.Io.KnownBytes.{Appends}
 use Rattle.xl_base.specs.Writes.{WrotePrefix}
 use Rattle.graph_build.specs.declared.plans.Plan.{Plan}
@@ -12,8 +12,8 @@ use Rattle.mount_run.specs.Headline.{Headline, IsLawfulRun, AreBricksOf}
 use Rattle.report_text.specs.ReportText.{report_text}
 use Rattle.run_report.specs.Reports.{report_of}
 use Rattle.mount_run.specs.Plans.{accepted}
-use Rattle.mount_run.specs.Refusals.{fault_of, fault_text}
-use Rattle.mount_run.specs.Replays.{IsVerdictOf}
+use Rattle.mount_run.specs.Refusals.{fault_text}
+use Rattle.mount_run.specs.Replays.{HasNoReport, IsVerdictOf, IsScriptRefused, IsReportRefused, IsReplayFault}
 use Rattle.run_report.specs.Summaries.{summary_text}
 use Rattle.log_audit.specs.Honest.{HasHonestArrivals}
 use Rattle.mount_log.specs.Winds.{WindsAreOnce, NoWindIsLeft}
@@ -146,11 +146,13 @@ pub record Refused (known taken taken_after : Option (List ℕ)) (rack : Rack) :
   pub wrote : Appends taken taken_after (fault_text refusal)
   pub empty : rack ≡ empty_rack
 
--- one line was written that names the line and why
-pub record RefusedLine (taken taken_after : Option (List ℕ)) (rack : Rack) : Type 0 where
-  pub line : ℕ
-  pub name : List ℕ
-  pub wrote : Appends taken taken_after (fault_of line name)
+-- a text with its report was not judged, and its one fault line was written
+pub record RefusedLine (known taken taken_after : Option (List ℕ)) (rack : Rack) : Type 0 where
+  pub text : List ℕ
+  pub fault : List ℕ
+  pub is_text : IsRead known text
+  pub is_fault : IsReplayFault text fault
+  pub wrote : Appends taken taken_after fault
   pub empty : rack ≡ empty_rack
 
 -- what was written of a text that is refused
@@ -159,13 +161,13 @@ IsRefusal (not_read.Refused refusal) Wrote = Wrote (fault_text refusal)
 IsRefusal not_read.Fault Wrote = ⊥
 IsRefusal not_read.Mem Wrote = ⊥
 
--- what a replay says is a verdict with its line and status, or another line; a source that failed is none of it
-abbrev pub IsSaying : (List ℕ → ℕ → Type 0) → Replayed → Type 0
-IsSaying Verdict (replayed.Says line status) = Verdict line.items status
-IsSaying Verdict (replayed.NoReport line) = Unit {0}
-IsSaying Verdict (replayed.BadReport line) = Unit {0}
-IsSaying Verdict (replayed.NotRead why) = why ≢ not_read.Fault
-IsSaying Verdict replayed.Mem = Unit {0}
+-- what a replay says of a text: a verdict with its line and status, or why there is none
+abbrev pub IsSaying : List ℕ → Replayed → Type 0
+IsSaying text (replayed.Says line status) = IsVerdictOf text line.items status
+IsSaying text (replayed.NoReport lines) = HasNoReport text lines
+IsSaying text (replayed.Refused refusal) = IsScriptRefused text refusal
+IsSaying text (replayed.BadReport line) = IsReportRefused text line
+IsSaying text replayed.Mem = Unit {0}
 
 -- no generated script is refused
 abbrev pub RefusedBy : Option Command → Option (List ℕ) → Option (List ℕ) → Option (List ℕ) → Rack → Type 0
@@ -174,7 +176,7 @@ RefusedBy (Some Check) known taken taken_after rack = Refused known taken taken_
 RefusedBy (Some (Run seed)) known taken taken_after rack = Refused known taken taken_after rack
 RefusedBy (Some (Mount workers)) known taken taken_after rack = Refused known taken taken_after rack
 RefusedBy (Some (Generate number)) known taken taken_after rack = ⊥
-RefusedBy (Some Replay) known taken taken_after rack = RefusedLine taken taken_after rack
+RefusedBy (Some Replay) known taken taken_after rack = RefusedLine known taken taken_after rack
 
 -- ---- out of winds
 
@@ -218,10 +220,21 @@ pub record GeneratedUnwritten (number : ℕ) (taken taken_after : Option (List �
   pub accepted_as : accepted text ≡ Ok read
   pub summed : IsSummedUpShort read.script read.plans number taken taken_after rack
 
--- of the line of a verdict, or of that which says where the text has no report or a script that is refused
-pub record JudgedUnwritten (taken taken_after : Option (List ℕ)) (rack : Rack) : Type 0 where
+pub record JudgedUnwritten (known taken taken_after : Option (List ℕ)) (rack : Rack) : Type 0 where
+  pub text : List ℕ
   pub line : List ℕ
+  pub status : ℕ
+  pub is_text : IsRead known text
+  pub judged : IsVerdictOf text line status
   pub wrote : WrotePrefix taken taken_after line
+  pub empty : rack ≡ empty_rack
+
+pub record RefusedLineUnwritten (known taken taken_after : Option (List ℕ)) (rack : Rack) : Type 0 where
+  pub text : List ℕ
+  pub fault : List ℕ
+  pub is_text : IsRead known text
+  pub is_fault : IsReplayFault text fault
+  pub wrote : WrotePrefix taken taken_after fault
   pub empty : rack ≡ empty_rack
 
 pub record RefusedUnwritten (known taken taken_after : Option (List ℕ)) (rack : Rack) : Type 0 where
@@ -236,4 +249,4 @@ Unwritten (Some Check) known taken taken_after rack = CheckedUnwritten known tak
 Unwritten (Some (Run seed)) known taken taken_after rack = RanUnwritten known taken taken_after rack ⊎ RefusedUnwritten known taken taken_after rack
 Unwritten (Some (Mount workers)) known taken taken_after rack = RanUnwritten known taken taken_after rack ⊎ RefusedUnwritten known taken taken_after rack
 Unwritten (Some (Generate number)) known taken taken_after rack = GeneratedUnwritten number taken taken_after rack
-Unwritten (Some Replay) known taken taken_after rack = JudgedUnwritten taken taken_after rack
+Unwritten (Some Replay) known taken taken_after rack = JudgedUnwritten known taken taken_after rack ⊎ RefusedLineUnwritten known taken taken_after rack

@@ -1,9 +1,14 @@
 //! A script with the report of a run behind it, which is judged.
-ghost use Rattle.std.specs.Prelude.{◌≡◌, ◌≤◌, length, IfOk};
+ghost use Rattle.std.specs.Prelude.{◌≡◌, ◌≤◌, ℕ, Ok, Err, length, take, IfOk, IfErr, IsErrOf};
+ghost use Rattle.report_reader.specs.Readings.{IsRefusedAt};
+ghost use Rattle.report_reader.specs.declared.bad.ReportError.TheVariants.{At};
 ghost use Rattle.mount_run.specs.Outcomes.{IsSaying};
-ghost use Rattle.mount_run.specs.Replays.{verdict_text, status_of as status_by, IsVerdictOn, IsVerdictOnText, IsVerdictOf};
+ghost use Rattle.mount_run.specs.Plans.{accepted};
+ghost use Rattle.mount_run.specs.Replays.{verdict_text, status_of as status_by, HasNoReport, IsReportAt, IsVerdictOn, IsVerdictOnText};
+ghost use Rattle.mount_run.specs.declared.readings.NotRead.TheVariants as not_read;
+ghost use Rattle.mount_run.specs.declared.refusals.Refusal.{Refusal};
 
-use crate::plans::accept;
+use crate::plans::{Accepted, accept};
 use crate::readings::NotRead;
 use crate::refusals::Refusal;
 use history_replay::{Verdict, judge};
@@ -11,55 +16,61 @@ use report_reader::{ReportError, read};
 use report_text::Report;
 use script_lang::{Script, ScriptKind};
 use std::alloc::{AllocError, Global};
+use volfile::{first_line, is_same};
 
 // The bytes of a script, at most.
 const SCRIPT_LIMIT: usize = 2097152;
 
-/// What comes of a replay: the text's line and the status, or why no script was read, or a line that no report has.
+/// What comes of a replay: the line and the status of a verdict; or why there is none: no line of so many is `report 1`, the
+/// script is refused, or a line that no report has; or out of memory.
 #[derive(Drop)]
 pub enum Replayed {
     Says(Vec<u8>, u8),
     NoReport(u32),
+    Refused(Refusal),
     BadReport(u32),
-    NotRead(NotRead),
     Mem,
 }
 
-// Where the report is: the line that begins it, from 0, and that line's first byte; or how many lines the text has.
+// Where the report begins: how many lines are before it, and its first byte.
 #[derive(Clone, Copy)]
 struct Found {
-    line: u32,
+    lines: u32,
     at: usize,
 }
 
-fn end_of(text: &[u8], from: usize) -> usize
-    requires { from ≤ length text.now }
-    ensures low { from ≤ result }
-    ensures high { result ≤ length text.now }
-{
-    for at in from..text.len() {
-        if text[at] == b'\n' {
-            return at;
-        }
-    }
-    text.len()
-}
-
+// Where the report begins, or how many lines the text has.
 fn find_report(text: &[u8]) -> Result<Found, u32>
     requires { length text.now ≤ 4294967295 }
-    ensures { IfOk result (λ found. found.at ≤ length text.now) }
+    ensures found { IfOk result (λ found. IsReportAt text.now found.at found.lines) }
+    ensures within { IfOk result (λ found. found.at ≤ length text.now) }
+    ensures none { IfErr result (λ lines. HasNoReport text.now lines) }
 {
-    let mut line: u32 = 0;
+    let mut lines: u32 = 0;
     let mut at = 0;
     while at < text.len() {
-        let end = end_of(text, at);
-        if &text[at..end] == b"report 1".as_slice() {
-            return Ok(Found { line, at });
+        let line = first_line(text, at);
+        if is_same(line, b"report 1") {
+            return Ok(Found { lines, at });
         }
-        line = line.saturating_add(1);
-        at = end + 1;
+        lines += 1;
+        at += line.len() + 1;
     }
-    Err(line)
+    Err(lines)
+}
+
+// What the bytes before a report are accepted as.
+fn accept_before(alloc: Global, bytes: &[u8]) -> Result<Accepted, NotRead>
+    ensures accepted { IfOk result (λ read. accepted bytes.now ≡ Ok read) }
+    ensures refused { (refusal : Refusal) → IsErrOf result (not_read.Refused refusal) → accepted bytes.now ≡ Err refusal }
+{
+    if bytes.len() > SCRIPT_LIMIT {
+        return Err(NotRead::Refused(Refusal::OfScript {
+            line: 0,
+            kind: ScriptKind::TooLong,
+        }));
+    }
+    accept(alloc, bytes)
 }
 
 fn verdict_line(alloc: Global, verdict: Verdict) -> Result<Vec<u8>, AllocError>
@@ -90,52 +101,56 @@ fn status_of(verdict: Verdict) -> u8
     }
 }
 
-// What is said of a report of a script.
-fn said(alloc: Global, script: &Script, report: &Report) -> Result<Replayed, AllocError>
-    ensures { IfOk result (λ replayed. IsSaying (IsVerdictOn script.now report.now) replayed) }
+// The line and the status of the verdict on a report of a script.
+fn judged(alloc: Global, script: &Script, report: &Report) -> Result<(Vec<u8>, u8), AllocError>
+    ensures { IfOk result (λ said. IsVerdictOn script.now report.now said.0.items said.1) }
 {
     let verdict = judge(alloc, script, report)?;
     let line = verdict_line(alloc, verdict)?;
-    Ok(Replayed::Says(line, status_of(verdict)))
+    Ok((line, status_of(verdict)))
 }
 
-// What is said of the bytes behind a script, which begin behind so many lines.
-fn judged(alloc: Global, script: &Script, bytes: &[u8], before: u32) -> Result<Replayed, AllocError>
-    ensures { IfOk result (λ replayed. IsSaying (IsVerdictOnText script.now bytes.now) replayed) }
+// The same of the bytes behind a script.
+fn judged_text(alloc: Global, script: &Script, bytes: &[u8]) -> Result<(Vec<u8>, u8), ReportError>
+    ensures judged { IfOk result (λ said. IsVerdictOnText script.now bytes.now said.0.items said.1) }
+    ensures refused { (line : ℕ) → IsErrOf result (At line) → IsRefusedAt line bytes.now }
 {
     match read(alloc, bytes) {
-        Ok(report) => said(alloc, script, &report),
-        Err(ReportError::At { line }) => Ok(Replayed::BadReport(before.saturating_add(line))),
-        Err(ReportError::Mem) => Ok(Replayed::Mem),
+        Ok(report) => match judged(alloc, script, &report) {
+            Ok(said) => Ok(said),
+            Err(_) => Err(ReportError::Mem),
+        },
+        Err(error) => Err(error),
     }
 }
 
-fn said_of(alloc: Global, script: &Script, bytes: &[u8], before: u32) -> Replayed
-    ensures { IsSaying (IsVerdictOnText script.now bytes.now) result }
+// What is said of a text of which the script is accepted.
+fn said_of(alloc: Global, read: &Accepted, text: &[u8], found: Found) -> Replayed
+    requires few { length text.now ≤ 4294967295 }
+    requires report { IsReportAt text.now found.at found.lines }
+    requires within { found.at ≤ length text.now }
+    requires script { accepted (take found.at text.now) ≡ Ok read.now }
+    ensures { IsSaying text.now result }
 {
-    match judged(alloc, script, bytes, before) {
-        Ok(replayed) => replayed,
-        Err(_) => Replayed::Mem,
+    match judged_text(alloc, &read.script, &text[found.at..]) {
+        Ok((line, status)) => Replayed::Says(line, status),
+        Err(ReportError::At { line }) => Replayed::BadReport(found.lines + line),
+        Err(ReportError::Mem) => Replayed::Mem,
     }
 }
 
 /// Judges a text: a script, and behind it the report from the first line on that is `report 1`.
 pub fn replay(alloc: Global, text: &[u8]) -> Replayed
     requires { length text.now ≤ 4294967295 }
-    ensures { IsSaying (IsVerdictOf text.now) result }
+    ensures { IsSaying text.now result }
 {
     let found = match find_report(text) {
         Ok(found) => found,
         Err(lines) => return Replayed::NoReport(lines),
     };
-    if found.at > SCRIPT_LIMIT {
-        return Replayed::NotRead(NotRead::Refused(Refusal::OfScript {
-            line: 0,
-            kind: ScriptKind::TooLong,
-        }));
-    }
-    match accept(alloc, &text[..found.at]) {
-        Ok(read) => said_of(alloc, &read.script, &text[found.at..], found.line),
-        Err(not_read) => Replayed::NotRead(not_read),
+    match accept_before(alloc, &text[..found.at]) {
+        Ok(read) => said_of(alloc, &read, text, found),
+        Err(NotRead::Refused(refusal)) => Replayed::Refused(refusal),
+        Err(_) => Replayed::Mem,
     }
 }

@@ -9,8 +9,7 @@ ghost use Rattle.mount_run.specs.Checks.{calls_in, check_text};
 ghost use Rattle.mount_run.specs.Commands.{command_of, command_for, without_threads, mount_command};
 ghost use Rattle.mount_run.specs.Headline.{IsLawfulRun};
 ghost use Rattle.mount_run.specs.Refusals.{fault_of, fault_text};
-ghost use Rattle.mount_run.specs.Replays.{IsVerdictOf};
-ghost use Rattle.mount_run.specs.Outcomes.{empty_rack, text_of, IsAccepted, IsRefused, IsRunStatus, IsWritten, IsCutShort, IsStopped, Succeeded, IsUnlawful, RefusedBy, RefusedLine, Unwritten, JudgedUnwritten, Judged, IsSaying, IsRefusal, IsSummedUp, IsSummedUpShort, RanOutOfWinds, Generated, GeneratedUnwritten, WindsRanOut};
+ghost use Rattle.mount_run.specs.Outcomes.{empty_rack, text_of, IsAccepted, IsRefused, IsRunStatus, IsWritten, IsCutShort, IsStopped, Succeeded, IsUnlawful, RefusedBy, RefusedLine, Unwritten, JudgedUnwritten, RefusedLineUnwritten, Judged, IsSaying, IsRefusal, IsSummedUp, IsSummedUpShort, RanOutOfWinds, Generated, GeneratedUnwritten, WindsRanOut};
 ghost use Rattle.run_report.specs.Reports.{AreFewWinds, report_of as report_of_log};
 ghost use Rattle.run_report.specs.Summaries.{summary_text};
 ghost use Rattle.mount_run.specs.declared.readings.NotRead.TheVariants as why;
@@ -95,9 +94,10 @@ fn replay_read<S: Source, K: Sink>(alloc: Global, source: &mut S, sink: &mut K) 
     requires sink { K.faults sink.old < 2 ^ 64 - 1 }
     ensures statuses { (result ≡ 0) ⊎ ((result ≡ 1) ⊎ ((result ≡ 3) ⊎ ((result ≡ 4) ⊎ ((result ≡ 5) ⊎ (result ≡ 6))))) }
     ensures judged { (result ≡ 0) ⊎ (result ≡ 6) → Judged result (S.left source.old) (K.taken sink.old) (K.taken sink.new) empty_rack }
-    ensures refused { result ≡ 1 → RefusedLine (K.taken sink.old) (K.taken sink.new) empty_rack }
+    ensures refused { result ≡ 1 → RefusedLine (S.left source.old) (K.taken sink.old) (K.taken sink.new) empty_rack }
     ensures read_fault { result ≡ 3 → (S.faults source.old < S.faults source.new) × (sink.new ≡ sink.old) }
-    ensures write_fault { result ≡ 4 → (K.faults sink.old < K.faults sink.new) × JudgedUnwritten (K.taken sink.old) (K.taken sink.new) empty_rack }
+    ensures write_fault { result ≡ 4 → K.faults sink.old < K.faults sink.new }
+    ensures short { result ≡ 4 → JudgedUnwritten (S.left source.old) (K.taken sink.old) (K.taken sink.new) empty_rack ⊎ RefusedLineUnwritten (S.left source.old) (K.taken sink.old) (K.taken sink.new) empty_rack }
     ensures memory { result ≡ 5 → sink.new ≡ sink.old }
 {
     match read_all(alloc, source, REPLAY_LIMIT) {
@@ -120,19 +120,21 @@ fn replay_read<S: Source, K: Sink>(alloc: Global, source: &mut S, sink: &mut K) 
 
 fn write_replayed<K: Sink>(alloc: Global, text: &[u8], replayed: Replayed, sink: &mut K) -> u8
     requires sink { K.faults sink.old < 2 ^ 64 - 1 }
-    requires said { IsSaying (IsVerdictOf text.now) replayed }
-    ensures statuses { (result ≡ 0) ⊎ ((result ≡ 1) ⊎ ((result ≡ 3) ⊎ ((result ≡ 4) ⊎ ((result ≡ 5) ⊎ (result ≡ 6))))) }
+    requires few { length text.now ≤ 4294967295 }
+    requires said { IsSaying text.now replayed }
+    ensures statuses { (result ≡ 0) ⊎ ((result ≡ 1) ⊎ ((result ≡ 4) ⊎ ((result ≡ 5) ⊎ (result ≡ 6)))) }
     ensures judged { (result ≡ 0) ⊎ (result ≡ 6) → Judged result (Some text.now) (K.taken sink.old) (K.taken sink.new) empty_rack }
-    ensures refused { result ≡ 1 → RefusedLine (K.taken sink.old) (K.taken sink.new) empty_rack }
+    ensures refused { result ≡ 1 → RefusedLine (Some text.now) (K.taken sink.old) (K.taken sink.new) empty_rack }
     ensures no_fault { result ≡ 3 → ⊥ }
-    ensures write_fault { result ≡ 4 → (K.faults sink.old < K.faults sink.new) × JudgedUnwritten (K.taken sink.old) (K.taken sink.new) empty_rack }
+    ensures write_fault { result ≡ 4 → K.faults sink.old < K.faults sink.new }
+    ensures short { result ≡ 4 → JudgedUnwritten (Some text.now) (K.taken sink.old) (K.taken sink.new) empty_rack ⊎ RefusedLineUnwritten (Some text.now) (K.taken sink.old) (K.taken sink.new) empty_rack }
     ensures memory { result ≡ 5 → sink.new ≡ sink.old }
 {
     match replayed {
         Replayed::Says(line, status) => write(sink, line.as_slice(), status),
-        Replayed::NoReport(line) => write_fault(alloc, line, b"NoReport", sink),
+        Replayed::NoReport(lines) => write_fault(alloc, lines, b"NoReport", sink),
+        Replayed::Refused(refusal) => refuse(alloc, refusal, sink),
         Replayed::BadReport(line) => write_fault(alloc, line, b"BadReport", sink),
-        Replayed::NotRead(not_read) => refuse_all(alloc, not_read, sink),
         Replayed::Mem => 5,
     }
 }
