@@ -1,6 +1,5 @@
 -- In reading order: requests as the machine has them; the record of a transaction; what a transaction keeps between two turns;
--- the moment of a turn, and the laws; that requests may be sent one after
--- another; and the same laws of copies.
+-- the moment of a turn, and the laws; that requests may be sent one after another; and the laws of copies.
 pub mod Asks
 pub mod Records
 pub mod Works
