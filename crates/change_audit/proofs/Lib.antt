@@ -5,3 +5,4 @@ pub mod Graphs
 pub mod Marking
 pub mod Claiming
 pub mod Entries
+pub mod Copying

@@ -21,9 +21,13 @@ mod bearers;
 mod call_graphs;
 mod changes;
 mod claims;
+mod copies;
+mod copy_finding;
+mod copy_requests;
 mod finding;
 mod making;
 mod openings;
 mod served;
 
 pub use changes::changes_are_borne;
+pub use copies::copies_are_made;
