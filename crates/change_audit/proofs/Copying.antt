@@ -63,13 +63,13 @@ replaced_is log bricks copy number call fetched_at replaced_at r lt done own has
   fetched_at = fetched_at;
   replaced_at = replaced_at;
   fetched =
-    subst (λ (l : ℕ). IsDoneIn log bricks copy.source has.wind r.graph fetched_at (Fetch 0 copy.cell) (Content r.content l)) own.last
-    (subst (λ (c : Cell). IsDoneIn log bricks copy.source has.wind r.graph fetched_at (Fetch 0 c) (Content r.content r.last)) own.cell has.fetched);
+      subst (λ (l : ℕ). IsDoneIn log bricks copy.source has.wind r.graph fetched_at (Fetch 0 copy.cell) (Content r.content l)) own.last
+      (subst (λ (c : Cell). IsDoneIn log bricks copy.source has.wind r.graph fetched_at (Fetch 0 c) (Content r.content r.last)) own.cell has.fetched);
   fetch_opened = has.opened;
   opened = opened;
   replaced =
-    subst (λ (l : ℕ). IsDoneIn log bricks copy.sink r.wind r.graph replaced_at (Replace copy.cell l r.content) Nothing) own.last
-    (subst (λ (c : Cell). IsDoneIn log bricks copy.sink r.wind r.graph replaced_at (Replace c r.last r.content) Nothing) own.cell done);
+      subst (λ (l : ℕ). IsDoneIn log bricks copy.sink r.wind r.graph replaced_at (Replace copy.cell l r.content) Nothing) own.last
+      (subst (λ (c : Cell). IsDoneIn log bricks copy.sink r.wind r.graph replaced_at (Replace c r.last r.content) Nothing) own.cell done);
   in_time = lt;
 }
 

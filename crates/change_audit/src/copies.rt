@@ -39,12 +39,7 @@ fn has_fetch(
     ensures { IfOk result (λ yes. yes ≡ true → HasFetch log.now bricks.now source at.call at.fetched by.now) }
 {
     match fetched(alloc, log, bricks, source, at.fetched, by)? {
-        Some(wind) => Ok(is_wind_for(
-            log.winds.as_slice(),
-            at.fetch_opening,
-            at.call,
-            wind,
-        )),
+        Some(wind) => Ok(is_wind_for(log.winds.as_slice(), at.fetch_opening, at.call, wind)),
         None => Ok(false),
     }
 }
@@ -159,9 +154,7 @@ fn take_replacement(
     let Some(at) = found.next(copy)? else {
         return Ok(false);
     };
-    let made = made_by(
-        alloc, script, plans, log, bricks, graphs, copy, number, at,
-    )?;
+    let made = made_by(alloc, script, plans, log, bricks, graphs, copy, number, at)?;
     let Some(wind) = made else {
         return Ok(false);
     };

@@ -116,10 +116,7 @@ fn replacement_of(input: Input) -> Option<Replacement>
 ///
 /// # Errors
 /// Out of memory.
-pub(crate) fn replacement_in(
-    alloc: Global,
-    bytes: &[u8],
-) -> Result<Option<Replacement>, AllocError>
+pub(crate) fn replacement_in(alloc: Global, bytes: &[u8]) -> Result<Option<Replacement>, AllocError>
     ensures { IfOk result (λ found. IfSome found (λ r. bytes.now ≡ input_text (Request r.wind r.graph (replace_of r)))) }
 {
     match whole_input(alloc, bytes)? {

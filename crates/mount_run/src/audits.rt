@@ -11,7 +11,7 @@ ghost use Rattle.log_audit.specs.Honest.{HasHonestArrivals};
 ghost use Rattle.mount_run.specs.Headline.{AreBricksOf, HasFiles, IsLawfulRun};
 ghost use Rattle.mount_run.specs.Outcomes.{IsStopped};
 
-use change_audit::changes_are_borne;
+use change_audit::{changes_are_borne, copies_are_made};
 use error_audit::io_errors_are_caused;
 use graph_build::Plan;
 use hub_calls::Rack;
@@ -100,8 +100,8 @@ fn is_sound(alloc: Global, script: &Script, plans: &[Plan], log: &Log) -> Result
 
 /// Whether the log of a run, with its bricks, is as a run promises: sessions submit their lines in order, each control is
 /// carried out, each call has its reply, what arrived is what the bricks make of what was sent, replies, winds and requests are
-/// of their calls, events and graphs, connections and I/O errors have their causes, the winds are balanced, the replies are
-/// those of one plain file system, and each acknowledged change is on a quorum of bricks.
+/// of their calls, events and graphs, connections and I/O errors have their causes, the winds are balanced, copies were made,
+/// the replies are those of one plain file system, and each acknowledged change is on a quorum of bricks.
 ///
 /// # Errors
 /// Out of memory.
@@ -117,7 +117,9 @@ pub fn is_lawful(
     if !follows(alloc, script, &left.log)? || !are_bricks(alloc, script, left)? {
         return Ok(false);
     }
-    if !is_sound(alloc, script, plans, &left.log)? {
+    if !is_sound(alloc, script, plans, &left.log)?
+        || !copies_are_made(alloc, script, plans, &left.log, left.bricks.as_slice())?
+    {
         return Ok(false);
     }
     has_files(alloc, script, plans, left)
