@@ -46,7 +46,7 @@ done_in log bricks brick wind graph event taken req arm bytes there text sent = 
   arrived = there ∙ ap (λ (b : List ℕ). Some (Arrive brick b)) (text ∙ ap (λ (n : ℕ). output_text (record { taken = n; kind = Reply wind (Done arm) })) sent.counted);
 }
 
-output_made : (o : Output) (kind : OutKind) → o.kind ≡ kind → o ≡ record { taken = o.taken; kind = kind }
+pub output_made : (o : Output) (kind : OutKind) → o.kind ≡ kind → o ≡ record { taken = o.taken; kind = kind }
 output_made o kind is = ap (λ (k : OutKind). record o { kind = k }) is
 
 pub confirmed_is : (log : Log) (bricks : List Journal) (brick event : ℕ) (r : Replacement) (output : Output) (bytes : List ℕ) (wind : ℕ) → slice_get log.events event ≡ Some (Arrive brick bytes)

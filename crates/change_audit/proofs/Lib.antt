@@ -6,3 +6,4 @@ pub mod Marking
 pub mod Claiming
 pub mod Entries
 pub mod Copying
+pub mod ListedCells

@@ -1,8 +1,9 @@
--- In reading order: changes on the bricks; copies that were made; then what the audits find: requests that were answered, the
+-- In reading order: changes on the bricks; copies that were made, and skips; then what the audits find: requests that were answered, the
 -- bricks of a change, the graphs of calls, the calls that were answered well, the changes that were taken for entries, one
--- entry; one copy.
+-- entry; one copy; lists of cells.
 pub mod Borne
 pub mod Copied
+pub mod Listed
 pub mod Served
 pub mod Bearing
 pub mod CallGraphs
@@ -10,3 +11,4 @@ pub mod Acknowledged
 pub mod Claims
 pub mod Entries
 pub mod Copying
+pub mod Listings

@@ -31,9 +31,12 @@ mod copies;
 mod copy_finding;
 mod copy_requests;
 mod finding;
+mod listings;
 mod making;
 mod openings;
 mod served;
+mod skips;
 
 pub use changes::changes_are_borne;
 pub use copies::copies_are_made;
+pub use skips::skips_are_listed;
