@@ -1,5 +1,5 @@
-//! The audits of acknowledged changes and of copies: whether each change of the history whose call was answered well is on the
-//! bricks, and whether each copy that the log has was made.
+//! The audits of acknowledged changes, of copies and of skips: whether each change of the history whose call was answered well
+//! is on the bricks, whether each copy that the log has was made, and whether each skip is of a cell that a brick had listed.
 //!
 //! ```text
 //!   history    entry k: call 7, part 1          its operation, by the judge of histories

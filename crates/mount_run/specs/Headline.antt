@@ -13,6 +13,7 @@ use Rattle.log_audit.specs.Honest.{HasHonestArrivals, HasJournals}
 use Rattle.log_replay.specs.Judged.{IsOneFileSystem}
 use Rattle.change_audit.specs.Borne.{AreBorne}
 use Rattle.change_audit.specs.Copied.{CopiesAreMade}
+use Rattle.change_audit.specs.Listed.{SkipsAreListed}
 use Rattle.mount_log.specs.Causes.{AreCaused}
 use Rattle.mount_log.specs.Connects.{ConnectsAreCaused}
 use Rattle.mount_log.specs.Follows.{FollowsScript, IsFinished}
@@ -47,8 +48,10 @@ pub record IsLawfulRun (script : Script) (plans : List Plan) (rack : Rack) : Typ
   -- one legal history, lawful replies, each acknowledged change on a quorum of bricks, each I/O error with its cause
   pub files : HasFiles script plans rack
   pub causes : AreCaused script plans rack.log
-  -- each copy by a replacement of its own, which the sink confirmed, by what the source had answered
+  -- each copy by a replacement of its own, which the sink confirmed, by what the source had answered; each skip of a cell that
+  -- a brick had listed
   pub copies : CopiesAreMade script plans rack.log rack.bricks
+  pub skips : SkipsAreListed rack.log rack.bricks
   -- balanced winds
   pub winds : WindsAreBalanced rack.log.winds
 
