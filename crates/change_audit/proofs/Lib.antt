@@ -5,3 +5,5 @@ pub mod Graphs
 pub mod Marking
 pub mod Claiming
 pub mod Entries
+pub mod Copying
+pub mod ListedCells

@@ -1,9 +1,14 @@
--- In reading order: changes on the bricks; then what the audit finds: requests that were answered, the bricks of a change, the
--- graphs of calls, the calls that were answered well, the changes that were taken for entries, one entry.
+-- In reading order: changes on the bricks; copies that were made, and skips; then what the audits find: requests that were answered, the
+-- bricks of a change, the graphs of calls, the calls that were answered well, the changes that were taken for entries, one
+-- entry; one copy; lists of cells.
 pub mod Borne
+pub mod Copied
+pub mod Listed
 pub mod Served
 pub mod Bearing
 pub mod CallGraphs
 pub mod Acknowledged
 pub mod Claims
 pub mod Entries
+pub mod Copying
+pub mod Listings

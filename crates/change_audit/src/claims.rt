@@ -1,4 +1,4 @@
-//! The changes that were taken for entries, each for one.
+//! The changes that were taken for entries, and the winds that were taken for copies, each for one.
 ghost use Rattle.std.specs.Prelude.{◌≡◌, [], true, Some, is_some, IfOk};
 ghost use Rattle.change_audit.specs.Claims.{claim_of, KeepClaims};
 
@@ -6,7 +6,8 @@ use std::alloc::{AllocError, Global};
 use std::collections::BTreeMap;
 use std::marker::Model;
 
-/// The place of the entry that each change was taken for, by the change's number. Contracts see the places with their changes.
+/// The place of the entry that each change was taken for, by the change's number; or that of the copy, by the wind's. Contracts
+/// see the places with these numbers.
 #[derive(Drop)]
 pub struct Claims {
     places: BTreeMap<u64, usize>,
@@ -22,7 +23,7 @@ impl Model for Claims {
 
 #[tactic(auto, using(crate::proofs::Claiming::claimed_now, crate::proofs::Claiming::claims_kept))]
 impl Claims {
-    /// No change was taken. It allocates nothing.
+    /// Nothing was taken. It allocates nothing.
     pub(crate) fn new(alloc: Global) -> Claims
         ensures { result ≡ [] }
     {
@@ -31,14 +32,14 @@ impl Claims {
         }
     }
 
-    /// Whether a change was taken for an entry.
+    /// Whether a change was taken for an entry, or a wind for a copy.
     pub(crate) fn has(&self, change: u64) -> bool
         ensures { result ≡ is_some (claim_of self.now change) }
     {
         self.places.contains_key(&change)
     }
 
-    /// Takes a change for the entry at a place. It is false where the change was taken before.
+    /// Takes a change for the entry at a place, or a wind for the copy. It is false where that was taken before.
     ///
     /// # Errors
     /// Out of memory.

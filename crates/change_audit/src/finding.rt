@@ -32,15 +32,21 @@ struct ChangeOf {
     change: u64,
 }
 
-// The opening of a wind: its call, and its place among the wind lines.
+/// The opening of a wind: its call, and its place among the wind lines.
 #[derive(Clone, Copy)]
-struct Opening {
-    call: u32,
-    place: usize,
+pub struct Opening {
+    pub call: u32,
+    pub place: usize,
 }
 
-// The opening of each wind.
-fn openings_of(alloc: Global, winds: &[WindLine]) -> Result<BTreeMap<u64, Opening>, AllocError> {
+/// The opening of each wind.
+///
+/// # Errors
+/// Out of memory.
+pub(crate) fn openings_of(
+    alloc: Global,
+    winds: &[WindLine],
+) -> Result<BTreeMap<u64, Opening>, AllocError> {
     let mut openings = BTreeMap::new(alloc);
     for place in 0..winds.len() {
         let line = &winds[place];

@@ -1,4 +1,5 @@
-//! The audit of acknowledged changes: whether each change of the history whose call was answered well is on the bricks.
+//! The audits of acknowledged changes, of copies and of skips: whether each change of the history whose call was answered well
+//! is on the bricks, whether each copy that the log has was made, and whether each skip is of a cell that a brick had listed.
 //!
 //! ```text
 //!   history    entry k: call 7, part 1          its operation, by the judge of histories
@@ -7,12 +8,17 @@
 //!   brick 0    journal .. Op 12 .. Post 12 ..   each answered Done in its outputs, in the call's graph
 //!   brick 2    journal .. Op 12 .. Post 12 ..   one change number, one store op, which makes the operation
 //!              a quorum of the bricks of one set, each request on a wind of the call
+//!
+//!   copies     cell, from brick 0 to brick 2, last change 12
+//!   events     .. the answer of brick 0 to Fetch arrives, Replace goes to brick 2 .. its Done arrives .. the copy is entered
 //! ```
 //!
-//! Bearers are found by one pass over each brick's journal and outputs (`finding`), without a contract. What was found is then
-//! checked where it is (`bearers`), each change is taken for one entry (`claims`), and the audit's `true` rests on that alone:
-//! true says that each acknowledged change is on the bricks, each by a change of its own; false says nothing. With n inputs,
-//! outputs, winds and entries the audit takes time of the order n log n, and of the bytes that are decoded.
+//! Bearers are found by one pass over each brick's journal and outputs (`finding`), and replacements by one over what arrived
+//! (`copy_finding`), without a contract. What was found is then checked where it is (`bearers`, `copy_requests`), each change is
+//! taken for one entry and each replacement for one copy (`claims`), and an audit's `true` rests on that alone: true says that
+//! each acknowledged change is on the bricks, by a change of its own, or that each copy was made, by a replacement of its own;
+//! false says nothing. With n inputs, outputs, events, winds, entries and copies an audit takes time of the order n log n, and of
+//! the bytes that are decoded.
 #![tactic(auto)]
 
 mod acknowledged;
@@ -21,9 +27,16 @@ mod bearers;
 mod call_graphs;
 mod changes;
 mod claims;
+mod copies;
+mod copy_finding;
+mod copy_requests;
 mod finding;
+mod listings;
 mod making;
 mod openings;
 mod served;
+mod skips;
 
 pub use changes::changes_are_borne;
+pub use copies::copies_are_made;
+pub use skips::skips_are_listed;

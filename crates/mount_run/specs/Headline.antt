@@ -1,6 +1,6 @@
 -- The headline: for every script, the replies written are those of one plain file system at the written places of one
--- written history that holds each acknowledged change once; an I/O error is written only with its cause; and every wind is
--- ended once.
+-- written history that holds each acknowledged change once; an I/O error is written only with its cause, a copy only where
+-- it was made; and every wind is ended once.
 use Rattle.std.specs.Prelude.{◌≡◌, ℕ, List, Ok, length}
 use Rattle.fop_types.specs.declared.flat.FlatOp.{FlatOp}
 use Rattle.graph_build.specs.declared.plans.Plan.{Plan}
@@ -12,6 +12,8 @@ use Rattle.report_text.specs.ReportText.{report_text}
 use Rattle.log_audit.specs.Honest.{HasHonestArrivals, HasJournals}
 use Rattle.log_replay.specs.Judged.{IsOneFileSystem}
 use Rattle.change_audit.specs.Borne.{AreBorne}
+use Rattle.change_audit.specs.Copied.{CopiesAreMade}
+use Rattle.change_audit.specs.Listed.{SkipsAreListed}
 use Rattle.mount_log.specs.Causes.{AreCaused}
 use Rattle.mount_log.specs.Connects.{ConnectsAreCaused}
 use Rattle.mount_log.specs.Follows.{FollowsScript, IsFinished}
@@ -46,6 +48,10 @@ pub record IsLawfulRun (script : Script) (plans : List Plan) (rack : Rack) : Typ
   -- one legal history, lawful replies, each acknowledged change on a quorum of bricks, each I/O error with its cause
   pub files : HasFiles script plans rack
   pub causes : AreCaused script plans rack.log
+  -- each copy by a replacement of its own, which the sink confirmed, by what the source had answered; each skip of a cell that
+  -- a brick had listed
+  pub copies : CopiesAreMade script plans rack.log rack.bricks
+  pub skips : SkipsAreListed rack.log rack.bricks
   -- balanced winds
   pub winds : WindsAreBalanced rack.log.winds
 

@@ -9,10 +9,12 @@ ghost use Rattle.mount_log.specs.Winds.{WindsAreBalanced};
 ghost use Rattle.script_lang.specs.Accepted.{IsAccepted};
 ghost use Rattle.log_audit.specs.Heads.{heads_of};
 ghost use Rattle.log_audit.specs.Honest.{HasHonestArrivals};
+ghost use Rattle.change_audit.specs.Copied.{CopiesAreMade};
+ghost use Rattle.change_audit.specs.Listed.{SkipsAreListed};
 ghost use Rattle.mount_run.specs.Headline.{AreBricksOf, HasFiles, IsLawfulRun};
 ghost use Rattle.mount_run.specs.Outcomes.{IsStopped};
 
-use change_audit::changes_are_borne;
+use change_audit::{changes_are_borne, copies_are_made, skips_are_listed};
 use error_audit::io_errors_are_caused;
 use graph_build::Plan;
 use hub_calls::Rack;
@@ -77,6 +79,22 @@ fn has_files(
             ops.as_slice(),
         ),
     }
+}
+
+// Whether copies were made, and skips are of cells that bricks had listed.
+fn has_heals(
+    alloc: Global,
+    script: &Script,
+    plans: &[Plan],
+    left: &Rack,
+) -> Result<bool, AllocError>
+    ensures copies { IfOk result (λ yes. yes ≡ true → CopiesAreMade script.now plans.now left.now.log left.now.bricks) }
+    ensures skips { IfOk result (λ yes. yes ≡ true → SkipsAreListed left.now.log left.now.bricks) }
+{
+    if !copies_are_made(alloc, script, plans, &left.log, left.bricks.as_slice())? {
+        return Ok(false);
+    }
+    skips_are_listed(alloc, &left.log, left.bricks.as_slice())
 }
 
 // Whether winds, connections and I/O errors are as they should be.
@@ -149,8 +167,8 @@ fn has_course(
 
 /// Whether the log of a run, with its bricks, is as a run promises: sessions submit their lines in order, each control is
 /// carried out, each call has its reply, what arrived is what the bricks make of what was sent, replies, winds and requests are
-/// of their calls, events and graphs, connections and I/O errors have their causes, the winds are balanced, the replies are
-/// those of one plain file system, and each acknowledged change is on a quorum of bricks.
+/// of their calls, events and graphs, connections and I/O errors have their causes, the winds are balanced, copies were made,
+/// skips were listed, the replies are those of one plain file system, and each acknowledged change is on a quorum of bricks.
 ///
 /// # Errors
 /// Out of memory.
@@ -163,7 +181,7 @@ pub fn is_lawful(
     requires { IsScript script.now plans.now }
     ensures { IfOk result (λ yes. yes ≡ true → IsLawfulRun script.now plans.now left.now) }
 {
-    if !has_course(alloc, script, plans, left)? {
+    if !has_course(alloc, script, plans, left)? || !has_heals(alloc, script, plans, left)? {
         return Ok(false);
     }
     has_files(alloc, script, plans, left)

@@ -1,0 +1,13 @@
+use Rattle.std.proofs.Common.{arith}
+use Rattle.change_audit.proofs.Copying.{copies_next, all_made}
+use Rattle.change_audit.proofs.copies.copies_are_made.Goals as goal
+
+pub loop-k-preserved : goal.loop-k-preserved
+loop-k-preserved c =
+    copies_next c.args.script.now c.args.plans.now c.args.log.now c.args.bricks.now c.loop-k.k c.loop-k.claims c.take_copy.new.claims
+    c.in_ok-take_copy.ensures.keeps (c.in_ok-take_copy.ensures.claimed c.if-not-branch.false) c.loop-k.invariant
+
+pub returns : goal.returns
+returns c = λ _.
+    all_made c.args.script.now c.args.plans.now c.args.log.now c.args.bricks.now c.loop-k.k c.loop-k.claims (c.are_numbered.ensures.copied c.if-not-are_numbered.false)
+    (c.are_numbered.ensures.skipped c.if-not-are_numbered.false) (omega (arith, c.loop-k-test.false, c.len-k-end.ensures)) c.loop-k.invariant

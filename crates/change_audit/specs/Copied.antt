@@ -1,0 +1,85 @@
+-- Copies were made: each copy that the log has is of a cell whose content a brick of a set answered to a fetch, and which the
+-- sink, another brick of the set, replaced by just this content: its replacement was sent in the event in which that answer
+-- arrived, for a wind of the same call, and confirmed by the event of the copy. No two copies have the same replacement.
+use Rattle.std.specs.Prelude.{◌≡◌, ◌≢◌, ℕ, ◌+◌, ◌-◌, ◌<◌, true, List, Some, Contains, length, slice_get}
+use Rattle.fop_types.specs.declared.contents.Content.{Content as Held}
+use Rattle.fop_types.specs.declared.copy_jobs.CopyRecord.{CopyRecord}
+use Rattle.fop_types.specs.declared.jobs.SetPlan.{SetPlan}
+use Rattle.fop_types.specs.declared.messages.BrickRep.TheVariants.{Done}
+use Rattle.fop_types.specs.declared.messages.BrickReq.{BrickReq}
+use Rattle.fop_types.specs.declared.messages.BrickReq.TheVariants.{Fetch, Replace}
+use Rattle.fop_types.specs.declared.messages.DoneArm.{DoneArm}
+use Rattle.fop_types.specs.declared.messages.DoneArm.TheVariants.{Nothing, Content}
+use Rattle.fop_types.specs.declared.messages.Input.TheVariants.{Request}
+use Rattle.fop_types.specs.declared.messages.OutKind.TheVariants.{Reply}
+use Rattle.graph_build.specs.declared.plans.Plan.{Plan}
+use Rattle.script_lang.specs.declared.scripts.Script.{Script}
+use Rattle.wire_xdr.specs.WireText.{input_text, output_text}
+use Rattle.brick_machine.specs.Journal.{Journal}
+use Rattle.mount_log.specs.Causes.{plan_of_volfile, set_of_plan}
+use Rattle.mount_log.specs.Graphs.{volfiles_of}
+use Rattle.mount_log.specs.declared.logs.HubEvent.TheVariants.{Arrive}
+use Rattle.mount_log.specs.declared.logs.Log.{Log}
+use Rattle.mount_log.specs.declared.logs.WindLine.{WindLine}
+use Rattle.xlator_law.specs.Numbers.{wind_number}
+use Rattle.change_audit.specs.Borne.{IsWindFor}
+
+-- a request of a graph on a wind is in a brick's journal, and its Done arrived in the event at this place, from 0
+pub record IsDoneIn (log : Log) (bricks : List Journal) (brick wind graph event : ℕ) (req : BrickReq) (arm : DoneArm) : Type 0 where
+  pub at : Journal
+  pub there : slice_get bricks brick ≡ Some at
+  pub place : ℕ
+  pub request : slice_get at.journal place ≡ Some (input_text (Request wind graph req))
+  pub arrived : slice_get log.events event ≡ Some (Arrive brick (output_text (record { taken = place + 1; kind = Reply wind (Done arm) })))
+
+-- the wind of this number was opened for the call, in the event of this number
+pub record IsOpenedIn (winds : List WindLine) (call wind number : ℕ) : Type 0 where
+  pub place : ℕ
+  pub line : WindLine
+  pub there : slice_get winds place ≡ Some line
+  pub opened : line.opened ≡ true
+  pub call_is : line.call ≡ call
+  pub number_is : wind_number line.wind ≡ wind
+  pub event_is : line.event ≡ number
+
+-- the source and the sink of a copy are two bricks of one set of a graph
+pub record IsWithinSet (script : Script) (plans : List Plan) (log : Log) (graph : ℕ) (copy : CopyRecord) : Type 0 where
+  pub set : ℕ
+  pub plan : SetPlan
+  pub plan_is : set_of_plan (plan_of_volfile plans (slice_get (volfiles_of script log) (graph - 1))) set ≡ Some plan
+  pub source : Contains plan.bricks copy.source
+  pub sink : Contains plan.bricks copy.sink
+  pub differ : copy.source ≢ copy.sink
+
+-- In a call and a graph the source answered the fetch of the cell, and the sink has confirmed by the event of the copy, on this
+-- wind, the replacement by what the source had answered.
+pub record IsReplaced (log : Log) (bricks : List Journal) (copy : CopyRecord) (number call graph wind : ℕ) : Type 0 where
+  pub content : Held
+  pub fetch : ℕ
+  pub fetched_at : ℕ
+  pub replaced_at : ℕ
+  pub fetched : IsDoneIn log bricks copy.source fetch graph fetched_at (Fetch 0 copy.cell) (Content content copy.last)
+  pub fetch_opened : IsWindFor log.winds call fetch
+  pub opened : IsOpenedIn log.winds call wind (fetched_at + 1)
+  pub replaced : IsDoneIn log bricks copy.sink wind graph replaced_at (Replace copy.cell copy.last content) Nothing
+  pub in_time : replaced_at < number
+
+-- the copy was made by the replacement on this wind
+pub record IsMade (script : Script) (plans : List Plan) (log : Log) (bricks : List Journal) (copy : CopyRecord) (number wind : ℕ) : Type 0 where
+  pub call : ℕ
+  pub graph : ℕ
+  pub within : IsWithinSet script plans log graph copy
+  pub replaced : IsReplaced log bricks copy number call graph wind
+
+-- the copy at a place was made by a replacement that is its own
+pub record HasReplacement (script : Script) (plans : List Plan) (log : Log) (bricks : List Journal) (copy_of : ℕ → ℕ) (k number : ℕ) (copy : CopyRecord) : Type 0 where
+  pub wind : ℕ
+  pub own : copy_of wind ≡ k
+  pub made : IsMade script plans log bricks copy number wind
+
+-- Each copy and each skip has the number of its event; and each replacement has the place of the one copy that it makes.
+pub record CopiesAreMade (script : Script) (plans : List Plan) (log : Log) (bricks : List Journal) : Type 0 where
+  pub copied : length log.copied ≡ length log.copies
+  pub skipped : length log.skipped ≡ length log.skips
+  pub copy_of : ℕ → ℕ
+  pub each : (k number : ℕ) (copy : CopyRecord) → slice_get log.copies k ≡ Some copy → slice_get log.copied k ≡ Some number → HasReplacement script plans log bricks copy_of k number copy

@@ -1,0 +1,249 @@
+//! The audit of copies.
+ghost use Rattle.std.specs.Prelude.{◌≡◌, ◌≢◌, ◌+◌, true, length, Contains, Some, option_copied, slice_get, IfOk, IfSome};
+ghost use Rattle.fop_types.specs.declared.copy_jobs.CopyRecord.{CopyRecord as Copied};
+ghost use Rattle.change_audit.specs.CallGraphs.{AreGraphsOf};
+ghost use Rattle.change_audit.specs.Claims.{KeepClaims};
+ghost use Rattle.change_audit.specs.Copied.{IsOpenedIn, IsReplaced, IsMade, CopiesAreMade};
+ghost use Rattle.change_audit.specs.Copying.{IsOfCopy, HasFetch, IsWithinTables, IsCopyClaimed, IsCopyDue};
+
+use crate::bearers::has_member;
+use crate::call_graphs::{CallGraphs, call_graphs, set_in, set_with};
+use crate::claims::Claims;
+use crate::copy_finding::{Found, Replacements, find_replacements};
+use crate::copy_requests::{Replacement, confirmed, fetched, is_cell};
+use crate::openings::{is_opened_in, is_wind_for};
+use brick_machine::Brick;
+use fop_types::{CopyRecord, SetPlan};
+use graph_build::Plan;
+use mount_log::Log;
+use script_lang::Script;
+use std::alloc::{AllocError, Global};
+
+// ---- the replacement of a copy
+
+fn is_of(by: &Replacement, copy: &CopyRecord) -> bool
+    ensures { result ≡ true → IsOfCopy copy.now by.now }
+{
+    by.last == copy.last && is_cell(&by.cell, &copy.cell)
+}
+
+// Whether the source has answered the fetch, on a wind of the call, by what the replacement carries.
+fn has_fetch(
+    alloc: Global,
+    log: &Log,
+    bricks: &[Brick],
+    source: u8,
+    at: Found,
+    by: &Replacement,
+) -> Result<bool, AllocError>
+    ensures { IfOk result (λ yes. yes ≡ true → HasFetch log.now bricks.now source at.call at.fetched by.now) }
+{
+    match fetched(alloc, log, bricks, source, at.fetched, by)? {
+        Some(wind) => Ok(is_wind_for(log.winds.as_slice(), at.fetch_opening, at.call, wind)),
+        None => Ok(false),
+    }
+}
+
+// Whether the wind of a replacement was opened in the event in which the answer to its fetch arrived.
+fn is_in_turn(log: &Log, at: Found, wind: u64) -> bool
+    ensures { result ≡ true → IsOpenedIn log.now.winds at.call wind (at.fetched + 1) }
+{
+    if at.fetched >= usize::MAX {
+        return false;
+    }
+    let number = at.fetched as u64 + 1;
+    is_opened_in(log.winds.as_slice(), at.opening, at.call, wind, number)
+}
+
+// The replacement by which a copy was made in a call, if it was confirmed before the copy's event ended.
+fn replacement_for(
+    alloc: Global,
+    log: &Log,
+    bricks: &[Brick],
+    copy: &CopyRecord,
+    number: u64,
+    at: Found,
+) -> Result<Option<Replacement>, AllocError>
+    ensures { IfOk result (λ found. IfSome found (λ by. IsReplaced log.now bricks.now copy.now number at.call by.graph by.wind)) }
+{
+    if at.replaced as u64 >= number {
+        return Ok(None);
+    }
+    let Some(by) = confirmed(alloc, log, bricks, copy.sink, at.replaced)? else {
+        return Ok(None);
+    };
+    if !is_of(&by, copy) {
+        return Ok(None);
+    }
+    if !has_fetch(alloc, log, bricks, copy.source, at, &by)? {
+        return Ok(None);
+    }
+    if !is_in_turn(log, at, by.wind) {
+        return Ok(None);
+    }
+    Ok(Some(by))
+}
+
+// ---- its set
+
+fn has_ends(plan: &SetPlan, copy: &CopyRecord) -> bool
+    ensures source { result ≡ true → Contains plan.now.bricks copy.now.source }
+    ensures sink { result ≡ true → Contains plan.now.bricks copy.now.sink }
+    ensures differ { result ≡ true → copy.now.source ≢ copy.now.sink }
+{
+    copy.source != copy.sink && has_member(plan, copy.source) && has_member(plan, copy.sink)
+}
+
+// Whether the source and the sink of a copy are two bricks of one set of a graph.
+fn is_within(plans: &[Plan], graphs: &CallGraphs, graph: usize, copy: &CopyRecord) -> bool
+    ensures { result ≡ true → IsWithinTables plans.now graphs.now graph copy.now }
+{
+    let Some(set) = set_with(plans, graphs, graph, copy.sink) else {
+        return false;
+    };
+    let Some(plan) = set_in(plans, graphs, graph, set) else {
+        return false;
+    };
+    has_ends(plan, copy)
+}
+
+// ---- the copies
+
+// The wind of the replacement by which a copy was made.
+fn made_by(
+    alloc: Global,
+    script: &Script,
+    plans: &[Plan],
+    log: &Log,
+    bricks: &[Brick],
+    graphs: &CallGraphs,
+    copy: &CopyRecord,
+    number: u64,
+    at: Found,
+) -> Result<Option<u64>, AllocError>
+    requires { AreGraphsOf script.now log.now graphs.now }
+    ensures { IfOk result (λ found. IfSome found (λ wind. IsMade script.now plans.now log.now bricks.now copy.now number wind)) }
+{
+    let Some(by) = replacement_for(alloc, log, bricks, copy, number, at)? else {
+        return Ok(None);
+    };
+    if !is_within(plans, graphs, by.graph as usize, copy) {
+        return Ok(None);
+    }
+    Ok(Some(by.wind))
+}
+
+// Takes a replacement for the copy at a place.
+fn take_replacement(
+    alloc: Global,
+    script: &Script,
+    plans: &[Plan],
+    log: &Log,
+    bricks: &[Brick],
+    graphs: &CallGraphs,
+    found: &mut Replacements,
+    claims: &mut Claims,
+    k: usize,
+    number: u64,
+    copy: &CopyRecord,
+) -> Result<bool, AllocError>
+    requires { AreGraphsOf script.now log.now graphs.now }
+    ensures claimed { IfOk result (λ yes. yes ≡ true → IsCopyClaimed script.now plans.now log.now bricks.now claims.new k number copy.now) }
+    ensures keeps { IfOk result (λ yes. KeepClaims claims.old claims.new) }
+{
+    let Some(at) = found.next(copy)? else {
+        return Ok(false);
+    };
+    let made = made_by(alloc, script, plans, log, bricks, graphs, copy, number, at)?;
+    let Some(wind) = made else {
+        return Ok(false);
+    };
+    let did = claims.take(wind, k)?;
+    Ok(did)
+}
+
+fn copy_at(log: &Log, k: usize) -> Option<&CopyRecord>
+    ensures { option_copied result ≡ slice_get log.now.copies k }
+{
+    log.copies.as_slice().get(k)
+}
+
+fn number_at(log: &Log, k: usize) -> Option<u64>
+    ensures { result ≡ slice_get log.now.copied k }
+{
+    log.copied.as_slice().get(k).copied()
+}
+
+fn take_copy(
+    alloc: Global,
+    script: &Script,
+    plans: &[Plan],
+    log: &Log,
+    bricks: &[Brick],
+    graphs: &CallGraphs,
+    found: &mut Replacements,
+    claims: &mut Claims,
+    k: usize,
+) -> Result<bool, AllocError>
+    requires { AreGraphsOf script.now log.now graphs.now }
+    ensures claimed { IfOk result (λ yes. yes ≡ true → (copy : Copied) → slice_get log.now.copies k ≡ Some copy → IsCopyDue script.now plans.now log.now bricks.now claims.new k copy) }
+    ensures keeps { IfOk result (λ yes. KeepClaims claims.old claims.new) }
+{
+    let Some(copy) = copy_at(log, k) else {
+        return Ok(false);
+    };
+    let Some(number) = number_at(log, k) else {
+        return Ok(false);
+    };
+    let yes = take_replacement(
+        alloc, script, plans, log, bricks, graphs, found, claims, k, number, copy,
+    )?;
+    Ok(yes)
+}
+
+fn are_numbered(log: &Log) -> bool
+    ensures copied { result ≡ true → length log.now.copied ≡ length log.now.copies }
+    ensures skipped { result ≡ true → length log.now.skipped ≡ length log.now.skips }
+{
+    log.copied.len() == log.copies.len() && log.skipped.len() == log.skips.len()
+}
+
+/// Whether each copy and each skip of the log has the number of its event, and each copy was made, by a replacement of its own:
+/// the source answered the fetch of the cell, in that event the replacement of the cell by just that answer was sent to the
+/// sink for a wind of the same call, and the sink confirmed it by the event of the copy. Both are bricks of one set of the
+/// graph.
+///
+/// # Errors
+/// Out of memory.
+pub fn copies_are_made(
+    alloc: Global,
+    script: &Script,
+    plans: &[Plan],
+    log: &Log,
+    bricks: &[Brick],
+) -> Result<bool, AllocError>
+    ensures { IfOk result (λ yes. yes ≡ true → CopiesAreMade script.now plans.now log.now bricks.now) }
+{
+    if !are_numbered(log) {
+        return Ok(false);
+    }
+    let graphs = call_graphs(alloc, script, log)?;
+    let mut found = find_replacements(alloc, log, bricks)?;
+    let mut claims = Claims::new(alloc);
+    for k in 0..log.copies.len() {
+        if !take_copy(
+            alloc,
+            script,
+            plans,
+            log,
+            bricks,
+            &graphs,
+            &mut found,
+            &mut claims,
+            k,
+        )? {
+            return Ok(false);
+        }
+    }
+    Ok(true)
+}

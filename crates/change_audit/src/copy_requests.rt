@@ -1,0 +1,294 @@
+//! The fetch and the replacement of a copy, in journals, and what arrived as their answers.
+ghost use Rattle.std.specs.Prelude.{◌≡◌, true, Some, option_copied, slice_get, IfOk, IfSome};
+ghost use Rattle.fop_types.specs.declared.messages.BrickRep.TheVariants.{Done};
+ghost use Rattle.fop_types.specs.declared.messages.BrickReq.TheVariants.{Fetch};
+ghost use Rattle.fop_types.specs.declared.messages.DoneArm.TheVariants.{Content as Shown};
+ghost use Rattle.fop_types.specs.declared.messages.Input.TheVariants.{Request};
+ghost use Rattle.fop_types.specs.declared.messages.OutKind.TheVariants.{Reply};
+ghost use Rattle.wire_xdr.specs.WireText.{input_text, output_text};
+ghost use Rattle.mount_log.specs.declared.logs.HubEvent.TheVariants.{Arrive};
+ghost use Rattle.change_audit.specs.Copying.{IsSentAs, IsInputOf, replace_of, IsConfirmed, IsFetchedFor};
+
+use crate::answers::{bytes_at, done_wind};
+use crate::bearers::brick_at;
+use crate::served::whole_input;
+use brick_machine::Brick;
+use fop_types::{BrickReq, Cell, Content, Input, OutKind, Output};
+use log_audit::by_place::event_at;
+use mount_log::{HubEvent, Log};
+use std::alloc::{AllocError, Global};
+use wire_messages::{Message, output_of};
+use wire_xdr::copy_bytes;
+
+/// The request of a replacement.
+#[derive(Drop)]
+pub struct Replacement {
+    pub wind: u64,
+    pub graph: u32,
+    pub cell: Cell,
+    pub last: u64,
+    pub content: Content,
+}
+
+// ---- what arrived
+
+fn bytes_from(event: &HubEvent, brick: u8) -> Option<&[u8]>
+    ensures { IfSome result (λ bytes. event.now ≡ Arrive brick bytes.now) }
+{
+    match event {
+        HubEvent::Arrive { brick: from, bytes } => {
+            if *from == brick {
+                Some(bytes.as_slice())
+            } else {
+                None
+            }
+        }
+        _ => None,
+    }
+}
+
+/// What arrived from a brick in the event at a place.
+pub(crate) fn arrived(log: &Log, event: usize, brick: u8) -> Option<&[u8]>
+    ensures { IfSome result (λ bytes. slice_get log.now.events event ≡ Some (Arrive brick bytes.now)) }
+{
+    match event_at(log, event) {
+        Some(event) => bytes_from(event, brick),
+        None => None,
+    }
+}
+
+/// The output that the bytes are the encoding of, if they are that of one.
+///
+/// # Errors
+/// Out of memory.
+pub(crate) fn written_output(alloc: Global, bytes: &[u8]) -> Result<Option<Output>, AllocError>
+    ensures { IfOk result (λ found. IfSome found (λ x. bytes.now ≡ output_text x)) }
+{
+    match output_of(alloc, bytes)? {
+        Message::Whole(output) => Ok(Some(output)),
+        Message::Wrong { place: _ } => Ok(None),
+    }
+}
+
+// ---- what was asked
+
+/// The input of a brick's journal that is counted so, from 1.
+pub(crate) fn input_at(bricks: &[Brick], brick: u8, taken: u64) -> Option<&[u8]>
+    ensures { IfSome result (λ bytes. IsInputOf bricks.now brick taken bytes.now) }
+{
+    if taken == 0 {
+        return None;
+    }
+    let at = brick_at(bricks, brick)?;
+    let bytes = bytes_at(at.journal(), (taken - 1) as usize)?;
+    Some(bytes.as_slice())
+}
+
+fn replacement_on(wind: u64, graph: u32, req: BrickReq) -> Option<Replacement>
+    ensures { IfSome result (λ r. Request wind graph req ≡ Request r.wind r.graph (replace_of r)) }
+{
+    match req {
+        BrickReq::Replace {
+            cell,
+            last,
+            content,
+        } => Some(Replacement {
+            wind,
+            graph,
+            cell,
+            last,
+            content,
+        }),
+        _ => None,
+    }
+}
+
+fn replacement_of(input: Input) -> Option<Replacement>
+    ensures { IfSome result (λ r. input ≡ Request r.wind r.graph (replace_of r)) }
+{
+    match input {
+        Input::Request { wind, graph, req } => replacement_on(wind, graph, req),
+        _ => None,
+    }
+}
+
+/// The replacement that the bytes are, if they are one.
+///
+/// # Errors
+/// Out of memory.
+pub(crate) fn replacement_in(alloc: Global, bytes: &[u8]) -> Result<Option<Replacement>, AllocError>
+    ensures { IfOk result (λ found. IfSome found (λ r. bytes.now ≡ input_text (Request r.wind r.graph (replace_of r)))) }
+{
+    match whole_input(alloc, bytes)? {
+        Some(input) => Ok(replacement_of(input)),
+        None => Ok(None),
+    }
+}
+
+// The replacement that a brick was sent as its input of this count.
+fn asked_replacement(
+    alloc: Global,
+    bricks: &[Brick],
+    brick: u8,
+    taken: u64,
+) -> Result<Option<Replacement>, AllocError>
+    ensures { IfOk result (λ found. IfSome found (λ r. IsSentAs bricks.now brick taken r.wind r.graph (replace_of r))) }
+{
+    let Some(bytes) = input_at(bricks, brick, taken) else {
+        return Ok(None);
+    };
+    let Some(found) = replacement_in(alloc, bytes)? else {
+        return Ok(None);
+    };
+    Ok(Some(found))
+}
+
+/// Whether two cells are the same.
+pub(crate) fn is_cell(cell: &Cell, other: &Cell) -> bool
+    ensures { result ≡ true → cell.now ≡ other.now }
+{
+    *cell == *other
+}
+
+fn is_fetch_of(req: &BrickReq, of: &Cell) -> bool
+    ensures { result ≡ true → req.now ≡ Fetch 0 of.now }
+{
+    match req {
+        BrickReq::Fetch { fd, cell } => *fd == 0 && is_cell(cell, of),
+        _ => false,
+    }
+}
+
+fn is_fetch_on(input: &Input, on: u64, at: u32, of: &Cell) -> bool
+    ensures { result ≡ true → input.now ≡ Request on at (Fetch 0 of.now) }
+{
+    match input {
+        Input::Request { wind, graph, req } => {
+            *wind == on && *graph == at && is_fetch_of(req, of)
+        }
+        _ => false,
+    }
+}
+
+// Whether the bytes are the fetch of a cell on a wind, in a graph.
+fn is_fetch(
+    alloc: Global,
+    bytes: &[u8],
+    wind: u64,
+    graph: u32,
+    cell: &Cell,
+) -> Result<bool, AllocError>
+    ensures { IfOk result (λ yes. yes ≡ true → bytes.now ≡ input_text (Request wind graph (Fetch 0 cell.now))) }
+{
+    match whole_input(alloc, bytes)? {
+        Some(input) => Ok(is_fetch_on(&input, wind, graph, cell)),
+        None => Ok(false),
+    }
+}
+
+// Whether a brick was sent, as its input of this count, the fetch of a cell on a wind, in a graph.
+fn is_asked_fetch(
+    alloc: Global,
+    bricks: &[Brick],
+    brick: u8,
+    taken: u64,
+    wind: u64,
+    graph: u32,
+    cell: &Cell,
+) -> Result<bool, AllocError>
+    ensures { IfOk result (λ yes. yes ≡ true → IsSentAs bricks.now brick taken wind graph (Fetch 0 cell.now)) }
+{
+    let Some(bytes) = input_at(bricks, brick, taken) else {
+        return Ok(false);
+    };
+    let yes = is_fetch(alloc, bytes, wind, graph, cell)?;
+    Ok(yes)
+}
+
+// ---- requests with their answers
+
+/// The replacement that a brick has confirmed by what arrived in the event at a place.
+///
+/// # Errors
+/// Out of memory.
+pub(crate) fn confirmed(
+    alloc: Global,
+    log: &Log,
+    bricks: &[Brick],
+    brick: u8,
+    event: usize,
+) -> Result<Option<Replacement>, AllocError>
+    ensures { IfOk result (λ found. IfSome found (λ r. IsConfirmed log.now bricks.now brick event r)) }
+{
+    let Some(bytes) = arrived(log, event, brick) else {
+        return Ok(None);
+    };
+    let Some(output) = written_output(alloc, bytes)? else {
+        return Ok(None);
+    };
+    let Some(wind) = done_wind(&output.kind) else {
+        return Ok(None);
+    };
+    let Some(found) = asked_replacement(alloc, bricks, brick, output.taken)? else {
+        return Ok(None);
+    };
+    if found.wind != wind {
+        return Ok(None);
+    }
+    Ok(Some(found))
+}
+
+// The wind of an output that is a reply.
+fn reply_wind(kind: &OutKind) -> Option<u64> {
+    match kind {
+        OutKind::Reply { wind, rep: _ } => Some(*wind),
+        _ => None,
+    }
+}
+
+// Whether the bytes are the reply to a fetch by what a replacement carries.
+fn is_reply(
+    alloc: Global,
+    bytes: &[u8],
+    taken: u64,
+    wind: u64,
+    by: &Replacement,
+) -> Result<bool, AllocError>
+    ensures { IfOk result (λ yes. yes ≡ true → bytes.now ≡ output_text (record { taken = taken; kind = Reply wind (Done (Shown by.now.content by.now.last)) })) }
+{
+    let expected = copy_bytes(alloc, taken, wind, &by.content, by.last)?;
+    Ok(bytes == expected.as_slice())
+}
+
+/// The wind of the fetch that a brick has answered by what a replacement carries, as that arrived in the event at a place.
+///
+/// # Errors
+/// Out of memory.
+pub(crate) fn fetched(
+    alloc: Global,
+    log: &Log,
+    bricks: &[Brick],
+    brick: u8,
+    event: usize,
+    by: &Replacement,
+) -> Result<Option<u64>, AllocError>
+    ensures { IfOk result (λ found. IfSome found (λ wind. IsFetchedFor log.now bricks.now brick event by.now wind)) }
+{
+    let Some(bytes) = arrived(log, event, brick) else {
+        return Ok(None);
+    };
+    let Some(output) = written_output(alloc, bytes)? else {
+        return Ok(None);
+    };
+    let Some(wind) = reply_wind(&output.kind) else {
+        return Ok(None);
+    };
+    let taken = output.taken;
+    if !is_reply(alloc, bytes, taken, wind, by)? {
+        return Ok(None);
+    }
+    if !is_asked_fetch(alloc, bricks, brick, taken, wind, by.graph, &by.cell)? {
+        return Ok(None);
+    }
+    Ok(Some(wind))
+}
