@@ -2,7 +2,7 @@
 
 use crate::answers::{done_wind, whole_output};
 use crate::copy_requests::{input_at, replacement_in};
-use crate::finding::{Opening, openings_of};
+use crate::finding::{DONE, Opening, openings_of};
 use brick_machine::Brick;
 use fop_types::{BrickRep, Cell, CopyRecord, DoneArm, OutKind, Output, Proc};
 use log_audit::by_place::event_at;
@@ -57,6 +57,9 @@ struct Confirmed {
 // ---- what arrived
 
 fn confirmed_by(alloc: Global, brick: u8, bytes: &[u8]) -> Result<Option<Confirmed>, AllocError> {
+    if bytes.len() != DONE {
+        return Ok(None);
+    }
     let Some(output) = whole_output(alloc, bytes)? else {
         return Ok(None);
     };

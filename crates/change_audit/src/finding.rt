@@ -60,7 +60,7 @@ pub(crate) fn openings_of(
 
 // The length of the encoding of a Done with nothing, in bytes: the number of inputs, a hyper; a unit for the kind of output; the
 // wind, a hyper; a unit each for the answer and what it is done with.
-const DONE: usize = 28;
+pub(crate) const DONE: usize = 28;
 
 // The wind of an output that is a Done with nothing. Longer and shorter ones are not decoded.
 fn wind_done(alloc: Global, bytes: &[u8]) -> Result<Option<u64>, AllocError> {
