@@ -12,7 +12,7 @@ use std::alloc::{AllocError, Global};
 use wire_messages::{Message, input_of};
 
 // The input that the bytes are, if they are one.
-fn whole_input(alloc: Global, bytes: &[u8]) -> Result<Option<Input>, AllocError>
+pub(crate) fn whole_input(alloc: Global, bytes: &[u8]) -> Result<Option<Input>, AllocError>
     ensures { IfOk result (λ found. IfSome found (λ x. bytes.now ≡ input_text x)) }
 {
     match input_of(alloc, bytes)? {
