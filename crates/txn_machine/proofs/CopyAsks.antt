@@ -1,5 +1,5 @@
 -- Each copy that a turn asks for has the job of its transaction.
-use Rattle.std.proofs.Common.{◌≡◌, ◌∙◌, ℕ, ◌+◌, ◌-◌, ◌<◌, Bool, true, false, ◌&&◌, not, cond, List, [], ◌∷◌, ◌++◌, Option, Some, None, is_none, is_some, length, refl, sym}
+use Rattle.std.proofs.Common.{◌≡◌, ◌∙◌, ℕ, ◌+◌, ◌-◌, ◌<◌, Bool, true, false, ◌&&◌, not, cond, List, [], ◌∷◌, ◌++◌, Option, Some, None, is_none, is_some, length, sym}
 use Rattle.std.specs.Prelude.{slice_get, slice_index}
 use Rattle.std.proofs.lemmas.Bool.{cond_both}
 use Rattle.fop_types.specs.declared.answers.IoError.TheVariants as io
@@ -20,12 +20,11 @@ use Rattle.afr_ledger.specs.Ledger.{State as Ledger}
 use Rattle.afr_phases.specs.declared.locking.LockStep.{LockStep}
 use Rattle.afr_phases.specs.declared.locking.LockStep.TheVariants as step
 use Rattle.afr_phases.specs.declared.outs.Outs.{Outs}
-use Rattle.afr_phases.specs.CopyWork.{HasHeld}
 use Rattle.afr_phases.specs.Answers.{is_fault, rows_in, content_in, cells_in}
 use Rattle.afr_phases.specs.Flags.{flag, lowest, both, mask_of, names}
 use Rattle.afr_phases.specs.Locking.{next_lock}
 use Rattle.afr_phases.specs.Locks.{no_locks, granted, standing}
-use Rattle.afr_phases.specs.Outs.{is_out, is_short, left}
+use Rattle.afr_phases.specs.Outs.{is_short, left}
 use Rattle.afr_phases.specs.Shown.{nothing_shown, with_rows, rows_listed}
 use Rattle.afr_phases.specs.Waves.{is_over, taken}
 use Rattle.afr_phases.proofs.Bits.{named}

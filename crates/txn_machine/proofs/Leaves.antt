@@ -1,5 +1,5 @@
 -- A copy that a transaction asked for leaves a sink out of date only where a replica that the transaction used went out in it.
-use Rattle.std.proofs.Common.{◌≡◌, ◌∙◌, ℕ, zero, suc, ◌<◌, ◌⊎◌, inl, inr, Bool, true, false, not, nat_lt, ◌&&◌, cond, List, [], ◌∷◌, Option, Some, None, is_none, is_some, length, refl, sym, ap, subst, slice_set}
+use Rattle.std.proofs.Common.{◌≡◌, ◌∙◌, ℕ, zero, suc, ◌<◌, ◌⊎◌, inl, inr, Bool, true, false, not, nat_lt, ◌&&◌, cond, List, [], ◌∷◌, Option, Some, None, is_none, is_some, refl, sym, ap, subst, slice_set}
 use Rattle.std.specs.Prelude.{slice_index_or}
 use Rattle.std.proofs.lemmas.Bool.{cond_both, and_from, lt-ltb, true≢false}
 use Rattle.fop_types.specs.declared.answers.SplitRow.{SplitRow}
@@ -8,12 +8,11 @@ use Rattle.fop_types.specs.declared.contents.Content.{Content}
 use Rattle.fop_types.specs.declared.copy_jobs.CopyJob.{CopyJob}
 use Rattle.fop_types.specs.declared.copy_jobs.Out.{Out}
 use Rattle.fop_types.specs.declared.messages.BrickRep.{BrickRep}
-use Rattle.fop_types.specs.declared.messages.BrickReq.TheVariants as req
 use Rattle.afr_phases.specs.declared.outs.Outs.{Outs}
 use Rattle.afr_phases.specs.Answers.{is_fault, content_in}
 use Rattle.afr_phases.specs.Flags.{flag, flags_of, names, mask_of, lowest, no_flags}
 use Rattle.afr_phases.specs.Outs.{is_out, left, used, outs_listed}
-use Rattle.afr_phases.specs.Waves.{is_over, taken}
+use Rattle.afr_phases.specs.Waves.{is_over}
 use Rattle.afr_phases.proofs.Bits.{named}
 use Rattle.afr_phases.proofs.Truths.{flags_have, both_have, lowest_none, lowest_some}
 use Rattle.afr_transaction.specs.declared.txn.Txn.{Txn}
@@ -25,10 +24,10 @@ use Rattle.self_heal.specs.declared.stage.Origin.{Origin}
 use Rattle.self_heal.specs.declared.stage.Stage.{Stage}
 use Rattle.self_heal.specs.declared.stage.Stage.TheVariants as stage
 use Rattle.self_heal.specs.Handed.{Handed, after}
-use Rattle.self_heal.specs.Runs.{new_run, held_of, sources_of, sinks_of, sources_left, sinks_left, finished, fetching, clearing, at_cell, current_cell, next_cell, replacing, aspect_at, fetched, wave_taken, with_origin, answered_in}
+use Rattle.self_heal.specs.Runs.{new_run, held_of, sources_of, sinks_of, sources_left, sinks_left, finished, fetching, clearing, at_cell, current_cell, next_cell, replacing, aspect_at, fetched, with_origin, answered_in}
 use Rattle.self_heal.proofs.Branches.{confirmed, lost, taken_cases}
 use Rattle.self_heal.proofs.Leaving.{sinks_before}
-use Rattle.txn_laws.specs.Rounds.{sinks_in, IsOutIn, HasWentOut}
+use Rattle.txn_laws.specs.Rounds.{IsOutIn, HasWentOut}
 use Rattle.txn_machine.specs.Leaves.{IsJobFor, AreOwnOuts, AreCurrentIn, IsRunFor, LeavesIn, RunsBegin, RunsGoOn, RunsLeaveForLoss}
 
 -- ---- who is out

@@ -1,6 +1,6 @@
 -- A copy of `self_heal` leaves a sink out of date only where a replica went out in it: what a copy keeps for the transaction that
 -- asked for it, and that it is done so. `txn_laws` counts the rounds of a job on this premise.
-use Rattle.std.specs.Prelude.{◌≡◌, ℕ, ◌<◌, true, List, Option, Some, None, slice_index_or}
+use Rattle.std.specs.Prelude.{◌≡◌, ℕ, ◌<◌, true, List, Some, None, slice_index_or}
 use Rattle.fop_types.specs.declared.answers.SplitRow.{SplitRow}
 use Rattle.fop_types.specs.declared.cells.Cell.{Cell}
 use Rattle.fop_types.specs.declared.contents.Mask.{Mask}

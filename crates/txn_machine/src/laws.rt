@@ -1,4 +1,5 @@
 ghost use Rattle.txn_machine.specs.Copies.{CopiesBeginMeet, CopyAnswersMeet};
+ghost use Rattle.txn_machine.specs.Ends.{JobsWithCopiesEnd};
 ghost use Rattle.txn_machine.specs.Guards.{BeginsMeet, AnswersMeet, CopiesMeet};
 ghost use Rattle.txn_machine.specs.Leaves.{BeginsAskFor, AnswersAskFor, CopiesAskFor, RunsBegin, RunsGoOn, RunsLeaveForLoss};
 ghost use Rattle.txn_machine.specs.Sent.{OneAfterAnother};
@@ -41,4 +42,11 @@ pub fn copies_leave_for_loss()
     ensures begin { RunsBegin }
     ensures answers { RunsGoOn }
     ensures ends { RunsLeaveForLoss }
+{}
+
+/// A job whose copies `self_heal` makes ends, whatever the replicas answer and others do: it takes at most as many answers and
+/// finished copies as its weight at first, and 456 more for each change that becomes unsettled on its cells meanwhile. It is
+/// `txn_laws::jobs_end` without its premise on what copies leave. The call does nothing: its contract exports this.
+pub fn jobs_with_copies_end()
+    ensures { JobsWithCopiesEnd }
 {}
