@@ -1,5 +1,8 @@
+pub mod CopyAsks
 pub mod Copying
 pub mod EachTurn
+pub mod Ends
+pub mod Leaves
 pub mod LockSteps
 pub mod OneRequest
 pub mod Others

@@ -1,5 +1,7 @@
 ghost use Rattle.txn_machine.specs.Copies.{CopiesBeginMeet, CopyAnswersMeet};
+ghost use Rattle.txn_machine.specs.Ends.{JobsWithCopiesEnd};
 ghost use Rattle.txn_machine.specs.Guards.{BeginsMeet, AnswersMeet, CopiesMeet};
+ghost use Rattle.txn_machine.specs.Leaves.{BeginsAskFor, AnswersAskFor, CopiesAskFor, RunsBegin, RunsGoOn, RunsLeaveForLoss};
 ghost use Rattle.txn_machine.specs.Sent.{OneAfterAnother};
 
 /// Each request that a turn sends meets its guard: whenever the state of the machine is that of the moment after the turn,
@@ -22,4 +24,29 @@ pub fn requests_go_one_after_another()
 pub fn copies_meet_guards()
     ensures begin { CopiesBeginMeet }
     ensures answers { CopyAnswersMeet }
+{}
+
+/// Each copy that a turn of a transaction asks for has the job of that transaction: its sinks are those of the phase, each lock
+/// that it has held is of a replica that the transaction uses, and one of these is a source. The call does nothing: its contract
+/// exports this.
+pub fn copies_are_asked_for()
+    ensures begin { BeginsAskFor }
+    ensures answers { AnswersAskFor }
+    ensures copies { CopiesAskFor }
+{}
+
+/// A copy with such a job leaves a sink that is used still, and out of date, only where a replica that the transaction used went
+/// out in the copy. The begin and each answer keep what this rests on, and at its end a copy meets the premise of
+/// `txn_laws::rounds_are_paid`, whatever was handed in to it. The call does nothing: its contract exports this.
+pub fn copies_leave_for_loss()
+    ensures begin { RunsBegin }
+    ensures answers { RunsGoOn }
+    ensures ends { RunsLeaveForLoss }
+{}
+
+/// A job whose copies `self_heal` makes ends, whatever the replicas answer and others do: it takes at most as many answers and
+/// finished copies as its weight at first, and 456 more for each change that becomes unsettled on its cells meanwhile. It is
+/// `txn_laws::jobs_end` without its premise on what copies leave. The call does nothing: its contract exports this.
+pub fn jobs_with_copies_end()
+    ensures { JobsWithCopiesEnd }
 {}

@@ -19,9 +19,15 @@
 //! of its record there: what is fetched and replaced of the current cell, and that the sinks which a clear names are those
 //! that confirmed every cell. `self_heal` proves one half of the last: each that is named has confirmed every cell.
 //!
+//! And a copy leaves a sink out of date only where a replica that its transaction used went out in it, which `txn_laws` asks for
+//! where it counts how often a job begins again.
+//!
 //! The crate has definitions and laws alone: each public function has no body, and its contract is a law of every turn.
 #![tactic(auto)]
 
 mod laws;
 
-pub use laws::{copies_meet_guards, requests_go_one_after_another, requests_meet_guards};
+pub use laws::{
+    copies_are_asked_for, copies_leave_for_loss, copies_meet_guards, jobs_with_copies_end,
+    requests_go_one_after_another, requests_meet_guards,
+};
