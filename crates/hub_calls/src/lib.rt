@@ -30,35 +30,20 @@
 #![tactic(auto)]
 
 mod acting;
-mod actions;
 mod arriving;
-mod brick_names;
-mod bricks;
-mod calls;
 mod connecting;
-mod controls;
-mod fop_checks;
-mod fops;
 mod graphs;
 mod holding;
 mod hub;
 mod parts;
-mod plan_bricks;
 mod planned;
-mod progress;
 mod racks;
 mod replying;
-mod requests;
 mod running;
-mod script_lines;
 mod sends;
-mod small_set;
 mod turns;
 
-pub use actions::{Due, Turned};
-pub use brick_names::named_brick;
 pub use hub::Hub;
+pub use hub_tables::{Due, SmallSet, Turned, named_brick, request_proc};
 pub use mount_log::{HubEvent, Log, ReplyLine, SentLine, WindLine};
 pub use racks::Rack;
-pub use requests::request_proc;
-pub use small_set::SmallSet;
