@@ -14,7 +14,8 @@
 //! ```
 //!
 //! What a call asks, in which order, and what it is answered is `call_fops`' part; the hub has its stages, its holds and its
-//! descriptors, and has no case for each call.
+//! descriptors, and has no case for each call. What it knows of its calls, sessions, controls and bricks is in the tables of
+//! `hub_tables`.
 //!
 //! A call is in one of these places until it has its reply: it waits for the calls of an older graph with fewer sets; it
 //! waits for the hold of its next fop; its fop is in its graph; or the fop waits until the hold is extended. The internal

@@ -2,14 +2,15 @@
 //! request, a plan or a script without a graph.
 //!
 //! ```text
-//!   Progress   the phase, each session's lines, the sessions that may submit     by session
-//!   Calls      the calls without a reply and their stages, places of replies     by call and by graph
-//!   Controls   the controls that were not carried out, the actions that are armed  by place and by request
-//!   Bricks     the bricks that are closed, how many outputs are owed
+//!   Progress   the phase, each session's lines left, the sessions that may submit           by session
+//!   Calls      the calls without a reply, with their stages; where replies are in the log   by call, by graph
+//!   Controls   the controls that were not carried out, the actions that are armed           by place, by request
+//!   Bricks     the bricks that are closed; how many outputs are owed
 //! ```
 //!
-//! The hub (`hub_calls`) has one of each, and changes them at its events. None of them knows of another, of a graph or of
-//! the log. A call of a table takes the time of a look-up in a map, but for those that begin a phase or a script.
+//! The hub (`hub_calls`) has one of each and changes them at its events. None looks at another, at a graph or at a log.
+//! A method takes the time of some look-ups in maps, `Controls::sent` for each control that waits for the request; only what
+//! begins a script or a phase goes through all its lines.
 #![tactic(auto)]
 
 mod actions;
