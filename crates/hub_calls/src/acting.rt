@@ -1,10 +1,10 @@
 //! Moves of actions.
 
-use crate::fops::fd_number;
 use crate::parts::Parts;
 use crate::planned::Planned;
 use fop_types::{Fop, OpenFd, Proc, Seq};
 use graph_switch::reopen_list;
+use hub_tables::fd_number;
 use mount_log::HubEvent;
 use script_lang::Action;
 use std::alloc::{AllocError, Global};

@@ -1,12 +1,11 @@
 //! The graphs that are live.
 ghost use Rattle.graph_nodes.specs.Plans.{IsPlan};
 
-use crate::plan_bricks::bricks_of;
 use crate::planned::Planned;
-use crate::small_set::SmallSet;
 use fop_types::Gfid;
 use graph_build::{Plan, follows};
 use graph_nodes::Graphs as NodeGraphs;
+use hub_tables::{SmallSet, bricks_of};
 use std::alloc::{AllocError, Global};
 use std::collections::BTreeMap;
 use xlator_law::Stop;

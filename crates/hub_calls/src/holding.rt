@@ -3,13 +3,12 @@
 ghost use Rattle.std.specs.Prelude.{◌≡◌, ◌≤◌, Some};
 ghost use Rattle.inode_table.specs.Inodes.{inode_at};
 
-use crate::calls::Stage;
-use crate::fops::changes_bytes_next;
 use crate::parts::{Parts, Todo};
 use crate::planned::Planned;
 use call_fops::{Hold, next_fop, next_hold};
 use fop_types::{Gfid, Object};
 use graph_nodes::HoldAsk;
+use hub_tables::{Stage, changes_bytes_next};
 use inode_table::{Inode, InodeTable};
 use mount_locks::Held;
 use std::alloc::{AllocError, Global};

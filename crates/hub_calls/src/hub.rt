@@ -1,16 +1,15 @@
 ghost use Rattle.std.specs.Prelude.{◌≡◌, false, true, None, Some, OnOk, IfOk, IfErr};
-ghost use Rattle.hub_calls.specs.Arming.{is_armable};
+ghost use Rattle.hub_tables.specs.Arming.{is_armable};
 ghost use Rattle.hub_calls.specs.Hubs.{StaysStopped};
 ghost use Rattle.hub_calls.specs.Plans.{IsScript};
 ghost use Rattle.script_lang.specs.Accepted.{IsAccepted};
 
-use crate::actions::{Due, Turned, may_be_armed};
 use crate::parts::Parts;
 use crate::planned::Planned;
-use crate::small_set::SmallSet;
 use bytes::Bytes;
 use fop_types::{Proc, Seq};
 use graph_build::Plan;
+use hub_tables::{Due, SmallSet, Turned, may_be_armed};
 use mount_log::{Log, ReplyLine};
 use script_lang::{Action, Script};
 use std::alloc::Global;

@@ -14,7 +14,8 @@
 //! ```
 //!
 //! What a call asks, in which order, and what it is answered is `call_fops`' part; the hub has its stages, its holds and its
-//! descriptors, and has no case for each call.
+//! descriptors, and has no case for each call. What it knows of its calls, sessions, controls and bricks is in the tables of
+//! `hub_tables`.
 //!
 //! A call is in one of these places until it has its reply: it waits for the calls of an older graph with fewer sets; it
 //! waits for the hold of its next fop; its fop is in its graph; or the fop waits until the hold is extended. The internal
@@ -30,35 +31,20 @@
 #![tactic(auto)]
 
 mod acting;
-mod actions;
 mod arriving;
-mod brick_names;
-mod bricks;
-mod calls;
 mod connecting;
-mod controls;
-mod fop_checks;
-mod fops;
 mod graphs;
 mod holding;
 mod hub;
 mod parts;
-mod plan_bricks;
 mod planned;
-mod progress;
 mod racks;
 mod replying;
-mod requests;
 mod running;
-mod script_lines;
 mod sends;
-mod small_set;
 mod turns;
 
-pub use actions::{Due, Turned};
-pub use brick_names::named_brick;
 pub use hub::Hub;
+pub use hub_tables::{Due, SmallSet, Turned, named_brick, request_proc};
 pub use mount_log::{HubEvent, Log, ReplyLine, SentLine, WindLine};
 pub use racks::Rack;
-pub use requests::request_proc;
-pub use small_set::SmallSet;

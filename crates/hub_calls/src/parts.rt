@@ -1,16 +1,13 @@
 //! What a hub keeps.
 ghost use Rattle.script_lang.specs.Accepted.{IsAccepted};
 
-use crate::bricks::Bricks;
-use crate::calls::Calls;
-use crate::controls::Controls;
 use crate::graphs::Graphs;
 use crate::planned::Planned;
-use crate::progress::Progress;
 use fd_table::FdTable;
 use fop_types::{FopAnswer, Seq};
 use frame_driver::Queue;
 use graph_nodes::HoldAsk;
+use hub_tables::{Bricks, Calls, Controls, Progress};
 use mount_locks::MountLocks;
 use mount_log::Log;
 use std::alloc::{AllocError, Global};

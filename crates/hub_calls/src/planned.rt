@@ -3,9 +3,9 @@ ghost use Rattle.std.specs.Prelude.{◌≡◌, IfSome};
 ghost use Rattle.graph_nodes.specs.Plans.{IsPlan};
 ghost use Rattle.hub_calls.specs.Plans.{IsScript};
 
-use crate::script_lines::creations;
 use fop_types::Seq;
 use graph_build::Plan;
+use hub_tables::creations;
 use mount_log::LineAt;
 use script_lang::{CallLine, Phase, Script};
 use std::marker::Model;

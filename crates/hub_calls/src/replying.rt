@@ -1,11 +1,10 @@
 //! Moves of answers: a fop is answered, and its call goes on or is replied to.
 
-use crate::calls::CallState;
-use crate::fops::changes_bytes_next;
 use crate::parts::Parts;
 use crate::planned::Planned;
 use call_fops::{After, CallReply, FdMove, after_answer, has_place, move_fd};
 use fop_types::{Answer, AppError, FopAnswer, Gfid, Kind, Object};
+use hub_tables::{CallState, changes_bytes_next};
 use mount_log::ReplyLine;
 use std::alloc::{AllocError, Global};
 use xlator_law::Stop;

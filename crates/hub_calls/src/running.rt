@@ -3,10 +3,10 @@
 ghost use Rattle.std.specs.Prelude.{true};
 ghost use Rattle.fop_types.specs.Bounds.{IsRep};
 
-use crate::fop_checks::is_fop;
 use crate::parts::{Given, Parts, Todo};
 use fop_types::{BrickRep, Cell, CopyRecord, Fop, FopAnswer, Seq, SkipCause};
 use graph_nodes::Moved;
+use hub_tables::is_fop;
 use mount_log::{HubEvent, WindLine};
 use std::alloc::{AllocError, Global};
 use xlator_law::{Settled, Stop, WindNo};

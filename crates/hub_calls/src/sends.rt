@@ -1,11 +1,10 @@
 //! Moves of sending: requests, each behind the actions that are armed for it, and controls.
 ghost use Rattle.wire_xdr.specs.WireText.{IsInput};
 
-use crate::actions::may_be_armed;
 use crate::parts::Parts;
-use crate::requests::proc_in;
 use bytes::Bytes;
 use fop_types::{Input, Proc, Seq};
+use hub_tables::{may_be_armed, proc_in};
 use mount_log::SentLine;
 use script_lang::Action;
 use std::alloc::{AllocError, Global};

@@ -1,13 +1,11 @@
 //! The turn of an event: what is to be done until nothing is left, and what closes it.
 
-use crate::calls::{CallState, Stage};
-use crate::controls::Controls;
 use crate::parts::{Given, Parts, Todo};
 use crate::planned::Planned;
-use crate::script_lines::makes;
 use call_fops::{Walk, at_once};
 use fop_types::{Call, FopAnswer, Gfid, Seq};
 use graph_nodes::HoldAsk;
+use hub_tables::{CallState, Controls, Stage, makes};
 use mount_log::{HubEvent, LineAt};
 use script_lang::CallLine;
 use std::alloc::{AllocError, Global};

@@ -10,7 +10,7 @@ use Rattle.world_bricks.specs.declared.enabled.Choice.{Choice}
 use Rattle.world_bricks.specs.declared.enabled.Choice.TheVariants as choice
 use Rattle.world_bricks.specs.declared.enabled.Enabled.{Enabled}
 use Rattle.world_bricks.specs.declared.events.Event.TheVariants as event
-use Rattle.hub_calls.specs.SmallSets.{numbers}
+use Rattle.hub_tables.specs.SmallSets.{numbers}
 
 module _ {X : Type 0} where
   past : (xs ys : List X) (n k : ℕ) → length xs ≡ n → n ≤ k → slice_get (xs ++ ys) k ≡ slice_get ys (k - n)

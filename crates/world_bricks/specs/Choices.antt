@@ -4,9 +4,9 @@
 use Rattle.std.specs.Prelude.{ℕ, List, [], ◌∷◌, ◌++◌, length, map, slice_get, Option, None, Some}
 use Rattle.std.specs.List.{range_with_len}
 use Rattle.script_lang.specs.declared.scripts.Action.{Action}
-use Rattle.hub_calls.specs.SmallSets.{numbers}
-use Rattle.hub_calls.specs.declared.actions.Due.{Due}
-use Rattle.hub_calls.specs.declared.actions.Due.TheVariants as due
+use Rattle.hub_tables.specs.SmallSets.{numbers}
+use Rattle.hub_tables.specs.declared.actions.Due.{Due}
+use Rattle.hub_tables.specs.declared.actions.Due.TheVariants as due
 use Rattle.world_bricks.specs.Schedules.{chosen_of}
 use Rattle.world_bricks.specs.declared.enabled.Choice.{Choice}
 use Rattle.world_bricks.specs.declared.enabled.Choice.TheVariants as choice

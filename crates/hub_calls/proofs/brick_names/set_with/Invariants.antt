@@ -1,6 +1,0 @@
-use Rattle.std.proofs.Common.{◌≡◌, drop}
-use Rattle.hub_calls.specs.Naming.{set_with}
-use Rattle.hub_calls.proofs.brick_names.set_with.Given as goal
-
-abbrev pub invariant-loop-set : goal.invariant-loop-set
-invariant-loop-set l = set_with (drop l.set-index l.sets) l.brick ≡ set_with l.sets l.brick
