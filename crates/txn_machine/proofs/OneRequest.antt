@@ -142,13 +142,13 @@ module _ (size : Size) (m : State) (t : ℕ) (txn : Txn) (wave : Wave) (ledger :
 
   -- ---- members
 
-  not_out : (k : ℕ) → flag (alive txn) k ≡ true → (m.txns t).out k ≡ false
-  not_out k used = by ((m.txns t).out k) refl where
+  not_out : (k : ℕ) → k < size.replicas → flag (alive txn) k ≡ true → (m.txns t).out k ≡ false
+  not_out k low used = by ((m.txns t).out k) refl where
     in_use : is_out txn.outs k ≡ false
     in_use = not-true (is_out txn.outs k) (and_parts (nat_lt k txn.size.n) (not (is_out txn.outs k)) (flags_at (λ j. nat_lt j txn.size.n && not (is_out txn.outs j)) k used)).1
 
     by : (b : Bool) → (m.txns t).out k ≡ b → b ≡ false
-    by true e = absurd (true≢false (sym (after.itself.outs k e) ∙ in_use))
+    by true e = absurd (true≢false (sym (after.itself.outs k low e) ∙ in_use))
     by false e = refl
 
   module _ (k : ℕ) (asked : is_asked txn.wave k ≡ true) (low : k < size.replicas) where
@@ -156,7 +156,7 @@ module _ (size : Size) (m : State) (t : ℕ) (txn : Txn) (wave : Wave) (ledger :
     member members reaches used holds = record {
       replica = low;
       reached = (after.itself.shown members).reached k low ∙ reaches k used;
-      not_out = not_out k used;
+      not_out = not_out k low used;
       answered = after.itself.answered k asked;
       grant = has_grant k low holds;
     }
@@ -177,7 +177,7 @@ module _ (size : Size) (m : State) (t : ℕ) (txn : Txn) (wave : Wave) (ledger :
       replica = low;
       turn = stage;
       is_left = after.itself.is_left once k asked;
-      not_out = not_out k used;
+      not_out = not_out k low used;
       answered = after.itself.answered k asked;
       connected = after.links.opened k low ∙ connected;
     }
@@ -243,7 +243,7 @@ module _ (size : Size) (m : State) (t : ℕ) (txn : Txn) (wave : Wave) (ledger :
       guard = record {
         replica = low;
         turn = stage ∙ ap (λ (j : ℕ). Stage.Locking txn.cells (is_read txn.job && is_none txn.settles) j) (sym fits.0);
-        not_out = not_out k asks.0;
+        not_out = not_out k low asks.0;
         answered = after.itself.answered k asked;
         connected = after.links.opened k low ∙ asks.1;
       }

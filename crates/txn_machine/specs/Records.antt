@@ -108,7 +108,7 @@ pub record IsDrawnFor (change : Change) (j : Job) : Type 0 where
   pub is : j ≡ job.Change change.cells fd change.op change.effect
 
 -- The record of a transaction: the size of its set; its job, its work and how far it has come; the cells that it locks;
--- nobody is out there who is used here; grants by the connections of the locks; those who are asked owe no answer, and the
+-- no replica is out there that is used here; grants by the connections of the locks; those who are asked owe no answer, and the
 -- request of a phase that asks several at once is still to be sent to them; its lock phase; its own change.
 pub record IsRecordOf (size : Size) (m : State) (t : ℕ) (txn : Txn) : Type 0 where
   pub replicas : size.replicas ≡ txn.size.n
@@ -117,7 +117,7 @@ pub record IsRecordOf (size : Size) (m : State) (t : ℕ) (txn : Txn) : Type 0 w
   pub work_is : (m.txns t).work ≡ work_of txn.settles
   pub stage : IsStageOf txn.phase txn (m.txns t).stage
   pub cells : cells_of_work m.changes (m.txns t) (m.txns t).work ≡ txn.cells
-  pub outs : (k : ℕ) → (m.txns t).out k ≡ true → is_out txn.outs k ≡ true
+  pub outs : (k : ℕ) → k < size.replicas → (m.txns t).out k ≡ true → is_out txn.outs k ≡ true
   pub grants : (k : ℕ) → connection_of ((m.txns t).grants k) ≡ slice_index_or txn.locks.at k None
   pub answered : (k : ℕ) → is_asked txn.wave k ≡ true → (m.txns t).waits k ≡ false
   pub is_left : asks_at_once txn.phase ≡ true → (k : ℕ) → is_asked txn.wave k ≡ true → (m.txns t).left k ≡ true
