@@ -25,7 +25,7 @@ use Rattle.change_audit.specs.CallGraphs.{graphs_from, AreGraphsOf, HasGraph}
 use Rattle.change_audit.specs.Placed.{HasSets, IsMadeIn, IsSplitIn, IsHashed, IsOnSet}
 use Rattle.change_audit.specs.Placed.IsSplitIn.{Root, Made}
 use Rattle.change_audit.specs.Placing.{HasTableSets, IsMadeByTable, IsSplitByTable, IsHashedByTable, IsOnSetByTable}
-use Rattle.change_audit.specs.Placing.IsSplitByTable as by_table
+use Rattle.change_audit.specs.Placing.IsSplitByTable.{AtRoot, ByTable}
 use Rattle.change_audit.specs.declared.call_graphs.CallGraphs.{CallGraphs}
 
 -- ---- switches
@@ -109,8 +109,8 @@ module _ (script : Script) (log : Log) (tables : CallGraphs) (are : AreGraphsOf 
   }
 
   split_in : (ops : List FlatOp) (dir : Gfid) (graph : ℕ) → IsSplitByTable log tables ops dir graph → IsSplitIn log ops dir graph
-  split_in ops dir graph (by_table.Root root_is one) = Root root_is one
-  split_in ops dir graph (by_table.Made made) = Made (made_in ops dir graph made)
+  split_in ops dir graph (AtRoot root_is one) = Root root_is one
+  split_in ops dir graph (ByTable made) = Made (made_in ops dir graph made)
 
   hashed : (plans : List Plan) (ops : List FlatOp) (dir : Gfid) (name : List ℕ) (set : ℕ) → IsHashedByTable plans log tables ops dir name set → IsHashed script plans log ops dir name set
   hashed plans ops dir name set is = record {

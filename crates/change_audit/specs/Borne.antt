@@ -1,6 +1,6 @@
 -- Acknowledged changes are on the bricks: each entry of a call that was answered well has a change of its own, and a quorum of
 -- the bricks of one set has in its journals the store op of that change, which makes the entry, and later its post, of the
--- call's graph, each sent for a wind of the call and answered Done; where the entry adds a name, the set is that of the name.
+-- call's graph, each sent for a wind of the call and answered Done; where the entry makes an object, the set is that of its name.
 use Rattle.std.specs.Prelude.{◌≡◌, ℕ, ◌+◌, ◌<◌, ◌≤◌, ◌==◌, true, List, Some, Contains, length, slice_get}
 use Rattle.std.specs.List.{AllByRecursion, IsDistinct}
 use Rattle.dht_fops.specs.Answers.{change_of}
@@ -68,7 +68,7 @@ pub record IsBearer (winds : List WindLine) (bricks : List Journal) (plan : SetP
   pub there : slice_get bricks brick ≡ Some at
   pub borne : IsBorneBy winds call graph change o at
 
--- a change of a call makes the operation, and a quorum of the bricks of one set bears it, that of the name which it adds
+-- a change of a call makes the operation, and a quorum of the bricks of one set bears it, that of the name of the object which it makes, if it does
 pub record IsBorne (script : Script) (plans : List Plan) (log : Log) (bricks : List Journal) (ops : List FlatOp) (call change : ℕ) (operation : FlatOp) : Type 0 where
   pub set : ℕ
   pub plan : SetPlan

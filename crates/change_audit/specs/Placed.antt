@@ -1,5 +1,5 @@
--- The sets of new names: a file is on the set of its name's hash, in the even split of its directory's names; a directory's name is
--- on the first set. The names of a directory are split over the sets of the graph whose call made it, those of the root over the
+-- The sets of new objects' names: the name of a file that a create makes is on the set of its hash, in the even split of the
+-- directory's names; that of a directory is on the first set. The names of a directory are split over the sets of the graph whose call made it, those of the root over the
 -- sets of the first graph.
 use Rattle.std.specs.Prelude.{◌≡◌, ℕ, ◌-◌, List, Some, length, slice_get}
 use Rattle.dht_layout.specs.Layouts.{even_layout}
@@ -46,7 +46,7 @@ pub record IsHashed (script : Script) (plans : List Plan) (log : Log) (ops : Lis
   pub has : HasSets script plans log graph many
   pub set_is : set ≡ hashed_set (even_layout many) name
 
--- where the operation adds a name, this is the name's set
+-- where the operation makes an object, this is the set of its name
 abbrev pub IsOnSet : Script → List Plan → Log → List FlatOp → FlatOp → ℕ → Type 0
 IsOnSet script plans log ops (op.Create parent name mode drawn) set = IsHashed script plans log ops parent name set
 IsOnSet script plans log ops (op.Mkdir parent name mode drawn) set = set ≡ 0

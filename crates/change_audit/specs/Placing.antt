@@ -35,8 +35,8 @@ pub record IsMadeByTable (log : Log) (tables : CallGraphs) (ops : List FlatOp) (
   pub graph_is : HasGraph tables entry.call graph
 
 pub data IsSplitByTable (log : Log) (tables : CallGraphs) (ops : List FlatOp) (dir : Gfid) (graph : ℕ) : Type 0 where
-  Root : dir ≡ root → graph ≡ 1 → IsSplitByTable log tables ops dir graph
-  Made : IsMadeByTable log tables ops dir graph → IsSplitByTable log tables ops dir graph
+  AtRoot : dir ≡ root → graph ≡ 1 → IsSplitByTable log tables ops dir graph
+  ByTable : IsMadeByTable log tables ops dir graph → IsSplitByTable log tables ops dir graph
 
 pub record IsHashedByTable (plans : List Plan) (log : Log) (tables : CallGraphs) (ops : List FlatOp) (dir : Gfid) (name : List ℕ) (set : ℕ) : Type 0 where
   pub graph : ℕ

@@ -60,7 +60,7 @@ fn set_of(plans: &[Plan], graphs: &CallGraphs, graph: usize, change: &Candidate)
     set_with(plans, graphs, graph, first.brick)
 }
 
-// Whether the bricks of a set bear this change of a call, and it makes the operation, on the set of the name that this adds.
+// Whether the bricks of a set bear this change of a call, and it makes the operation, on the set of the name of the object that this makes.
 fn is_borne(
     alloc: Global,
     script: &Script,
@@ -238,7 +238,7 @@ fn take_entry(
 
 /// Whether each entry of the history whose call was answered well has a change of its own on the bricks: a quorum of the bricks
 /// of one set have served the op of the change, which makes the entry's operation, and later its post, for winds of the call,
-/// and have answered both Done; where the operation adds a name, the set is that of the name. `ops` are the operations of the entries, in their order; where they are fewer than the entries,
+/// and have answered both Done; where the operation makes an object, the set is that of its name. `ops` are the operations of the entries, in their order; where they are fewer than the entries,
 /// it is false.
 ///
 /// # Errors

@@ -1,4 +1,4 @@
-//! The sets on which new names are added.
+//! The sets on which the names of new objects are.
 ghost use Rattle.std.specs.Prelude.{◌≡◌, true, length, IfOk, IfSome};
 ghost use Rattle.dht_layout.specs.Layouts.{even_layout};
 ghost use Rattle.dht_linkto.specs.Search.{hashed_set as hashed_set_of};
@@ -10,7 +10,7 @@ use crate::changes::{entry_at, op_at};
 use crate::making::is_gfid;
 use dht_layout::even;
 use dht_linkto::hashed_set;
-use fop_types::{FlatOp, Gfid};
+use fop_types::{FlatOp, Gfid, Span};
 use graph_build::Plan;
 use mount_log::Log;
 use std::alloc::{AllocError, Global};
@@ -138,7 +138,16 @@ fn sets_in(plans: &[Plan], tables: &CallGraphs, graph: usize) -> Option<u8>
     Some(many)
 }
 
+// The set to which a name belongs by a layout of so many sets.
+fn hashed_among(layout: &[Option<Span>], many: u8, name: &[u8]) -> u8
+    requires { length layout.now ≡ many }
+    ensures { result ≡ hashed_set_of layout.now name.now }
+{
+    hashed_set(layout, name)
+}
+
 // Whether the set is that of a name's hash in the even split over so many.
+#[tactic(auto, using(crate::proofs::Splits::even_count))]
 fn is_hashed_over(alloc: Global, many: u8, name: &[u8], set: u8) -> Result<bool, AllocError>
     ensures { IfOk result (λ yes. yes ≡ true → set ≡ hashed_set_of (even_layout many) name.now) }
 {
@@ -146,7 +155,7 @@ fn is_hashed_over(alloc: Global, many: u8, name: &[u8], set: u8) -> Result<bool,
         return Ok(false);
     }
     let layout = even(alloc, many)?;
-    Ok(hashed_set(layout.as_slice(), name) == set)
+    Ok(hashed_among(layout.as_slice(), many, name) == set)
 }
 
 fn is_hashed(
@@ -172,7 +181,7 @@ fn is_hashed(
     Ok(yes)
 }
 
-/// Whether this is the set of the name that the operation adds, if it adds one.
+/// Whether this is the set of the name of the object that the operation makes, if it makes one.
 ///
 /// # Errors
 /// Out of memory.
