@@ -16,15 +16,15 @@ use Rattle.change_audit.proofs.Items.{each_more}
 
 module _ (script : Script) (plans : List Plan) (log : Log) (bricks : List Journal) (ops : List FlatOp) where
   pub entry_claimed : (claims : List (ℕ × ℕ)) (k : ℕ) (entry : Entry) (operation : FlatOp) → Some entry ≡ slice_get log.history k → Some operation ≡ slice_get ops k
-      → (IsAcknowledged log entry.call → IsClaimed script plans log bricks claims k entry.call operation)
+      → (IsAcknowledged log entry.call → IsClaimed script plans log bricks ops claims k entry.call operation)
       → (other : Entry) → slice_get log.history k ≡ Some other → IsEntryClaimed script plans log bricks ops claims k other
   entry_claimed claims k entry operation here op_here claimed other there made op_there well =
-      subst (λ (e : Entry). IsAcknowledged log e.call → IsClaimed script plans log bricks claims k e.call made) (some_is entry other (here ∙ there))
-      (subst (λ (o : FlatOp). IsAcknowledged log entry.call → IsClaimed script plans log bricks claims k entry.call o) (some_is operation made (op_here ∙ op_there)) claimed) well
+      subst (λ (e : Entry). IsAcknowledged log e.call → IsClaimed script plans log bricks ops claims k e.call made) (some_is entry other (here ∙ there))
+      (subst (λ (o : FlatOp). IsAcknowledged log entry.call → IsClaimed script plans log bricks ops claims k entry.call o) (some_is operation made (op_here ∙ op_there)) claimed) well
 
   -- an entry keeps its change
-  claim_kept : (before after : List (ℕ × ℕ)) (k call : ℕ) (operation : FlatOp) → KeepClaims before after → IsClaimed script plans log bricks before k call operation
-      → IsClaimed script plans log bricks after k call operation
+  claim_kept : (before after : List (ℕ × ℕ)) (k call : ℕ) (operation : FlatOp) → KeepClaims before after → IsClaimed script plans log bricks ops before k call operation
+      → IsClaimed script plans log bricks ops after k call operation
   claim_kept before after k call operation keep is = record { change = is.change; claimed = keep is.change k is.claimed; borne = is.borne }
 
   -- the entries before a place

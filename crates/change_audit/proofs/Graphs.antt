@@ -1,8 +1,10 @@
--- The graph of a call is that of the table.
+-- The graph of a call is that of the table; the sets of new names.
 use Rattle.std.proofs.Common.{◌≡◌, sym, ap, subst, ◌∙◌, arith}
 use Rattle.std.specs.Prelude.{ℕ, zero, suc, ◌≤◌, ◌+◌, ◌-◌, List, [], ◌∷◌, Some, length, take, slice_get}
 use Rattle.std.specs.List.{AllByRecursion}
+use Rattle.fop_types.specs.declared.cells.Gfid.{Gfid}
 use Rattle.fop_types.specs.declared.flat.FlatOp.{FlatOp}
+use Rattle.fop_types.specs.declared.flat.FlatOp.TheVariants as flat
 use Rattle.fop_types.specs.declared.jobs.SetPlan.{SetPlan}
 use Rattle.graph_build.specs.declared.plans.Plan.{Plan}
 use Rattle.script_lang.specs.declared.scripts.Action.{Action}
@@ -20,6 +22,10 @@ use Rattle.mount_log.specs.declared.logs.Log.{Log}
 use Rattle.change_audit.specs.Borne.{IsBorne, IsBearer}
 use Rattle.change_audit.specs.Bearing.{HasBearers}
 use Rattle.change_audit.specs.CallGraphs.{graphs_from, AreGraphsOf, HasGraph}
+use Rattle.change_audit.specs.Placed.{HasSets, IsMadeIn, IsSplitIn, IsHashed, IsOnSet}
+use Rattle.change_audit.specs.Placed.IsSplitIn.{Root, Made}
+use Rattle.change_audit.specs.Placing.{HasTableSets, IsMadeByTable, IsSplitByTable, IsHashedByTable, IsOnSetByTable}
+use Rattle.change_audit.specs.Placing.IsSplitByTable.{AtRoot, ByTable}
 use Rattle.change_audit.specs.declared.call_graphs.CallGraphs.{CallGraphs}
 
 -- ---- switches
@@ -81,10 +87,62 @@ module _ (script : Script) (log : Log) (tables : CallGraphs) (are : AreGraphsOf 
       let at = graph_at log.events 1 0 (call - 1) graph (ap (λ (l : List ℕ). slice_get l (call - 1)) (sym are.calls) ∙ has.there) in
       at.graph_is ∙ ap (λ (n : ℕ). 1 + length (switches_in (take (submit_event 0 log.events n - 1) log.events))) number
 
+  -- ---- the sets of new names
+
+  has_sets : (plans : List Plan) (graph many : ℕ) → HasTableSets plans tables graph many → HasSets script plans log graph many
+  has_sets plans graph many has = record {
+    plan = has.plan;
+    plan_is = ap (λ (vs : List ℕ). plan_of_volfile plans (slice_get vs (graph - 1))) (sym are.volfiles) ∙ has.plan_is;
+    many_is = has.many_is;
+  }
+
+  made_in : (ops : List FlatOp) (dir : Gfid) (graph : ℕ) → IsMadeByTable log tables ops dir graph → IsMadeIn log ops dir graph
+  made_in ops dir graph made = record {
+    place = made.place;
+    entry = made.entry;
+    there = made.there;
+    parent = made.makes.parent;
+    name = made.makes.name;
+    mode = made.makes.mode;
+    makes = made.at ∙ ap Some made.makes.is;
+    graph_is = graph_is made.entry.call graph made.graph_is;
+  }
+
+  split_in : (ops : List FlatOp) (dir : Gfid) (graph : ℕ) → IsSplitByTable log tables ops dir graph → IsSplitIn log ops dir graph
+  split_in ops dir graph (AtRoot root_is one) = Root root_is one
+  split_in ops dir graph (ByTable made) = Made (made_in ops dir graph made)
+
+  hashed : (plans : List Plan) (ops : List FlatOp) (dir : Gfid) (name : List ℕ) (set : ℕ) → IsHashedByTable plans log tables ops dir name set → IsHashed script plans log ops dir name set
+  hashed plans ops dir name set is = record {
+    graph = is.graph;
+    split = split_in ops dir is.graph is.split;
+    many = is.many;
+    has = has_sets plans is.graph is.many is.has;
+    set_is = is.set_is;
+  }
+
+  on_set : (plans : List Plan) (ops : List FlatOp) (operation : FlatOp) (set : ℕ) → IsOnSetByTable plans log tables ops operation set → IsOnSet script plans log ops operation set
+  on_set plans ops (flat.Create parent name mode drawn) set is = hashed plans ops parent name set is
+  on_set plans ops (flat.Mkdir parent name mode drawn) set is = is
+  on_set plans ops (flat.Lookup parent name) set is = tt
+  on_set plans ops (flat.Rmdir parent name) set is = tt
+  on_set plans ops (flat.Unlink parent name) set is = tt
+  on_set plans ops (flat.Rename parent name target new_name) set is = tt
+  on_set plans ops (flat.Open gfid) set is = tt
+  on_set plans ops (flat.Stat gfid) set is = tt
+  on_set plans ops (flat.List gfid) set is = tt
+  on_set plans ops (flat.Chmod gfid mode) set is = tt
+  on_set plans ops (flat.Truncate gfid size) set is = tt
+  on_set plans ops (flat.SetAttr gfid attr) set is = tt
+  on_set plans ops (flat.GetAttr gfid name) set is = tt
+  on_set plans ops (flat.DelAttr gfid name) set is = tt
+  on_set plans ops (flat.Read gfid offset count) set is = tt
+  on_set plans ops (flat.Write gfid offset bytes) set is = tt
+
   -- a change of a call that the bricks of a set of its graph bear
-  pub borne : (plans : List Plan) (bricks : List Journal) (call graph change set : ℕ) (operation : FlatOp) (plan : SetPlan) → HasGraph tables call graph
-      → set_of_plan (plan_of_volfile plans (slice_get tables.volfiles (graph - 1))) set ≡ Some plan → HasBearers log.winds bricks plan call graph change operation → IsBorne script plans log bricks call change operation
-  borne plans bricks call graph change set operation plan has set_is have =
+  pub borne : (plans : List Plan) (bricks : List Journal) (ops : List FlatOp) (call graph change set : ℕ) (operation : FlatOp) (plan : SetPlan) → HasGraph tables call graph
+      → set_of_plan (plan_of_volfile plans (slice_get tables.volfiles (graph - 1))) set ≡ Some plan → IsOnSetByTable plans log tables ops operation set → HasBearers log.winds bricks plan call graph change operation → IsBorne script plans log bricks ops call change operation
+  borne plans bricks ops call graph change set operation plan has set_is placed have =
       let same = graph_is call graph has in
       record {
         set = set;
@@ -92,6 +150,7 @@ module _ (script : Script) (log : Log) (tables : CallGraphs) (are : AreGraphsOf 
         plan_is =
             ap (λ (vs : List ℕ). set_of_plan (plan_of_volfile plans (slice_get vs (graph_of_call log call - 1))) set) (sym are.volfiles)
             ∙ ap (λ (n : ℕ). set_of_plan (plan_of_volfile plans (slice_get tables.volfiles (n - 1))) set) (sym same) ∙ set_is;
+        placed = on_set plans ops operation set placed;
         op = have.op;
         op_is = have.op_is;
         bearers = have.bearers;

@@ -1,6 +1,7 @@
 pub mod Items
 pub mod Texts
 pub mod Bearing
+pub mod Splits
 pub mod Graphs
 pub mod Marking
 pub mod Claiming

@@ -1,6 +1,6 @@
 -- Acknowledged changes are on the bricks: each entry of a call that was answered well has a change of its own, and a quorum of
 -- the bricks of one set has in its journals the store op of that change, which makes the entry, and later its post, of the
--- call's graph, each sent for a wind of the call and answered Done.
+-- call's graph, each sent for a wind of the call and answered Done; where the entry makes an object, the set is that of its name.
 use Rattle.std.specs.Prelude.{◌≡◌, ℕ, ◌+◌, ◌<◌, ◌≤◌, ◌==◌, true, List, Some, Contains, length, slice_get}
 use Rattle.std.specs.List.{AllByRecursion, IsDistinct}
 use Rattle.dht_fops.specs.Answers.{change_of}
@@ -29,6 +29,7 @@ use Rattle.mount_log.specs.declared.logs.WindLine.{WindLine}
 use Rattle.xlator_law.specs.Numbers.{wind_number}
 use Rattle.mount_log.specs.Causes.{set_of_call}
 use Rattle.mount_log.specs.Connections.{graph_of_call}
+use Rattle.change_audit.specs.Placed.{IsOnSet}
 
 -- the wind of this number was opened for the call; an op and a post are never the open that goes before a request
 pub record IsWindFor (winds : List WindLine) (call wind : ℕ) : Type 0 where
@@ -67,11 +68,12 @@ pub record IsBearer (winds : List WindLine) (bricks : List Journal) (plan : SetP
   pub there : slice_get bricks brick ≡ Some at
   pub borne : IsBorneBy winds call graph change o at
 
--- a change of a call makes the operation, and a quorum of the bricks of one set bears it
-pub record IsBorne (script : Script) (plans : List Plan) (log : Log) (bricks : List Journal) (call change : ℕ) (operation : FlatOp) : Type 0 where
+-- a change of a call makes the operation, and a quorum of the bricks of one set bears it, that of the name of the object which it makes, if it does
+pub record IsBorne (script : Script) (plans : List Plan) (log : Log) (bricks : List Journal) (ops : List FlatOp) (call change : ℕ) (operation : FlatOp) : Type 0 where
   pub set : ℕ
   pub plan : SetPlan
   pub plan_is : set_of_call script plans log call set ≡ Some plan
+  pub placed : IsOnSet script plans log ops operation set
   pub op : StoreOp
   pub op_is : change_of op ≡ Some operation
   pub bearers : List ℕ
@@ -88,14 +90,14 @@ pub record IsAcknowledged (log : Log) (call : ℕ) : Type 0 where
   pub well : is_ok reply.answer ≡ true
 
 -- a change that makes the operation, and is that of the entry at this place
-pub record HasChange (script : Script) (plans : List Plan) (log : Log) (bricks : List Journal) (entry_of : ℕ → ℕ) (k call : ℕ) (operation : FlatOp) : Type 0 where
+pub record HasChange (script : Script) (plans : List Plan) (log : Log) (bricks : List Journal) (ops : List FlatOp) (entry_of : ℕ → ℕ) (k call : ℕ) (operation : FlatOp) : Type 0 where
   pub change : ℕ
   pub own : entry_of change ≡ k
-  pub borne : IsBorne script plans log bricks call change operation
+  pub borne : IsBorne script plans log bricks ops call change operation
 
 -- Each change has the place of the entry that it makes, so no two entries have the same change; nor, as an op and its post name
 -- their change, the same request.
 pub record AreBorne (script : Script) (plans : List Plan) (log : Log) (bricks : List Journal) (ops : List FlatOp) : Type 0 where
   pub entry_of : ℕ → ℕ
   pub each : (k : ℕ) (entry : Entry) (operation : FlatOp) → slice_get log.history k ≡ Some entry → slice_get ops k ≡ Some operation
-      → IsAcknowledged log entry.call → HasChange script plans log bricks entry_of k entry.call operation
+      → IsAcknowledged log entry.call → HasChange script plans log bricks ops entry_of k entry.call operation

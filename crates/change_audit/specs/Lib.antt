@@ -1,6 +1,7 @@
--- In reading order: changes on the bricks; copies that were made, and skips; then what the audits find: requests that were answered, the
--- bricks of a change, the graphs of calls, the calls that were answered well, the changes that were taken for entries, one
+-- In reading order: the sets of new names; changes on the bricks; copies that were made, and skips; then what the audits find: requests that were answered, the
+-- bricks of a change, the graphs of calls, the calls that were answered well, the changes that were taken for entries, the sets of new names, one
 -- entry; one copy; lists of cells.
+pub mod Placed
 pub mod Borne
 pub mod Copied
 pub mod Listed
@@ -9,6 +10,7 @@ pub mod Bearing
 pub mod CallGraphs
 pub mod Acknowledged
 pub mod Claims
+pub mod Placing
 pub mod Entries
 pub mod Copying
 pub mod Listings

@@ -135,6 +135,15 @@ fn set_of<'a>(plans: &'a [Plan], volfile: u8, set: u8) -> Option<&'a SetPlan>
     }
 }
 
+/// The plan of a graph.
+pub(crate) fn plan_in<'a>(plans: &'a [Plan], tables: &CallGraphs, graph: usize) -> Option<&'a Plan>
+    ensures { IfSome result (λ plan. plan_of_volfile plans.now (slice_get tables.now.volfiles (graph - 1)) ≡ Some plan.now) }
+{
+    let volfile = volfile_of(tables, graph)?;
+    let plan = plan_at(plans, volfile)?;
+    Some(plan)
+}
+
 /// The set of a number in a graph.
 pub(crate) fn set_in<'a>(
     plans: &'a [Plan],

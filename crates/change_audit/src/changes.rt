@@ -11,6 +11,7 @@ use crate::bearers::has_bearers;
 use crate::call_graphs::{CallGraphs, call_graphs, graph_of, set_in, set_with};
 use crate::claims::Claims;
 use crate::finding::{Candidate, Candidates, find};
+use crate::placing::{Makers, is_on_set, makers_of};
 use brick_machine::Brick;
 use fop_types::{Entry, FlatOp, Seq};
 use graph_build::Plan;
@@ -18,13 +19,14 @@ use mount_log::Log;
 use script_lang::Script;
 use std::alloc::{AllocError, Global};
 
-/// What is known of a run before its history is gone through: the graphs of its calls, which calls were answered well, and
-/// which changes bricks are said to bear.
+/// What is known of a run before its history is gone through: the graphs of its calls, which calls were answered well, which
+/// changes bricks are said to bear, and which entries make directories.
 #[derive(Drop)]
 pub struct Notes {
     pub graphs: CallGraphs,
     pub marks: Seq<bool>,
     pub found: Candidates,
+    pub makers: Makers,
 }
 
 // Each call was submitted by an event of its own, so no call has a greater number than there are events.
@@ -33,6 +35,7 @@ fn notes_of(
     script: &Script,
     log: &Log,
     bricks: &[Brick],
+    ops: &[FlatOp],
 ) -> Result<Option<Notes>, AllocError>
     ensures { IfOk result (λ found. IfSome found (λ notes. AreNotesOf script.now log.now notes)) }
 {
@@ -42,10 +45,12 @@ fn notes_of(
     };
     let graphs = call_graphs(alloc, script, log)?;
     let found = find(alloc, log.winds.as_slice(), bricks)?;
+    let makers = makers_of(alloc, ops)?;
     Ok(Some(Notes {
         graphs,
         marks,
         found,
+        makers,
     }))
 }
 
@@ -55,21 +60,23 @@ fn set_of(plans: &[Plan], graphs: &CallGraphs, graph: usize, change: &Candidate)
     set_with(plans, graphs, graph, first.brick)
 }
 
-// Whether the bricks of a set bear this change of a call, and it makes the operation.
+// Whether the bricks of a set bear this change of a call, and it makes the operation, on the set of the name of the object that this makes.
 fn is_borne(
     alloc: Global,
     script: &Script,
     plans: &[Plan],
     log: &Log,
     bricks: &[Brick],
-    graphs: &CallGraphs,
+    ops: &[FlatOp],
+    notes: &Notes,
     call: u32,
     operation: &FlatOp,
     change: &Candidate,
 ) -> Result<bool, AllocError>
-    requires { AreGraphsOf script.now log.now graphs.now }
-    ensures { IfOk result (λ yes. yes ≡ true → IsBorne script.now plans.now log.now bricks.now call change.now.change operation.now) }
+    requires { AreGraphsOf script.now log.now notes.now.graphs }
+    ensures { IfOk result (λ yes. yes ≡ true → IsBorne script.now plans.now log.now bricks.now ops.now call change.now.change operation.now) }
 {
+    let graphs = &notes.graphs;
     let Some(graph) = graph_of(graphs, call) else {
         return Ok(false);
     };
@@ -79,6 +86,10 @@ fn is_borne(
     let Some(plan) = set_in(plans, graphs, graph, set) else {
         return Ok(false);
     };
+    let makers = &notes.makers;
+    if !is_on_set(alloc, plans, log, graphs, ops, makers, operation, set)? {
+        return Ok(false);
+    }
     let winds = log.winds.as_slice();
     let bearers = change.bearers.as_slice();
     let yes = has_bearers(
@@ -102,15 +113,15 @@ fn change_for(
     plans: &[Plan],
     log: &Log,
     bricks: &[Brick],
+    ops: &[FlatOp],
     notes: &Notes,
     claims: &Claims,
     call: u32,
     operation: &FlatOp,
 ) -> Result<Option<u64>, AllocError>
     requires { AreGraphsOf script.now log.now notes.now.graphs }
-    ensures { IfOk result (λ found. IfSome found (λ change. IsBorne script.now plans.now log.now bricks.now call change operation.now)) }
+    ensures { IfOk result (λ found. IfSome found (λ change. IsBorne script.now plans.now log.now bricks.now ops.now call change operation.now)) }
 {
-    let graphs = &notes.graphs;
     for at in notes.found.begin(call)..notes.found.count() {
         let Some(change) = notes.found.change(at, call) else {
             return Ok(None);
@@ -119,7 +130,7 @@ fn change_for(
             continue;
         }
         if is_borne(
-            alloc, script, plans, log, bricks, graphs, call, operation, change,
+            alloc, script, plans, log, bricks, ops, notes, call, operation, change,
         )? {
             return Ok(Some(change.change));
         }
@@ -134,6 +145,7 @@ fn take_change(
     plans: &[Plan],
     log: &Log,
     bricks: &[Brick],
+    ops: &[FlatOp],
     notes: &Notes,
     claims: &mut Claims,
     k: usize,
@@ -141,11 +153,11 @@ fn take_change(
     operation: &FlatOp,
 ) -> Result<bool, AllocError>
     requires { AreGraphsOf script.now log.now notes.now.graphs }
-    ensures claimed { IfOk result (λ yes. yes ≡ true → IsClaimed script.now plans.now log.now bricks.now claims.new k call operation.now) }
+    ensures claimed { IfOk result (λ yes. yes ≡ true → IsClaimed script.now plans.now log.now bricks.now ops.now claims.new k call operation.now) }
     ensures keeps { IfOk result (λ yes. KeepClaims claims.old claims.new) }
 {
     let found = change_for(
-        alloc, script, plans, log, bricks, notes, claims, call, operation,
+        alloc, script, plans, log, bricks, ops, notes, claims, call, operation,
     )?;
     let Some(change) = found else {
         return Ok(false);
@@ -161,6 +173,7 @@ fn take_due(
     plans: &[Plan],
     log: &Log,
     bricks: &[Brick],
+    ops: &[FlatOp],
     notes: &Notes,
     claims: &mut Claims,
     k: usize,
@@ -168,25 +181,27 @@ fn take_due(
     operation: &FlatOp,
 ) -> Result<bool, AllocError>
     requires { AreNotesOf script.now log.now notes.now }
-    ensures claimed { IfOk result (λ yes. yes ≡ true → IsAcknowledged log.now call → IsClaimed script.now plans.now log.now bricks.now claims.new k call operation.now) }
+    ensures claimed { IfOk result (λ yes. yes ≡ true → IsAcknowledged log.now call → IsClaimed script.now plans.now log.now bricks.now ops.now claims.new k call operation.now) }
     ensures keeps { IfOk result (λ yes. KeepClaims claims.old claims.new) }
 {
     if !is_marked(notes.marks.as_slice(), call) {
         return Ok(true);
     }
     let yes = take_change(
-        alloc, script, plans, log, bricks, notes, claims, k, call, operation,
+        alloc, script, plans, log, bricks, ops, notes, claims, k, call, operation,
     )?;
     Ok(yes)
 }
 
-fn entry_at(log: &Log, k: usize) -> Option<Entry>
+/// The entry at a place of the history.
+pub(crate) fn entry_at(log: &Log, k: usize) -> Option<Entry>
     ensures { result ≡ slice_get log.now.history k }
 {
     log.history.as_slice().get(k).copied()
 }
 
-fn op_at(ops: &[FlatOp], k: usize) -> Option<&FlatOp>
+/// The operation at a place.
+pub(crate) fn op_at(ops: &[FlatOp], k: usize) -> Option<&FlatOp>
     ensures { option_copied result ≡ slice_get ops.now k }
 {
     ops.get(k)
@@ -216,14 +231,14 @@ fn take_entry(
     };
     let call = entry.call;
     let yes = take_due(
-        alloc, script, plans, log, bricks, notes, claims, k, call, operation,
+        alloc, script, plans, log, bricks, ops, notes, claims, k, call, operation,
     )?;
     Ok(yes)
 }
 
 /// Whether each entry of the history whose call was answered well has a change of its own on the bricks: a quorum of the bricks
 /// of one set have served the op of the change, which makes the entry's operation, and later its post, for winds of the call,
-/// and have answered both Done. `ops` are the operations of the entries, in their order; where they are fewer than the entries,
+/// and have answered both Done; where the operation makes an object, the set is that of its name. `ops` are the operations of the entries, in their order; where they are fewer than the entries,
 /// it is false.
 ///
 /// # Errors
@@ -238,7 +253,7 @@ pub fn changes_are_borne(
 ) -> Result<bool, AllocError>
     ensures { IfOk result (λ yes. yes ≡ true → AreBorne script.now plans.now log.now bricks.now ops.now) }
 {
-    let Some(notes) = notes_of(alloc, script, log, bricks)? else {
+    let Some(notes) = notes_of(alloc, script, log, bricks, ops)? else {
         return Ok(false);
     };
     let mut claims = Claims::new(alloc);

@@ -2,7 +2,7 @@
 
 use crate::answers::{done_wind, whole_output};
 use crate::copy_requests::{input_at, replacement_in};
-use crate::finding::{DONE, Opening, openings_of};
+use crate::finding::{DONE, Opening, openings_for};
 use brick_machine::Brick;
 use fop_types::{BrickRep, Cell, CopyRecord, DoneArm, OutKind, Output, Proc};
 use log_audit::by_place::event_at;
@@ -255,7 +255,7 @@ pub(crate) fn find_replacements(
     log: &Log,
     bricks: &[Brick],
 ) -> Result<Replacements, AllocError> {
-    let openings = openings_of(alloc, log.winds.as_slice())?;
+    let openings = openings_for(alloc, log.winds.as_slice(), !log.copies.is_empty())?;
     let mut replacements = Replacements {
         found: BTreeMap::new(alloc),
         taken: BTreeMap::new(alloc),

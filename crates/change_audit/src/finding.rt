@@ -58,6 +58,22 @@ pub(crate) fn openings_of(
     Ok(openings)
 }
 
+/// The opening of each wind, and nothing where nobody asks for one.
+///
+/// # Errors
+/// Out of memory.
+pub(crate) fn openings_for(
+    alloc: Global,
+    winds: &[WindLine],
+    asked: bool,
+) -> Result<BTreeMap<u64, Opening>, AllocError> {
+    if asked {
+        openings_of(alloc, winds)
+    } else {
+        Ok(BTreeMap::new(alloc))
+    }
+}
+
 // The length of the encoding of a Done with nothing, in bytes: the number of inputs, a hyper; a unit for the kind of output; the
 // wind, a hyper; a unit each for the answer and what it is done with.
 pub(crate) const DONE: usize = 28;

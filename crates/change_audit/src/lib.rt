@@ -7,7 +7,7 @@
 //!
 //!   brick 0    journal .. Op 12 .. Post 12 ..   each answered Done in its outputs, in the call's graph
 //!   brick 2    journal .. Op 12 .. Post 12 ..   one change number, one store op, which makes the operation
-//!              a quorum of the bricks of one set, each request on a wind of the call
+//!              a quorum of the bricks of one set, each request on a wind of the call; a new file's name on the set of its hash
 //!
 //!   copies     cell, from brick 0 to brick 2, last change 12
 //!   events     .. the answer of brick 0 to Fetch arrives, Replace goes to brick 2 .. its Done arrives .. the copy is entered
@@ -34,6 +34,7 @@ mod finding;
 mod listings;
 mod making;
 mod openings;
+mod placing;
 mod served;
 mod skips;
 

@@ -10,7 +10,7 @@ ghost use Rattle.change_audit.specs.Listed.{IsIndex};
 ghost use Rattle.change_audit.specs.Listings.{event_of, WasAsked, AddsCell, AddsCells, AreListings};
 
 use crate::copy_requests::{arrived, input_at, written_output};
-use crate::finding::{Opening, openings_of};
+use crate::finding::{Opening, openings_for};
 use crate::openings::is_wind_for;
 use crate::served::whole_input;
 use brick_machine::Brick;
@@ -264,7 +264,7 @@ pub(crate) fn listings_of(
 ) -> Result<Listings, AllocError>
     ensures { IfOk result (λ listings. AreListings log.now bricks.now listings) }
 {
-    let openings = openings_of(alloc, log.winds.as_slice())?;
+    let openings = openings_for(alloc, log.winds.as_slice(), !log.skips.is_empty())?;
     let mut listings = Listings {
         events: BTreeMap::new(alloc),
     };

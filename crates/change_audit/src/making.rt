@@ -11,7 +11,8 @@ fn are_same(a: &Seq<u8>, b: &Seq<u8>) -> bool
     a == b
 }
 
-fn is_gfid(a: Gfid, b: Gfid) -> bool
+/// Whether two gfids are the same.
+pub(crate) fn is_gfid(a: Gfid, b: Gfid) -> bool
     ensures { result ≡ true → a ≡ b }
 {
     a.hi == b.hi && a.lo == b.lo

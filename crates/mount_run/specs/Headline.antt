@@ -1,6 +1,6 @@
 -- The headline: for every script, the replies written are those of one plain file system at the written places of one
--- written history that holds each acknowledged change once; an I/O error is written only with its cause, a copy only where
--- it was made; and every wind is ended once.
+-- written history that holds each acknowledged change once; what is read was read from bricks; an I/O error is written only with
+-- its cause, a copy only where it was made; and every wind is ended once.
 use Rattle.std.specs.Prelude.{◌≡◌, ℕ, List, Ok, length}
 use Rattle.fop_types.specs.declared.flat.FlatOp.{FlatOp}
 use Rattle.graph_build.specs.declared.plans.Plan.{Plan}
@@ -18,6 +18,7 @@ use Rattle.mount_log.specs.Causes.{AreCaused}
 use Rattle.mount_log.specs.Connects.{ConnectsAreCaused}
 use Rattle.mount_log.specs.Follows.{FollowsScript, IsFinished}
 use Rattle.mount_run.specs.Plans.{accepted}
+use Rattle.read_audit.specs.Read.{AnswersAreRead}
 use Rattle.run_report.specs.Reports.{report_of}
 use Rattle.mount_log.specs.Ties.{AreTied}
 use Rattle.mount_log.specs.Winds.{WindsAreBalanced}
@@ -48,6 +49,8 @@ pub record IsLawfulRun (script : Script) (plans : List Plan) (rack : Rack) : Typ
   -- one legal history, lawful replies, each acknowledged change on a quorum of bricks, each I/O error with its cause
   pub files : HasFiles script plans rack
   pub causes : AreCaused script plans rack.log
+  -- what each read, stat and getattr shows a brick had answered, under locks that a quorum had granted
+  pub reads : AnswersAreRead script plans rack.log rack.bricks
   -- each copy by a replacement of its own, which the sink confirmed, by what the source had answered; each skip of a cell that
   -- a brick had listed
   pub copies : CopiesAreMade script plans rack.log rack.bricks

@@ -13,6 +13,7 @@ ghost use Rattle.change_audit.specs.Copied.{CopiesAreMade};
 ghost use Rattle.change_audit.specs.Listed.{SkipsAreListed};
 ghost use Rattle.mount_run.specs.Headline.{AreBricksOf, HasFiles, IsLawfulRun};
 ghost use Rattle.mount_run.specs.Outcomes.{IsStopped};
+ghost use Rattle.read_audit.specs.Read.{AnswersAreRead};
 
 use change_audit::{changes_are_borne, copies_are_made, skips_are_listed};
 use error_audit::io_errors_are_caused;
@@ -23,6 +24,7 @@ use log_audit::heads::{Head, heads_of};
 use log_audit::{arrivals_are_honest, is_finished, winds_are_balanced, winds_are_once};
 use log_replay::one_file_system;
 use mount_log::Log;
+use read_audit::answers_are_read;
 use run_audit::follows_script;
 use run_report::opened_in;
 use script_lang::Script;
@@ -139,6 +141,27 @@ fn is_sound(
     has_causes(alloc, script, plans, log, heads)
 }
 
+// Whether what arrived is what the bricks make of what was sent, and what answers show was read from them.
+fn is_from_bricks(
+    alloc: Global,
+    script: &Script,
+    plans: &[Plan],
+    left: &Rack,
+    heads: &[Head],
+) -> Result<bool, AllocError>
+    requires accepted { IsAccepted script.now }
+    requires heads { heads.now ≡ heads_of left.now.log.events }
+    ensures honest { IfOk result (λ yes. yes ≡ true → HasHonestArrivals left.now.log) }
+    ensures bricks { IfOk result (λ yes. yes ≡ true → AreBricksOf script.now left.now.log left.now.bricks) }
+    ensures reads { IfOk result (λ yes. yes ≡ true → AnswersAreRead script.now plans.now left.now.log left.now.bricks) }
+{
+    if !are_bricks(alloc, script, left, heads)? {
+        return Ok(false);
+    }
+    let bricks = left.bricks.as_slice();
+    answers_are_read(alloc, script, plans, &left.log, bricks, heads)
+}
+
 // Whether all but the files is as a run promises. What arrived is read once for all of it.
 fn has_course(
     alloc: Global,
@@ -151,6 +174,7 @@ fn has_course(
     ensures finished { IfOk result (λ yes. yes ≡ true → IsFinished script.now left.now.log) }
     ensures honest { IfOk result (λ yes. yes ≡ true → HasHonestArrivals left.now.log) }
     ensures bricks { IfOk result (λ yes. yes ≡ true → AreBricksOf script.now left.now.log left.now.bricks) }
+    ensures reads { IfOk result (λ yes. yes ≡ true → AnswersAreRead script.now plans.now left.now.log left.now.bricks) }
     ensures ties { IfOk result (λ yes. yes ≡ true → AreTied left.now.log) }
     ensures winds { IfOk result (λ yes. yes ≡ true → WindsAreBalanced left.now.log.winds) }
     ensures connections { IfOk result (λ yes. yes ≡ true → ConnectsAreCaused script.now plans.now left.now.log) }
@@ -158,7 +182,7 @@ fn has_course(
 {
     let heads = heads_of(alloc, left.log.events.as_slice())?;
     if !follows(alloc, script, &left.log, heads.as_slice())?
-        || !are_bricks(alloc, script, left, heads.as_slice())?
+        || !is_from_bricks(alloc, script, plans, left, heads.as_slice())?
     {
         return Ok(false);
     }
@@ -166,9 +190,10 @@ fn has_course(
 }
 
 /// Whether the log of a run, with its bricks, is as a run promises: sessions submit their lines in order, each control is
-/// carried out, each call has its reply, what arrived is what the bricks make of what was sent, replies, winds and requests are
-/// of their calls, events and graphs, connections and I/O errors have their causes, the winds are balanced, copies were made,
-/// skips were listed, the replies are those of one plain file system, and each acknowledged change is on a quorum of bricks.
+/// carried out, each call has its reply, what arrived is what the bricks make of what was sent, what reads, stats and getattrs
+/// show was read from bricks, replies, winds and requests are of their calls, events and graphs, connections and I/O errors have
+/// their causes, the winds are balanced, copies were made, skips were listed, the replies are those of one plain file system, and
+/// each acknowledged change is on a quorum of bricks.
 ///
 /// # Errors
 /// Out of memory.
