@@ -1,0 +1,2 @@
+-- What answers rest on.
+pub mod Read
