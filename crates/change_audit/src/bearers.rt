@@ -27,7 +27,7 @@ pub(crate) fn brick_at(bricks: &[Brick], brick: u8) -> Option<&Brick>
 }
 
 /// Whether a brick is one of the set.
-pub(crate) fn has_member(plan: &SetPlan, brick: u8) -> bool
+pub fn has_member(plan: &SetPlan, brick: u8) -> bool
     ensures { result ≡ true → Contains plan.now.bricks brick }
 {
     plan.bricks.as_slice().contains(&brick)

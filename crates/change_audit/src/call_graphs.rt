@@ -64,7 +64,7 @@ fn volfiles_of(alloc: Global, script: &Script, log: &Log) -> Result<Vec<u8>, All
 ///
 /// # Errors
 /// Out of memory.
-pub(crate) fn call_graphs(
+pub fn call_graphs(
     alloc: Global,
     script: &Script,
     log: &Log,
@@ -94,7 +94,7 @@ fn byte_at(bytes: &[u8], k: usize) -> Option<u8>
 }
 
 /// The graph of a call.
-pub(crate) fn graph_of(tables: &CallGraphs, call: u32) -> Option<usize>
+pub fn graph_of(tables: &CallGraphs, call: u32) -> Option<usize>
     ensures { IfSome result (λ graph. HasGraph tables.now call graph) }
 {
     if call == 0 {
@@ -104,7 +104,8 @@ pub(crate) fn graph_of(tables: &CallGraphs, call: u32) -> Option<usize>
     Some(graph)
 }
 
-fn volfile_of(tables: &CallGraphs, graph: usize) -> Option<u8>
+/// The volfile of a graph.
+pub fn volfile_of(tables: &CallGraphs, graph: usize) -> Option<u8>
     ensures { IfSome result (λ volfile. slice_get tables.now.volfiles (graph - 1) ≡ Some volfile) }
 {
     if graph == 0 {
@@ -114,7 +115,8 @@ fn volfile_of(tables: &CallGraphs, graph: usize) -> Option<u8>
     Some(volfile)
 }
 
-fn plan_at(plans: &[Plan], volfile: u8) -> Option<&Plan>
+/// The plan of a volfile.
+pub fn plan_at(plans: &[Plan], volfile: u8) -> Option<&Plan>
     ensures { option_copied result ≡ slice_get plans.now volfile }
 {
     plans.get(volfile as usize)
@@ -136,7 +138,7 @@ fn set_of<'a>(plans: &'a [Plan], volfile: u8, set: u8) -> Option<&'a SetPlan>
 }
 
 /// The set of a number in a graph.
-pub(crate) fn set_in<'a>(
+pub fn set_in<'a>(
     plans: &'a [Plan],
     tables: &CallGraphs,
     graph: usize,
@@ -160,7 +162,7 @@ fn set_among(plan: &Plan, brick: u8) -> Option<u8> {
 }
 
 /// The number of the set that has the brick in a graph.
-pub(crate) fn set_with(plans: &[Plan], tables: &CallGraphs, graph: usize, brick: u8) -> Option<u8> {
+pub fn set_with(plans: &[Plan], tables: &CallGraphs, graph: usize, brick: u8) -> Option<u8> {
     let volfile = volfile_of(tables, graph)?;
     let plan = plan_at(plans, volfile)?;
     set_among(plan, brick)
