@@ -115,7 +115,7 @@ pub record IsFileRead (script : Script) (plans : List Plan) (log : Log) (bricks 
   pub whole : List ℕ
   pub attrs : List Attr
   pub span : Option Span
-  pub data : IsFetched script plans log bricks call number set (data_cell gfid) (Bytes whole)
+  pub bytes : IsFetched script plans log bricks call number set (data_cell gfid) (Bytes whole)
   pub meta : IsFetched script plans log bricks call number set (meta_cell gfid) (Meta mode attrs span)
   pub size_is : size ≡ length whole
 
