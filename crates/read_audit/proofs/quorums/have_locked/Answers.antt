@@ -1,4 +1,3 @@
-use Rattle.std.proofs.Common.{subst}
 use Rattle.read_audit.proofs.Fetching.{holders_are}
 use Rattle.read_audit.proofs.quorums.have_locked.Goals as goal
 
