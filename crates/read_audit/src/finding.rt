@@ -80,7 +80,7 @@ fn reply_wind(head: Head) -> Option<u64> {
     }
 }
 
-fn arrival(event: usize, at: &HubEvent, head: Head) -> Option<Arrival> {
+fn done_in(event: usize, at: &HubEvent, head: Head) -> Option<Arrival> {
     let wind = reply_wind(head)?;
     match at {
         HubEvent::Arrive { brick, bytes } => {
@@ -178,7 +178,7 @@ fn note_event(
     at: &HubEvent,
     head: Head,
 ) -> Result<(), AllocError> {
-    let Some(at) = arrival(event, at, head) else {
+    let Some(at) = done_in(event, at, head) else {
         return Ok(());
     };
     match input_at(bricks, at.brick, at.taken) {

@@ -8,16 +8,22 @@ use fop_types::{Attr, Content};
 
 // ---- bytes
 
-// Whether the bytes are those from an offset on, at most so many.
-fn is_part(whole: &[u8], offset: usize, count: usize, bytes: &[u8]) -> bool
-    ensures { result ≡ true → bytes.now ≡ read_from whole.now offset count }
+// The bytes from an offset on, at most so many: none at or past the end.
+fn part_of(whole: &[u8], offset: usize, count: usize) -> &[u8]
+    ensures { result.now ≡ read_from whole.now offset count }
 {
     if offset >= whole.len() {
-        return bytes.is_empty();
+        return &[];
     }
     let rest = &whole[offset..];
     let few = count.min(rest.len());
-    bytes == &rest[..few]
+    &rest[..few]
+}
+
+fn is_part(whole: &[u8], offset: usize, count: usize, bytes: &[u8]) -> bool
+    ensures { result ≡ true → bytes.now ≡ read_from whole.now offset count }
+{
+    bytes == part_of(whole, offset, count)
 }
 
 /// Whether a content is that of a file of which the bytes are those from an offset on, at most so many.

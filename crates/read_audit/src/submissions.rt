@@ -5,7 +5,7 @@ ghost use Rattle.fop_types.specs.Calls.{call_numbered};
 use history_replay::Submitted;
 
 /// The call of a number, from 1; `None` for 0, and where there are fewer calls.
-pub(crate) fn made_at<'a>(calls: &'a [Submitted<'a>], number: u32) -> Option<&'a Submitted<'a>>
+pub(crate) fn made_at<'a, 'b>(calls: &'a [Submitted<'b>], number: u32) -> Option<&'a Submitted<'b>>
     ensures { option_copied result ≡ call_numbered calls.now number }
 {
     if number == 0 {
