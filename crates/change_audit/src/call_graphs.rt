@@ -64,11 +64,7 @@ fn volfiles_of(alloc: Global, script: &Script, log: &Log) -> Result<Vec<u8>, All
 ///
 /// # Errors
 /// Out of memory.
-pub fn call_graphs(
-    alloc: Global,
-    script: &Script,
-    log: &Log,
-) -> Result<CallGraphs, AllocError>
+pub fn call_graphs(alloc: Global, script: &Script, log: &Log) -> Result<CallGraphs, AllocError>
     ensures { IfOk result (λ tables. AreGraphsOf script.now log.now tables) }
 {
     let calls = graphs_of_calls(alloc, log.events.as_slice())?;

@@ -19,10 +19,10 @@ module _ (script : Script) (plans : List Plan) (log : Log) (bricks : List Journa
       → IsRead script plans log bricks reply.call reply.event (asked_by made.call) reply.answer → (other : ReplyLine) → slice_get log.replies k ≡ Some other → IsReplyDue script plans log bricks other
   reply_due calls k reply made are here asked read other there =
       subst (λ (r : ReplyLine). IsReplyDue script plans log bricks r) (some_is reply other (here ∙ there)) own where
-    own : IsReplyDue script plans log bricks reply
-    own m is =
-        subst (λ (s : Submission). IsRead script plans log bricks reply.call reply.event (asked_by s.call) reply.answer)
-        (some_is made m (asked ∙ ap (λ (l : List Submission). call_numbered l reply.call) are ∙ is)) read
+        own : IsReplyDue script plans log bricks reply
+        own m is =
+            subst (λ (s : Submission). IsRead script plans log bricks reply.call reply.event (asked_by s.call) reply.answer)
+            (some_is made m (asked ∙ ap (λ (l : List Submission). call_numbered l reply.call) are ∙ is)) read
 
   -- the replies before a place
   abbrev AreDueTo : ℕ → Type 0

@@ -202,7 +202,15 @@ pub(crate) fn find(
     let events = log.events.as_slice();
     for event in 0..events.len() {
         if let Some(head) = head_at(heads, event) {
-            note_event(alloc, &mut found, bricks, &openings, event, &events[event], head)?;
+            note_event(
+                alloc,
+                &mut found,
+                bricks,
+                &openings,
+                event,
+                &events[event],
+                head,
+            )?;
         }
     }
     Ok(found)

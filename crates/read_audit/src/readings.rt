@@ -65,9 +65,7 @@ pub(crate) fn content_read(
     let Some(plan) = set_in(plans, graphs, by.graph, set) else {
         return Ok(None);
     };
-    if !has_holders(
-        alloc, log, bricks, plan, found, by.call, by.graph, cell, at,
-    )? {
+    if !has_holders(alloc, log, bricks, plan, found, by.call, by.graph, cell, at)? {
         return Ok(None);
     }
     let content = content_at(alloc, log, bricks, by.call, by.graph, cell, at)?;
