@@ -1,8 +1,7 @@
 -- A content that was read under locks.
 use Rattle.std.proofs.Common.{◌≡◌, sym, ap, subst, ◌∙◌}
-use Rattle.std.specs.Prelude.{ℕ, ◌<◌, ◌≤◌, ◌-◌, ◌==◌, List, Some, Contains, length, get_or, slice_get}
+use Rattle.std.specs.Prelude.{ℕ, ◌<◌, ◌≤◌, ◌-◌, ◌==◌, List, Some, Contains, length, slice_get}
 use Rattle.std.specs.List.{AllByRecursion, IsDistinct}
-use Rattle.std.proofs.lemmas.List.Elements.{Contains-get_or}
 use Rattle.fop_types.specs.declared.cells.Cell.{Cell}
 use Rattle.fop_types.specs.declared.contents.Content.{Content as Held}
 use Rattle.fop_types.specs.declared.jobs.SetPlan.{SetPlan}
@@ -17,25 +16,10 @@ use Rattle.mount_log.specs.declared.logs.Log.{Log}
 use Rattle.change_audit.specs.CallGraphs.{AreGraphsOf}
 use Rattle.change_audit.specs.Copied.{IsDoneIn}
 use Rattle.change_audit.specs.declared.call_graphs.CallGraphs.{CallGraphs}
-use Rattle.read_audit.specs.Fetching.{IsShown, IsGrantIn, HasHolders}
+use Rattle.read_audit.specs.Fetching.{IsShown, HasHolders}
 use Rattle.read_audit.specs.Read.{IsHolder, IsFetched}
 
-pub has_item : {X : Type 0} (xs : List X) (k : ℕ) (d x : X) → k < length xs → get_or xs k d ≡ x → Contains xs x
-has_item xs k d x lt is = subst (Contains xs) is (Contains-get_or xs k d lt)
-
 -- ---- holders
-
-pub holder_is : (log : Log) (bricks : List Journal) (plan : SetPlan) (call graph : ℕ) (cells : List Cell) (until event brick : ℕ) → event < until → Contains plan.bricks brick
-    → IsGrantIn log bricks call graph cells event brick → IsHolder log bricks plan call graph cells until brick
-holder_is log bricks plan call graph cells until event brick lt member grant = record {
-  member = member;
-  wind = grant.wind;
-  shared = grant.shared;
-  rows = grant.rows;
-  event = event;
-  granted = grant.granted;
-  before = lt;
-}
 
 pub holders_are : (log : Log) (bricks : List Journal) (plan : SetPlan) (call graph : ℕ) (cells : List Cell) (cell : Cell) (until source : ℕ) (holders : List ℕ) → Contains cells cell → IsDistinct ◌==◌ holders
     → plan.q ≤ length holders → Contains holders source → AllByRecursion (IsHolder log bricks plan call graph cells until) holders → HasHolders log bricks plan call graph cell until source

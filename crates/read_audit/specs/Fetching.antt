@@ -1,5 +1,5 @@
 -- What is found of one content: the fetch that a brick has answered by it, and the bricks that had granted locks before.
-use Rattle.std.specs.Prelude.{◌≡◌, ℕ, ◌≤◌, ◌==◌, Bool, List, Contains, length}
+use Rattle.std.specs.Prelude.{ℕ, ◌≤◌, ◌==◌, Bool, List, Contains, length}
 use Rattle.std.specs.List.{AllByRecursion, IsDistinct}
 use Rattle.fop_types.specs.declared.cells.Cell.{Cell}
 use Rattle.fop_types.specs.declared.contents.Content.{Content as Held}
