@@ -20,7 +20,7 @@ pub struct Bearer {
 }
 
 /// The brick of a number.
-pub(crate) fn brick_at(bricks: &[Brick], brick: u8) -> Option<&Brick>
+pub fn brick_at(bricks: &[Brick], brick: u8) -> Option<&Brick>
     ensures { option_copied result ≡ slice_get bricks.now brick }
 {
     bricks.get(brick as usize)

@@ -1,18 +1,20 @@
 -- What is found of one content: the fetch that a brick has answered by it, and the bricks that had granted locks before.
-use Rattle.std.specs.Prelude.{ℕ, ◌≤◌, ◌==◌, Bool, List, Contains, length}
+use Rattle.std.specs.Prelude.{◌≡◌, ℕ, ◌≤◌, ◌==◌, Bool, List, Some, Contains, length, slice_get}
 use Rattle.std.specs.List.{AllByRecursion, IsDistinct}
 use Rattle.fop_types.specs.declared.cells.Cell.{Cell}
 use Rattle.fop_types.specs.declared.contents.Content.{Content as Held}
 use Rattle.fop_types.specs.declared.contents.Row.{Row}
 use Rattle.fop_types.specs.declared.jobs.SetPlan.{SetPlan}
 use Rattle.fop_types.specs.declared.messages.BrickReq.TheVariants.{Lock, Fetch}
-use Rattle.fop_types.specs.declared.messages.DoneArm.TheVariants.{Rows, Content}
+use Rattle.fop_types.specs.declared.messages.DoneArm.TheVariants.{Content}
+use Rattle.fop_types.specs.declared.messages.Input.TheVariants.{Request}
+use Rattle.wire_xdr.specs.WireText.{input_text}
 use Rattle.brick_machine.specs.Journal.{Journal}
 use Rattle.mount_log.specs.declared.logs.Log.{Log}
 use Rattle.change_audit.specs.Borne.{IsWindFor}
 use Rattle.change_audit.specs.Copied.{IsDoneIn}
 use Rattle.change_audit.specs.Copying.{IsSentAs}
-use Rattle.read_audit.specs.Read.{IsHolder}
+use Rattle.read_audit.specs.Read.{IsGrantedIn, IsHolder}
 
 -- ---- fetches
 
@@ -31,17 +33,23 @@ pub record IsShown (log : Log) (bricks : List Journal) (call graph source event 
 
 -- ---- locks
 
--- a brick was sent a lock of these cells for a call on this wind, in a graph, as its input of this count
-pub record WasLocked (bricks : List Journal) (brick taken wind graph call : ℕ) (cells : List Cell) : Type 0 where
+-- these bytes are at a place in a brick's journal, from 0
+pub record IsInputAt (bricks : List Journal) (brick place : ℕ) (bytes : List ℕ) : Type 0 where
+  pub at : Journal
+  pub there : slice_get bricks brick ≡ Some at
+  pub is : slice_get at.journal place ≡ Some bytes
+
+-- a lock of these cells for a call on this wind, in a graph, is at a place in a brick's journal
+pub record WasLocked (bricks : List Journal) (brick place wind graph call : ℕ) (cells : List Cell) : Type 0 where
   pub shared : Bool
-  pub sent : IsSentAs bricks brick taken wind graph (Lock call shared cells)
+  pub sent : IsInputAt bricks brick place (input_text (Request wind graph (Lock call shared cells)))
 
 -- a brick has granted a call a lock of these cells, in a graph, which arrived in the event at a place, from 0
 pub record IsGrantIn (log : Log) (bricks : List Journal) (call graph : ℕ) (cells : List Cell) (event brick : ℕ) : Type 0 where
   pub wind : ℕ
   pub shared : Bool
   pub rows : List Row
-  pub granted : IsDoneIn log bricks brick wind graph event (Lock call shared cells) (Rows rows)
+  pub granted : IsGrantedIn log bricks brick wind graph event (Lock call shared cells) rows
 
 -- a quorum of the set's bricks, the source among them, had granted a call locks of the same cells before the event at a place, of
 -- which the cell is one

@@ -21,24 +21,41 @@ use Rattle.fop_types.specs.declared.contents.Content.TheVariants.{Bytes, Meta}
 use Rattle.fop_types.specs.declared.contents.Row.{Row}
 use Rattle.fop_types.specs.declared.contents.Span.{Span}
 use Rattle.fop_types.specs.declared.jobs.SetPlan.{SetPlan}
+use Rattle.fop_types.specs.declared.messages.BrickRep.TheVariants.{Done}
+use Rattle.fop_types.specs.declared.messages.BrickReq.{BrickReq}
 use Rattle.fop_types.specs.declared.messages.BrickReq.TheVariants.{Lock, Fetch}
 use Rattle.fop_types.specs.declared.messages.DoneArm.TheVariants.{Rows, Content}
+use Rattle.fop_types.specs.declared.messages.Input.TheVariants.{Request}
+use Rattle.fop_types.specs.declared.messages.OutKind.TheVariants.{Reply}
 use Rattle.graph_build.specs.declared.plans.NodeKind.{NodeKind}
 use Rattle.graph_build.specs.declared.plans.NodeKind.TheVariants as node
 use Rattle.graph_build.specs.declared.plans.NodePlan.{NodePlan}
 use Rattle.graph_build.specs.declared.plans.Plan.{Plan}
 use Rattle.script_lang.specs.declared.scripts.Script.{Script}
+use Rattle.wire_xdr.specs.WireText.{input_text, output_text}
 use Rattle.brick_machine.specs.Journal.{Journal}
 use Rattle.mount_log.specs.Causes.{set_of_call, plan_of_volfile}
 use Rattle.mount_log.specs.Connections.{graph_of_call}
 use Rattle.mount_log.specs.Graphs.{volfiles_of}
 use Rattle.mount_log.specs.Submissions.{submissions_of}
+use Rattle.mount_log.specs.declared.logs.HubEvent.TheVariants.{Arrive}
 use Rattle.mount_log.specs.declared.logs.Log.{Log}
 use Rattle.mount_log.specs.declared.logs.ReplyLine.{ReplyLine}
 use Rattle.change_audit.specs.Borne.{IsWindFor}
 use Rattle.change_audit.specs.Copied.{IsDoneIn}
 
 -- ---- a content that was read under locks
+
+-- A request of a graph on a wind is in a brick's journal, and its answer by rows arrived in the event at this place, from 0. A lock
+-- that had to wait is answered with a later input than its own.
+pub record IsGrantedIn (log : Log) (bricks : List Journal) (brick wind graph event : ℕ) (req : BrickReq) (rows : List Row) : Type 0 where
+  pub at : Journal
+  pub there : slice_get bricks brick ≡ Some at
+  pub place : ℕ
+  pub request : slice_get at.journal place ≡ Some (input_text (Request wind graph req))
+  pub taken : ℕ
+  pub behind : place < taken
+  pub arrived : slice_get log.events event ≡ Some (Arrive brick (output_text (record { taken = taken; kind = Reply wind (Done (Rows rows)) })))
 
 -- a brick of the set granted the call a lock of these cells, by what had arrived before the event at a place, from 0
 pub record IsHolder (log : Log) (bricks : List Journal) (plan : SetPlan) (call graph : ℕ) (cells : List Cell) (until brick : ℕ) : Type 0 where
@@ -47,7 +64,7 @@ pub record IsHolder (log : Log) (bricks : List Journal) (plan : SetPlan) (call g
   pub shared : Bool
   pub rows : List Row
   pub event : ℕ
-  pub granted : IsDoneIn log bricks brick wind graph event (Lock call shared cells) (Rows rows)
+  pub granted : IsGrantedIn log bricks brick wind graph event (Lock call shared cells) rows
   pub before : event < until
 
 -- in this call the content of the cell arrived by the event of this number, from a brick of this set of the call's graph

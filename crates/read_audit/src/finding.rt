@@ -1,6 +1,6 @@
 //! The search for the locks and the fetches of each call in what arrived. Nothing is said of what is found.
 
-use crate::found::{FetchAt, Found, LockAt};
+use crate::found::{FetchAt, Found, Grant, LockAt};
 use brick_machine::Brick;
 use change_audit::copy_requests::input_at;
 use change_audit::finding::{Opening, openings_of};
@@ -12,11 +12,19 @@ use mount_log::{HubEvent, Log};
 use std::alloc::{AllocError, Global};
 use std::collections::BTreeMap;
 
-// The cells that a request locks for a call.
+// A lock: its place in its brick's journal, its call and its cells.
 #[derive(Drop)]
 struct Locked {
+    place: usize,
     call: u32,
     cells: Seq<Cell>,
+}
+
+// What the search goes by: the opening of each wind, and the locks in each brick's journal by wind, less those that were granted.
+#[derive(Drop)]
+struct Tables {
+    openings: BTreeMap<u64, Opening>,
+    locks: Vec<BTreeMap<u64, Locked>>,
 }
 
 // A Done that arrived in the event at a place: its brick, its wind, and the count of the input that it answers.
@@ -30,18 +38,51 @@ struct Arrival {
 
 // ---- what was asked
 
-fn locked_by(req: BrickReq) -> Option<Locked> {
+fn locked_by(place: usize, req: BrickReq) -> Option<Locked> {
     match req {
-        BrickReq::Lock { call, cells, .. } => Some(Locked { call, cells }),
+        BrickReq::Lock { call, cells, .. } => Some(Locked { place, call, cells }),
         _ => None,
     }
 }
 
-fn locked_in(alloc: Global, input: &[u8]) -> Result<Option<Locked>, AllocError> {
-    match whole_input(alloc, input)? {
-        Some(Input::Request { req, .. }) => Ok(locked_by(req)),
-        _ => Ok(None),
+// Notes the lock at a place in a journal.
+fn note_asked(
+    alloc: Global,
+    locks: &mut BTreeMap<u64, Locked>,
+    place: usize,
+    input: &[u8],
+) -> Result<(), AllocError> {
+    let Some(Input::Request { wind, req, .. }) = whole_input(alloc, input)? else {
+        return Ok(());
+    };
+    match locked_by(place, req) {
+        Some(locked) => {
+            locks.insert(wind, locked)?;
+            Ok(())
+        }
+        None => Ok(()),
     }
+}
+
+// The locks in a brick's journal, by wind.
+fn locks_in(alloc: Global, brick: &Brick) -> Result<BTreeMap<u64, Locked>, AllocError> {
+    let mut locks = BTreeMap::new(alloc);
+    let journal = brick.journal();
+    for place in 0..journal.len() {
+        let input = journal[place].as_slice();
+        if is_request_of(input, Proc::Lock) {
+            note_asked(alloc, &mut locks, place, input)?;
+        }
+    }
+    Ok(locks)
+}
+
+fn locks_of(alloc: Global, bricks: &[Brick]) -> Result<Vec<BTreeMap<u64, Locked>>, AllocError> {
+    let mut lists = Vec::new(alloc);
+    for brick in bricks {
+        lists.push(locks_in(alloc, brick)?)?;
+    }
+    Ok(lists)
 }
 
 fn fetched_by(req: &BrickReq) -> Option<Cell> {
@@ -107,19 +148,25 @@ fn is_names(cell: Cell) -> bool {
     }
 }
 
+// The lock that an answer grants: the one of its wind that had no answer.
+fn take_granted(tables: &mut Tables, at: Arrival) -> Option<Locked> {
+    let locks = tables.locks.get_mut(at.brick as usize)?;
+    locks.remove(&at.wind)
+}
+
 // Notes the lock that was granted.
 fn note_lock(
     alloc: Global,
     found: &mut Found,
     at: Arrival,
-    input: &[u8],
+    locked: Locked,
 ) -> Result<(), AllocError> {
-    let Some(locked) = locked_in(alloc, input)? else {
-        return Ok(());
-    };
-    let Locked { call, cells } = locked;
+    let Locked { place, call, cells } = locked;
     let lock = LockAt {
-        event: at.event,
+        grant: Grant {
+            event: at.event,
+            place,
+        },
         brick: at.brick,
         cells,
     };
@@ -149,40 +196,36 @@ fn note_fetch(
     found.add_fetch(alloc, opening.call, fetch)
 }
 
-// Notes the request that was answered, if it is a lock or a fetch.
-fn note(
+// Notes what was answered, if it is a fetch.
+fn note_answered(
     alloc: Global,
     found: &mut Found,
-    openings: &BTreeMap<u64, Opening>,
+    tables: &Tables,
     at: Arrival,
     input: &[u8],
 ) -> Result<(), AllocError> {
-    if is_request_of(input, Proc::Lock) {
-        return note_lock(alloc, found, at, input);
-    }
     if !is_request_of(input, Proc::Fetch) {
         return Ok(());
     }
-    match openings.get(&at.wind).copied() {
+    match tables.openings.get(&at.wind).copied() {
         Some(opening) => note_fetch(alloc, found, opening, at, input),
         None => Ok(()),
     }
 }
 
-fn note_event(
+// Notes the lock or the fetch that was answered, if it is one.
+fn note(
     alloc: Global,
     found: &mut Found,
     bricks: &[Brick],
-    openings: &BTreeMap<u64, Opening>,
-    event: usize,
-    at: &HubEvent,
-    head: Head,
+    tables: &mut Tables,
+    at: Arrival,
 ) -> Result<(), AllocError> {
-    let Some(at) = done_in(event, at, head) else {
-        return Ok(());
-    };
+    if let Some(locked) = take_granted(tables, at) {
+        return note_lock(alloc, found, at, locked);
+    }
     match input_at(bricks, at.brick, at.taken) {
-        Some(input) => note(alloc, found, openings, at, input),
+        Some(input) => note_answered(alloc, found, tables, at, input),
         None => Ok(()),
     }
 }
@@ -197,20 +240,18 @@ pub(crate) fn find(
     bricks: &[Brick],
     heads: &[Head],
 ) -> Result<Found, AllocError> {
-    let openings = openings_of(alloc, log.winds.as_slice())?;
+    let mut tables = Tables {
+        openings: openings_of(alloc, log.winds.as_slice())?,
+        locks: locks_of(alloc, bricks)?,
+    };
     let mut found = Found::new(alloc);
     let events = log.events.as_slice();
     for event in 0..events.len() {
-        if let Some(head) = head_at(heads, event) {
-            note_event(
-                alloc,
-                &mut found,
-                bricks,
-                &openings,
-                event,
-                &events[event],
-                head,
-            )?;
+        let Some(head) = head_at(heads, event) else {
+            return Ok(found);
+        };
+        if let Some(at) = done_in(event, &events[event], head) {
+            note(alloc, &mut found, bricks, &mut tables, at)?;
         }
     }
     Ok(found)

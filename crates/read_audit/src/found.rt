@@ -14,10 +14,17 @@ pub struct FetchAt {
     pub cell: Cell,
 }
 
-/// The grant of a lock of cells, by the place of the event in which it arrived from a brick.
+/// Where a lock is, and its grant: the place of the lock in its brick's journal, and that of the event in which the grant arrived.
+#[derive(Clone, Copy)]
+pub struct Grant {
+    pub event: usize,
+    pub place: usize,
+}
+
+/// The grant of a lock of cells, by its brick.
 #[derive(Drop)]
 pub struct LockAt {
-    pub event: usize,
+    pub grant: Grant,
     pub brick: u8,
     pub cells: Seq<Cell>,
 }
@@ -27,6 +34,14 @@ pub struct LockAt {
 pub struct Found {
     fetches: BTreeMap<u32, Vec<FetchAt>>,
     locks: BTreeMap<u32, Vec<LockAt>>,
+}
+
+// Of two fetches the one that was opened later.
+fn later_of(last: Option<FetchAt>, fetch: FetchAt) -> Option<FetchAt> {
+    match last {
+        Some(before) if before.opening > fetch.opening => last,
+        _ => Some(fetch),
+    }
 }
 
 impl Found {
@@ -76,28 +91,27 @@ impl Found {
         Ok(())
     }
 
-    /// The last fetch of a call whose answer arrived by the event of a number, of a cell of this aspect.
+    /// The fetch of a call that was opened last, of those of a cell of this aspect whose answers arrived by the event of a number.
+    /// The answer to one that was given up before may arrive behind it.
     pub(crate) fn last_of_aspect(&self, call: u32, number: u64, aspect: Aspect) -> Option<FetchAt> {
-        let list = self.fetches.get(&call)?.as_slice();
-        for back in 0..list.len() {
-            let fetch = list[list.len() - 1 - back];
+        let mut last = None;
+        for fetch in self.fetches.get(&call)?.as_slice() {
             if (fetch.event as u64) < number && fetch.cell.aspect == aspect {
-                return Some(fetch);
+                last = later_of(last, *fetch);
             }
         }
-        None
+        last
     }
 
-    /// The last fetch of a call whose answer arrived by the event of a number, of this cell.
+    /// The fetch of a call that was opened last, of those of this cell whose answers arrived by the event of a number.
     pub(crate) fn last_of_cell(&self, call: u32, number: u64, cell: Cell) -> Option<FetchAt> {
-        let list = self.fetches.get(&call)?.as_slice();
-        for back in 0..list.len() {
-            let fetch = list[list.len() - 1 - back];
+        let mut last = None;
+        for fetch in self.fetches.get(&call)?.as_slice() {
             if (fetch.event as u64) < number && fetch.cell == cell {
-                return Some(fetch);
+                last = later_of(last, *fetch);
             }
         }
-        None
+        last
     }
 
     /// The cells of the last lock that the source of a fetch had granted the call before, of which the fetch's cell is one.
@@ -106,7 +120,7 @@ impl Found {
         for back in 0..list.len() {
             let lock = &list[list.len() - 1 - back];
             let cells = lock.cells.as_slice();
-            if lock.event < fetch.event
+            if lock.grant.event < fetch.event
                 && lock.brick == fetch.source
                 && cells.contains(&fetch.cell)
             {
@@ -116,8 +130,7 @@ impl Found {
         None
     }
 
-    /// The bricks of a set that had granted a call a lock of these cells before the event at a place, each with the place of the
-    /// event of its last one.
+    /// The bricks of a set that had granted a call a lock of these cells before the event at a place, each with its last one.
     ///
     /// # Errors
     /// Out of memory.
@@ -128,17 +141,17 @@ impl Found {
         call: u32,
         until: usize,
         cells: &[Cell],
-    ) -> Result<BTreeMap<u8, usize>, AllocError> {
+    ) -> Result<BTreeMap<u8, Grant>, AllocError> {
         let mut grants = BTreeMap::new(alloc);
         let Some(list) = self.locks.get(&call) else {
             return Ok(grants);
         };
         for lock in list.as_slice() {
-            if lock.event < until
+            if lock.grant.event < until
                 && has_member(plan, lock.brick)
                 && lock.cells.as_slice() == cells
             {
-                grants.insert(lock.brick, lock.event)?;
+                grants.insert(lock.brick, lock.grant)?;
             }
         }
         Ok(grants)

@@ -6,12 +6,14 @@ ghost use Rattle.fop_types.specs.declared.messages.DoneArm.TheVariants.{Rows};
 ghost use Rattle.fop_types.specs.declared.messages.Input.TheVariants.{Request};
 ghost use Rattle.fop_types.specs.declared.messages.OutKind.TheVariants.{Reply};
 ghost use Rattle.wire_xdr.specs.WireText.{input_text};
-ghost use Rattle.read_audit.specs.Fetching.{WasLocked, IsGrantIn};
+ghost use Rattle.read_audit.specs.Fetching.{IsInputAt, WasLocked, IsGrantIn};
 ghost use Rattle.read_audit.specs.Read.{IsHolder};
 
+use crate::found::Grant;
 use brick_machine::Brick;
-use change_audit::bearers::has_member;
-use change_audit::copy_requests::{arrived, input_at, is_cell, written_output};
+use change_audit::answers::bytes_at;
+use change_audit::bearers::{brick_at, has_member};
+use change_audit::copy_requests::{arrived, is_cell, written_output};
 use change_audit::served::whole_input;
 use fop_types::{BrickRep, BrickReq, Cell, DoneArm, Input, OutKind, Output, Row, Seq, SetPlan};
 use mount_log::Log;
@@ -120,20 +122,29 @@ fn lock_in(
     }
 }
 
-// Whether a brick was sent, as its input of this count, a lock of these cells for a call on a wind, in a graph.
+// The input at a place in a brick's journal.
+fn journal_at(bricks: &[Brick], brick: u8, place: usize) -> Option<&[u8]>
+    ensures { IfSome result (λ bytes. IsInputAt bricks.now brick place bytes.now) }
+{
+    let at = brick_at(bricks, brick)?;
+    let bytes = bytes_at(at.journal(), place)?;
+    Some(bytes.as_slice())
+}
+
+// Whether a lock of these cells for a call on a wind, in a graph, is at a place in a brick's journal.
 fn was_locked(
     alloc: Global,
     bricks: &[Brick],
     brick: u8,
-    taken: u64,
+    place: usize,
     wind: u64,
     graph: usize,
     call: u32,
     cells: &[Cell],
 ) -> Result<bool, AllocError>
-    ensures { IfOk result (λ yes. yes ≡ true → WasLocked bricks.now brick taken wind graph call cells.now) }
+    ensures { IfOk result (λ yes. yes ≡ true → WasLocked bricks.now brick place wind graph call cells.now) }
 {
-    let Some(bytes) = input_at(bricks, brick, taken) else {
+    let Some(bytes) = journal_at(bricks, brick, place) else {
         return Ok(false);
     };
     let found = lock_in(alloc, bytes, wind, graph, call, cells)?;
@@ -142,7 +153,7 @@ fn was_locked(
 
 // ---- one holder
 
-// Whether a brick has granted a lock of these cells by what arrived in the event at a place.
+// Whether a brick has granted the lock of these cells at a place in its journal by what arrived in the event at another.
 fn is_granted(
     alloc: Global,
     log: &Log,
@@ -150,12 +161,12 @@ fn is_granted(
     call: u32,
     graph: usize,
     cells: &[Cell],
-    event: usize,
+    grant: Grant,
     brick: u8,
 ) -> Result<bool, AllocError>
-    ensures { IfOk result (λ yes. yes ≡ true → IsGrantIn log.now bricks.now call graph cells.now event brick) }
+    ensures { IfOk result (λ yes. yes ≡ true → IsGrantIn log.now bricks.now call graph cells.now grant.event brick) }
 {
-    let Some(bytes) = arrived(log, event, brick) else {
+    let Some(bytes) = arrived(log, grant.event, brick) else {
         return Ok(false);
     };
     let Some(output) = written_output(alloc, bytes)? else {
@@ -165,14 +176,18 @@ fn is_granted(
     let Some(found) = rows_answered(kind) else {
         return Ok(false);
     };
-    let Granted { wind, rows: _ } = found;
-    if !was_locked(alloc, bricks, brick, taken, wind, graph, call, cells)? {
+    if grant.place as u64 >= taken {
+        return Ok(false);
+    }
+    let wind = found.wind;
+    if !was_locked(alloc, bricks, brick, grant.place, wind, graph, call, cells)? {
         return Ok(false);
     }
     Ok(true)
 }
 
-/// Whether a brick of the set has granted a lock of these cells by what arrived in the event at a place, which is before another.
+/// Whether a brick of the set has granted the lock of these cells that is said to be where, by what arrived before the event at a
+/// place.
 ///
 /// # Errors
 /// Out of memory.
@@ -185,17 +200,17 @@ pub(crate) fn is_holder(
     graph: usize,
     cells: &[Cell],
     until: usize,
-    event: usize,
+    grant: Grant,
     brick: u8,
 ) -> Result<bool, AllocError>
     ensures { IfOk result (λ yes. yes ≡ true → IsHolder log.now bricks.now plan.now call graph cells.now until brick) }
 {
-    if event >= until {
+    if grant.event >= until {
         return Ok(false);
     }
     if !has_member(plan, brick) {
         return Ok(false);
     }
-    let yes = is_granted(alloc, log, bricks, call, graph, cells, event, brick)?;
+    let yes = is_granted(alloc, log, bricks, call, graph, cells, grant, brick)?;
     Ok(yes)
 }

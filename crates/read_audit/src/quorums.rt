@@ -5,7 +5,7 @@ ghost use Rattle.change_audit.specs.Bearing.{RisesFrom};
 ghost use Rattle.read_audit.specs.Fetching.{HasHolders};
 ghost use Rattle.read_audit.specs.Read.{IsHolder};
 
-use crate::found::{FetchAt, Found};
+use crate::found::{FetchAt, Found, Grant};
 use crate::holders::is_holder;
 use brick_machine::Brick;
 use change_audit::copy_requests::is_cell;
@@ -15,7 +15,7 @@ use std::alloc::{AllocError, Global};
 use std::collections::BTreeMap;
 
 // The bricks that have granted, by rising numbers.
-fn bricks_of(alloc: Global, grants: &BTreeMap<u8, usize>) -> Result<Vec<u8>, AllocError> {
+fn bricks_of(alloc: Global, grants: &BTreeMap<u8, Grant>) -> Result<Vec<u8>, AllocError> {
     let mut bricks = Vec::new(alloc);
     for (brick, _) in grants {
         bricks.push(*brick)?;
@@ -23,10 +23,13 @@ fn bricks_of(alloc: Global, grants: &BTreeMap<u8, usize>) -> Result<Vec<u8>, All
     Ok(bricks)
 }
 
-fn event_of(grants: &BTreeMap<u8, usize>, brick: u8) -> usize {
+fn grant_of(grants: &BTreeMap<u8, Grant>, brick: u8) -> Grant {
     match grants.get(&brick) {
-        Some(event) => *event,
-        None => usize::MAX,
+        Some(grant) => *grant,
+        None => Grant {
+            event: usize::MAX,
+            place: usize::MAX,
+        },
     }
 }
 
@@ -39,15 +42,15 @@ fn are_holders(
     graph: usize,
     cells: &[Cell],
     until: usize,
-    grants: &BTreeMap<u8, usize>,
+    grants: &BTreeMap<u8, Grant>,
     holders: &[u8],
 ) -> Result<bool, AllocError>
     ensures { IfOk result (λ yes. yes ≡ true → AllByRecursion (IsHolder log.now bricks.now plan.now call graph cells.now until) holders.now) }
 {
     for holder in holders {
-        let event = event_of(grants, *holder);
+        let grant = grant_of(grants, *holder);
         if !is_holder(
-            alloc, log, bricks, plan, call, graph, cells, until, event, *holder,
+            alloc, log, bricks, plan, call, graph, cells, until, grant, *holder,
         )? {
             return Ok(false);
         }
