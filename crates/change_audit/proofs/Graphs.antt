@@ -80,7 +80,7 @@ graph_at (logged.Arm brick p count a ∷ es) graph last c g is =
     behind (logged.Arm brick p count a) es graph last (submit_event (last + 1) es (suc c)) g (graph_at es (graph + length (switched_by (logged.Arm brick p count a) [])) (last + 1) c g is)
 
 module _ (script : Script) (log : Log) (tables : CallGraphs) (are : AreGraphsOf script log tables) where
-  graph_is : (call graph : ℕ) → HasGraph tables call graph → graph ≡ graph_of_call log call
+  pub graph_is : (call graph : ℕ) → HasGraph tables call graph → graph ≡ graph_of_call log call
   graph_is call graph has =
       let from_one = has.from_one in
       let number : suc (call - 1) ≡ call = omega (arith, from_one) in

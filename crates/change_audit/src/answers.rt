@@ -24,7 +24,7 @@ pub struct Served {
 }
 
 /// The bytes at a place.
-pub(crate) fn bytes_at(list: &[Bytes], at: usize) -> Option<&Bytes>
+pub fn bytes_at(list: &[Bytes], at: usize) -> Option<&Bytes>
     ensures { option_copied result ≡ slice_get list.now at }
 {
     list.get(at)

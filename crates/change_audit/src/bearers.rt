@@ -20,14 +20,14 @@ pub struct Bearer {
 }
 
 /// The brick of a number.
-pub(crate) fn brick_at(bricks: &[Brick], brick: u8) -> Option<&Brick>
+pub fn brick_at(bricks: &[Brick], brick: u8) -> Option<&Brick>
     ensures { option_copied result ≡ slice_get bricks.now brick }
 {
     bricks.get(brick as usize)
 }
 
 /// Whether a brick is one of the set.
-pub(crate) fn has_member(plan: &SetPlan, brick: u8) -> bool
+pub fn has_member(plan: &SetPlan, brick: u8) -> bool
     ensures { result ≡ true → Contains plan.now.bricks brick }
 {
     plan.bricks.as_slice().contains(&brick)

@@ -64,11 +64,7 @@ fn volfiles_of(alloc: Global, script: &Script, log: &Log) -> Result<Vec<u8>, All
 ///
 /// # Errors
 /// Out of memory.
-pub(crate) fn call_graphs(
-    alloc: Global,
-    script: &Script,
-    log: &Log,
-) -> Result<CallGraphs, AllocError>
+pub fn call_graphs(alloc: Global, script: &Script, log: &Log) -> Result<CallGraphs, AllocError>
     ensures { IfOk result (λ tables. AreGraphsOf script.now log.now tables) }
 {
     let calls = graphs_of_calls(alloc, log.events.as_slice())?;
@@ -94,7 +90,7 @@ fn byte_at(bytes: &[u8], k: usize) -> Option<u8>
 }
 
 /// The graph of a call.
-pub(crate) fn graph_of(tables: &CallGraphs, call: u32) -> Option<usize>
+pub fn graph_of(tables: &CallGraphs, call: u32) -> Option<usize>
     ensures { IfSome result (λ graph. HasGraph tables.now call graph) }
 {
     if call == 0 {
@@ -104,7 +100,8 @@ pub(crate) fn graph_of(tables: &CallGraphs, call: u32) -> Option<usize>
     Some(graph)
 }
 
-fn volfile_of(tables: &CallGraphs, graph: usize) -> Option<u8>
+/// The volfile of a graph.
+pub fn volfile_of(tables: &CallGraphs, graph: usize) -> Option<u8>
     ensures { IfSome result (λ volfile. slice_get tables.now.volfiles (graph - 1) ≡ Some volfile) }
 {
     if graph == 0 {
@@ -114,7 +111,8 @@ fn volfile_of(tables: &CallGraphs, graph: usize) -> Option<u8>
     Some(volfile)
 }
 
-fn plan_at(plans: &[Plan], volfile: u8) -> Option<&Plan>
+/// The plan of a volfile.
+pub fn plan_at(plans: &[Plan], volfile: u8) -> Option<&Plan>
     ensures { option_copied result ≡ slice_get plans.now volfile }
 {
     plans.get(volfile as usize)
@@ -136,7 +134,7 @@ fn set_of<'a>(plans: &'a [Plan], volfile: u8, set: u8) -> Option<&'a SetPlan>
 }
 
 /// The plan of a graph.
-pub(crate) fn plan_in<'a>(plans: &'a [Plan], tables: &CallGraphs, graph: usize) -> Option<&'a Plan>
+pub fn plan_in<'a>(plans: &'a [Plan], tables: &CallGraphs, graph: usize) -> Option<&'a Plan>
     ensures { IfSome result (λ plan. plan_of_volfile plans.now (slice_get tables.now.volfiles (graph - 1)) ≡ Some plan.now) }
 {
     let volfile = volfile_of(tables, graph)?;
@@ -145,7 +143,7 @@ pub(crate) fn plan_in<'a>(plans: &'a [Plan], tables: &CallGraphs, graph: usize) 
 }
 
 /// The set of a number in a graph.
-pub(crate) fn set_in<'a>(
+pub fn set_in<'a>(
     plans: &'a [Plan],
     tables: &CallGraphs,
     graph: usize,
@@ -169,7 +167,7 @@ fn set_among(plan: &Plan, brick: u8) -> Option<u8> {
 }
 
 /// The number of the set that has the brick in a graph.
-pub(crate) fn set_with(plans: &[Plan], tables: &CallGraphs, graph: usize, brick: u8) -> Option<u8> {
+pub fn set_with(plans: &[Plan], tables: &CallGraphs, graph: usize, brick: u8) -> Option<u8> {
     let volfile = volfile_of(tables, graph)?;
     let plan = plan_at(plans, volfile)?;
     set_among(plan, brick)

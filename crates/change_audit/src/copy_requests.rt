@@ -48,7 +48,7 @@ fn bytes_from(event: &HubEvent, brick: u8) -> Option<&[u8]>
 }
 
 /// What arrived from a brick in the event at a place.
-pub(crate) fn arrived(log: &Log, event: usize, brick: u8) -> Option<&[u8]>
+pub fn arrived(log: &Log, event: usize, brick: u8) -> Option<&[u8]>
     ensures { IfSome result (λ bytes. slice_get log.now.events event ≡ Some (Arrive brick bytes.now)) }
 {
     match event_at(log, event) {
@@ -61,7 +61,7 @@ pub(crate) fn arrived(log: &Log, event: usize, brick: u8) -> Option<&[u8]>
 ///
 /// # Errors
 /// Out of memory.
-pub(crate) fn written_output(alloc: Global, bytes: &[u8]) -> Result<Option<Output>, AllocError>
+pub fn written_output(alloc: Global, bytes: &[u8]) -> Result<Option<Output>, AllocError>
     ensures { IfOk result (λ found. IfSome found (λ x. bytes.now ≡ output_text x)) }
 {
     match output_of(alloc, bytes)? {
@@ -73,7 +73,7 @@ pub(crate) fn written_output(alloc: Global, bytes: &[u8]) -> Result<Option<Outpu
 // ---- what was asked
 
 /// The input of a brick's journal that is counted so, from 1.
-pub(crate) fn input_at(bricks: &[Brick], brick: u8, taken: u64) -> Option<&[u8]>
+pub fn input_at(bricks: &[Brick], brick: u8, taken: u64) -> Option<&[u8]>
     ensures { IfSome result (λ bytes. IsInputOf bricks.now brick taken bytes.now) }
 {
     if taken == 0 {
@@ -144,7 +144,7 @@ fn asked_replacement(
 }
 
 /// Whether two cells are the same.
-pub(crate) fn is_cell(cell: &Cell, other: &Cell) -> bool
+pub fn is_cell(cell: &Cell, other: &Cell) -> bool
     ensures { result ≡ true → cell.now ≡ other.now }
 {
     *cell == *other

@@ -43,7 +43,7 @@ pub struct Opening {
 ///
 /// # Errors
 /// Out of memory.
-pub(crate) fn openings_of(
+pub fn openings_of(
     alloc: Global,
     winds: &[WindLine],
 ) -> Result<BTreeMap<u64, Opening>, AllocError> {

@@ -19,23 +19,25 @@
 //! each acknowledged change is on the bricks, by a change of its own, or that each copy was made, by a replacement of its own;
 //! false says nothing. With n inputs, outputs, events, winds, entries and copies an audit takes time of the order n log n, and of
 //! the bytes that are decoded.
+//!
+//! What `read_audit` looks up as these audits do is here, in the modules that are public.
 #![tactic(auto)]
 
 mod acknowledged;
-mod answers;
-mod bearers;
-mod call_graphs;
+pub mod answers;
+pub mod bearers;
+pub mod call_graphs;
 mod changes;
 mod claims;
 mod copies;
 mod copy_finding;
-mod copy_requests;
-mod finding;
+pub mod copy_requests;
+pub mod finding;
 mod listings;
 mod making;
-mod openings;
+pub mod openings;
 mod placing;
-mod served;
+pub mod served;
 mod skips;
 
 pub use changes::changes_are_borne;

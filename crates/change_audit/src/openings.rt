@@ -19,7 +19,7 @@ fn is_opening_for(line: &WindLine, call: u32, wind: u64) -> bool
 }
 
 /// Whether the line at a place opens the wind of this number for the call.
-pub(crate) fn is_wind_for(winds: &[WindLine], place: usize, call: u32, wind: u64) -> bool
+pub fn is_wind_for(winds: &[WindLine], place: usize, call: u32, wind: u64) -> bool
     ensures { result ≡ true → IsWindFor winds.now call wind }
 {
     match line_at(winds, place) {

@@ -57,13 +57,7 @@ fn makes_dir(op: &FlatOp, dir: Gfid) -> bool
 }
 
 // The graph of the call whose entry at a place makes the directory.
-fn made_at(
-    log: &Log,
-    tables: &CallGraphs,
-    ops: &[FlatOp],
-    dir: Gfid,
-    place: usize,
-) -> Option<usize>
+fn made_at(log: &Log, tables: &CallGraphs, ops: &[FlatOp], dir: Gfid, place: usize) -> Option<usize>
     ensures { IfSome result (λ graph. IsMadeByTable log.now tables.now ops.now dir graph) }
 {
     let Some(op) = op_at(ops, place) else {

@@ -11,8 +11,11 @@ use mount_log::WindLine;
 use std::alloc::{AllocError, Global};
 use wire_messages::{Message, input_of};
 
-// The input that the bytes are, if they are one.
-pub(crate) fn whole_input(alloc: Global, bytes: &[u8]) -> Result<Option<Input>, AllocError>
+/// The input that the bytes are, if they are one.
+///
+/// # Errors
+/// Out of memory.
+pub fn whole_input(alloc: Global, bytes: &[u8]) -> Result<Option<Input>, AllocError>
     ensures { IfOk result (λ found. IfSome found (λ x. bytes.now ≡ input_text x)) }
 {
     match input_of(alloc, bytes)? {

@@ -12,9 +12,9 @@ use script_lang::{CallLine, Phase, Script};
 use std::alloc::{AllocError, Global};
 use std::collections::VecDeque;
 
-/// The calls by their numbers, and the number of the event that submits each.
+/// The calls that the events of a log submit, by their numbers, and the number of the event that submits each.
 #[derive(Drop)]
-pub(crate) struct Calls<'a> {
+pub struct Calls<'a> {
     pub calls: Vec<Submitted<'a>>,
     pub events: Vec<u64>,
 }
@@ -100,12 +100,12 @@ impl<'a> Gathered<'a> {
     }
 }
 
-/// The calls that events submit. `None` where one submits no line of the script.
+/// The calls that events submit, each the next line of its session. `None` where one submits no line of the script.
 ///
 /// # Errors
 /// Out of memory.
 #[tactic(auto, using(crate::proofs::Calling::gathered_none, crate::proofs::Calling::calls_all, crate::proofs::Calling::numbers_all))]
-pub(crate) fn calls_in<'a>(
+pub fn calls_in<'a>(
     alloc: Global,
     script: &'a Script,
     events: &[HubEvent],

@@ -8,6 +8,8 @@
 //!     |
 //!   history_replay::lawful_ops
 //! ```
+//!
+//! [`calls_in`] gives other audits the calls of a log.
 #![tactic(auto)]
 
 mod calls;
@@ -15,4 +17,5 @@ mod judging;
 mod lengths;
 mod replies;
 
+pub use calls::{Calls, calls_in};
 pub use judging::one_file_system;

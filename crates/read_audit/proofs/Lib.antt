@@ -1,0 +1,4 @@
+pub mod Fetching
+pub mod Pages
+pub mod Reading
+pub mod Replying

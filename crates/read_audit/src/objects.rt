@@ -1,0 +1,243 @@
+//! What a call has read of an object: a part of a file, what a stat shows, or the value of an attribute.
+ghost use Rattle.std.specs.Prelude.{◌≡◌, true, IfOk};
+ghost use Rattle.fop_types.specs.Cells.{data_cell as data_of, meta_cell as meta_of};
+ghost use Rattle.mount_log.specs.Connections.{graph_of_call};
+ghost use Rattle.change_audit.specs.CallGraphs.{AreGraphsOf};
+ghost use Rattle.read_audit.specs.Read.{IsPartRead, IsFileRead, IsDirectoryRead, IsAttributeRead};
+ghost use Rattle.read_audit.specs.Showing.{IsSizeRead, IsModeRead};
+
+use crate::found::{FetchAt, Found};
+use crate::readings::{Replied, content_read};
+use crate::showing::{has_attribute, has_mode, has_part, has_size};
+use brick_machine::Brick;
+use change_audit::call_graphs::{CallGraphs, set_with};
+use fop_types::{Aspect, Cell, Gfid};
+use graph_build::Plan;
+use mount_log::Log;
+use script_lang::Script;
+use std::alloc::{AllocError, Global};
+
+fn data_cell(gfid: Gfid) -> Cell
+    ensures { result ≡ data_of gfid }
+{
+    Cell {
+        gfid,
+        aspect: Aspect::Data,
+    }
+}
+
+fn meta_cell(gfid: Gfid) -> Cell
+    ensures { result ≡ meta_of gfid }
+{
+    Cell {
+        gfid,
+        aspect: Aspect::Meta,
+    }
+}
+
+/// Whether the last data that a call had fetched by its reply was that of a file of which the bytes are those from an offset on, at
+/// most so many.
+///
+/// # Errors
+/// Out of memory.
+pub(crate) fn is_part_read(
+    alloc: Global,
+    script: &Script,
+    plans: &[Plan],
+    log: &Log,
+    bricks: &[Brick],
+    graphs: &CallGraphs,
+    found: &Found,
+    by: Replied,
+    offset: usize,
+    count: u32,
+    bytes: &[u8],
+) -> Result<bool, AllocError>
+    requires graphs { AreGraphsOf script.now log.now graphs.now }
+    requires graph { by.graph ≡ graph_of_call log.now by.call }
+    ensures { IfOk result (λ yes. yes ≡ true → IsPartRead script.now plans.now log.now bricks.now by.call by.number count bytes.now) }
+{
+    let Some(at) = found.last_of_aspect(by.call, by.number, Aspect::Data) else {
+        return Ok(false);
+    };
+    let Some(set) = set_with(plans, graphs, by.graph, at.source) else {
+        return Ok(false);
+    };
+    let cell = data_cell(at.cell.gfid);
+    let read = content_read(
+        alloc, script, plans, log, bricks, graphs, found, by, set, &cell, at,
+    )?;
+    let Some(content) = read else {
+        return Ok(false);
+    };
+    Ok(has_part(&content, offset, count as usize, bytes))
+}
+
+/// Whether the last metadata that a call had fetched by its reply has an attribute of this name and value.
+///
+/// # Errors
+/// Out of memory.
+pub(crate) fn is_attribute_read(
+    alloc: Global,
+    script: &Script,
+    plans: &[Plan],
+    log: &Log,
+    bricks: &[Brick],
+    graphs: &CallGraphs,
+    found: &Found,
+    by: Replied,
+    name: &[u8],
+    value: &[u8],
+) -> Result<bool, AllocError>
+    requires graphs { AreGraphsOf script.now log.now graphs.now }
+    requires graph { by.graph ≡ graph_of_call log.now by.call }
+    ensures { IfOk result (λ yes. yes ≡ true → IsAttributeRead script.now plans.now log.now bricks.now by.call by.number name.now value.now) }
+{
+    let Some(at) = found.last_of_aspect(by.call, by.number, Aspect::Meta) else {
+        return Ok(false);
+    };
+    let Some(set) = set_with(plans, graphs, by.graph, at.source) else {
+        return Ok(false);
+    };
+    let cell = meta_cell(at.cell.gfid);
+    let read = content_read(
+        alloc, script, plans, log, bricks, graphs, found, by, set, &cell, at,
+    )?;
+    let Some(content) = read else {
+        return Ok(false);
+    };
+    Ok(has_attribute(&content, name, value))
+}
+
+// ---- what a stat shows
+
+// Whether a call has read, by a fetch that was found, a file's bytes that are so many.
+fn is_size_read(
+    alloc: Global,
+    script: &Script,
+    plans: &[Plan],
+    log: &Log,
+    bricks: &[Brick],
+    graphs: &CallGraphs,
+    found: &Found,
+    by: Replied,
+    set: u8,
+    gfid: Gfid,
+    at: FetchAt,
+    size: u32,
+) -> Result<bool, AllocError>
+    requires graphs { AreGraphsOf script.now log.now graphs.now }
+    requires graph { by.graph ≡ graph_of_call log.now by.call }
+    ensures { IfOk result (λ yes. yes ≡ true → IsSizeRead script.now plans.now log.now bricks.now by.call by.number set gfid size) }
+{
+    let cell = data_cell(gfid);
+    let read = content_read(
+        alloc, script, plans, log, bricks, graphs, found, by, set, &cell, at,
+    )?;
+    let Some(content) = read else {
+        return Ok(false);
+    };
+    Ok(has_size(&content, size))
+}
+
+// Whether a call has read, by a fetch that was found, an object's metadata with this mode.
+fn is_mode_read(
+    alloc: Global,
+    script: &Script,
+    plans: &[Plan],
+    log: &Log,
+    bricks: &[Brick],
+    graphs: &CallGraphs,
+    found: &Found,
+    by: Replied,
+    set: u8,
+    gfid: Gfid,
+    at: FetchAt,
+    mode: u16,
+) -> Result<bool, AllocError>
+    requires graphs { AreGraphsOf script.now log.now graphs.now }
+    requires graph { by.graph ≡ graph_of_call log.now by.call }
+    ensures { IfOk result (λ yes. yes ≡ true → IsModeRead script.now plans.now log.now bricks.now by.call by.number set gfid mode) }
+{
+    let cell = meta_cell(gfid);
+    let read = content_read(
+        alloc, script, plans, log, bricks, graphs, found, by, set, &cell, at,
+    )?;
+    let Some(content) = read else {
+        return Ok(false);
+    };
+    Ok(has_mode(&content, mode))
+}
+
+/// Whether the last metadata that a call had fetched by its reply has this mode, and the last data of the same file this size.
+///
+/// # Errors
+/// Out of memory.
+pub(crate) fn is_file_read(
+    alloc: Global,
+    script: &Script,
+    plans: &[Plan],
+    log: &Log,
+    bricks: &[Brick],
+    graphs: &CallGraphs,
+    found: &Found,
+    by: Replied,
+    mode: u16,
+    size: u32,
+) -> Result<bool, AllocError>
+    requires graphs { AreGraphsOf script.now log.now graphs.now }
+    requires graph { by.graph ≡ graph_of_call log.now by.call }
+    ensures { IfOk result (λ yes. yes ≡ true → IsFileRead script.now plans.now log.now bricks.now by.call by.number mode size) }
+{
+    let Some(meta_at) = found.last_of_aspect(by.call, by.number, Aspect::Meta) else {
+        return Ok(false);
+    };
+    let gfid = meta_at.cell.gfid;
+    let Some(data_at) = found.last_of_cell(by.call, by.number, data_cell(gfid)) else {
+        return Ok(false);
+    };
+    let Some(set) = set_with(plans, graphs, by.graph, data_at.source) else {
+        return Ok(false);
+    };
+    if !is_size_read(
+        alloc, script, plans, log, bricks, graphs, found, by, set, gfid, data_at, size,
+    )? {
+        return Ok(false);
+    }
+    let yes = is_mode_read(
+        alloc, script, plans, log, bricks, graphs, found, by, set, gfid, meta_at, mode,
+    )?;
+    Ok(yes)
+}
+
+/// Whether the last metadata that a call had fetched by its reply has this mode.
+///
+/// # Errors
+/// Out of memory.
+pub(crate) fn is_directory_read(
+    alloc: Global,
+    script: &Script,
+    plans: &[Plan],
+    log: &Log,
+    bricks: &[Brick],
+    graphs: &CallGraphs,
+    found: &Found,
+    by: Replied,
+    mode: u16,
+) -> Result<bool, AllocError>
+    requires graphs { AreGraphsOf script.now log.now graphs.now }
+    requires graph { by.graph ≡ graph_of_call log.now by.call }
+    ensures { IfOk result (λ yes. yes ≡ true → IsDirectoryRead script.now plans.now log.now bricks.now by.call by.number mode) }
+{
+    let Some(at) = found.last_of_aspect(by.call, by.number, Aspect::Meta) else {
+        return Ok(false);
+    };
+    let Some(set) = set_with(plans, graphs, by.graph, at.source) else {
+        return Ok(false);
+    };
+    let gfid = at.cell.gfid;
+    let yes = is_mode_read(
+        alloc, script, plans, log, bricks, graphs, found, by, set, gfid, at, mode,
+    )?;
+    Ok(yes)
+}
