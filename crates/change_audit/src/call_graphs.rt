@@ -101,7 +101,7 @@ pub fn graph_of(tables: &CallGraphs, call: u32) -> Option<usize>
 }
 
 /// The volfile of a graph.
-pub fn volfile_of(tables: &CallGraphs, graph: usize) -> Option<u8>
+fn volfile_of(tables: &CallGraphs, graph: usize) -> Option<u8>
     ensures { IfSome result (λ volfile. slice_get tables.now.volfiles (graph - 1) ≡ Some volfile) }
 {
     if graph == 0 {
@@ -112,7 +112,7 @@ pub fn volfile_of(tables: &CallGraphs, graph: usize) -> Option<u8>
 }
 
 /// The plan of a volfile.
-pub fn plan_at(plans: &[Plan], volfile: u8) -> Option<&Plan>
+fn plan_at(plans: &[Plan], volfile: u8) -> Option<&Plan>
     ensures { option_copied result ≡ slice_get plans.now volfile }
 {
     plans.get(volfile as usize)
