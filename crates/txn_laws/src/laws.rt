@@ -2,16 +2,22 @@ ghost use Rattle.afr_transaction.specs.Causes.{BeginsHaveCauses, AnswersHaveCaus
 ghost use Rattle.txn_laws.specs.Ends.{JobsEnd};
 ghost use Rattle.txn_laws.specs.Free.{SplitsLackFree};
 ghost use Rattle.txn_laws.specs.Handed.{BeginsShow, AnswersShow, CopiesShow};
-ghost use Rattle.txn_laws.specs.Laws.{DecidesAtQuorum};
+ghost use Rattle.txn_laws.specs.Laws.{PostsDecideInTurns, SettlesDecideInTurns, PostsStayDecided, SettlesStayDecided, DecidesAtQuorum};
 ghost use Rattle.txn_laws.specs.Marks.{BeginsMark, AnswersMark, CopiesMark};
 ghost use Rattle.txn_laws.specs.Rounds.{BeginsHaveFewRounds, EachAnswerIsPaid, EachCopyIsPaid, DrawsRaiseNothing, DecisionsRaiseNothing, BeginsRaiseByTwo, BeginsElsewhereRaiseNothing};
 ghost use Rattle.afr_transaction.specs.Moves.{AnswersMove, CopiesDraw};
 ghost use Rattle.txn_laws.specs.Work.{EachAnswerLeavesLess, EachCopyLeavesLess};
 
-/// A change is decided exactly with the q-th confirmation of its post or its settle. The call does nothing: its contract
-/// exports this.
+/// A change is decided exactly with the q-th confirmation of its post or its settle, in the turn of that answer, if the history
+/// has room: a post adopts it and notes its entry, a settle decides it as its group holds it. Where another has settled it
+/// before, a post notes its entry in the history. What is decided stays so in the turns that follow. `parts` is the same of
+/// what the turns decide by. The call does nothing: its contract exports this.
 pub fn quorums_decide()
-    ensures { DecidesAtQuorum }
+    ensures posts { PostsDecideInTurns }
+    ensures settles { SettlesDecideInTurns }
+    ensures posts_stay { PostsStayDecided }
+    ensures settles_stay { SettlesStayDecided }
+    ensures parts { DecidesAtQuorum }
 {}
 
 /// What a turn does to the ledger: it draws one number, makes its own change unsettled once the mark is confirmed, decides the
