@@ -3,11 +3,13 @@ pub mod Elsewhere
 pub mod Ending
 pub mod Failures
 pub mod Freed
-pub mod LostMarks
+pub mod Handed
+pub mod Known
+pub mod LostBy
+pub mod Noted
 pub mod Others
 pub mod Paying
 pub mod Quorums
-pub mod ShownRows
 pub mod Sources
 pub mod Unsettled
 pub mod Used

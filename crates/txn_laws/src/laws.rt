@@ -1,9 +1,10 @@
 ghost use Rattle.afr_transaction.specs.Causes.{BeginsHaveCauses, AnswersHaveCauses, CopiesHaveCauses};
 ghost use Rattle.txn_laws.specs.Ends.{JobsEnd};
 ghost use Rattle.txn_laws.specs.Free.{SplitsLackFree};
-ghost use Rattle.txn_laws.specs.Handed.{BeginsShow, AnswersShow, CopiesShow};
+ghost use Rattle.txn_laws.specs.Granted.{BeginsGrant, AnswersGrant, CopiesGrant, BeginsShow, AnswersShow, CopiesShow, BeginsConfirm, AnswersConfirm, CopiesConfirm, BeginsFollow, AnswersFollow, CopiesFollow};
 ghost use Rattle.txn_laws.specs.Laws.{PostsDecideInTurns, SettlesDecideInTurns, PostsStayDecided, SettlesStayDecided, DecidesAtQuorum};
-ghost use Rattle.txn_laws.specs.Marks.{BeginsMark, AnswersMark, CopiesMark};
+ghost use Rattle.txn_laws.specs.Outs.{BeginsOut, AnswersOut, CopiesOut, BeginsLose, AnswersLose, CopiesLose};
+ghost use Rattle.txn_laws.specs.Own.{BeginsStay, AnswersStay, CopiesStay};
 ghost use Rattle.txn_laws.specs.Rounds.{BeginsHaveFewRounds, EachAnswerIsPaid, EachCopyIsPaid, DrawsRaiseNothing, DecisionsRaiseNothing, BeginsRaiseByTwo, BeginsElsewhereRaiseNothing};
 ghost use Rattle.afr_transaction.specs.Moves.{AnswersMove, CopiesDraw};
 ghost use Rattle.txn_laws.specs.Work.{EachAnswerLeavesLess, EachCopyLeavesLess};
@@ -80,19 +81,59 @@ pub fn jobs_end()
     ensures { JobsEnd }
 {}
 
-/// Each replica that is out after a turn was out before with the same mark, is out by the answer or the copy that was handed in,
-/// with its mark, or is lost, with the number of its last connection. The call does nothing: its contract exports this.
-pub fn marks_are_handed_in()
-    ensures begin { BeginsMark }
-    ensures answers { AnswersMark }
-    ensures copies { CopiesMark }
+/// A job stays what it is, whatever its turns do: where it works, for which call, and what it is to do. The call does nothing: its
+/// contract exports this.
+pub fn jobs_stay()
+    ensures begin { BeginsStay }
+    ensures answers { AnswersStay }
+    ensures copies { CopiesStay }
 {}
 
-/// The rows of a lock phase are those that replicas answered to its locks: rows that are kept after an answer were kept
-/// before, or this answer carries them, one for each cell, and it is of their replica. The call does nothing: its contract
-/// exports this.
+/// Each replica that is out after a turn was out before with the same mark, is out by the answer that was handed in, which was not
+/// the one that its phase asks for, or went out in the copy that was handed in, with its mark; or it is out as lost, with the
+/// number of its last connection. The call does nothing: its contract exports this.
+pub fn outs_are_handed_in()
+    ensures begin { BeginsOut }
+    ensures answers { AnswersOut }
+    ensures copies { CopiesOut }
+{}
+
+/// Who is out as lost was lost: it had no open connection when the turn was taken, or it had granted its lock on a connection that
+/// was not its last any more. The call does nothing: its contract exports this.
+pub fn losses_are_losses()
+    ensures begin { BeginsLose }
+    ensures answers { AnswersLose }
+    ensures copies { CopiesLose }
+{}
+
+/// A grant that is noted after an answer was noted before, or the answer grants it in a lock phase, with a row for each cell, on
+/// the last connection of its replica. The call does nothing: its contract exports this.
+pub fn grants_are_handed_in()
+    ensures begin { BeginsGrant }
+    ensures answers { AnswersGrant }
+    ensures copies { CopiesGrant }
+{}
+
+/// Rows that are kept after an answer were kept before, or this answer to a lock carries them, one for each cell, and it is of
+/// their replica. The call does nothing: its contract exports this.
 pub fn rows_are_handed_in()
     ensures begin { BeginsShow }
     ensures answers { AnswersShow }
     ensures copies { CopiesShow }
+{}
+
+/// A replica that has confirmed after an answer had confirmed before, or the answer is its own and the Done that the running phase
+/// asks for; and where a turn sends requests, nobody has confirmed them yet. The call does nothing: its contract exports this.
+pub fn confirmations_are_handed_in()
+    ensures begin { BeginsConfirm }
+    ensures answers { AnswersConfirm }
+    ensures copies { CopiesConfirm }
+{}
+
+/// Each turn keeps what these laws rest on: in a lock phase each replica before the one that is asked is out, or has granted its
+/// lock; and each that has granted its lock has shown a row for each cell. The call does nothing: its contract exports this.
+pub fn lock_phases_follow()
+    ensures begin { BeginsFollow }
+    ensures answers { AnswersFollow }
+    ensures copies { CopiesFollow }
 {}
