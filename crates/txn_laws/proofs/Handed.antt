@@ -235,7 +235,7 @@ module _ (P : Type 0) (live : Mask) (last : List ℕ) (txn : Txn) (k mark : ℕ)
       by j (inr e) = inr (e.0, is)
 
     -- not as asked
-    left_base : asked ≡ false → Based (record txn { outs = left txn.outs k (is_fault r) mark; wave = taken txn.wave k false })
+    pub left_base : asked ≡ false → Based (record txn { outs = left txn.outs k (is_fault r) mark; wave = taken txn.wave k false })
     left_base other = record {
       own = record { set = refl; size = refl; bricks = refl; call = refl; job = refl };
       outs = λ j out h. by j out (left_at txn.outs k mark (is_fault r) j out h);
@@ -255,7 +255,7 @@ module _ (P : Type 0) (live : Mask) (last : List ℕ) (txn : Txn) (k mark : ℕ)
     base_by false other = left_base other
 
     -- a lock that is granted
-    grant_base : (at : ℕ) (more : List Row) → p ≡ phase.Locking at → rows_in r (length txn.cells) ≡ Some more → asked ≡ true
+    pub grant_base : (at : ℕ) (more : List Row) → p ≡ phase.Locking at → rows_in r (length txn.cells) ≡ Some more → asked ≡ true
         → Based (record txn { locks = granted txn.locks k (slice_index last k); shown = with_rows txn.shown k more; wave = taken txn.wave k true })
     grant_base at more phase_is rows_are is = record {
       own = record { set = refl; size = refl; bricks = refl; call = refl; job = refl };

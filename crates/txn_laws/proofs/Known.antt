@@ -142,7 +142,7 @@ module _ (txn : Txn) (k mark : ℕ) (r : BrickRep) (ledger : State Cell) (live :
   loose : Handed ⊥
   loose = phase_handed ⊥ live last (idle txn) k mark r ledger txn.phase (λ q. absurd q)
 
-  given : is_asking txn ≡ true → Keeps txn → is_asked txn.wave k ≡ true → Follows txn → Given (idle txn) k txn.phase
+  pub given : is_asking txn ≡ true → Keeps txn → is_asked txn.wave k ≡ true → Follows txn → Given (idle txn) k txn.phase
   given asking keeps asked follows =
       let a = and_parts (is_waiting txn.size.n txn.wave) (are_granted_within txn.size.n txn.locks && suits txn.phase txn) asking in
       let b = and_parts (are_granted_within txn.size.n txn.locks) (suits txn.phase txn) a.1 in

@@ -11,6 +11,7 @@ pub mod Others
 pub mod Paying
 pub mod Quorums
 pub mod Sources
+pub mod Splits
 pub mod Unsettled
 pub mod Used
 pub mod Working

@@ -6,5 +6,6 @@ pub mod Outs
 pub mod Laws
 pub mod Free
 pub mod Work
+pub mod Splits
 pub mod Rounds
 pub mod Ends

@@ -6,6 +6,7 @@ ghost use Rattle.txn_laws.specs.Laws.{PostsDecideInTurns, SettlesDecideInTurns, 
 ghost use Rattle.txn_laws.specs.Outs.{BeginsOut, AnswersOut, CopiesOut, BeginsLose, AnswersLose, CopiesLose};
 ghost use Rattle.txn_laws.specs.Own.{BeginsStay, AnswersStay, CopiesStay};
 ghost use Rattle.txn_laws.specs.Rounds.{BeginsHaveFewRounds, EachAnswerIsPaid, EachCopyIsPaid, DrawsRaiseNothing, DecisionsRaiseNothing, BeginsRaiseByTwo, BeginsElsewhereRaiseNothing};
+ghost use Rattle.txn_laws.specs.Splits.{BeginsDoNotSplit, AnswersSplit, CopiesDoNotSplit, AnswersSkip, CopiesSkip};
 ghost use Rattle.afr_transaction.specs.Moves.{AnswersMove, CopiesDraw};
 ghost use Rattle.txn_laws.specs.Work.{EachAnswerLeavesLess, EachCopyLeavesLess};
 
@@ -38,6 +39,22 @@ pub fn failures_have_causes()
     ensures begin { BeginsHaveCauses }
     ensures answers { AnswersHaveCauses }
     ensures copies { CopiesHaveCauses }
+{}
+
+/// A split is decided on only by an answer, for this job, and by the rows of a quorum: in the lock phase whose rows it lists at least
+/// a quorum was reached, and each that was reached granted its lock and showed a row for each cell. The call does nothing: its
+/// contract exports this.
+pub fn splits_have_quorums()
+    ensures begin { BeginsDoNotSplit }
+    ensures answers { AnswersSplit }
+    ensures copies { CopiesDoNotSplit }
+{}
+
+/// A heal skips its cell for the cause that it names: a cell without a sound replica by the rows of a quorum, a change on it that
+/// is not settled, or what an I/O error for lack of replicas is answered for. The call does nothing: its contract exports this.
+pub fn skips_have_causes()
+    ensures answers { AnswersSkip }
+    ensures copies { CopiesSkip }
 {}
 
 /// Where all replicas of the set granted their locks, a split has no cause as long as each cell of a read or a change, or all
