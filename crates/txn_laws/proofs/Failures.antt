@@ -68,38 +68,9 @@ use Rattle.afr_transaction.specs.Requests.{Keeps}
 use Rattle.afr_transaction.specs.Shapes.{is_asking, is_copying, suits, are_copies}
 use Rattle.afr_transaction.specs.Txns.{alive, fault_pairs, io_by, lost_pairs, over, heal_reply, healing, ending, io_of, is_heal, kept}
 use Rattle.txn_laws.specs.Own.{IsOwn}
+use Rattle.txn_laws.proofs.Idle.{suits_idle, tracks_idle}
 use Rattle.afr_transaction.proofs.TurnsBase.{quorum_some}
 use Rattle.afr_transaction.proofs.TurnsCopies.{outs_five}
-
--- ---- what is known of a job is known of it as its turn begins
-
-pub tracks_idle : (p : Phase) (txn : Txn) → TracksIn p txn → TracksIn p (idle txn)
-tracks_idle (phase.Locking at) txn t = t
-tracks_idle (phase.Unlocking after) txn t = t
-tracks_idle (phase.Fetching place from contents) txn t = t
-tracks_idle (phase.Copying sinks parts) txn t = t
-tracks_idle (phase.Marking change) txn t = t
-tracks_idle (phase.Writing change) txn t = t
-tracks_idle (phase.Posting change adopted) txn t = t
-tracks_idle (phase.Settling verdict) txn t = t
-tracks_idle phase.Bearing txn t = t
-tracks_idle phase.Opening txn t = t
-tracks_idle (phase.Listing all) txn t = t
-tracks_idle phase.Over txn t = t
-
-pub suits_idle : (p : Phase) (txn : Txn) → suits p txn ≡ true → suits p (idle txn) ≡ true
-suits_idle (phase.Locking at) txn h = h
-suits_idle (phase.Unlocking after) txn h = h
-suits_idle (phase.Fetching place from contents) txn h = h
-suits_idle (phase.Copying sinks parts) txn h = h
-suits_idle (phase.Marking change) txn h = h
-suits_idle (phase.Writing change) txn h = h
-suits_idle (phase.Posting change adopted) txn h = h
-suits_idle (phase.Settling verdict) txn h = h
-suits_idle phase.Bearing txn h = h
-suits_idle phase.Opening txn h = h
-suits_idle (phase.Listing all) txn h = h
-suits_idle phase.Over txn h = h
 
 -- What a decision says of the job that took it; S holds of a job that has reached a quorum, where a split is decided on.
 module _ (S : Txn → Type 0) where

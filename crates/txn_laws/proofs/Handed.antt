@@ -20,7 +20,7 @@ use Rattle.afr_phases.specs.declared.locks.Locks.{Locks}
 use Rattle.afr_phases.specs.declared.outs.Outs.{Outs}
 use Rattle.afr_phases.specs.Answers.{is_fault, is_plain_done, rows_in, content_in, cells_in}
 use Rattle.afr_phases.specs.Asked.{is_waiting, is_within, are_granted_within, is_only}
-use Rattle.afr_phases.specs.Flags.{flag, flags_of, lowest, names}
+use Rattle.afr_phases.specs.Flags.{flag, no_flags, flags_of, lowest, names}
 use Rattle.afr_phases.specs.Locks.{no_locks, granted}
 use Rattle.afr_phases.specs.Marks.{AreLostSince}
 use Rattle.afr_phases.specs.Outs.{is_out, is_short, left, no_outs}
@@ -45,10 +45,10 @@ use Rattle.afr_transaction.specs.Locked.{fail, lock_taken, unlock}
 use Rattle.afr_transaction.specs.Polls.{list_ended, polled}
 use Rattle.afr_transaction.specs.Reads.{fetch_taken}
 use Rattle.afr_transaction.specs.Requests.{HasGranted, Keeps}
-use Rattle.afr_transaction.specs.Shapes.{are_copies}
+use Rattle.afr_transaction.specs.Shapes.{are_copies, suits}
 use Rattle.afr_transaction.specs.Txns.{alive, is_heal, io_of, kept, over}
 use Rattle.afr_transaction.proofs.TurnsCopies.{outs_five}
-use Rattle.txn_laws.specs.Granted.{rows_by, is_as_asked, IsGrant, SendsNone, CoversIn, HasRows, Follows, BeginsGrant, AnswersGrant, CopiesGrant, BeginsShow, AnswersShow, CopiesShow, BeginsConfirm, AnswersConfirm, CopiesConfirm, BeginsFollow, AnswersFollow, CopiesFollow}
+use Rattle.txn_laws.specs.Granted.{rows_by, is_as_asked, IsGrant, SendsNone, SendsSome, CoversIn, HasRows, Follows, BeginsGrant, AnswersGrant, CopiesGrant, BeginsShow, AnswersShow, CopiesShow, BeginsConfirm, AnswersConfirm, CopiesConfirm, BeginsFollow, AnswersFollow, CopiesFollow}
 use Rattle.txn_laws.specs.Outs.{IsOutBy, IsSame, IsAmong, IsLostAs, LostLock, WasLost, BeginsOut, AnswersOut, CopiesOut, BeginsLose, AnswersLose, CopiesLose}
 use Rattle.txn_laws.specs.Own.{IsOwn, BeginsStay, AnswersStay, CopiesStay}
 use Rattle.txn_laws.proofs.LostBy.{set_at, left_at, left_stays, none_there, Lost, Since, Covers, polled_since}
@@ -132,9 +132,9 @@ module _ (P : Type 0) (live : Mask) (last : List ℕ) (b : Txn) (t : Txn × Need
 
   pub confirmed_after : (j : ℕ) → flag t.0.wave.confirmed j ≡ true → SendsNone t.1 × (flag b.wave.confirmed j ≡ true)
   confirmed_after j h = by l.waits where
-    by : ((t.0.wave ≡ b.wave) × SendsNone t.1) ⊎ (t.0.wave.confirmed ≡ false ∷ false ∷ false ∷ false ∷ false ∷ []) → SendsNone t.1 × (flag b.wave.confirmed j ≡ true)
+    by : ((t.0.wave ≡ b.wave) × SendsNone t.1) ⊎ ((t.0.wave.confirmed ≡ no_flags) × SendsSome t.1) → SendsNone t.1 × (flag b.wave.confirmed j ≡ true)
     by (inl e) = (e.1, rw (← e.0) h)
-    by (inr e) = absurd (true≢false (sym h ∙ ap (λ (f : List Bool). flag f j) e ∙ none_flag j))
+    by (inr e) = absurd (true≢false (sym h ∙ ap (λ (f : List Bool). flag f j) e.0 ∙ none_flag j))
 
   pub follows_after : P → HasAll b → Follows t.0
   follows_after p all = by l.known where
@@ -157,6 +157,7 @@ module _ (P : Type 0) (live : Mask) (last : List ℕ) (b : Txn) (t : Txn × Need
 -- what each phase knows before, for the claims that need it: who is asked for a lock comes next
 pub record Given (txn : Txn) (k : ℕ) (p : Phase) : Type 0 where
   pub low : k < 5
+  pub fits : suits p txn ≡ true
   pub all : HasAll txn
   pub asked : (at : ℕ) → p ≡ phase.Locking at → (at ≡ k) × ((j : ℕ) → j < at → (is_out txn.outs j ≡ true) ⊎ HasGranted txn j)
 
@@ -190,6 +191,7 @@ module _ (P : Type 0) (live : Mask) (last : List ℕ) (txn : Txn) (k mark : ℕ)
     pub rows : (j : ℕ) (rows : List Row) → rows_by b.shown j ≡ Some rows → (rows_by txn.shown j ≡ Some rows) ⊎ RowsBy j rows
     pub confirmed : (j : ℕ) → flag b.wave.confirmed j ≡ true → (flag txn.wave.confirmed j ≡ true) ⊎ ((j ≡ k) × (asked ≡ true))
     pub was : (j : ℕ) → WasLost b.locks live last j → WasLost txn.locks live last j
+    pub wave_is : P → b.wave ≡ taken txn.wave k asked
     pub all : P → HasAll b
 
   -- and after its turn
@@ -199,6 +201,7 @@ module _ (P : Type 0) (live : Mask) (last : List ℕ) (txn : Txn) (k mark : ℕ)
     pub grants : (j connection : ℕ) → slice_index_or a.locks.at j None ≡ Some connection → (slice_index_or txn.locks.at j None ≡ Some connection) ⊎ GrantBy j connection
     pub rows : (j : ℕ) (rows : List Row) → rows_by a.shown j ≡ Some rows → (rows_by txn.shown j ≡ Some rows) ⊎ RowsBy j rows
     pub confirmed : (j : ℕ) → flag a.wave.confirmed j ≡ true → SendsNone turned × ((flag txn.wave.confirmed j ≡ true) ⊎ ((j ≡ k) × (asked ≡ true)))
+    pub wave : P → ((a.wave ≡ taken txn.wave k asked) × SendsNone turned) ⊎ ((a.wave.confirmed ≡ no_flags) × SendsSome turned)
     pub follows : P → Follows a
 
   from_base : (b : Txn) → Based b → (t : Txn × Need) → After P live last b t → HandedIn t.0 t.1
@@ -208,8 +211,13 @@ module _ (P : Type 0) (live : Mask) (last : List ℕ) (txn : Txn) (k mark : ℕ)
     grants = λ j connection h. base.grants j connection (grants_after P live last b t l j connection h);
     rows = λ j rows h. base.rows j rows (rows_after P live last b t l j rows h);
     confirmed = λ j h. let c = confirmed_after P live last b t l j h in (c.0, base.confirmed j c.1);
+    wave = λ q. wave_by q l.waits;
     follows = λ q. follows_after P live last b t l q (base.all q);
   } where
+    wave_by : P → ((t.0.wave ≡ b.wave) × SendsNone t.1) ⊎ ((t.0.wave.confirmed ≡ no_flags) × SendsSome t.1) → ((t.0.wave ≡ taken txn.wave k asked) × SendsNone t.1) ⊎ ((t.0.wave.confirmed ≡ no_flags) × SendsSome t.1)
+    wave_by q (inl e) = inl (e.0 ∙ base.wave_is q, e.1)
+    wave_by q (inr e) = inr e
+
     before : (j : ℕ) (out : Out) → (slice_index_or txn.outs.at j None ≡ Some out) ⊎ OutBy j out → (slice_index_or txn.outs.at j None ≡ Some out) ⊎ (OutBy j out ⊎ (IsLostAs last j out × (P → WasLost txn.locks live last j)))
     before j out (inl there) = inl there
     before j out (inr is) = inr (inl is)
@@ -228,6 +236,7 @@ module _ (P : Type 0) (live : Mask) (last : List ℕ) (txn : Txn) (k mark : ℕ)
       rows = λ j rows h. inl h;
       confirmed = λ j h. by j (set_flag txn.wave.confirmed k j true h);
       was = λ j h. h;
+      wave_is = λ q. ap (taken txn.wave k) (sym is);
       all = λ q. let a = (given q).all in record { outs_places = a.outs_places; locks_places = a.locks_places; rows_places = a.rows_places; rows = λ j g. let s = a.rows j g in record { rows = s.rows; shown = s.shown; one_each = s.one_each } };
     } where
       by : (j : ℕ) → (flag txn.wave.confirmed j ≡ true) ⊎ ((j ≡ k) × (true ≡ true)) → (flag txn.wave.confirmed j ≡ true) ⊎ ((j ≡ k) × (asked ≡ true))
@@ -243,6 +252,7 @@ module _ (P : Type 0) (live : Mask) (last : List ℕ) (txn : Txn) (k mark : ℕ)
       rows = λ j rows h. inl h;
       confirmed = λ j h. inl h;
       was = λ j h. h;
+      wave_is = λ q. ap (taken txn.wave k) (sym other);
       all = λ q. let a = (given q).all in record { outs_places = left_places txn.outs k mark (is_fault r) a.outs_places; locks_places = a.locks_places; rows_places = a.rows_places; rows = λ j g. let s = a.rows j g in record { rows = s.rows; shown = s.shown; one_each = s.one_each } };
     } where
       by : (j : ℕ) (out : Out) → (slice_index_or txn.outs.at j None ≡ Some out) ⊎ ((is_out txn.outs k ≡ false) × ((j ≡ k) × (record { replica = k; fault = is_fault r; mark = mark } ≡ out)))
@@ -264,6 +274,7 @@ module _ (P : Type 0) (live : Mask) (last : List ℕ) (txn : Txn) (k mark : ℕ)
       rows = λ j rows h. rows_by_it j rows (set_at txn.shown.rows k j more rows h);
       confirmed = λ j h. by j (set_flag txn.wave.confirmed k j true h);
       was = λ j h. was_by j h;
+      wave_is = λ q. ap (taken txn.wave k) (sym is);
       all = λ q. all_by q;
     } where
       grant_by : (j connection : ℕ) → (slice_index_or txn.locks.at j None ≡ Some connection) ⊎ ((j ≡ k) × (slice_index last k ≡ connection)) → (slice_index_or txn.locks.at j None ≡ Some connection) ⊎ GrantBy j connection
@@ -319,8 +330,8 @@ module _ (P : Type 0) (live : Mask) (last : List ℕ) (txn : Txn) (k mark : ℕ)
   heard_with p given e t l = heard p given e (t.0, t.1.0) l
 
   -- nothing is taken
-  self : (p : Phase) → (P → Given txn k p) → (t : Txn × Need) → After P live last txn t → By p t
-  self p given t l =
+  self : (p : Phase) → (P → Given txn k p) → suits p txn ≡ false → (t : Txn × Need) → After P live last txn t → By p t
+  self p given unfit t l =
       from_base P live last txn k mark r p txn (record {
         own = record { set = refl; size = refl; bricks = refl; call = refl; job = refl };
         outs = λ j out h. inl h;
@@ -328,6 +339,7 @@ module _ (P : Type 0) (live : Mask) (last : List ℕ) (txn : Txn) (k mark : ℕ)
         rows = λ j rows h. inl h;
         confirmed = λ j h. inl h;
         was = λ j h. h;
+        wave_is = λ q. absurd (true≢false (sym (given q).fits ∙ unfit));
         all = λ q. (given q).all;
       }) t l
 
@@ -411,7 +423,7 @@ module _ (P : Type 0) (live : Mask) (last : List ℕ) (txn : Txn) (k mark : ℕ)
   phase_handed (phase.Unlocking after) given =
       heard (phase.Unlocking after) given refl (unlock_answered (hearing txn k r mark) after ledger live last) (releasing_after P live last (hearing txn k r mark) ledger (heard_five (phase.Unlocking after) given) after)
   phase_handed (phase.Fetching place from contents) given = fetched place from contents given (content_in r (aspect_at (slice_get txn.cells (length contents)))) refl
-  phase_handed (phase.Copying sinks parts) given = self (phase.Copying sinks parts) given (waiting txn (phase.Copying sinks parts)) (waits_after P live last txn (phase.Copying sinks parts) (λ q. tt))
+  phase_handed (phase.Copying sinks parts) given = self (phase.Copying sinks parts) given refl (waiting txn (phase.Copying sinks parts)) (waits_after P live last txn (phase.Copying sinks parts) (λ q. tt))
   phase_handed (phase.Marking change) given =
       heard_with (phase.Marking change) given refl (mark_answered (hearing txn k r mark) change ledger live last) (marking_after P live last (hearing txn k r mark) ledger (heard_five (phase.Marking change) given) change)
   phase_handed (phase.Writing change) given =
@@ -423,7 +435,7 @@ module _ (P : Type 0) (live : Mask) (last : List ℕ) (txn : Txn) (k mark : ℕ)
   phase_handed phase.Bearing given = heard phase.Bearing given refl (birth_answered (hearing txn k r mark) ledger live last) (bearing_after P live last (hearing txn k r mark) ledger (heard_five phase.Bearing given))
   phase_handed phase.Opening given = heard phase.Opening given refl (open_answered (hearing txn k r mark)) (opening_after P live last (hearing txn k r mark) ledger (heard_five phase.Opening given))
   phase_handed (phase.Listing all) given = listed all given
-  phase_handed phase.Over given = self phase.Over given (waiting txn phase.Over) (waits_after P live last txn phase.Over (λ q. tt))
+  phase_handed phase.Over given = self phase.Over given refl (waiting txn phase.Over) (waits_after P live last txn phase.Over (λ q. tt))
 
 -- ---- copies
 
@@ -454,6 +466,7 @@ module _ (P : Type 0) (live : Mask) (last : List ℕ) (txn : Txn) (done : CopyDo
     pub grants : (j connection : ℕ) → slice_index_or a.locks.at j None ≡ Some connection → slice_index_or txn.locks.at j None ≡ Some connection
     pub rows : (j : ℕ) (rows : List Row) → rows_by a.shown j ≡ Some rows → rows_by txn.shown j ≡ Some rows
     pub confirmed : (j : ℕ) → flag a.wave.confirmed j ≡ true → SendsNone turned × (flag txn.wave.confirmed j ≡ true)
+    pub wave : ((a.wave ≡ txn.wave) × SendsNone turned) ⊎ ((a.wave.confirmed ≡ no_flags) × SendsSome turned)
     pub follows : P → Follows a
 
   from_copy : (outs : Outs) (records : List CopyRecord) → ((j : ℕ) (out : Out) → slice_index_or outs.at j None ≡ Some out → (slice_index_or txn.outs.at j None ≡ Some out) ⊎ IsAmong out done.outs)
@@ -464,6 +477,7 @@ module _ (P : Type 0) (live : Mask) (last : List ℕ) (txn : Txn) (done : CopyDo
     grants = λ j connection h. grants_after P live last (record txn { outs = outs; records = records }) t l j connection h;
     rows = λ j rows h. rows_after P live last (record txn { outs = outs; records = records }) t l j rows h;
     confirmed = λ j h. confirmed_after P live last (record txn { outs = outs; records = records }) t l j h;
+    wave = l.waits;
     follows = λ q. follows_after P live last (record txn { outs = outs; records = records }) t l q (has q);
   } where
     has : P → HasAll (record txn { outs = outs; records = records })

@@ -14,8 +14,9 @@ use Rattle.fop_types.specs.declared.jobs.SetReply.TheVariants as reply
 use Rattle.fop_types.specs.declared.messages.BrickRep.{BrickRep}
 use Rattle.fop_types.specs.declared.messages.BrickReq.TheVariants as req
 use Rattle.afr_ledger.specs.Ledger.{State}
+use Rattle.afr_phases.specs.declared.wave.Wave.{Wave}
 use Rattle.afr_phases.specs.Asked.{is_waiting, is_within, are_granted_within}
-use Rattle.afr_phases.specs.Flags.{flag, lowest, mask_of, names}
+use Rattle.afr_phases.specs.Flags.{flag, lowest, mask_of, names, no_flags}
 use Rattle.afr_phases.specs.Locks.{no_locks}
 use Rattle.afr_phases.specs.Marks.{IsLost}
 use Rattle.afr_phases.specs.Outs.{is_short, no_outs}
@@ -32,12 +33,13 @@ use Rattle.afr_transaction.specs.Polls.{polled, short_of}
 use Rattle.afr_transaction.specs.Requests.{Keeps, HasGranted}
 use Rattle.afr_transaction.specs.Shapes.{is_asking, is_copying, suits, are_copies}
 use Rattle.afr_transaction.specs.Txns.{alive, io_of}
-use Rattle.txn_laws.specs.Granted.{rows_by, is_as_asked, IsGrant, IsShowing, CoversIn, Follows, BeginsGrant, AnswersGrant, CopiesGrant, BeginsShow, AnswersShow, CopiesShow, BeginsConfirm, AnswersConfirm, CopiesConfirm, BeginsFollow, AnswersFollow, CopiesFollow}
+use Rattle.txn_laws.specs.Granted.{rows_by, is_as_asked, SendsNone, SendsSome, IsGrant, IsShowing, AnswersTake, CopiesTake, CoversIn, Follows, BeginsGrant, AnswersGrant, CopiesGrant, BeginsShow, AnswersShow, CopiesShow, BeginsConfirm, AnswersConfirm, CopiesConfirm, BeginsFollow, AnswersFollow, CopiesFollow}
 use Rattle.txn_laws.specs.Outs.{IsOutBy, IsAmong, IsLostAs, WasLost, BeginsOut, AnswersOut, CopiesOut, BeginsLose, AnswersLose, CopiesLose}
 use Rattle.txn_laws.specs.Own.{IsOwn, BeginsStay, AnswersStay, CopiesStay}
 use Rattle.txn_laws.proofs.LostBy.{none_there, Lost, polled_since}
 use Rattle.txn_laws.proofs.Noted.{After, again_after, asks_after, over_after, since_after}
-use Rattle.txn_laws.proofs.Handed.{HasAll, Given, OutBy, GrantBy, RowsBy, HandedIn, CopyHanded, phase_handed, copy_handed, own_after, grants_after, rows_after, confirmed_after, follows_after}
+use Rattle.txn_laws.proofs.Handed.{HasAll, Given, OutBy, GrantBy, RowsBy, HandedIn, CopyHanded, phase_handed, copy_handed, own_after, grants_after, rows_after, follows_after}
+use Rattle.txn_laws.proofs.Idle.{suits_idle}
 
 -- ---- the begin
 
@@ -60,20 +62,6 @@ begins_after P live last size set call job.Index ledger =
     (cond_both (is_none (lowest (alive txn))) _ _ (After P live last txn) (λ e. over_after P live last txn (reply.Listed [] (mask_of txn.wave.confirmed) (short_of txn)))
     (λ e. asks_after P live last txn (alive txn) req.Index (phase.Listing []) (λ q. tt)))
 
-none_flag : (xs : List Bool) (j : ℕ) → (flag xs j ≡ true → ⊥) → flag xs j ≡ false
-none_flag xs j never = by (flag xs j) refl where
-  by : (b : Bool) → flag xs j ≡ b → flag xs j ≡ false
-  by true e = absurd (never e)
-  by false e = e
-
-quiet_none : (j : ℕ) → flag (false ∷ false ∷ false ∷ false ∷ false ∷ []) j ≡ true → ⊥
-quiet_none zero h = true≢false (sym h)
-quiet_none (suc zero) h = true≢false (sym h)
-quiet_none (suc (suc zero)) h = true≢false (sym h)
-quiet_none (suc (suc (suc zero))) h = true≢false (sym h)
-quiet_none (suc (suc (suc (suc zero)))) h = true≢false (sym h)
-quiet_none (suc (suc (suc (suc (suc j))))) h = true≢false (sym h)
-
 module _ (size : Size) (set : SetPlan) (call : ℕ) (j : Job) (ledger : State Cell) (live : Mask) (last : List ℕ) where
   abbrev first : Txn
   first = fresh size set call j
@@ -84,6 +72,10 @@ module _ (size : Size) (set : SetPlan) (call : ℕ) (j : Job) (ledger : State Ce
   -- with nothing to be given
   after : After (Unit {0}) live last first begun
   after = begins_after (Unit {0}) live last size set call j ledger
+
+  none_by : ((begun.0.wave ≡ first.wave) × SendsNone begun.1) ⊎ ((begun.0.wave.confirmed ≡ no_flags) × SendsSome begun.1) → begun.0.wave.confirmed ≡ no_flags
+  none_by (inl e) = ap (λ (w : Wave). w.confirmed) e.0
+  none_by (inr e) = e.0
 
   no_grants : (k : ℕ) → HasGranted first k → ⊥
   no_grants k g = by (slice_index_or no_locks.at k None) refl g where
@@ -118,9 +110,7 @@ begins_show size set call j ledger live last k rows h =
     rows_after (Unit {0}) live last (first size set call j ledger live last) (begun size set call j ledger live last) (after size set call j ledger live last) k rows h
 
 pub begins_confirm : BeginsConfirm
-begins_confirm size set call j ledger live last k =
-    none_flag (begun size set call j ledger live last).0.wave.confirmed k
-    (λ h. quiet_none k (confirmed_after (Unit {0}) live last (first size set call j ledger live last) (begun size set call j ledger live last) (after size set call j ledger live last) k h).1)
+begins_confirm size set call j ledger live last = none_by size set call j ledger live last (after size set call j ledger live last).waits
 
 pub begins_follow : BeginsFollow
 begins_follow size set call j ledger live last =
@@ -150,6 +140,7 @@ module _ (txn : Txn) (k mark : ℕ) (r : BrickRep) (ledger : State Cell) (live :
       let low : k < txn.size.n = within_at txn.size.n k txn.wave.asked c.1 asked in
       record {
         low = omega (arith, txn.size.few);
+        fits = suits_idle txn.phase txn b.1;
         all = record { outs_places = keeps.places; locks_places = follows.locks_places; rows_places = follows.rows_places; rows = λ j g. let s = follows.rows j g in record { rows = s.rows; shown = s.shown; one_each = s.one_each } };
         asked = λ at e. (sym (only_at at k txn.wave.asked (subst (λ (p : Phase). suits p txn ≡ true) e b.1) asked), subst (λ (p : Phase). CoversIn p txn) e follows.asked);
       }
@@ -202,6 +193,9 @@ answers_lose txn k mark r ledger live last j out asking keeps asked follows h =
 pub answers_follow : AnswersFollow
 answers_follow txn k mark r ledger live last asking keeps asked follows = (strict txn k mark r ledger live last asking keeps asked follows).follows tt
 
+pub answers_take : AnswersTake
+answers_take txn k mark r ledger live last asking keeps asked follows = (strict txn k mark r ledger live last asking keeps asked follows).wave tt
+
 -- ---- copies
 
 module _ (txn : Txn) (done : CopyDone) (ledger : State Cell) (live : Mask) (last : List ℕ) where
@@ -246,6 +240,9 @@ copies_show txn done ledger live last j rows h = (loose_copy txn done ledger liv
 
 pub copies_confirm : CopiesConfirm
 copies_confirm txn done ledger live last j h = (loose_copy txn done ledger live last).confirmed j h
+
+pub copies_take : CopiesTake
+copies_take txn done ledger live last = (loose_copy txn done ledger live last).wave
 
 pub copies_out : CopiesOut
 copies_out txn done ledger live last j out h = copy_or txn done ledger live last j out ((loose_copy txn done ledger live last).outs j out h)

@@ -4,6 +4,7 @@ pub mod Ending
 pub mod Failures
 pub mod Freed
 pub mod Handed
+pub mod Idle
 pub mod Known
 pub mod LostBy
 pub mod Noted

@@ -66,7 +66,7 @@ use Rattle.afr_transaction.specs.Copied.{copy_noted}
 use Rattle.afr_transaction.specs.Locked.{to_settle, cells_for, is_read, first_step, again, going, lost_noted, locking, unlock, fail, lock_taken, reached}
 use Rattle.afr_transaction.specs.Txns.{alive, asking, only, over, heal_reply, healing, ending, io_of, is_heal, kept}
 use Rattle.afr_transaction.proofs.TurnsCopies.{outs_five}
-use Rattle.txn_laws.specs.Granted.{CoversIn, SendsNone}
+use Rattle.txn_laws.specs.Granted.{CoversIn, SendsNone, SendsSome}
 use Rattle.txn_laws.specs.Outs.{WasLost}
 use Rattle.txn_laws.proofs.LostBy.{Since, Lost, same, both_since, noted_since, polled_since, IsStepSince, step_since, Covers, none_there}
 
@@ -79,7 +79,7 @@ pub record Later (P : Type 0) (live : Mask) (last : List ℕ) (set : ℕ) (size 
   pub job_is : a.job ≡ job
   pub since : Since P live last locks outs a.outs
   pub known : ((a.locks ≡ locks) × ((a.shown.rows ≡ rows) × (a.cells ≡ cells))) ⊎ ((a.locks ≡ no_locks) × (a.shown.rows ≡ nothing_shown.rows))
-  pub waits : ((a.wave ≡ wave) × SendsNone turned) ⊎ (a.wave.confirmed ≡ no_flags)
+  pub waits : ((a.wave ≡ wave) × SendsNone turned) ⊎ ((a.wave.confirmed ≡ no_flags) × SendsSome turned)
   pub covers : P → CoversIn a.phase a
 
 module _ (P : Type 0) (live : Mask) (last : List ℕ) where
@@ -94,7 +94,7 @@ module _ (P : Type 0) (live : Mask) (last : List ℕ) where
 
   -- ---- no more than a phase and what it sends
 
-  leaf : (txn : Txn) (wave : Wave) (p : Phase) (turned : Need) → ((wave ≡ txn.wave) × SendsNone turned) ⊎ (wave.confirmed ≡ no_flags) → (P → CoversIn p (record txn { wave = wave; phase = p })) → After txn (record txn { wave = wave; phase = p }, turned)
+  leaf : (txn : Txn) (wave : Wave) (p : Phase) (turned : Need) → ((wave ≡ txn.wave) × SendsNone turned) ⊎ ((wave.confirmed ≡ no_flags) × SendsSome turned) → (P → CoversIn p (record txn { wave = wave; phase = p })) → After txn (record txn { wave = wave; phase = p }, turned)
   leaf txn wave p turned waits covers = record {
     set_is = refl;
     size_is = refl;
@@ -111,7 +111,7 @@ module _ (P : Type 0) (live : Mask) (last : List ℕ) where
   over_after txn r = leaf txn txn.wave phase.Over (need.Reply r) (inl (refl, tt)) (λ p. tt)
 
   pub asks_after : (txn : Txn) (to : List Bool) (r : BrickReq) (p : Phase) → (P → CoversIn p (record txn { wave = sent_to to; phase = p })) → After txn (asking txn to r p)
-  asks_after txn to r p covers = leaf txn (sent_to to) p (asking txn to r p).1 (inr refl) covers
+  asks_after txn to r p covers = leaf txn (sent_to to) p (asking txn to r p).1 (inr (refl, tt)) covers
 
   pub waits_after : (txn : Txn) (p : Phase) → (P → CoversIn p (record txn { phase = p })) → After txn (waiting txn p)
   waits_after txn p covers = leaf txn txn.wave p need.Wait (inl (refl, tt)) covers

@@ -71,7 +71,7 @@ use Rattle.txn_laws.proofs.Paying.{fewer, less_late, is_due, spared, at_most_one
 use Rattle.txn_laws.proofs.Sources.{all_have, LackFrom, next_lacks, read_late, same_split, stops}
 use Rattle.txn_laws.proofs.Unsettled.{nobody_on}
 use Rattle.txn_laws.proofs.Used.{IsSince, step_since}
-use Rattle.txn_laws.proofs.Failures.{tracks_idle, suits_idle}
+use Rattle.txn_laws.proofs.Idle.{tracks_idle, suits_idle}
 use Rattle.afr_transaction.proofs.Steps.{one_longer}
 
 -- ---- phases

@@ -11,10 +11,10 @@ use Rattle.fop_types.specs.declared.messages.BrickRep.{BrickRep}
 use Rattle.afr_ledger.specs.Ledger.{State}
 use Rattle.afr_phases.specs.declared.shown.Shown.{Shown}
 use Rattle.afr_phases.specs.Answers.{cells_in, content_in, is_plain_done, rows_in}
-use Rattle.afr_phases.specs.Flags.{flag}
+use Rattle.afr_phases.specs.Flags.{flag, no_flags}
 use Rattle.afr_phases.specs.Outs.{is_out}
 use Rattle.afr_phases.specs.Shown.{nothing_shown}
-use Rattle.afr_phases.specs.Waves.{is_asked}
+use Rattle.afr_phases.specs.Waves.{is_asked, taken}
 use Rattle.afr_transaction.specs.declared.need.Need.{Need}
 use Rattle.afr_transaction.specs.declared.need.Need.TheVariants as need
 use Rattle.afr_transaction.specs.declared.phase.Phase.{Phase}
@@ -111,9 +111,15 @@ SendsNone (need.Copy job rows) = Unit {0}
 SendsNone (need.Reply reply) = Unit {0}
 SendsNone need.Wait = Unit {0}
 
+abbrev pub SendsSome : Need → Type 0
+SendsSome (need.Send list) = Unit {0}
+SendsSome (need.Copy job rows) = ⊥
+SendsSome (need.Reply reply) = ⊥
+SendsSome need.Wait = ⊥
+
 abbrev pub BeginsConfirm : Type 0
-BeginsConfirm = (size : Size) (set : SetPlan) (call : ℕ) (job : Job) (ledger : State Cell) (live : Mask) (last : List ℕ) (j : ℕ)
-    → flag (started (fresh size set call job) ledger live last).0.wave.confirmed j ≡ false
+BeginsConfirm = (size : Size) (set : SetPlan) (call : ℕ) (job : Job) (ledger : State Cell) (live : Mask) (last : List ℕ)
+    → (started (fresh size set call job) ledger live last).0.wave.confirmed ≡ no_flags
 
 -- A replica that has confirmed after an answer had before, or this is its answer and the one that the running phase asks for. With
 -- new requests all begins anew: nobody has confirmed them.
@@ -169,3 +175,17 @@ AnswersFollow = (txn : Txn) (k mark : ℕ) (rep : BrickRep) (ledger : State Cell
 abbrev pub CopiesFollow : Type 0
 CopiesFollow = (txn : Txn) (done : CopyDone) (ledger : State Cell) (live : Mask) (last : List ℕ)
     → is_copying txn ≡ true → Keeps txn → Follows txn → Follows (copied txn done ledger live last).0
+
+-- ---- confirmations, exactly
+
+-- The answer is taken as the phase's own, as asked or not, or all begins anew.
+abbrev pub AnswersTake : Type 0
+AnswersTake = (txn : Txn) (k mark : ℕ) (rep : BrickRep) (ledger : State Cell) (live : Mask) (last : List ℕ)
+    → is_asking txn ≡ true → Keeps txn → is_asked txn.wave k ≡ true → Follows txn
+    → (((answered txn k rep mark ledger live last).0.wave ≡ taken txn.wave k (is_as_asked txn.phase txn.cells rep)) × SendsNone (answered txn k rep mark ledger live last).1.0)
+    ⊎ (((answered txn k rep mark ledger live last).0.wave.confirmed ≡ no_flags) × SendsSome (answered txn k rep mark ledger live last).1.0)
+
+abbrev pub CopiesTake : Type 0
+CopiesTake = (txn : Txn) (done : CopyDone) (ledger : State Cell) (live : Mask) (last : List ℕ)
+    → (((copied txn done ledger live last).0.wave ≡ txn.wave) × SendsNone (copied txn done ledger live last).1.0)
+    ⊎ (((copied txn done ledger live last).0.wave.confirmed ≡ no_flags) × SendsSome (copied txn done ledger live last).1.0)

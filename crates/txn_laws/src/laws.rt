@@ -1,7 +1,7 @@
 ghost use Rattle.afr_transaction.specs.Causes.{BeginsHaveCauses, AnswersHaveCauses, CopiesHaveCauses};
 ghost use Rattle.txn_laws.specs.Ends.{JobsEnd};
 ghost use Rattle.txn_laws.specs.Free.{SplitsLackFree};
-ghost use Rattle.txn_laws.specs.Granted.{BeginsGrant, AnswersGrant, CopiesGrant, BeginsShow, AnswersShow, CopiesShow, BeginsConfirm, AnswersConfirm, CopiesConfirm, BeginsFollow, AnswersFollow, CopiesFollow};
+ghost use Rattle.txn_laws.specs.Granted.{BeginsGrant, AnswersGrant, CopiesGrant, BeginsShow, AnswersShow, CopiesShow, BeginsConfirm, AnswersConfirm, CopiesConfirm, AnswersTake, CopiesTake, BeginsFollow, AnswersFollow, CopiesFollow};
 ghost use Rattle.txn_laws.specs.Laws.{PostsDecideInTurns, SettlesDecideInTurns, PostsStayDecided, SettlesStayDecided, DecidesAtQuorum};
 ghost use Rattle.txn_laws.specs.Outs.{BeginsOut, AnswersOut, CopiesOut, BeginsLose, AnswersLose, CopiesLose};
 ghost use Rattle.txn_laws.specs.Own.{BeginsStay, AnswersStay, CopiesStay};
@@ -145,6 +145,8 @@ pub fn confirmations_are_handed_in()
     ensures begin { BeginsConfirm }
     ensures answers { AnswersConfirm }
     ensures copies { CopiesConfirm }
+    ensures takes { AnswersTake }
+    ensures keeps { CopiesTake }
 {}
 
 /// Each turn keeps what these laws rest on: in a lock phase each replica before the one that is asked is out, or has granted its
