@@ -11,6 +11,7 @@ pub mod Noted
 pub mod Others
 pub mod Paying
 pub mod Quorums
+pub mod Running
 pub mod Sources
 pub mod Splits
 pub mod Unsettled

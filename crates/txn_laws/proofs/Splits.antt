@@ -41,6 +41,7 @@ use Rattle.txn_laws.specs.Own.{IsOwn}
 use Rattle.txn_laws.specs.Splits.{HasQuorum, SplitHasQuorum, IsSkipCause, SkipHasCause, BeginsDoNotSplit, CopiesDoNotSplit, AnswersSplit, AnswersSkip, CopiesSkip}
 use Rattle.txn_laws.specs.Work.{how_many}
 use Rattle.txn_laws.proofs.Failures.{Said, SkipSaid, SkipsFor, DecidedSaid, IsKeptOrSaid, Reaches, LockReaches, begins_said, answers_said, copies_said}
+use Rattle.txn_laws.proofs.Freed.{splits_lack}
 use Rattle.txn_laws.proofs.Handed.{HasAll, Given, left_base, grant_base}
 use Rattle.txn_laws.proofs.Known.{answers_stay, copies_stay, given}
 
@@ -153,7 +154,7 @@ module _ (txn : Txn) (k mark : ℕ) (r : BrickRep) (ledger : State Cell) (live :
       record { set = own.set ∙ stay.set; size = own.size ∙ stay.size; bricks = own.bricks ∙ stay.bricks; call = own.call ∙ stay.call; job = own.job ∙ stay.job }
 
   split_said : (number : ℕ) (rows : List SplitRow) → Said HasQuorum turned.0 turned.1.1 (io.Split number rows) → SplitHasQuorum txn turned.0 turned.1.1 (io.Split number rows)
-  split_said number rows said = record { job = said.job; is = said.is; own = own_since said.job said.own; reached = said.splits number rows refl; cause = said.cause }
+  split_said number rows said = record { job = said.job; is = said.is; own = own_since said.job said.own; reached = said.splits number rows refl; cause = said.cause; bare = λ all free. splits_lack said.job turned.1.1 number rows all free said.cause }
 
   skip_said : (cause : SkipCause) → SkipSaid HasQuorum turned.0 turned.1.1 cause → SkipHasCause txn turned.0 turned.1.1 cause
   skip_said cause said = record { job = said.job; is = said.is; own = own_since said.job said.own; skips = skips_by cause said.job turned.1.1 said.skips }

@@ -9,3 +9,4 @@ pub mod Work
 pub mod Splits
 pub mod Rounds
 pub mod Ends
+pub mod Runs

@@ -27,6 +27,7 @@ use Rattle.afr_transaction.specs.Parts.{is_split}
 use Rattle.afr_transaction.specs.Requests.{HasGranted, Keeps}
 use Rattle.afr_transaction.specs.Shapes.{is_asking, is_copying}
 use Rattle.afr_transaction.specs.Txns.{io_of}
+use Rattle.txn_laws.specs.Free.{AllShow, HasItsFree}
 use Rattle.txn_laws.specs.Granted.{HasRows, Follows}
 use Rattle.txn_laws.specs.Own.{IsOwn}
 use Rattle.txn_laws.specs.Work.{how_many}
@@ -37,13 +38,15 @@ pub record HasQuorum (job : Txn) : Type 0 where
   pub granted : (k : ℕ) → flag job.shown.reached k ≡ true → HasGranted job k
   pub rows : (k : ℕ) → flag job.shown.reached k ≡ true → HasRows job k
 
--- The job of a transaction that decided on a split, seen from the end of the turn.
+-- The job of a transaction that decided on a split, seen from the end of the turn. Where all replicas of its set showed their rows,
+-- not each cell has a replica that is free on it.
 pub record SplitHasQuorum (txn now : Txn) (ledger : State Cell) (error : IoError) : Type 0 where
   pub job : Txn
   pub is : IsThen now job
   pub own : IsOwn txn job
   pub reached : HasQuorum job
   pub cause : IsCause job ledger error
+  pub bare : AllShow job → HasItsFree job → ⊥
 
 -- why a heal skips its cell: too few replicas are left, or what a change fails for; a cell without a sound replica; or a change on
 -- it that is not settled

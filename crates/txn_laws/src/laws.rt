@@ -6,6 +6,7 @@ ghost use Rattle.txn_laws.specs.Laws.{PostsDecideInTurns, SettlesDecideInTurns, 
 ghost use Rattle.txn_laws.specs.Outs.{BeginsOut, AnswersOut, CopiesOut, BeginsLose, AnswersLose, CopiesLose};
 ghost use Rattle.txn_laws.specs.Own.{BeginsStay, AnswersStay, CopiesStay};
 ghost use Rattle.txn_laws.specs.Rounds.{BeginsHaveFewRounds, EachAnswerIsPaid, EachCopyIsPaid, DrawsRaiseNothing, DecisionsRaiseNothing, BeginsRaiseByTwo, BeginsElsewhereRaiseNothing};
+ghost use Rattle.txn_laws.specs.Runs.{RunsAreLawful};
 ghost use Rattle.txn_laws.specs.Splits.{BeginsDoNotSplit, AnswersSplit, CopiesDoNotSplit, AnswersSkip, CopiesSkip};
 ghost use Rattle.afr_transaction.specs.Moves.{AnswersMove, CopiesDraw};
 ghost use Rattle.txn_laws.specs.Work.{EachAnswerLeavesLess, EachCopyLeavesLess};
@@ -155,4 +156,14 @@ pub fn lock_phases_follow()
     ensures begin { BeginsFollow }
     ensures answers { AnswersFollow }
     ensures copies { CopiesFollow }
+{}
+
+/// The laws of a turn hold of each turn of a run, from the begin of a job on, by whatever answers of replicas that are asked and
+/// finished copies that were asked for, and whatever others do to the ledger and the connections meanwhile. A post accuses exactly
+/// the replicas that have not answered the op with Done since it was sent, a settle those outside its group; a request under a lock
+/// goes to a replica that granted it; at most one number is drawn in a turn; a change is decided in the turn of the q-th
+/// confirmation; and who is out, each grant, each row and each split is by what was handed in. The call does nothing: its contract
+/// exports this.
+pub fn runs_are_lawful()
+    ensures { RunsAreLawful }
 {}
