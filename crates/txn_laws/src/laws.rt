@@ -32,7 +32,7 @@ pub fn turns_move_the_ledger()
 {}
 
 /// An I/O error has its cause. One for lack of replicas is decided on only where so many are out that the others are no
-/// quorum, no number is left for a change, or the history is full, and lists each that is out with its mark; a split only
+/// quorum, no number is left for a change, or the history is full, and lists replicas that are out, with their marks; a split only
 /// where the rows that the reached replicas showed leave a cell of a read or a change, or all cells of a settling together,
 /// without a sound replica, and it lists these rows. What was decided on before the release of the locks is what is
 /// answered after it. The call does nothing: its contract exports this.
