@@ -5,6 +5,8 @@ use Rattle.std.proofs.lemmas.Bool.{cases_eq, eq-eqb, ne_eqb, true≢false}
 use Rattle.fop_types.specs.declared.cells.Cell.{Cell}
 use Rattle.fop_types.specs.declared.contents.Mask.{Mask}
 use Rattle.fop_types.specs.declared.copy_jobs.CopyDone.{CopyDone}
+use Rattle.fop_types.specs.declared.jobs.Job.{Job}
+use Rattle.fop_types.specs.declared.jobs.SetPlan.{SetPlan}
 use Rattle.fop_types.specs.declared.messages.BrickRep.{BrickRep}
 use Rattle.afr_ledger.specs.Ledger.{State}
 use Rattle.afr_phases.specs.declared.wave.Wave.{Wave}
@@ -104,7 +106,7 @@ told_by wave after said turned told (inr e) = anew_told after said turned e.1 e.
 -- ---- what is kept from turn to turn
 
 -- requests are unanswered, or a copy is under way, by what the last turn asked for
-abbrev Going : Txn → Need → Type 0
+abbrev pub Going : Txn → Need → Type 0
 Going txn (need.Send list) = (is_asking txn ≡ true) × Keeps txn
 Going txn (need.Copy job rows) = (is_copying txn ≡ true) × Keeps txn
 Going txn (need.Reply reply) = Unit {0}
@@ -128,13 +130,13 @@ answer_going size k asked txn (need.Copy job rows) on sends = (on.1.1.0, sends.0
 answer_going size k asked txn (need.Reply reply) on sends = tt
 answer_going size k asked txn need.Wait on sends = (on.1.0, sends)
 
-asking_now : (txn : Txn) (needed : Need) → Going txn needed → AwaitsAnswer needed → (is_asking txn ≡ true) × Keeps txn
+pub asking_now : (txn : Txn) (needed : Need) → Going txn needed → AwaitsAnswer needed → (is_asking txn ≡ true) × Keeps txn
 asking_now txn (need.Send list) going awaits = going
 asking_now txn (need.Copy job rows) going awaits = absurd awaits
 asking_now txn (need.Reply reply) going awaits = absurd awaits
 asking_now txn need.Wait going awaits = going
 
-copying_now : (txn : Txn) (needed : Need) → Going txn needed → AwaitsCopy needed → (is_copying txn ≡ true) × Keeps txn
+pub copying_now : (txn : Txn) (needed : Need) → Going txn needed → AwaitsCopy needed → (is_copying txn ≡ true) × Keeps txn
 copying_now txn (need.Send list) going awaits = absurd awaits
 copying_now txn (need.Copy job rows) going awaits = going
 copying_now txn (need.Reply reply) going awaits = absurd awaits
@@ -172,7 +174,7 @@ module _ (txn : Txn) (k mark : ℕ) (r : BrickRep) (ledger : State Cell) (live :
     splits = λ number rows none e. answers_split txn k mark r ledger live last number rows asking keeps tracks asked follows none e;
   }
 
-  answer_between : IsBetween t.0 t.1.0 (since_sent t.1.0 ((k, as_asked) ∷ said))
+  pub answer_between : IsBetween t.0 t.1.0 (since_sent t.1.0 ((k, as_asked) ∷ said))
   answer_between = record {
     going = answer_going txn.size k txn.wave t.0 t.1.0 (answers txn k mark r ledger live last asking asked) (answer_sends txn k mark r ledger live last asking keeps asked);
     tracks = (answers_have_causes txn k mark r ledger live last asking keeps tracks asked).0;
@@ -197,7 +199,7 @@ module _ (txn : Txn) (done : CopyDone) (ledger : State Cell) (live : Mask) (last
     splits = λ number rows e. copies_do_not_split txn done ledger live last number rows copying keeps e;
   }
 
-  copy_between : IsBetween c.0 c.1.0 (since_sent c.1.0 said)
+  pub copy_between : IsBetween c.0 c.1.0 (since_sent c.1.0 said)
   copy_between = record {
     going = begun_going txn.size c.0 c.1.0 (copies txn done ledger live last copying) (copy_sends txn done ledger live last copying keeps);
     tracks = (copies_have_causes txn done ledger live last copying keeps).0;
@@ -222,13 +224,18 @@ turns_lawful (Finish done ledger live last ∷ events) txn needed said between a
           (copy_between txn done ledger live last said now.0 now.1 between.follows between.told) are.1,
     )
 
-pub runs_are_lawful : RunsAreLawful
-runs_are_lawful size set call j ledger live last events are =
+pub begun_between : (size : Size) (set : SetPlan) (call : ℕ) (j : Job) (ledger : State Cell) (live : Mask) (last : List ℕ)
+    → IsBetween (started (fresh size set call j) ledger live last).0 (started (fresh size set call j) ledger live last).1 []
+begun_between size set call j ledger live last =
     let b = started (fresh size set call j) ledger live last in
-    turns_lawful events b.0 b.1 []
-    (record {
+    record {
       going = begun_going size b.0 b.1 (begins size set call j ledger live last) (begin_sends size set call j ledger live last);
       tracks = (begins_have_causes size set call j ledger live last).0;
       follows = begins_follow size set call j ledger live last;
       told = none_told b.0.wave (begins_confirm size set call j ledger live last);
-    }) are
+    }
+
+pub runs_are_lawful : RunsAreLawful
+runs_are_lawful size set call j ledger live last events are =
+    let b = started (fresh size set call j) ledger live last in
+    turns_lawful events b.0 b.1 [] (begun_between size set call j ledger live last) are

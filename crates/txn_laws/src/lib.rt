@@ -2,7 +2,7 @@
 //! it knows of its replicas was handed in, and who is out; what a turn does to the ledger, and when it decides; that I/O errors have
 //! causes; that requests end, how often a job begins again, and that it ends.
 //!
-//! The crate has definitions and laws alone: each public function has no body, and its contract is a law of every turn.
+//! The crate has definitions and laws alone: each public function has no body, and its contract is a law of every turn, or of every run.
 #![tactic(auto)]
 
 mod laws;

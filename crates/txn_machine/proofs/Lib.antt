@@ -7,4 +7,5 @@ pub mod LockSteps
 pub mod OneRequest
 pub mod Others
 pub mod Rows
+pub mod Runs
 pub mod Turns

@@ -2,6 +2,7 @@ ghost use Rattle.txn_machine.specs.Copies.{CopiesBeginMeet, CopyAnswersMeet};
 ghost use Rattle.txn_machine.specs.Ends.{JobsWithCopiesEnd};
 ghost use Rattle.txn_machine.specs.Guards.{BeginsMeet, AnswersMeet, CopiesMeet};
 ghost use Rattle.txn_machine.specs.Leaves.{BeginsAskFor, AnswersAskFor, CopiesAskFor, RunsBegin, RunsGoOn, RunsLeaveForLoss};
+ghost use Rattle.txn_machine.specs.Runs.{RunsMeetGuards};
 ghost use Rattle.txn_machine.specs.Sent.{OneAfterAnother};
 
 /// Each request that a turn sends meets its guard: whenever the state of the machine is that of the moment after the turn,
@@ -11,6 +12,12 @@ pub fn requests_meet_guards()
     ensures begin { BeginsMeet }
     ensures answers { AnswersMeet }
     ensures copies { CopiesMeet }
+{}
+
+/// Each request of a run of a transaction, from its begin on, meets its guard so at its turn, whatever the replicas that are asked
+/// answer, and whatever others do to the ledger and the connections meanwhile. The call does nothing: its contract exports this.
+pub fn runs_meet_guards()
+    ensures { RunsMeetGuards }
 {}
 
 /// Requests to different replicas, each of which meets its guard, may be sent one after another: sending one, and missing one,
