@@ -1,7 +1,7 @@
 -- What a job knows of its replicas after a turn, and who is out, was so before or came with what was handed in.
-use Rattle.std.proofs.Common.{◌≡◌, ◌≢◌, ◌∙◌, ℕ, zero, suc, ◌+◌, ◌-◌, ◌<◌, ◌≤◌, ◌==◌, ◌⊎◌, inl, inr, Bool, true, false, ◌&&◌, not, cond, nat_lt, List, [], ◌∷◌, ◌++◌, Option, Some, None, is_none, is_some, refl, sym, ap, subst, arith}
+use Rattle.std.proofs.Common.{◌≡◌, ◌≢◌, ◌∙◌, ℕ, zero, suc, ◌+◌, ◌<◌, ◌==◌, ◌⊎◌, inl, inr, Bool, true, false, not, cond, nat_lt, List, [], ◌∷◌, ◌++◌, Option, Some, None, is_some, refl, sym, ap, subst, arith}
 use Rattle.std.specs.Prelude.{length, slice_get, slice_index, slice_index_or, slice_set}
-use Rattle.std.proofs.lemmas.Bool.{cond_both, and_parts, cases_eq, eqb-true, true≢false}
+use Rattle.std.proofs.lemmas.Bool.{cond_both, cases_eq, eqb-true, true≢false}
 use Rattle.fop_types.specs.declared.cells.Cell.{Cell}
 use Rattle.fop_types.specs.declared.contents.Content.{Content}
 use Rattle.fop_types.specs.declared.contents.Mask.{Mask}
@@ -9,9 +9,6 @@ use Rattle.fop_types.specs.declared.contents.Row.{Row}
 use Rattle.fop_types.specs.declared.copy_jobs.CopyDone.{CopyDone}
 use Rattle.fop_types.specs.declared.copy_jobs.CopyRecord.{CopyRecord}
 use Rattle.fop_types.specs.declared.copy_jobs.Out.{Out}
-use Rattle.fop_types.specs.declared.jobs.Job.{Job}
-use Rattle.fop_types.specs.declared.jobs.Job.TheVariants as job
-use Rattle.fop_types.specs.declared.jobs.SetReply.TheVariants as reply
 use Rattle.fop_types.specs.declared.messages.BrickRep.{BrickRep}
 use Rattle.fop_types.specs.declared.messages.BrickRep.TheVariants as rep
 use Rattle.fop_types.specs.declared.messages.DoneArm.TheVariants as arm
@@ -19,14 +16,11 @@ use Rattle.afr_ledger.specs.Ledger.{State}
 use Rattle.afr_phases.specs.declared.locks.Locks.{Locks}
 use Rattle.afr_phases.specs.declared.outs.Outs.{Outs}
 use Rattle.afr_phases.specs.Answers.{is_fault, is_plain_done, rows_in, content_in, cells_in}
-use Rattle.afr_phases.specs.Asked.{is_waiting, is_within, are_granted_within, is_only}
-use Rattle.afr_phases.specs.Flags.{flag, no_flags, flags_of, lowest, names}
+use Rattle.afr_phases.specs.Flags.{flag, no_flags}
 use Rattle.afr_phases.specs.Locks.{no_locks, granted}
-use Rattle.afr_phases.specs.Marks.{AreLostSince}
-use Rattle.afr_phases.specs.Outs.{is_out, is_short, left, no_outs}
+use Rattle.afr_phases.specs.Outs.{is_out, is_short, left}
 use Rattle.afr_phases.specs.Shown.{nothing_shown, with_rows}
-use Rattle.afr_phases.specs.Waves.{is_asked, is_over, taken}
-use Rattle.afr_phases.proofs.Asked.{only_at, within_at}
+use Rattle.afr_phases.specs.Waves.{is_over, taken}
 use Rattle.afr_phases.proofs.LostSince.{left_from}
 use Rattle.afr_phases.proofs.Stays.{five_heard}
 use Rattle.afr_phases.proofs.Tracked.{left_places, left_same}
@@ -34,25 +28,23 @@ use Rattle.afr_transaction.specs.declared.need.Need.{Need}
 use Rattle.afr_transaction.specs.declared.phase.Phase.{Phase}
 use Rattle.afr_transaction.specs.declared.phase.Phase.TheVariants as phase
 use Rattle.afr_transaction.specs.declared.phase.Then.TheVariants as next
-use Rattle.afr_transaction.specs.declared.size.Size.{Size}
 use Rattle.afr_transaction.specs.declared.txn.Txn.{Txn}
-use Rattle.afr_transaction.specs.Answers.{answered, answered_in, aspect_at, copied, copied_in, birth_answered, hearing, idle, list_answered, list_taken, lock_on, mark_answered, open_answered, post_answered, settle_answered, unlock_answered, waiting, write_answered}
-use Rattle.afr_transaction.specs.Begins.{fresh, started}
+use Rattle.afr_transaction.specs.Answers.{answered_in, aspect_at, copied_in, birth_answered, hearing, list_answered, list_taken, lock_on, mark_answered, open_answered, post_answered, settle_answered, unlock_answered, waiting, write_answered}
 use Rattle.afr_transaction.specs.Copied.{copy_next}
 use Rattle.afr_transaction.specs.Copies.{is_left, with_out, with_outs}
 use Rattle.afr_transaction.specs.Listing.{with_cells}
 use Rattle.afr_transaction.specs.Locked.{fail, lock_taken, unlock}
-use Rattle.afr_transaction.specs.Polls.{list_ended, polled}
+use Rattle.afr_transaction.specs.Polls.{list_ended}
 use Rattle.afr_transaction.specs.Reads.{fetch_taken}
-use Rattle.afr_transaction.specs.Requests.{HasGranted, Keeps}
+use Rattle.afr_transaction.specs.Requests.{HasGranted}
 use Rattle.afr_transaction.specs.Shapes.{are_copies, suits}
-use Rattle.afr_transaction.specs.Txns.{alive, is_heal, io_of, kept, over}
+use Rattle.afr_transaction.specs.Txns.{is_heal, kept}
 use Rattle.afr_transaction.proofs.TurnsCopies.{outs_five}
-use Rattle.txn_laws.specs.Granted.{rows_by, is_as_asked, IsGrant, SendsNone, SendsSome, CoversIn, HasRows, Follows, BeginsGrant, AnswersGrant, CopiesGrant, BeginsShow, AnswersShow, CopiesShow, BeginsConfirm, AnswersConfirm, CopiesConfirm, BeginsFollow, AnswersFollow, CopiesFollow}
-use Rattle.txn_laws.specs.Outs.{IsOutBy, IsSame, IsAmong, IsLostAs, LostLock, WasLost, BeginsOut, AnswersOut, CopiesOut, BeginsLose, AnswersLose, CopiesLose}
-use Rattle.txn_laws.specs.Own.{IsOwn, BeginsStay, AnswersStay, CopiesStay}
-use Rattle.txn_laws.proofs.LostBy.{set_at, left_at, left_stays, none_there, Lost, Since, Covers, polled_since}
-use Rattle.txn_laws.proofs.Noted.{After, AfterWith, Later, again_after, asks_after, bearing_after, fail_after, fetch_after, listing_after, lock_on_after, marking_after, noted_after, opening_after, over_after, posting_after, releasing_after, settling_after, since_after, waits_after, writing_after}
+use Rattle.txn_laws.specs.Granted.{rows_by, is_as_asked, SendsNone, SendsSome, CoversIn, HasRows, Follows}
+use Rattle.txn_laws.specs.Outs.{IsSame, IsAmong, IsLostAs, LostLock, WasLost}
+use Rattle.txn_laws.specs.Own.{IsOwn}
+use Rattle.txn_laws.proofs.LostBy.{set_at, left_at, left_stays, none_there, Lost, Covers}
+use Rattle.txn_laws.proofs.Noted.{After, AfterWith, bearing_after, fail_after, fetch_after, listing_after, lock_on_after, marking_after, noted_after, opening_after, posting_after, releasing_after, settling_after, waits_after, writing_after}
 
 -- ---- lists
 

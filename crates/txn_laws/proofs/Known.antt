@@ -1,5 +1,5 @@
 -- The laws of what a job knows of its replicas, of who is out, and that the job stays.
-use Rattle.std.proofs.Common.{◌≡◌, ◌∙◌, ℕ, zero, suc, ◌<◌, ◌⊎◌, inl, inr, Bool, true, false, ◌&&◌, not, List, [], ◌∷◌, Option, Some, None, is_none, is_some, refl, sym, ap, subst, arith}
+use Rattle.std.proofs.Common.{◌≡◌, ◌∙◌, ℕ, ◌<◌, ◌⊎◌, inl, inr, true, false, ◌&&◌, not, List, [], Option, Some, None, is_none, is_some, refl, sym, ap, subst, arith}
 use Rattle.std.specs.Prelude.{slice_index_or}
 use Rattle.std.proofs.lemmas.Bool.{cond_both, and_parts, true≢false}
 use Rattle.fop_types.specs.declared.cells.Cell.{Cell}
@@ -16,7 +16,7 @@ use Rattle.fop_types.specs.declared.messages.BrickReq.TheVariants as req
 use Rattle.afr_ledger.specs.Ledger.{State}
 use Rattle.afr_phases.specs.declared.wave.Wave.{Wave}
 use Rattle.afr_phases.specs.Asked.{is_waiting, is_within, are_granted_within}
-use Rattle.afr_phases.specs.Flags.{flag, lowest, mask_of, names, no_flags}
+use Rattle.afr_phases.specs.Flags.{lowest, mask_of, names, no_flags}
 use Rattle.afr_phases.specs.Locks.{no_locks}
 use Rattle.afr_phases.specs.Marks.{IsLost}
 use Rattle.afr_phases.specs.Outs.{is_short, no_outs}
@@ -33,9 +33,9 @@ use Rattle.afr_transaction.specs.Polls.{polled, short_of}
 use Rattle.afr_transaction.specs.Requests.{Keeps, HasGranted}
 use Rattle.afr_transaction.specs.Shapes.{is_asking, is_copying, suits, are_copies}
 use Rattle.afr_transaction.specs.Txns.{alive, io_of}
-use Rattle.txn_laws.specs.Granted.{rows_by, is_as_asked, SendsNone, SendsSome, IsGrant, IsShowing, AnswersTake, CopiesTake, CoversIn, Follows, BeginsGrant, AnswersGrant, CopiesGrant, BeginsShow, AnswersShow, CopiesShow, BeginsConfirm, AnswersConfirm, CopiesConfirm, BeginsFollow, AnswersFollow, CopiesFollow}
+use Rattle.txn_laws.specs.Granted.{rows_by, SendsNone, SendsSome, IsGrant, IsShowing, AnswersTake, CopiesTake, CoversIn, Follows, BeginsGrant, AnswersGrant, CopiesGrant, BeginsShow, AnswersShow, CopiesShow, BeginsConfirm, AnswersConfirm, CopiesConfirm, BeginsFollow, AnswersFollow, CopiesFollow}
 use Rattle.txn_laws.specs.Outs.{IsOutBy, IsAmong, IsLostAs, WasLost, BeginsOut, AnswersOut, CopiesOut, BeginsLose, AnswersLose, CopiesLose}
-use Rattle.txn_laws.specs.Own.{IsOwn, BeginsStay, AnswersStay, CopiesStay}
+use Rattle.txn_laws.specs.Own.{BeginsStay, AnswersStay, CopiesStay}
 use Rattle.txn_laws.proofs.LostBy.{none_there, Lost, polled_since}
 use Rattle.txn_laws.proofs.Noted.{After, again_after, asks_after, over_after, since_after}
 use Rattle.txn_laws.proofs.Handed.{HasAll, Given, OutBy, GrantBy, RowsBy, HandedIn, CopyHanded, phase_handed, copy_handed, own_after, grants_after, rows_after, follows_after}

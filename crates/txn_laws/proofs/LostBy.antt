@@ -1,5 +1,5 @@
 -- Who is out after a lock phase or a release, and was not before, has no open connection, or has lost its lock with its connection.
-use Rattle.std.proofs.Common.{◌≡◌, ◌∙◌, ℕ, zero, suc, ◌+◌, ◌-◌, ◌<◌, ◌≤◌, ◌≢◌, ◌⊎◌, inl, inr, Bool, true, false, ◌&&◌, ◌||◌, not, nat_lt, ◌==◌, cond, if◌then◌else◌, List, [], ◌∷◌, Option, Some, None, is_some, is_none, refl, sym, ap, subst, arith}
+use Rattle.std.proofs.Common.{◌≡◌, ◌∙◌, ℕ, zero, suc, ◌+◌, ◌-◌, ◌<◌, ◌≤◌, ◌≢◌, ◌⊎◌, inl, inr, Bool, true, false, ◌&&◌, ◌||◌, not, nat_lt, ◌==◌, if◌then◌else◌, List, [], ◌∷◌, Option, Some, None, is_some, is_none, refl, sym, ap, subst, arith}
 use Rattle.std.specs.Prelude.{length, slice_index, slice_index_or, slice_set}
 use Rattle.std.proofs.lemmas.Bool.{cond_both, and_parts, and_cases, cases_eq, eq-eqb, ltb-true, true≢false}
 use Rattle.fop_types.specs.declared.contents.Mask.{Mask}
@@ -10,11 +10,11 @@ use Rattle.afr_phases.specs.declared.locks.Locks.{Locks}
 use Rattle.afr_phases.specs.declared.outs.Outs.{Outs}
 use Rattle.afr_phases.specs.Flags.{flag, flags_of, names}
 use Rattle.afr_phases.specs.Locking.{next_to_lock, lost, kept_only, without_lost, ended_with, ended, asked_or_ended, next_lock}
-use Rattle.afr_phases.specs.Locks.{no_locks, is_open, keeping, stands, standing}
+use Rattle.afr_phases.specs.Locks.{is_open, keeping, stands, standing}
 use Rattle.afr_phases.specs.Marks.{IsLost}
 use Rattle.afr_phases.specs.Outs.{is_out, is_short, left}
 use Rattle.afr_phases.proofs.Tracked.{flag_by, left_places, left_same}
-use Rattle.txn_laws.specs.Outs.{LostLock, WasLost}
+use Rattle.txn_laws.specs.Outs.{WasLost}
 
 -- ---- lists
 

@@ -1,7 +1,7 @@
 -- What each turn notes: the job stays, who is out since is lost, what is known of the replicas stays or is given up with the lock
 -- phase, and nobody has confirmed what is sent anew.
-use Rattle.std.proofs.Common.{◌≡◌, ◌∙◌, ℕ, ◌+◌, ◌-◌, ◌<◌, ◌≤◌, ◌⊎◌, inl, inr, Bool, true, false, ◌&&◌, not, cond, List, [], ◌∷◌, ◌++◌, Option, Some, None, is_none, is_some, refl, sym, ap, arith}
-use Rattle.std.specs.Prelude.{length, slice_get, slice_index, slice_index_or}
+use Rattle.std.proofs.Common.{◌≡◌, ℕ, ◌+◌, ◌-◌, ◌⊎◌, inl, inr, Bool, false, ◌&&◌, not, cond, List, [], Option, Some, None, is_none, is_some, refl, arith}
+use Rattle.std.specs.Prelude.{length, slice_get, slice_index_or}
 use Rattle.std.proofs.lemmas.Bool.{cond_both}
 use Rattle.fop_types.specs.declared.answers.IoError.TheVariants as io
 use Rattle.fop_types.specs.declared.causes.SkipCause.{SkipCause}
@@ -10,23 +10,18 @@ use Rattle.fop_types.specs.declared.cells.Cell.{Cell}
 use Rattle.fop_types.specs.declared.contents.Content.{Content}
 use Rattle.fop_types.specs.declared.contents.Mask.{Mask}
 use Rattle.fop_types.specs.declared.contents.Row.{Row}
-use Rattle.fop_types.specs.declared.copy_jobs.CopyDone.{CopyDone}
 use Rattle.fop_types.specs.declared.copy_jobs.Out.{Out}
-use Rattle.fop_types.specs.declared.jobs.Job.TheVariants as job
 use Rattle.fop_types.specs.declared.jobs.SetReply.{SetReply}
 use Rattle.fop_types.specs.declared.jobs.SetReply.TheVariants as reply
-use Rattle.fop_types.specs.declared.messages.BrickRep.{BrickRep}
 use Rattle.fop_types.specs.declared.store_ops.StoreOp.{StoreOp}
 use Rattle.afr_ledger.specs.Changes.{numbered}
 use Rattle.afr_ledger.specs.Ledger.{State}
 use Rattle.afr_phases.specs.declared.locking.LockStep.{LockStep}
 use Rattle.afr_phases.specs.declared.locking.LockStep.TheVariants as step
 use Rattle.afr_phases.specs.declared.outs.Outs.{Outs}
-use Rattle.afr_phases.specs.Answers.{is_fault, is_plain_done, rows_in, content_in, cells_in}
-use Rattle.afr_phases.specs.Hearing.{heard}
 use Rattle.afr_phases.specs.Locking.{next_lock}
-use Rattle.afr_phases.specs.Locks.{no_locks, granted, standing}
-use Rattle.afr_phases.specs.Shown.{nothing_shown, with_rows, rows_listed}
+use Rattle.afr_phases.specs.Locks.{no_locks, standing}
+use Rattle.afr_phases.specs.Shown.{nothing_shown, rows_listed}
 use Rattle.afr_transaction.specs.declared.jobs.Kind.{Kind}
 use Rattle.afr_transaction.specs.declared.jobs.Kind.TheVariants as kind
 use Rattle.afr_transaction.specs.declared.need.Need.{Need}
@@ -39,15 +34,14 @@ use Rattle.afr_transaction.specs.declared.phase.Then.{Then}
 use Rattle.afr_transaction.specs.declared.phase.Then.TheVariants as next
 use Rattle.afr_transaction.specs.declared.phase.Verdict.{Verdict}
 use Rattle.afr_transaction.specs.declared.txn.Txn.{Txn}
-use Rattle.afr_transaction.specs.Answers.{lock_step, lock_on, hearing, waiting, write_by, mark_answered, write_answered, post_ended, post_answered, settle_ended, settle_answered, birth_answered, unlock_answered, open_answered, list_taken, list_answered, aspect_at, answered_in, copied_in, idle}
-use Rattle.afr_transaction.specs.Begins.{fresh}
+use Rattle.afr_transaction.specs.Answers.{lock_step, lock_on, waiting, write_by, mark_answered, write_answered, post_ended, post_answered, settle_ended, settle_answered, birth_answered, unlock_answered, open_answered}
 use Rattle.afr_transaction.specs.Changes.{has_number, may_begin, marking, post_decided}
 use Rattle.afr_transaction.specs.Copied.{healed, is_change, copied_all, copy_by, copy_next}
-use Rattle.afr_transaction.specs.Copies.{copying, has_source, next_part, sinks_left, with_outs, is_left}
+use Rattle.afr_transaction.specs.Copies.{copying, has_source, next_part, sinks_left, is_left}
 use Rattle.afr_transaction.specs.Jobs.{kind_of, birth_op, change_op}
 use Rattle.afr_transaction.specs.Parts.{common_of, is_split, all_parts}
-use Rattle.afr_transaction.specs.Polls.{polled, list_ended, short_of}
-use Rattle.afr_transaction.specs.Reads.{fd_of, sound_on, is_split_read, split_rows, with_absent, fetching, fetch_at, fetch_next, fetch_taken, ready_to_read}
+use Rattle.afr_transaction.specs.Polls.{list_ended, short_of}
+use Rattle.afr_transaction.specs.Reads.{fd_of, sound_on, is_split_read, split_rows, with_absent, fetching, fetch_at, fetch_next, ready_to_read}
 use Rattle.afr_transaction.specs.Ready.{split, skipping, is_touched, settle_by, bearing_by, ready_by, ready_for}
 use Rattle.afr_transaction.specs.Settles.{group_of, has_it, settle_decided, settle_parts}
 use Rattle.fop_types.specs.declared.jobs.Job.{Job}
@@ -55,20 +49,16 @@ use Rattle.fop_types.specs.declared.messages.BrickReq.{BrickReq}
 use Rattle.fop_types.specs.declared.messages.BrickReq.TheVariants as req
 use Rattle.afr_phases.specs.declared.locks.Locks.{Locks}
 use Rattle.afr_phases.specs.declared.wave.Wave.{Wave}
-use Rattle.afr_phases.specs.Flags.{flags_of, lowest, both, mask_of, no_flags, outside}
-use Rattle.afr_phases.specs.Outs.{no_outs, left, is_out, is_short}
-use Rattle.afr_phases.specs.Waves.{is_over, sent_to, taken}
-use Rattle.afr_phases.proofs.Stays.{five_heard, lost_five, step_places}
-use Rattle.afr_phases.proofs.Tracked.{left_places}
+use Rattle.afr_phases.specs.Flags.{lowest, both, mask_of, no_flags, outside}
+use Rattle.afr_phases.specs.Outs.{is_short}
+use Rattle.afr_phases.specs.Waves.{is_over, sent_to}
+use Rattle.afr_phases.proofs.Stays.{lost_five, step_places}
 use Rattle.afr_transaction.specs.declared.size.Size.{Size}
-use Rattle.afr_transaction.specs.Begins.{started}
-use Rattle.afr_transaction.specs.Copied.{copy_noted}
-use Rattle.afr_transaction.specs.Locked.{to_settle, cells_for, is_read, first_step, again, going, lost_noted, locking, unlock, fail, lock_taken, reached}
+use Rattle.afr_transaction.specs.Locked.{to_settle, cells_for, is_read, first_step, again, going, lost_noted, unlock, fail, reached}
 use Rattle.afr_transaction.specs.Txns.{alive, asking, only, over, heal_reply, healing, ending, io_of, is_heal, kept}
-use Rattle.afr_transaction.proofs.TurnsCopies.{outs_five}
 use Rattle.txn_laws.specs.Granted.{CoversIn, SendsNone, SendsSome}
 use Rattle.txn_laws.specs.Outs.{WasLost}
-use Rattle.txn_laws.proofs.LostBy.{Since, Lost, same, both_since, noted_since, polled_since, IsStepSince, step_since, Covers, none_there}
+use Rattle.txn_laws.proofs.LostBy.{Since, Lost, same, both_since, noted_since, IsStepSince, step_since, Covers, none_there}
 
 -- what a turn leaves of a job that had these values, where P holds
 pub record Later (P : Type 0) (live : Mask) (last : List ℕ) (set : ℕ) (size : Size) (bricks : List ℕ) (call : ℕ) (job : Job) (outs : Outs) (locks : Locks) (rows : List (Option (List Row))) (cells : List Cell) (wave : Wave) (a : Txn) (turned : Need) : Type 0 where

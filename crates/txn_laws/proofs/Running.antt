@@ -1,7 +1,7 @@
 -- The laws of a turn hold of each turn of a run.
-use Rattle.std.proofs.Common.{◌≡◌, ◌∙◌, ◌≢◌, ℕ, zero, suc, ◌+◌, ◌<◌, ◌⊎◌, inl, inr, Bool, true, false, ◌&&◌, ◌||◌, not, ◌==◌, cond, List, [], ◌∷◌, Option, Some, None, is_some, refl, sym, ap, subst, arith}
+use Rattle.std.proofs.Common.{◌≡◌, ◌∙◌, ◌≢◌, ℕ, zero, suc, ◌<◌, ◌⊎◌, inl, inr, Bool, true, false, ◌&&◌, ◌||◌, ◌==◌, List, [], ◌∷◌, None, refl, sym, ap, subst, arith}
 use Rattle.std.specs.Prelude.{length, slice_set}
-use Rattle.std.proofs.lemmas.Bool.{cases_eq, eq-eqb, ne_eqb, true≢false}
+use Rattle.std.proofs.lemmas.Bool.{cases_eq, eq-eqb, ne_eqb}
 use Rattle.fop_types.specs.declared.cells.Cell.{Cell}
 use Rattle.fop_types.specs.declared.contents.Mask.{Mask}
 use Rattle.fop_types.specs.declared.copy_jobs.CopyDone.{CopyDone}
@@ -32,7 +32,7 @@ use Rattle.afr_transaction.proofs.Moves.{answers_move, copies_draw}
 use Rattle.afr_transaction.proofs.Posts.{posts_follow}
 use Rattle.txn_laws.specs.Granted.{is_as_asked, SendsNone, SendsSome, Follows}
 use Rattle.txn_laws.specs.Laws.{PostTurn, SettleTurn}
-use Rattle.txn_laws.specs.Runs.{Event, Answer, Finish, turn, AwaitsAnswer, AwaitsCopy, IsEvent, AreEvents, with_answer, since_sent, has_said, AreSaid, AnswerIsLawful, CopyIsLawful, TurnIsLawful, TurnsAreLawful, RunsAreLawful}
+use Rattle.txn_laws.specs.Runs.{Event, Answer, Finish, AwaitsAnswer, AwaitsCopy, AreEvents, since_sent, has_said, AreSaid, AnswerIsLawful, CopyIsLawful, TurnsAreLawful, RunsAreLawful}
 use Rattle.txn_laws.proofs.Failures.{begins_have_causes, answers_have_causes, copies_have_causes}
 use Rattle.txn_laws.proofs.Known.{begins_confirm, begins_follow, answers_stay, answers_grant, answers_show, answers_follow, answers_lose, answers_take, copies_stay, copies_follow, copies_lose, copies_take}
 use Rattle.txn_laws.proofs.Quorums.{posts_in_turns, settles_in_turns}

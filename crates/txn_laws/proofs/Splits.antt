@@ -1,7 +1,7 @@
 -- A split is of this job and of a quorum, and a heal skips its cell for what it names.
-use Rattle.std.proofs.Common.{◌≡◌, ◌∙◌, ℕ, zero, suc, ◌+◌, ◌≤◌, Bool, true, false, ◌&&◌, not, nat_lt, if◌then◌else◌, List, [], ◌∷◌, Option, Some, None, is_some, refl, sym, ap, subst, arith}
-use Rattle.std.specs.Prelude.{length, count_by, slice_index, slice_index_or}
-use Rattle.std.proofs.lemmas.Bool.{ltb-false, true≢false}
+use Rattle.std.proofs.Common.{◌≡◌, ◌∙◌, ℕ, zero, suc, ◌+◌, ◌≤◌, Bool, true, false, ◌&&◌, not, nat_lt, if◌then◌else◌, List, [], ◌∷◌, Option, Some, None, is_some, refl, ap, subst, arith}
+use Rattle.std.specs.Prelude.{length, count_by, slice_index_or}
+use Rattle.std.proofs.lemmas.Bool.{ltb-false}
 use Rattle.std.proofs.lemmas.List.Recursion.{is_count_by}
 use Rattle.fop_types.specs.declared.answers.IoError.TheVariants as io
 use Rattle.fop_types.specs.declared.answers.SplitRow.{SplitRow}
@@ -10,17 +10,15 @@ use Rattle.fop_types.specs.declared.causes.SkipCause.TheVariants as skip
 use Rattle.fop_types.specs.declared.cells.Cell.{Cell}
 use Rattle.fop_types.specs.declared.contents.Mask.{Mask}
 use Rattle.fop_types.specs.declared.contents.Row.{Row}
-use Rattle.fop_types.specs.declared.copy_jobs.CopyDone.{CopyDone}
 use Rattle.fop_types.specs.declared.copy_jobs.Out.{Out}
 use Rattle.fop_types.specs.declared.jobs.SetReply.{SetReply}
-use Rattle.fop_types.specs.declared.jobs.SetReply.TheVariants as reply
 use Rattle.fop_types.specs.declared.messages.BrickRep.{BrickRep}
 use Rattle.afr_ledger.specs.Ledger.{State}
 use Rattle.afr_phases.specs.declared.locking.LockStep.{LockStep}
 use Rattle.afr_phases.specs.declared.locking.LockStep.TheVariants as step
 use Rattle.afr_phases.specs.declared.outs.Outs.{Outs}
 use Rattle.afr_phases.specs.Answers.{is_fault, rows_in}
-use Rattle.afr_phases.specs.Flags.{bit, flag}
+use Rattle.afr_phases.specs.Flags.{bit}
 use Rattle.afr_phases.specs.Locking.{next_lock}
 use Rattle.afr_phases.specs.Outs.{is_short, out_count, used}
 use Rattle.afr_phases.specs.Waves.{is_asked}
@@ -33,10 +31,10 @@ use Rattle.afr_transaction.specs.declared.txn.Txn.{Txn}
 use Rattle.afr_transaction.specs.Answers.{answered, copied, idle}
 use Rattle.afr_transaction.specs.Begins.{fresh, started}
 use Rattle.afr_transaction.specs.Causes.{Tracks, reply_in, reply_of}
-use Rattle.afr_transaction.specs.Locked.{lock_taken, reached}
-use Rattle.afr_transaction.specs.Requests.{HasGranted, Keeps}
-use Rattle.afr_transaction.specs.Shapes.{is_asking, is_copying}
-use Rattle.txn_laws.specs.Granted.{HasRows, Follows}
+use Rattle.afr_transaction.specs.Locked.{lock_taken}
+use Rattle.afr_transaction.specs.Requests.{Keeps}
+use Rattle.afr_transaction.specs.Shapes.{is_asking}
+use Rattle.txn_laws.specs.Granted.{Follows}
 use Rattle.txn_laws.specs.Own.{IsOwn}
 use Rattle.txn_laws.specs.Splits.{HasQuorum, SplitHasQuorum, IsSkipCause, SkipHasCause, BeginsDoNotSplit, CopiesDoNotSplit, AnswersSplit, AnswersSkip, CopiesSkip}
 use Rattle.txn_laws.specs.Work.{how_many}

@@ -1,6 +1,6 @@
 -- A split is of this job and of a quorum: in the lock phase whose rows it names at least a quorum was reached, and each that was
 -- reached has granted its lock and has shown a row for each cell. And a heal skips its cell for what it names.
-use Rattle.std.specs.Prelude.{◌≡◌, ℕ, ◌≤◌, true, List, Option, Some, None, is_some}
+use Rattle.std.specs.Prelude.{◌≡◌, ℕ, ◌≤◌, true, List, Some, None, is_some}
 use Rattle.fop_types.specs.Orders.{cell_cmp}
 use Rattle.fop_types.specs.declared.answers.IoError.{IoError}
 use Rattle.fop_types.specs.declared.answers.IoError.TheVariants as io

@@ -9,3 +9,4 @@ pub mod Others
 pub mod Rows
 pub mod Runs
 pub mod Turns
+pub mod Witness

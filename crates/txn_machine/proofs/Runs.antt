@@ -1,11 +1,11 @@
 -- Each request of a run meets its guard.
-use Rattle.std.proofs.Common.{◌≡◌, ℕ, Bool, List, [], ◌∷◌}
+use Rattle.std.proofs.Common.{ℕ, Bool, List, [], ◌∷◌}
 use Rattle.afr_transaction.specs.declared.need.Need.{Need}
 use Rattle.afr_transaction.specs.declared.txn.Txn.{Txn}
 use Rattle.afr_transaction.specs.Answers.{answered, copied}
 use Rattle.afr_transaction.specs.Begins.{fresh, started}
 use Rattle.txn_laws.specs.Granted.{is_as_asked}
-use Rattle.txn_laws.specs.Runs.{Event, Answer, Finish, turn, AreEvents, since_sent}
+use Rattle.txn_laws.specs.Runs.{Event, Answer, Finish, AreEvents, since_sent}
 use Rattle.txn_laws.proofs.Running.{IsBetween, asking_now, copying_now, answer_between, copy_between, begun_between}
 use Rattle.txn_machine.specs.Runs.{TurnsMeet, RunsMeetGuards}
 use Rattle.txn_machine.specs.Works.{Works}

@@ -6,6 +6,7 @@ pub mod Records
 pub mod Works
 pub mod Guards
 pub mod Runs
+pub mod Witness
 pub mod Sent
 pub mod Copies
 pub mod Leaves

@@ -29,5 +29,5 @@ mod laws;
 
 pub use laws::{
     copies_are_asked_for, copies_leave_for_loss, copies_meet_guards, jobs_with_copies_end,
-    requests_go_one_after_another, requests_meet_guards, runs_meet_guards,
+    posts_are_met, requests_go_one_after_another, requests_meet_guards, runs_meet_guards,
 };
