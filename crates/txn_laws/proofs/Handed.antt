@@ -40,7 +40,7 @@ use Rattle.afr_transaction.specs.Requests.{HasGranted}
 use Rattle.afr_transaction.specs.Shapes.{are_copies, suits}
 use Rattle.afr_transaction.specs.Txns.{is_heal, kept}
 use Rattle.afr_transaction.proofs.TurnsCopies.{outs_five}
-use Rattle.txn_laws.specs.Granted.{rows_by, is_as_asked, SendsNone, SendsSome, CoversIn, HasRows, Follows}
+use Rattle.txn_laws.specs.Granted.{IsLocking, KnowsNone, rows_by, is_as_asked, SendsNone, SendsSome, CoversIn, HasRows, Follows}
 use Rattle.txn_laws.specs.Outs.{IsSame, IsAmong, IsLostAs, LostLock, WasLost}
 use Rattle.txn_laws.specs.Own.{IsOwn}
 use Rattle.txn_laws.proofs.LostBy.{set_at, left_at, left_stays, none_there, Lost, Covers}
@@ -98,7 +98,7 @@ pub record HasAll (b : Txn) : Type 0 where
   pub rows_places : length b.shown.rows ≡ 5
   pub rows : (j : ℕ) → HasGranted b j → HasRows b j
 
-module _ (P : Type 0) (live : Mask) (last : List ℕ) (b : Txn) (t : Txn × Need) (l : After P live last b t) where
+module _ (P T : Type 0) (live : Mask) (last : List ℕ) (b : Txn) (t : Txn × Need) (l : After P T live last b t) where
   pub own_after : IsOwn b t.0
   own_after = record { set = l.set_is; size = l.size_is; bricks = l.bricks_is; call = l.call_is; job = l.job_is }
 
@@ -143,6 +143,15 @@ module _ (P : Type 0) (live : Mask) (last : List ℕ) (b : Txn) (t : Txn × Need
         from : (o : Option ℕ) → slice_index_or no_locks.at j None ≡ o → is_some o ≡ true → ⊥
         from None at h = true≢false (sym h)
         from (Some c) at h = none_there j c at
+
+  pub anew_after : (at : ℕ) → t.0.phase ≡ phase.Locking at → T ⊎ KnowsNone t.0
+  anew_after at e = by (l.anew at e) where
+    by : T ⊎ ((t.0.locks ≡ no_locks) × (t.0.shown.rows ≡ nothing_shown.rows)) → T ⊎ KnowsNone t.0
+    by (inl on) = inl on
+    by (inr none) = inr (record {
+      locks = λ j connection h. none_there j connection (ap (λ (x : Locks). slice_index_or x.at j None) (sym none.0) ∙ h);
+      rows = λ j rows h. none_there j rows (ap (λ (x : List (Option (List Row))). slice_index_or x j None) (sym none.1) ∙ h);
+    })
 
 -- ---- answers
 
@@ -195,16 +204,18 @@ module _ (P : Type 0) (live : Mask) (last : List ℕ) (txn : Txn) (k mark : ℕ)
     pub confirmed : (j : ℕ) → flag a.wave.confirmed j ≡ true → SendsNone turned × ((flag txn.wave.confirmed j ≡ true) ⊎ ((j ≡ k) × (asked ≡ true)))
     pub wave : P → ((a.wave ≡ taken txn.wave k asked) × SendsNone turned) ⊎ ((a.wave.confirmed ≡ no_flags) × SendsSome turned)
     pub follows : P → Follows a
+    pub anew : (at : ℕ) → a.phase ≡ phase.Locking at → IsLocking p ⊎ KnowsNone a
 
-  from_base : (b : Txn) → Based b → (t : Txn × Need) → After P live last b t → HandedIn t.0 t.1
+  from_base : (b : Txn) → Based b → (t : Txn × Need) → After P (IsLocking p) live last b t → HandedIn t.0 t.1
   from_base b base t l = record {
-    own = let o = own_after P live last b t l in record { set = o.set ∙ base.own.set; size = o.size ∙ base.own.size; bricks = o.bricks ∙ base.own.bricks; call = o.call ∙ base.own.call; job = o.job ∙ base.own.job };
+    own = let o = own_after P (IsLocking p) live last b t l in record { set = o.set ∙ base.own.set; size = o.size ∙ base.own.size; bricks = o.bricks ∙ base.own.bricks; call = o.call ∙ base.own.call; job = o.job ∙ base.own.job };
     outs = λ j out h. by j out (l.since.from j out h);
-    grants = λ j connection h. base.grants j connection (grants_after P live last b t l j connection h);
-    rows = λ j rows h. base.rows j rows (rows_after P live last b t l j rows h);
-    confirmed = λ j h. let c = confirmed_after P live last b t l j h in (c.0, base.confirmed j c.1);
+    grants = λ j connection h. base.grants j connection (grants_after P (IsLocking p) live last b t l j connection h);
+    rows = λ j rows h. base.rows j rows (rows_after P (IsLocking p) live last b t l j rows h);
+    confirmed = λ j h. let c = confirmed_after P (IsLocking p) live last b t l j h in (c.0, base.confirmed j c.1);
     wave = λ q. wave_by q l.waits;
-    follows = λ q. follows_after P live last b t l q (base.all q);
+    follows = λ q. follows_after P (IsLocking p) live last b t l q (base.all q);
+    anew = anew_after P (IsLocking p) live last b t l;
   } where
     wave_by : P → ((t.0.wave ≡ b.wave) × SendsNone t.1) ⊎ ((t.0.wave.confirmed ≡ no_flags) × SendsSome t.1) → ((t.0.wave ≡ taken txn.wave k asked) × SendsNone t.1) ⊎ ((t.0.wave.confirmed ≡ no_flags) × SendsSome t.1)
     wave_by q (inl e) = inl (e.0 ∙ base.wave_is q, e.1)
@@ -315,14 +326,14 @@ module _ (P : Type 0) (live : Mask) (last : List ℕ) (txn : Txn) (k mark : ℕ)
   abbrev ByWith : Phase → Txn × (Need × State Cell) → Type 0
   ByWith p t = HandedIn P live last txn k mark r p t.0 t.1.0
 
-  heard : (p : Phase) → (P → Given txn k p) → is_as_asked p txn.cells r ≡ is_plain_done r → (t : Txn × Need) → After P live last (hearing txn k r mark) t → By p t
+  heard : (p : Phase) → (P → Given txn k p) → is_as_asked p txn.cells r ≡ is_plain_done r → (t : Txn × Need) → After P (IsLocking p) live last (hearing txn k r mark) t → By p t
   heard p given e t l = from_base P live last txn k mark r p (hearing txn k r mark) (base_by P live last txn k mark r p given (is_plain_done r) e) t l
 
-  heard_with : (p : Phase) → (P → Given txn k p) → is_as_asked p txn.cells r ≡ is_plain_done r → (t : Txn × (Need × State Cell)) → AfterWith P live last (hearing txn k r mark) t → ByWith p t
+  heard_with : (p : Phase) → (P → Given txn k p) → is_as_asked p txn.cells r ≡ is_plain_done r → (t : Txn × (Need × State Cell)) → AfterWith P (IsLocking p) live last (hearing txn k r mark) t → ByWith p t
   heard_with p given e t l = heard p given e (t.0, t.1.0) l
 
   -- nothing is taken
-  self : (p : Phase) → (P → Given txn k p) → suits p txn ≡ false → (t : Txn × Need) → After P live last txn t → By p t
+  self : (p : Phase) → (P → Given txn k p) → suits p txn ≡ false → (t : Txn × Need) → After P (IsLocking p) live last txn t → By p t
   self p given unfit t l =
       from_base P live last txn k mark r p txn (record {
         own = record { set = refl; size = refl; bricks = refl; call = refl; job = refl };
@@ -376,11 +387,11 @@ module _ (P : Type 0) (live : Mask) (last : List ℕ) (txn : Txn) (k mark : ℕ)
   locked : (at : ℕ) → (P → Given txn k (phase.Locking at)) → (o : Option (List Row)) → rows_in r (length txn.cells) ≡ o → ByWith (phase.Locking at) (lock_on (lock_taken txn k o (is_fault r) mark last) (k + 1) ledger live last)
   locked at given None e =
       from_base P live last txn k mark r (phase.Locking at) gone (left_base P live last txn k mark r (phase.Locking at) given (ap is_some e))
-      ((lock_on gone (k + 1) ledger live last).0, (lock_on gone (k + 1) ledger live last).1.0) (lock_on_after P live last gone (k + 1) ledger (gone_five (phase.Locking at) given) (gone_covers at given))
+      ((lock_on gone (k + 1) ledger live last).0, (lock_on gone (k + 1) ledger live last).1.0) (lock_on_after P (Unit {0}) live last gone (k + 1) ledger (gone_five (phase.Locking at) given) (gone_covers at given) tt)
   locked at given (Some more) e =
       from_base P live last txn k mark r (phase.Locking at) (held more) (grant_base P live last txn k mark r (phase.Locking at) given at more refl e (ap is_some e))
       ((lock_on (held more) (k + 1) ledger live last).0, (lock_on (held more) (k + 1) ledger live last).1.0)
-      (lock_on_after P live last (held more) (k + 1) ledger (λ q. (given q).all.outs_places) (held_covers at given))
+      (lock_on_after P (Unit {0}) live last (held more) (k + 1) ledger (λ q. (given q).all.outs_places) (held_covers at given) tt)
 
   -- a content
   fetched : (place from : ℕ) (contents : List (Option Content)) → (P → Given txn k (phase.Fetching place from contents)) → (o : Option (Content × ℕ)) → content_in r (aspect_at (slice_get txn.cells (length contents))) ≡ o
@@ -388,12 +399,12 @@ module _ (P : Type 0) (live : Mask) (last : List ℕ) (txn : Txn) (k mark : ℕ)
   fetched place from contents given (Some content) e =
       from_base P live last txn k mark r (phase.Fetching place from contents) (record txn { wave = taken txn.wave k true }) (kept_base P live last txn k mark r (phase.Fetching place from contents) given (ap is_some e))
       (fetch_taken txn place k contents (Some content) (is_fault r) mark ledger live last)
-      (fetch_after P live last (record txn { wave = taken txn.wave k true }) ledger (λ q. (given q).all.outs_places) place (contents ++ Some content.0 ∷ []))
+      (fetch_after P ⊥ live last (record txn { wave = taken txn.wave k true }) ledger (λ q. (given q).all.outs_places) place (contents ++ Some content.0 ∷ []))
   fetched place from contents given None e =
       from_base P live last txn k mark r (phase.Fetching place from contents) gone (left_base P live last txn k mark r (phase.Fetching place from contents) given (ap is_some e))
       (fetch_taken txn place k contents None (is_fault r) mark ledger live last)
-      (cond_both (is_short gone.outs txn.size.n txn.size.q) _ _ (After P live last gone) (λ s. fail_after P live last gone ledger (gone_five (phase.Fetching place from contents) given))
-      (λ s. fetch_after P live last gone ledger (gone_five (phase.Fetching place from contents) given) place contents))
+      (cond_both (is_short gone.outs txn.size.n txn.size.q) _ _ (After P ⊥ live last gone) (λ s. fail_after P ⊥ live last gone ledger (gone_five (phase.Fetching place from contents) given))
+      (λ s. fetch_after P ⊥ live last gone ledger (gone_five (phase.Fetching place from contents) given) place contents))
 
   -- a list
   listed : (all : List Cell) → (P → Given txn k (phase.Listing all)) → By (phase.Listing all) (list_answered txn k r mark all)
@@ -403,31 +414,31 @@ module _ (P : Type 0) (live : Mask) (last : List ℕ) (txn : Txn) (k mark : ℕ)
         (list_ended (list_taken txn k o (is_fault r) mark all).0 (list_taken txn k o (is_fault r) mark all).1))
     by None e =
         from_base P live last txn k mark r (phase.Listing all) gone (left_base P live last txn k mark r (phase.Listing all) given (ap is_some e))
-        (cond (not (is_over gone.wave)) (waiting gone (phase.Listing all)) (list_ended gone all)) (listing_after P live last gone ledger (gone_five (phase.Listing all) given) all)
+        (cond (not (is_over gone.wave)) (waiting gone (phase.Listing all)) (list_ended gone all)) (listing_after P ⊥ live last gone ledger (gone_five (phase.Listing all) given) all)
     by (Some cells) e =
         let some : Txn = record txn { wave = taken txn.wave k true } in
         from_base P live last txn k mark r (phase.Listing all) some (kept_base P live last txn k mark r (phase.Listing all) given (ap is_some e))
         (cond (not (is_over some.wave)) (waiting some (phase.Listing (with_cells all cells))) (list_ended some (with_cells all cells)))
-        (listing_after P live last some ledger (λ q. (given q).all.outs_places) (with_cells all cells))
+        (listing_after P ⊥ live last some ledger (λ q. (given q).all.outs_places) (with_cells all cells))
 
   pub phase_handed : (p : Phase) → (P → Given txn k p) → ByWith p (answered_in p txn k r mark ledger live last)
   phase_handed (phase.Locking at) given = locked at given (rows_in r (length txn.cells)) refl
   phase_handed (phase.Unlocking after) given =
-      heard (phase.Unlocking after) given refl (unlock_answered (hearing txn k r mark) after ledger live last) (releasing_after P live last (hearing txn k r mark) ledger (heard_five (phase.Unlocking after) given) after)
+      heard (phase.Unlocking after) given refl (unlock_answered (hearing txn k r mark) after ledger live last) (releasing_after P ⊥ live last (hearing txn k r mark) ledger (heard_five (phase.Unlocking after) given) after)
   phase_handed (phase.Fetching place from contents) given = fetched place from contents given (content_in r (aspect_at (slice_get txn.cells (length contents)))) refl
-  phase_handed (phase.Copying sinks parts) given = self (phase.Copying sinks parts) given refl (waiting txn (phase.Copying sinks parts)) (waits_after P live last txn (phase.Copying sinks parts) (λ q. tt))
+  phase_handed (phase.Copying sinks parts) given = self (phase.Copying sinks parts) given refl (waiting txn (phase.Copying sinks parts)) (waits_after P ⊥ live last txn (phase.Copying sinks parts) (λ q. tt) (λ at e. absurd cc))
   phase_handed (phase.Marking change) given =
-      heard_with (phase.Marking change) given refl (mark_answered (hearing txn k r mark) change ledger live last) (marking_after P live last (hearing txn k r mark) ledger (heard_five (phase.Marking change) given) change)
+      heard_with (phase.Marking change) given refl (mark_answered (hearing txn k r mark) change ledger live last) (marking_after P ⊥ live last (hearing txn k r mark) ledger (heard_five (phase.Marking change) given) change)
   phase_handed (phase.Writing change) given =
-      heard (phase.Writing change) given refl (write_answered (hearing txn k r mark) change ledger live last) (writing_after P live last (hearing txn k r mark) ledger (heard_five (phase.Writing change) given) change)
+      heard (phase.Writing change) given refl (write_answered (hearing txn k r mark) change ledger live last) (writing_after P ⊥ live last (hearing txn k r mark) ledger (heard_five (phase.Writing change) given) change)
   phase_handed (phase.Posting change adopted) given =
-      heard_with (phase.Posting change adopted) given refl (post_answered (hearing txn k r mark) change adopted ledger live last) (posting_after P live last (hearing txn k r mark) ledger (heard_five (phase.Posting change adopted) given) change adopted)
+      heard_with (phase.Posting change adopted) given refl (post_answered (hearing txn k r mark) change adopted ledger live last) (posting_after P ⊥ live last (hearing txn k r mark) ledger (heard_five (phase.Posting change adopted) given) change adopted)
   phase_handed (phase.Settling verdict) given =
-      heard_with (phase.Settling verdict) given refl (settle_answered (hearing txn k r mark) verdict ledger live last) (settling_after P live last (hearing txn k r mark) (heard_five (phase.Settling verdict) given) verdict ledger)
-  phase_handed phase.Bearing given = heard phase.Bearing given refl (birth_answered (hearing txn k r mark) ledger live last) (bearing_after P live last (hearing txn k r mark) ledger (heard_five phase.Bearing given))
-  phase_handed phase.Opening given = heard phase.Opening given refl (open_answered (hearing txn k r mark)) (opening_after P live last (hearing txn k r mark) ledger (heard_five phase.Opening given))
+      heard_with (phase.Settling verdict) given refl (settle_answered (hearing txn k r mark) verdict ledger live last) (settling_after P ⊥ live last (hearing txn k r mark) (heard_five (phase.Settling verdict) given) verdict ledger)
+  phase_handed phase.Bearing given = heard phase.Bearing given refl (birth_answered (hearing txn k r mark) ledger live last) (bearing_after P ⊥ live last (hearing txn k r mark) ledger (heard_five phase.Bearing given))
+  phase_handed phase.Opening given = heard phase.Opening given refl (open_answered (hearing txn k r mark)) (opening_after P ⊥ live last (hearing txn k r mark) ledger (heard_five phase.Opening given))
   phase_handed (phase.Listing all) given = listed all given
-  phase_handed phase.Over given = self phase.Over given refl (waiting txn phase.Over) (waits_after P live last txn phase.Over (λ q. tt))
+  phase_handed phase.Over given = self phase.Over given refl (waiting txn phase.Over) (waits_after P ⊥ live last txn phase.Over (λ q. tt) (λ at e. absurd cc))
 
 -- ---- copies
 
@@ -452,7 +463,7 @@ all_outs n outs (one ∷ list) j out h = by (all_outs n (with_out n outs one) li
   by (inr among) = inr (inr among)
 
 module _ (P : Type 0) (live : Mask) (last : List ℕ) (txn : Txn) (done : CopyDone) where
-  pub record CopyHanded (a : Txn) (turned : Need) : Type 0 where
+  pub record CopyHanded (T : Type 0) (a : Txn) (turned : Need) : Type 0 where
     pub own : IsOwn txn a
     pub outs : (j : ℕ) (out : Out) → slice_index_or a.outs.at j None ≡ Some out → (slice_index_or txn.outs.at j None ≡ Some out) ⊎ (IsAmong out done.outs ⊎ (IsLostAs last j out × (P → WasLost txn.locks live last j)))
     pub grants : (j connection : ℕ) → slice_index_or a.locks.at j None ≡ Some connection → slice_index_or txn.locks.at j None ≡ Some connection
@@ -460,17 +471,19 @@ module _ (P : Type 0) (live : Mask) (last : List ℕ) (txn : Txn) (done : CopyDo
     pub confirmed : (j : ℕ) → flag a.wave.confirmed j ≡ true → SendsNone turned × (flag txn.wave.confirmed j ≡ true)
     pub wave : ((a.wave ≡ txn.wave) × SendsNone turned) ⊎ ((a.wave.confirmed ≡ no_flags) × SendsSome turned)
     pub follows : P → Follows a
+    pub anew : (at : ℕ) → a.phase ≡ phase.Locking at → T ⊎ KnowsNone a
 
-  from_copy : (outs : Outs) (records : List CopyRecord) → ((j : ℕ) (out : Out) → slice_index_or outs.at j None ≡ Some out → (slice_index_or txn.outs.at j None ≡ Some out) ⊎ IsAmong out done.outs)
-      → (P → HasAll txn) → (P → length outs.at ≡ 5) → (t : Txn × Need) → After P live last (record txn { outs = outs; records = records }) t → CopyHanded t.0 t.1
-  from_copy outs records base all five t l = record {
-    own = let o = own_after P live last (record txn { outs = outs; records = records }) t l in record { set = o.set; size = o.size; bricks = o.bricks; call = o.call; job = o.job };
+  from_copy : (T : Type 0) (outs : Outs) (records : List CopyRecord) → ((j : ℕ) (out : Out) → slice_index_or outs.at j None ≡ Some out → (slice_index_or txn.outs.at j None ≡ Some out) ⊎ IsAmong out done.outs)
+      → (P → HasAll txn) → (P → length outs.at ≡ 5) → (t : Txn × Need) → After P T live last (record txn { outs = outs; records = records }) t → CopyHanded T t.0 t.1
+  from_copy T outs records base all five t l = record {
+    own = let o = own_after P T live last (record txn { outs = outs; records = records }) t l in record { set = o.set; size = o.size; bricks = o.bricks; call = o.call; job = o.job };
     outs = λ j out h. by j out (l.since.from j out h);
-    grants = λ j connection h. grants_after P live last (record txn { outs = outs; records = records }) t l j connection h;
-    rows = λ j rows h. rows_after P live last (record txn { outs = outs; records = records }) t l j rows h;
-    confirmed = λ j h. confirmed_after P live last (record txn { outs = outs; records = records }) t l j h;
+    grants = λ j connection h. grants_after P T live last (record txn { outs = outs; records = records }) t l j connection h;
+    rows = λ j rows h. rows_after P T live last (record txn { outs = outs; records = records }) t l j rows h;
+    confirmed = λ j h. confirmed_after P T live last (record txn { outs = outs; records = records }) t l j h;
     wave = l.waits;
-    follows = λ q. follows_after P live last (record txn { outs = outs; records = records }) t l q (has q);
+    anew = anew_after P T live last (record txn { outs = outs; records = records }) t l;
+    follows = λ q. follows_after P T live last (record txn { outs = outs; records = records }) t l q (has q);
   } where
     has : P → HasAll (record txn { outs = outs; records = records })
     has q = let a = all q in record { outs_places = five q; locks_places = a.locks_places; rows_places = a.rows_places; rows = λ j g. let s = a.rows j g in record { rows = s.rows; shown = s.shown; one_each = s.one_each } }
@@ -483,27 +496,27 @@ module _ (P : Type 0) (live : Mask) (last : List ℕ) (txn : Txn) (done : CopyDo
     by j out (inl there) = before j out (base j out there)
     by j out (inr lost) = inr (inr (record { is = lost.is; replica = lost.replica }, lost.why))
 
-  unmoved : (p : Phase) → (P → HasAll txn) → (P → CoversIn p (record txn { phase = p })) → CopyHanded (waiting txn p).0 (waiting txn p).1
-  unmoved p all covers = from_copy txn.outs txn.records (λ j out h. inl h) all (λ q. (all q).outs_places) (waiting txn p) (waits_after P live last txn p covers)
+  unmoved : (p : Phase) → (P → HasAll txn) → (P → CoversIn p (record txn { phase = p })) → CopyHanded (IsLocking p) (waiting txn p).0 (waiting txn p).1
+  unmoved p all covers = from_copy (IsLocking p) txn.outs txn.records (λ j out h. inl h) all (λ q. (all q).outs_places) (waiting txn p) (waits_after P (IsLocking p) live last txn p covers (λ at e. inl (subst IsLocking (sym e) tt)))
 
-  abbrev CopyWith : Txn × (Need × State Cell) → Type 0
-  CopyWith t = CopyHanded t.0 t.1.0
+  abbrev CopyWith : Phase → Txn × (Need × State Cell) → Type 0
+  CopyWith p t = CopyHanded (IsLocking p) t.0 t.1.0
 
-  pub copy_handed : (p : Phase) (ledger : State Cell) → (P → HasAll txn) → (P → are_copies p ≡ true) → CopyWith (copied_in p txn done ledger live last)
+  pub copy_handed : (p : Phase) (ledger : State Cell) → (P → HasAll txn) → (P → are_copies p ≡ true) → CopyWith p (copied_in p txn done ledger live last)
   copy_handed (phase.Copying sinks parts) ledger all fits =
       cond_both (is_heal txn.job) (record txn { outs = with_outs txn.size.n txn.outs done.outs; records = txn.records ++ done.records }) (record txn { outs = with_outs txn.size.n txn.outs done.outs })
-      (λ (after : Txn). CopyWith (cond (is_short after.outs after.size.n after.size.q) (kept (fail after ledger live last) ledger) (cond (is_left after sinks done.current) (kept (unlock after next.Again ledger live last) ledger) (copy_next after parts ledger live last))))
+      (λ (after : Txn). CopyWith (phase.Copying sinks parts) (cond (is_short after.outs after.size.n after.size.q) (kept (fail after ledger live last) ledger) (cond (is_left after sinks done.current) (kept (unlock after next.Again ledger live last) ledger) (copy_next after parts ledger live last))))
       (λ e. done_by (txn.records ++ done.records)) (λ e. done_by txn.records)
     where
       five : P → length (with_outs txn.size.n txn.outs done.outs).at ≡ 5
       five q = outs_five txn.size.n txn.outs done.outs (all q).outs_places
 
-      done_by : (records : List CopyRecord) → CopyWith (cond (is_short (with_outs txn.size.n txn.outs done.outs) txn.size.n txn.size.q) (kept (fail (record txn { outs = with_outs txn.size.n txn.outs done.outs; records = records }) ledger live last) ledger)
+      done_by : (records : List CopyRecord) → CopyWith (phase.Copying sinks parts) (cond (is_short (with_outs txn.size.n txn.outs done.outs) txn.size.n txn.size.q) (kept (fail (record txn { outs = with_outs txn.size.n txn.outs done.outs; records = records }) ledger live last) ledger)
           (cond (is_left (record txn { outs = with_outs txn.size.n txn.outs done.outs; records = records }) sinks done.current) (kept (unlock (record txn { outs = with_outs txn.size.n txn.outs done.outs; records = records }) next.Again ledger live last) ledger)
           (copy_next (record txn { outs = with_outs txn.size.n txn.outs done.outs; records = records }) parts ledger live last)))
       done_by records =
-          from_copy (with_outs txn.size.n txn.outs done.outs) records (λ j out h. all_outs txn.size.n txn.outs done.outs j out h) all five _
-          (noted_after P live last (record txn { outs = with_outs txn.size.n txn.outs done.outs; records = records }) sinks parts done.current ledger five)
+          from_copy ⊥ (with_outs txn.size.n txn.outs done.outs) records (λ j out h. all_outs txn.size.n txn.outs done.outs j out h) all five _
+          (noted_after P ⊥ live last (record txn { outs = with_outs txn.size.n txn.outs done.outs; records = records }) sinks parts done.current ledger five)
   copy_handed (phase.Locking at) ledger all fits = unmoved (phase.Locking at) all (λ q. absurd (true≢false (sym (fits q))))
   copy_handed (phase.Unlocking after) ledger all fits = unmoved (phase.Unlocking after) all (λ q. tt)
   copy_handed (phase.Fetching place from contents) ledger all fits = unmoved (phase.Fetching place from contents) all (λ q. tt)

@@ -33,7 +33,7 @@ use Rattle.afr_transaction.specs.Polls.{polled, short_of}
 use Rattle.afr_transaction.specs.Requests.{Keeps, HasGranted}
 use Rattle.afr_transaction.specs.Shapes.{is_asking, is_copying, suits, are_copies}
 use Rattle.afr_transaction.specs.Txns.{alive, io_of}
-use Rattle.txn_laws.specs.Granted.{rows_by, SendsNone, SendsSome, IsGrant, IsShowing, AnswersTake, CopiesTake, CoversIn, Follows, BeginsGrant, AnswersGrant, CopiesGrant, BeginsShow, AnswersShow, CopiesShow, BeginsConfirm, AnswersConfirm, CopiesConfirm, BeginsFollow, AnswersFollow, CopiesFollow}
+use Rattle.txn_laws.specs.Granted.{IsLocking, AnswersBegin, CopiesBegin, rows_by, SendsNone, SendsSome, IsGrant, IsShowing, AnswersTake, CopiesTake, CoversIn, Follows, BeginsGrant, AnswersGrant, CopiesGrant, BeginsShow, AnswersShow, CopiesShow, BeginsConfirm, AnswersConfirm, CopiesConfirm, BeginsFollow, AnswersFollow, CopiesFollow}
 use Rattle.txn_laws.specs.Outs.{IsOutBy, IsAmong, IsLostAs, WasLost, BeginsOut, AnswersOut, CopiesOut, BeginsLose, AnswersLose, CopiesLose}
 use Rattle.txn_laws.specs.Own.{BeginsStay, AnswersStay, CopiesStay}
 use Rattle.txn_laws.proofs.LostBy.{none_there, Lost, polled_since}
@@ -43,24 +43,24 @@ use Rattle.txn_laws.proofs.Idle.{suits_idle}
 
 -- ---- the begin
 
-begins_after : (P : Type 0) (live : Mask) (last : List ℕ) (size : Size) (set : SetPlan) (call : ℕ) (j : Job) (ledger : State Cell) → After P live last (fresh size set call j) (started (fresh size set call j) ledger live last)
-begins_after P live last size set call (job.Read cells fd dir) ledger = again_after P live last (fresh size set call (job.Read cells fd dir)) ledger (λ q. refl)
-begins_after P live last size set call (job.Change cells fd op effect) ledger = again_after P live last (fresh size set call (job.Change cells fd op effect)) ledger (λ q. refl)
-begins_after P live last size set call (job.Birth cells op) ledger = again_after P live last (fresh size set call (job.Birth cells op)) ledger (λ q. refl)
-begins_after P live last size set call (job.Heal cell) ledger = again_after P live last (fresh size set call (job.Heal cell)) ledger (λ q. refl)
+begins_after : (P : Type 0) (live : Mask) (last : List ℕ) (size : Size) (set : SetPlan) (call : ℕ) (j : Job) (ledger : State Cell) → After P ⊥ live last (fresh size set call j) (started (fresh size set call j) ledger live last)
+begins_after P live last size set call (job.Read cells fd dir) ledger = again_after P ⊥ live last (fresh size set call (job.Read cells fd dir)) ledger (λ q. refl)
+begins_after P live last size set call (job.Change cells fd op effect) ledger = again_after P ⊥ live last (fresh size set call (job.Change cells fd op effect)) ledger (λ q. refl)
+begins_after P live last size set call (job.Birth cells op) ledger = again_after P ⊥ live last (fresh size set call (job.Birth cells op)) ledger (λ q. refl)
+begins_after P live last size set call (job.Heal cell) ledger = again_after P ⊥ live last (fresh size set call (job.Heal cell)) ledger (λ q. refl)
 begins_after P live last size set call (job.Open fd gfid) ledger =
     let first : Txn = fresh size set call (job.Open fd gfid) in
     let txn : Txn = polled first live last in
-    since_after P live last first txn.outs (started first ledger live last) (polled_since P live last first.locks first.outs size.n size.few)
-    (cond_both (is_none (lowest (alive txn))) _ _ (After P live last txn)
-    (λ e. cond_both (is_short txn.outs txn.size.n txn.size.q) _ _ (After P live last txn) (λ s. over_after P live last txn (reply.Io (io_of txn))) (λ s. over_after P live last txn reply.Opened))
-    (λ e. asks_after P live last txn (alive txn) (req.Open fd gfid) phase.Opening (λ q. tt)))
+    since_after P ⊥ live last first txn.outs (started first ledger live last) (polled_since P live last first.locks first.outs size.n size.few)
+    (cond_both (is_none (lowest (alive txn))) _ _ (After P ⊥ live last txn)
+    (λ e. cond_both (is_short txn.outs txn.size.n txn.size.q) _ _ (After P ⊥ live last txn) (λ s. over_after P ⊥ live last txn (reply.Io (io_of txn))) (λ s. over_after P ⊥ live last txn reply.Opened))
+    (λ e. asks_after P ⊥ live last txn (alive txn) (req.Open fd gfid) phase.Opening (λ q. tt) (λ at e. absurd cc)))
 begins_after P live last size set call job.Index ledger =
     let first : Txn = fresh size set call job.Index in
     let txn : Txn = polled first live last in
-    since_after P live last first txn.outs (started first ledger live last) (polled_since P live last first.locks first.outs size.n size.few)
-    (cond_both (is_none (lowest (alive txn))) _ _ (After P live last txn) (λ e. over_after P live last txn (reply.Listed [] (mask_of txn.wave.confirmed) (short_of txn)))
-    (λ e. asks_after P live last txn (alive txn) req.Index (phase.Listing []) (λ q. tt)))
+    since_after P ⊥ live last first txn.outs (started first ledger live last) (polled_since P live last first.locks first.outs size.n size.few)
+    (cond_both (is_none (lowest (alive txn))) _ _ (After P ⊥ live last txn) (λ e. over_after P ⊥ live last txn (reply.Listed [] (mask_of txn.wave.confirmed) (short_of txn)))
+    (λ e. asks_after P ⊥ live last txn (alive txn) req.Index (phase.Listing []) (λ q. tt) (λ at e. absurd cc)))
 
 module _ (size : Size) (set : SetPlan) (call : ℕ) (j : Job) (ledger : State Cell) (live : Mask) (last : List ℕ) where
   abbrev first : Txn
@@ -70,7 +70,7 @@ module _ (size : Size) (set : SetPlan) (call : ℕ) (j : Job) (ledger : State Ce
   begun = started first ledger live last
 
   -- with nothing to be given
-  after : After (Unit {0}) live last first begun
+  after : After (Unit {0}) ⊥ live last first begun
   after = begins_after (Unit {0}) live last size set call j ledger
 
   none_by : ((begun.0.wave ≡ first.wave) × SendsNone begun.1) ⊎ ((begun.0.wave.confirmed ≡ no_flags) × SendsSome begun.1) → begun.0.wave.confirmed ≡ no_flags
@@ -99,22 +99,22 @@ module _ (size : Size) (set : SetPlan) (call : ℕ) (j : Job) (ledger : State Ce
   begun_closed k out (inr lost) = open_lost k (lost.why tt)
 
 pub begins_stay : BeginsStay
-begins_stay size set call j ledger live last = own_after (Unit {0}) live last (first size set call j ledger live last) (begun size set call j ledger live last) (after size set call j ledger live last)
+begins_stay size set call j ledger live last = own_after (Unit {0}) ⊥ live last (first size set call j ledger live last) (begun size set call j ledger live last) (after size set call j ledger live last)
 
 pub begins_grant : BeginsGrant
 begins_grant size set call j ledger live last k connection h =
-    none_there k connection (grants_after (Unit {0}) live last (first size set call j ledger live last) (begun size set call j ledger live last) (after size set call j ledger live last) k connection h)
+    none_there k connection (grants_after (Unit {0}) ⊥ live last (first size set call j ledger live last) (begun size set call j ledger live last) (after size set call j ledger live last) k connection h)
 
 pub begins_show : BeginsShow
 begins_show size set call j ledger live last k rows h =
-    rows_after (Unit {0}) live last (first size set call j ledger live last) (begun size set call j ledger live last) (after size set call j ledger live last) k rows h
+    rows_after (Unit {0}) ⊥ live last (first size set call j ledger live last) (begun size set call j ledger live last) (after size set call j ledger live last) k rows h
 
 pub begins_confirm : BeginsConfirm
 begins_confirm size set call j ledger live last = none_by size set call j ledger live last (after size set call j ledger live last).waits
 
 pub begins_follow : BeginsFollow
 begins_follow size set call j ledger live last =
-    follows_after (Unit {0}) live last (first size set call j ledger live last) (begun size set call j ledger live last) (after size set call j ledger live last) tt (first_all size set call j ledger live last)
+    follows_after (Unit {0}) ⊥ live last (first size set call j ledger live last) (begun size set call j ledger live last) (after size set call j ledger live last) tt (first_all size set call j ledger live last)
 
 pub begins_out : BeginsOut
 begins_out size set call j ledger live last k out h = begun_lost size set call j ledger live last k out ((after size set call j ledger live last).since.from k out h)
@@ -196,11 +196,14 @@ answers_follow txn k mark r ledger live last asking keeps asked follows = (stric
 pub answers_take : AnswersTake
 answers_take txn k mark r ledger live last asking keeps asked follows = (strict txn k mark r ledger live last asking keeps asked follows).wave tt
 
+pub answers_begin : AnswersBegin
+answers_begin txn k mark at r ledger live last e = (loose txn k mark r ledger live last).anew at e
+
 -- ---- copies
 
 module _ (txn : Txn) (done : CopyDone) (ledger : State Cell) (live : Mask) (last : List ℕ) where
   abbrev Copy : Type 0 → Type 0
-  Copy P = CopyHanded P live last (idle txn) done (copied txn done ledger live last).0 (copied txn done ledger live last).1.0
+  Copy P = CopyHanded P live last (idle txn) done (IsLocking txn.phase) (copied txn done ledger live last).0 (copied txn done ledger live last).1.0
 
   loose_copy : Copy ⊥
   loose_copy = copy_handed ⊥ live last (idle txn) done txn.phase ledger (λ q. absurd q) (λ q. absurd q)
@@ -240,6 +243,9 @@ copies_show txn done ledger live last j rows h = (loose_copy txn done ledger liv
 
 pub copies_confirm : CopiesConfirm
 copies_confirm txn done ledger live last j h = (loose_copy txn done ledger live last).confirmed j h
+
+pub copies_begin : CopiesBegin
+copies_begin txn done ledger live last at e = (loose_copy txn done ledger live last).anew at e
 
 pub copies_take : CopiesTake
 copies_take txn done ledger live last = (loose_copy txn done ledger live last).wave

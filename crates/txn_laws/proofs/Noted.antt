@@ -60,8 +60,8 @@ use Rattle.txn_laws.specs.Granted.{CoversIn, SendsNone, SendsSome}
 use Rattle.txn_laws.specs.Outs.{WasLost}
 use Rattle.txn_laws.proofs.LostBy.{Since, Lost, same, both_since, noted_since, IsStepSince, step_since, Covers, none_there}
 
--- what a turn leaves of a job that had these values, where P holds
-pub record Later (P : Type 0) (live : Mask) (last : List ℕ) (set : ℕ) (size : Size) (bricks : List ℕ) (call : ℕ) (job : Job) (outs : Outs) (locks : Locks) (rows : List (Option (List Row))) (cells : List Cell) (wave : Wave) (a : Txn) (turned : Need) : Type 0 where
+-- what a turn leaves of a job that had these values, where P holds; it may go on with a lock phase where T holds
+pub record Later (P T : Type 0) (live : Mask) (last : List ℕ) (set : ℕ) (size : Size) (bricks : List ℕ) (call : ℕ) (job : Job) (outs : Outs) (locks : Locks) (rows : List (Option (List Row))) (cells : List Cell) (wave : Wave) (a : Txn) (turned : Need) : Type 0 where
   pub set_is : a.set ≡ set
   pub size_is : a.size ≡ size
   pub bricks_is : a.bricks ≡ bricks
@@ -71,21 +71,26 @@ pub record Later (P : Type 0) (live : Mask) (last : List ℕ) (set : ℕ) (size 
   pub known : ((a.locks ≡ locks) × ((a.shown.rows ≡ rows) × (a.cells ≡ cells))) ⊎ ((a.locks ≡ no_locks) × (a.shown.rows ≡ nothing_shown.rows))
   pub waits : ((a.wave ≡ wave) × SendsNone turned) ⊎ ((a.wave.confirmed ≡ no_flags) × SendsSome turned)
   pub covers : P → CoversIn a.phase a
+  pub anew : (at : ℕ) → a.phase ≡ phase.Locking at → T ⊎ ((a.locks ≡ no_locks) × (a.shown.rows ≡ nothing_shown.rows))
 
-module _ (P : Type 0) (live : Mask) (last : List ℕ) where
+module _ (P T : Type 0) (live : Mask) (last : List ℕ) where
   abbrev pub After : Txn → Txn × Need → Type 0
-  After txn t = Later P live last txn.set txn.size txn.bricks txn.call txn.job txn.outs txn.locks txn.shown.rows txn.cells txn.wave t.0 t.1
+  After txn t = Later P T live last txn.set txn.size txn.bricks txn.call txn.job txn.outs txn.locks txn.shown.rows txn.cells txn.wave t.0 t.1
 
   abbrev pub AfterWith : Txn → Txn × (Need × State Cell) → Type 0
-  AfterWith txn t = Later P live last txn.set txn.size txn.bricks txn.call txn.job txn.outs txn.locks txn.shown.rows txn.cells txn.wave t.0 t.1.0
+  AfterWith txn t = Later P T live last txn.set txn.size txn.bricks txn.call txn.job txn.outs txn.locks txn.shown.rows txn.cells txn.wave t.0 t.1.0
 
   abbrev pub Five : Txn → Type 0
   Five txn = P → length txn.outs.at ≡ 5
 
   -- ---- no more than a phase and what it sends
 
-  leaf : (txn : Txn) (wave : Wave) (p : Phase) (turned : Need) → ((wave ≡ txn.wave) × SendsNone turned) ⊎ ((wave.confirmed ≡ no_flags) × SendsSome turned) → (P → CoversIn p (record txn { wave = wave; phase = p })) → After txn (record txn { wave = wave; phase = p }, turned)
-  leaf txn wave p turned waits covers = record {
+  -- no lock is asked
+  abbrev NoLock : Txn → Phase → Type 0
+  NoLock txn p = (at : ℕ) → p ≡ phase.Locking at → T ⊎ ((txn.locks ≡ no_locks) × (txn.shown.rows ≡ nothing_shown.rows))
+
+  leaf : (txn : Txn) (wave : Wave) (p : Phase) (turned : Need) → ((wave ≡ txn.wave) × SendsNone turned) ⊎ ((wave.confirmed ≡ no_flags) × SendsSome turned) → (P → CoversIn p (record txn { wave = wave; phase = p })) → NoLock txn p → After txn (record txn { wave = wave; phase = p }, turned)
+  leaf txn wave p turned waits covers anew = record {
     set_is = refl;
     size_is = refl;
     bricks_is = refl;
@@ -95,16 +100,17 @@ module _ (P : Type 0) (live : Mask) (last : List ℕ) where
     known = inl (refl, (refl, refl));
     waits = waits;
     covers = covers;
+    anew = anew;
   }
 
   pub over_after : (txn : Txn) (r : SetReply) → After txn (over txn r)
-  over_after txn r = leaf txn txn.wave phase.Over (need.Reply r) (inl (refl, tt)) (λ p. tt)
+  over_after txn r = leaf txn txn.wave phase.Over (need.Reply r) (inl (refl, tt)) (λ p. tt) (λ at e. absurd cc)
 
-  pub asks_after : (txn : Txn) (to : List Bool) (r : BrickReq) (p : Phase) → (P → CoversIn p (record txn { wave = sent_to to; phase = p })) → After txn (asking txn to r p)
-  asks_after txn to r p covers = leaf txn (sent_to to) p (asking txn to r p).1 (inr (refl, tt)) covers
+  pub asks_after : (txn : Txn) (to : List Bool) (r : BrickReq) (p : Phase) → (P → CoversIn p (record txn { wave = sent_to to; phase = p })) → NoLock txn p → After txn (asking txn to r p)
+  asks_after txn to r p covers anew = leaf txn (sent_to to) p (asking txn to r p).1 (inr (refl, tt)) covers anew
 
-  pub waits_after : (txn : Txn) (p : Phase) → (P → CoversIn p (record txn { phase = p })) → After txn (waiting txn p)
-  waits_after txn p covers = leaf txn txn.wave p need.Wait (inl (refl, tt)) covers
+  pub waits_after : (txn : Txn) (p : Phase) → (P → CoversIn p (record txn { phase = p })) → NoLock txn p → After txn (waiting txn p)
+  waits_after txn p covers anew = leaf txn txn.wave p need.Wait (inl (refl, tt)) covers anew
 
   -- after more are out
   pub since_after : (txn : Txn) (outs : Outs) (t : Txn × Need) → Since P live last txn.locks txn.outs outs → After (record txn { outs = outs }) t → After txn t
@@ -118,6 +124,7 @@ module _ (P : Type 0) (live : Mask) (last : List ℕ) where
     known = l.known;
     waits = l.waits;
     covers = l.covers;
+    anew = l.anew;
   }
 
   pub ending_after : (txn : Txn) → After txn (ending txn)
@@ -127,12 +134,12 @@ module _ (P : Type 0) (live : Mask) (last : List ℕ) where
 
   -- ---- a lock phase begins
 
-  first_after : (txn : Txn) (t : Outs × LockStep) → IsStepSince P live last txn.size.n txn.size.q txn.size.few txn.locks txn.outs t → After txn (first_step txn t)
-  first_after txn (outs, step.Ask k) h =
+  first_after : (txn : Txn) (t : Outs × LockStep) → IsStepSince P live last txn.size.n txn.size.q txn.size.few txn.locks txn.outs t → (txn.locks ≡ no_locks) × (txn.shown.rows ≡ nothing_shown.rows) → After txn (first_step txn t)
+  first_after txn (outs, step.Ask k) h none =
       since_after txn outs (first_step txn (outs, step.Ask k)) h.0
-      (asks_after (record txn { outs = outs }) (only k) (req.Lock txn.call (is_read txn.job && is_none txn.settles) txn.cells) (phase.Locking k) h.1)
-  first_after txn (outs, step.Short) h = since_after txn outs (first_step txn (outs, step.Short)) h (ending_after (record txn { outs = outs }))
-  first_after txn (outs, step.Reached) h = since_after txn outs (first_step txn (outs, step.Reached)) h (ending_after (record txn { outs = outs }))
+      (asks_after (record txn { outs = outs }) (only k) (req.Lock txn.call (is_read txn.job && is_none txn.settles) txn.cells) (phase.Locking k) h.1 (λ at e. inr none))
+  first_after txn (outs, step.Short) h none = since_after txn outs (first_step txn (outs, step.Short)) h (ending_after (record txn { outs = outs }))
+  first_after txn (outs, step.Reached) h none = since_after txn outs (first_step txn (outs, step.Reached)) h (ending_after (record txn { outs = outs }))
 
   anew_since : (locks : Locks) (before after : Outs) → Since P live last no_locks before after → Since P live last locks before after
   anew_since locks before after f = record { from = λ j out h. by j out (f.from j out h); stay = f.stay } where
@@ -155,6 +162,7 @@ module _ (P : Type 0) (live : Mask) (last : List ℕ) where
     known = inr (by l.known);
     waits = l.waits;
     covers = l.covers;
+    anew = l.anew;
   } where
     by : ((t.0.locks ≡ no_locks) × ((t.0.shown.rows ≡ nothing_shown.rows) × (t.0.cells ≡ cells))) ⊎ ((t.0.locks ≡ no_locks) × (t.0.shown.rows ≡ nothing_shown.rows)) → (t.0.locks ≡ no_locks) × (t.0.shown.rows ≡ nothing_shown.rows)
     by (inl h) = (h.0, h.1.0)
@@ -164,7 +172,7 @@ module _ (P : Type 0) (live : Mask) (last : List ℕ) where
   again_after txn ledger five =
       anew_after txn (cells_for txn ledger (to_settle txn ledger)) (to_settle txn ledger) (again txn ledger live last)
       (first_after (record txn { cells = cells_for txn ledger (to_settle txn ledger); settles = to_settle txn ledger; locks = no_locks; shown = nothing_shown })
-      (next_lock txn.outs no_locks txn.size.n txn.size.q 0 live last) (step_since P live last txn.size.n txn.size.q txn.size.few no_locks txn.outs 0 five (λ p j low. absurd (omega arith))))
+      (next_lock txn.outs no_locks txn.size.n txn.size.q 0 live last) (step_since P live last txn.size.n txn.size.q txn.size.few no_locks txn.outs 0 five (λ p j low. absurd (omega arith))) (refl, refl))
 
   -- ---- a lock phase ends
 
@@ -179,7 +187,7 @@ module _ (P : Type 0) (live : Mask) (last : List ℕ) where
   unlock_after txn after ledger five =
       since_after txn (lost_noted txn live last).outs (unlock txn after ledger live last) (noted_since P live last txn.locks txn.outs txn.size.n txn.size.few)
       (cond_both (is_none (lowest (standing txn.locks live last))) _ _ (After (lost_noted txn live last)) (λ e. going_after (lost_noted txn live last) after ledger (noted_five txn five))
-      (λ e. asks_after (lost_noted txn live last) (standing txn.locks live last) (req.Unlock txn.call) (phase.Unlocking after) (λ p. tt)))
+      (λ e. asks_after (lost_noted txn live last) (standing txn.locks live last) (req.Unlock txn.call) (phase.Unlocking after) (λ p. tt) (λ at e. absurd cc)))
 
   pub fail_after : (txn : Txn) (ledger : State Cell) → Five txn → After txn (fail txn ledger live last)
   fail_after txn ledger five =
@@ -191,7 +199,7 @@ module _ (P : Type 0) (live : Mask) (last : List ℕ) where
   module _ (txn : Txn) (ledger : State Cell) (five : Five txn) where
     fetching_after : (place : ℕ) (contents : List (Option Content)) (cell : Cell) (from : Option ℕ) → After txn (fetching txn place contents cell from ledger live last)
     fetching_after place contents cell None = unlock_after txn next.Again ledger five
-    fetching_after place contents cell (Some k) = asks_after txn (only k) (req.Fetch (fd_of txn.job) cell) (phase.Fetching place k contents) (λ p. tt)
+    fetching_after place contents cell (Some k) = asks_after txn (only k) (req.Fetch (fd_of txn.job) cell) (phase.Fetching place k contents) (λ p. tt) (λ at e. absurd cc)
 
     at_after : (place : ℕ) (contents : List (Option Content)) (cell : Option Cell) → After txn (fetch_at txn place contents cell ledger live last)
     at_after place contents None = unlock_after txn (next.Answer (reply.Contents contents place)) ledger five
@@ -208,7 +216,7 @@ module _ (P : Type 0) (live : Mask) (last : List ℕ) where
 
     mark_after : AfterWith txn (marking txn ledger live last)
     mark_after =
-        cond_both (has_number ledger) _ _ (AfterWith txn) (λ e. asks_after txn (alive txn) (req.Mark (ledger.drawn + 1) txn.cells) (phase.Marking (ledger.drawn + 1)) (λ p. tt))
+        cond_both (has_number ledger) _ _ (AfterWith txn) (λ e. asks_after txn (alive txn) (req.Mark (ledger.drawn + 1) txn.cells) (phase.Marking (ledger.drawn + 1)) (λ p. tt) (λ at e. absurd cc))
         (λ e. fail_after txn ledger five)
 
     all_after : AfterWith txn (copied_all txn ledger live last)
@@ -220,7 +228,7 @@ module _ (P : Type 0) (live : Mask) (last : List ℕ) where
     by_after : (t : Option Part × List Part) → AfterWith txn (copy_by txn t ledger live last)
     by_after (None, parts) = all_after
     by_after (Some part, parts) =
-        cond_both (has_source txn part) _ _ (AfterWith txn) (λ e. leaf txn txn.wave (phase.Copying (sinks_left txn part) parts) (copying txn part parts).1 (inl (refl, tt)) (λ p. tt)) (λ e. unlock_after txn next.Again ledger five)
+        cond_both (has_source txn part) _ _ (AfterWith txn) (λ e. leaf txn txn.wave (phase.Copying (sinks_left txn part) parts) (copying txn part parts).1 (inl (refl, tt)) (λ p. tt) (λ at e. absurd cc)) (λ e. unlock_after txn next.Again ledger five)
 
     next_after : (parts : List Part) → AfterWith txn (copy_next txn parts ledger live last)
     next_after parts = by_after (next_part txn parts)
@@ -236,11 +244,11 @@ module _ (P : Type 0) (live : Mask) (last : List ℕ) where
     source_after change None = split_after
     source_after change (Some source) =
         let group : List Bool = group_of txn change (common_of txn) source in
-        asks_after txn (alive txn) (req.Settle txn.cells (mask_of (outside txn.size.n group))) (phase.Settling (record { change = change; held = has_it txn change source; group = group; decided = false })) (λ p. tt)
+        asks_after txn (alive txn) (req.Settle txn.cells (mask_of (outside txn.size.n group))) (phase.Settling (record { change = change; held = has_it txn change source; group = group; decided = false })) (λ p. tt) (λ at e. absurd cc)
 
     bear_after : (op : Option StoreOp) → After txn (bearing_by op txn ledger live last)
     bear_after None = unlock_after txn next.Again ledger five
-    bear_after (Some op) = asks_after txn (alive txn) (req.Op 0 0 op) phase.Bearing (λ p. tt)
+    bear_after (Some op) = asks_after txn (alive txn) (req.Op 0 0 op) phase.Bearing (λ p. tt) (λ at e. absurd cc)
 
     kind_after : (k : Kind) → AfterWith txn (ready_by k txn ledger live last)
     kind_after kind.Read = read_after
@@ -260,36 +268,36 @@ module _ (P : Type 0) (live : Mask) (last : List ℕ) where
   with_ledger : (txn : Txn) (outs : Outs) (t : Txn × (Need × State Cell)) → Since P live last txn.locks txn.outs outs → AfterWith (record txn { outs = outs }) t → AfterWith txn t
   with_ledger txn outs t f l = since_after txn outs (t.0, t.1.0) f l
 
-  step_after : (txn : Txn) (t : Outs × LockStep) (ledger : State Cell) → IsStepSince P live last txn.size.n txn.size.q txn.size.few txn.locks txn.outs t → (P → length t.0.at ≡ 5) → AfterWith txn (lock_step txn t ledger live last)
-  step_after txn (outs, step.Ask k) ledger h five =
+  step_after : (txn : Txn) (t : Outs × LockStep) (ledger : State Cell) → IsStepSince P live last txn.size.n txn.size.q txn.size.few txn.locks txn.outs t → (P → length t.0.at ≡ 5) → T → AfterWith txn (lock_step txn t ledger live last)
+  step_after txn (outs, step.Ask k) ledger h five on =
       with_ledger txn outs (lock_step txn (outs, step.Ask k) ledger live last) h.0
-      (asks_after (record txn { outs = outs }) (only k) (req.Lock txn.call (is_read txn.job && is_none txn.settles) txn.cells) (phase.Locking k) h.1)
-  step_after txn (outs, step.Short) ledger h five = with_ledger txn outs (lock_step txn (outs, step.Short) ledger live last) h (fail_after (record txn { outs = outs }) ledger five)
-  step_after txn (outs, step.Reached) ledger h five = with_ledger txn outs (lock_step txn (outs, step.Reached) ledger live last) h (for_after (reached (record txn { outs = outs })) ledger five txn.settles)
+      (asks_after (record txn { outs = outs }) (only k) (req.Lock txn.call (is_read txn.job && is_none txn.settles) txn.cells) (phase.Locking k) h.1 (λ at e. inl on))
+  step_after txn (outs, step.Short) ledger h five on = with_ledger txn outs (lock_step txn (outs, step.Short) ledger live last) h (fail_after (record txn { outs = outs }) ledger five)
+  step_after txn (outs, step.Reached) ledger h five on = with_ledger txn outs (lock_step txn (outs, step.Reached) ledger live last) h (for_after (reached (record txn { outs = outs })) ledger five txn.settles)
 
   -- ---- phases that go to several replicas, from the answer on
 
-  pub lock_on_after : (txn : Txn) (from : ℕ) (ledger : State Cell) → Five txn → (P → Covers P live last txn.locks txn.outs from) → AfterWith txn (lock_on txn from ledger live last)
-  lock_on_after txn from ledger five covers =
+  pub lock_on_after : (txn : Txn) (from : ℕ) (ledger : State Cell) → Five txn → (P → Covers P live last txn.locks txn.outs from) → T → AfterWith txn (lock_on txn from ledger live last)
+  lock_on_after txn from ledger five covers on =
       step_after txn (next_lock txn.outs txn.locks txn.size.n txn.size.q from live last) ledger (step_since P live last txn.size.n txn.size.q txn.size.few txn.locks txn.outs from five covers)
-      (λ p. step_places txn.size.n txn.size.q from txn.outs txn.locks live last (five p))
+      (λ p. step_places txn.size.n txn.size.q from txn.outs txn.locks live last (five p)) on
 
   module _ (txn : Txn) (ledger : State Cell) (five : Five txn) where
     write_after : (op : Option (ℕ × StoreOp)) (change : ℕ) → AfterWith txn (write_by op txn change ledger live last)
     write_after None change = unlock_after txn next.Again ledger five
     write_after (Some op) change =
-        cond_both (may_begin txn change ledger) _ _ (AfterWith txn) (λ e. asks_after txn (alive txn) (req.Op change op.0 op.1) (phase.Writing change) (λ p. tt)) (λ e. unlock_after txn next.Again ledger five)
+        cond_both (may_begin txn change ledger) _ _ (AfterWith txn) (λ e. asks_after txn (alive txn) (req.Op change op.0 op.1) (phase.Writing change) (λ p. tt) (λ at e. absurd cc)) (λ e. unlock_after txn next.Again ledger five)
 
     pub marking_after : (change : ℕ) → AfterWith txn (mark_answered txn change ledger live last)
     marking_after change =
-        cond_both (not (is_over txn.wave)) _ _ (AfterWith txn) (λ e. waits_after txn (phase.Marking change) (λ p. tt))
+        cond_both (not (is_over txn.wave)) _ _ (AfterWith txn) (λ e. waits_after txn (phase.Marking change) (λ p. tt) (λ at e. absurd cc))
         (λ e. cond_both (is_short txn.outs txn.size.n txn.size.q) _ _ (AfterWith txn) (λ s. fail_after txn ledger five) (λ s. write_after (change_op txn.job) change))
 
     pub writing_after : (change : ℕ) → After txn (write_answered txn change ledger live last)
     writing_after change =
-        cond_both (not (is_over txn.wave)) _ _ (After txn) (λ e. waits_after txn (phase.Writing change) (λ p. tt))
+        cond_both (not (is_over txn.wave)) _ _ (After txn) (λ e. waits_after txn (phase.Writing change) (λ p. tt) (λ at e. absurd cc))
         (λ e. cond_both (is_short txn.outs txn.size.n txn.size.q) _ _ (After txn) (λ s. fail_after txn ledger five)
-        (λ s. asks_after txn (alive txn) (req.Post change txn.cells (mask_of (outside txn.size.n (alive txn)))) (phase.Posting change None) (λ p. tt)))
+        (λ s. asks_after txn (alive txn) (req.Post change txn.cells (mask_of (outside txn.size.n (alive txn)))) (phase.Posting change None) (λ p. tt) (λ at e. absurd cc)))
 
     ended_after : (adopted : Option Adopted) (after : State Cell) → After txn (post_ended txn adopted after live last)
     ended_after None after = fail_after txn after five
@@ -298,24 +306,24 @@ module _ (P : Type 0) (live : Mask) (last : List ℕ) where
     pub posting_after : (change : ℕ) (adopted : Option Adopted) → AfterWith txn (post_answered txn change adopted ledger live last)
     posting_after change adopted =
         cond_both (is_over txn.wave) _ _ (AfterWith txn) (λ e. ended_after (post_decided txn change adopted ledger).0 (post_decided txn change adopted ledger).1)
-        (λ e. waits_after txn (phase.Posting change (post_decided txn change adopted ledger).0) (λ p. tt))
+        (λ e. waits_after txn (phase.Posting change (post_decided txn change adopted ledger).0) (λ p. tt) (λ at e. absurd cc))
 
     pub bearing_after : After txn (birth_answered txn ledger live last)
     bearing_after =
-        cond_both (not (is_over txn.wave)) _ _ (After txn) (λ e. waits_after txn phase.Bearing (λ p. tt))
+        cond_both (not (is_over txn.wave)) _ _ (After txn) (λ e. waits_after txn phase.Bearing (λ p. tt) (λ at e. absurd cc))
         (λ e. cond_both (is_short txn.outs txn.size.n txn.size.q) _ _ (After txn) (λ s. fail_after txn ledger five) (λ s. unlock_after txn (next.Answer (reply.Decided None)) ledger five))
 
     pub releasing_after : (after : Then) → After txn (unlock_answered txn after ledger live last)
-    releasing_after after = cond_both (not (is_over txn.wave)) _ _ (After txn) (λ e. waits_after txn (phase.Unlocking after) (λ p. tt)) (λ e. going_after txn after ledger five)
+    releasing_after after = cond_both (not (is_over txn.wave)) _ _ (After txn) (λ e. waits_after txn (phase.Unlocking after) (λ p. tt) (λ at e. absurd cc)) (λ e. going_after txn after ledger five)
 
     pub opening_after : After txn (open_answered txn)
     opening_after =
-        cond_both (not (is_over txn.wave)) _ _ (After txn) (λ e. waits_after txn phase.Opening (λ p. tt))
+        cond_both (not (is_over txn.wave)) _ _ (After txn) (λ e. waits_after txn phase.Opening (λ p. tt) (λ at e. absurd cc))
         (λ e. cond_both (is_short txn.outs txn.size.n txn.size.q) _ _ (After txn) (λ s. over_after txn (reply.Io (io_of txn))) (λ s. over_after txn reply.Opened))
 
     pub listing_after : (all : List Cell) → After txn (cond (not (is_over txn.wave)) (waiting txn (phase.Listing all)) (list_ended txn all))
     listing_after all =
-        cond_both (not (is_over txn.wave)) _ _ (After txn) (λ e. waits_after txn (phase.Listing all) (λ p. tt)) (λ e. over_after txn (reply.Listed all (mask_of txn.wave.confirmed) (short_of txn)))
+        cond_both (not (is_over txn.wave)) _ _ (After txn) (λ e. waits_after txn (phase.Listing all) (λ p. tt) (λ at e. absurd cc)) (λ e. over_after txn (reply.Listed all (mask_of txn.wave.confirmed) (short_of txn)))
 
   module _ (txn : Txn) (five : Five txn) where
     group_after : (group : List Bool) (decided : Bool) (after : State Cell) → AfterWith txn (settle_ended txn group decided after live last)
@@ -323,7 +331,7 @@ module _ (P : Type 0) (live : Mask) (last : List ℕ) where
 
     pub settling_after : (verdict : Verdict) (ledger : State Cell) → AfterWith txn (settle_answered txn verdict ledger live last)
     settling_after verdict ledger =
-        cond_both (not (is_over txn.wave)) _ _ (AfterWith txn) (λ e. waits_after txn (phase.Settling (record verdict { decided = (settle_decided txn verdict ledger).0 })) (λ p. tt))
+        cond_both (not (is_over txn.wave)) _ _ (AfterWith txn) (λ e. waits_after txn (phase.Settling (record verdict { decided = (settle_decided txn verdict ledger).0 })) (λ p. tt) (λ at e. absurd cc))
         (λ e. group_after verdict.group (settle_decided txn verdict ledger).0 (settle_decided txn verdict ledger).1)
 
   -- ---- a copy that is done

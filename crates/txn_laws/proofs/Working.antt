@@ -602,7 +602,7 @@ module _ (P : Type 0) (live : Mask) (last : List ℕ) (txn : Txn) (ledger : Stat
 -- it is this job: it is after the turn what it was before, and so is a job that begins again
 this_again : (txn : Txn) (ledger : State Cell) (live : Mask) (last : List ℕ) (after : Txn) (turned : Need) → IsOwn txn after → BeginsAgain ledger live last after turned → Again txn ledger live last after turned
 this_again txn ledger live last after turned own h =
-    let redo = own_after ⊥ live last h.job (again h.job ledger live last) (again_after ⊥ live last h.job ledger (λ q. absurd q)) in
+    let redo = own_after ⊥ ⊥ live last h.job (again h.job ledger live last) (again_after ⊥ ⊥ live last h.job ledger (λ q. absurd q)) in
     record {
       job = h.job;
       own = record {

@@ -102,6 +102,38 @@ AnswersShow = (txn : Txn) (k mark : ℕ) (rep : BrickRep) (ledger : State Cell) 
 abbrev pub CopiesShow : Type 0
 CopiesShow = (txn : Txn) (done : CopyDone) (ledger : State Cell) (live : Mask) (last : List ℕ) → AreShownSince txn.shown (copied txn done ledger live last).0.shown
 
+-- ---- a lock phase begins
+
+-- A turn out of another phase that comes to a lock phase begins it: there are no grants and no rows.
+abbrev pub IsLocking : Phase → Type 0
+IsLocking (phase.Locking at) = Unit {0}
+IsLocking (phase.Unlocking after) = ⊥
+IsLocking (phase.Fetching place from contents) = ⊥
+IsLocking (phase.Copying sinks rest) = ⊥
+IsLocking (phase.Marking change) = ⊥
+IsLocking (phase.Writing change) = ⊥
+IsLocking (phase.Posting change adopted) = ⊥
+IsLocking (phase.Settling verdict) = ⊥
+IsLocking phase.Bearing = ⊥
+IsLocking phase.Opening = ⊥
+IsLocking (phase.Listing all) = ⊥
+IsLocking phase.Over = ⊥
+
+-- nothing is known of the replicas
+pub record KnowsNone (txn : Txn) : Type 0 where
+  pub locks : (j connection : ℕ) → slice_index_or txn.locks.at j None ≡ Some connection → ⊥
+  pub rows : (j : ℕ) (rows : List Row) → rows_by txn.shown j ≡ Some rows → ⊥
+
+abbrev pub AnswersBegin : Type 0
+AnswersBegin = (txn : Txn) (k mark at : ℕ) (rep : BrickRep) (ledger : State Cell) (live : Mask) (last : List ℕ)
+    → (answered txn k rep mark ledger live last).0.phase ≡ phase.Locking at
+    → IsLocking txn.phase ⊎ KnowsNone (answered txn k rep mark ledger live last).0
+
+abbrev pub CopiesBegin : Type 0
+CopiesBegin = (txn : Txn) (done : CopyDone) (ledger : State Cell) (live : Mask) (last : List ℕ) (at : ℕ)
+    → (copied txn done ledger live last).0.phase ≡ phase.Locking at
+    → IsLocking txn.phase ⊎ KnowsNone (copied txn done ledger live last).0
+
 -- ---- confirmations
 
 -- the turn sends nothing: if it waits, then for what was asked before

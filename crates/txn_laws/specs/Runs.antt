@@ -32,7 +32,7 @@ use Rattle.afr_transaction.specs.Moves.{IsMove}
 use Rattle.afr_transaction.specs.Ops.{OpsAreConfirmed}
 use Rattle.afr_transaction.specs.Requests.{PostsAccuse, Sends}
 use Rattle.afr_transaction.specs.Shapes.{AfterAnswer, GoesOn}
-use Rattle.txn_laws.specs.Granted.{is_as_asked, rows_by, IsGrant, IsShowing}
+use Rattle.txn_laws.specs.Granted.{is_as_asked, rows_by, IsGrant, IsLocking, IsShowing, KnowsNone}
 use Rattle.txn_laws.specs.Laws.{PostTurn, SettleTurn}
 use Rattle.txn_laws.specs.Outs.{IsAmong, IsOutBy, WasLost}
 use Rattle.txn_laws.specs.Own.{IsOwn}
@@ -110,6 +110,7 @@ pub record AnswerIsLawful (txn : Txn) (k mark : ℕ) (rep : BrickRep) (ledger : 
   pub outs : (j : ℕ) (out : Out) → slice_index_or t.0.outs.at j None ≡ Some out → (slice_index_or txn.outs.at j None ≡ Some out) ⊎ (IsOutBy txn k mark rep j out ⊎ WasLost txn.locks live last j)
   pub grants : (j connection : ℕ) → slice_index_or t.0.locks.at j None ≡ Some connection → (slice_index_or txn.locks.at j None ≡ Some connection) ⊎ IsGrant txn k rep last j connection
   pub rows : (j : ℕ) (rows : List Row) → rows_by t.0.shown j ≡ Some rows → (rows_by txn.shown j ≡ Some rows) ⊎ IsShowing txn k rep j rows
+  pub begins : (at : ℕ) → t.0.phase ≡ phase.Locking at → IsLocking txn.phase ⊎ KnowsNone t.0
   pub causes : IsKeptOrHasCause (reply_in txn.phase) t.0 t.1.1 t.1.0
   pub splits : (number : ℕ) (rows : List SplitRow) → reply_in txn.phase ≡ None → reply_of t.0 t.1.0 ≡ Some (reply.Io (io.Split number rows)) → SplitHasQuorum txn t.0 t.1.1 (io.Split number rows)
 
@@ -120,6 +121,7 @@ pub record CopyIsLawful (txn : Txn) (done : CopyDone) (ledger : State Cell) (liv
   pub sends : Sends t.0 t.1.0
   pub moves : (t.1.1 ≡ ledger) ⊎ (t.1.1 ≡ with_number ledger)
   pub outs : (j : ℕ) (out : Out) → slice_index_or t.0.outs.at j None ≡ Some out → (slice_index_or txn.outs.at j None ≡ Some out) ⊎ (IsAmong out done.outs ⊎ WasLost txn.locks live last j)
+  pub begins : (at : ℕ) → t.0.phase ≡ phase.Locking at → IsLocking txn.phase ⊎ KnowsNone t.0
   pub causes : DecidedHasCause t.0 t.1.1 (reply_of t.0 t.1.0)
   pub splits : (number : ℕ) (rows : List SplitRow) → reply_of t.0 t.1.0 ≡ Some (reply.Io (io.Split number rows)) → ⊥
 

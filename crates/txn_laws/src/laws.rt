@@ -1,7 +1,7 @@
 ghost use Rattle.afr_transaction.specs.Causes.{BeginsHaveCauses, AnswersHaveCauses, CopiesHaveCauses};
 ghost use Rattle.txn_laws.specs.Ends.{JobsEnd};
 ghost use Rattle.txn_laws.specs.Free.{SplitsLackFree};
-ghost use Rattle.txn_laws.specs.Granted.{BeginsGrant, AnswersGrant, CopiesGrant, BeginsShow, AnswersShow, CopiesShow, BeginsConfirm, AnswersConfirm, CopiesConfirm, AnswersTake, CopiesTake, BeginsFollow, AnswersFollow, CopiesFollow};
+ghost use Rattle.txn_laws.specs.Granted.{BeginsGrant, AnswersGrant, CopiesGrant, BeginsShow, AnswersShow, CopiesShow, BeginsConfirm, AnswersConfirm, CopiesConfirm, AnswersTake, CopiesTake, BeginsFollow, AnswersFollow, CopiesFollow, AnswersBegin, CopiesBegin};
 ghost use Rattle.txn_laws.specs.Laws.{PostsDecideInTurns, SettlesDecideInTurns, PostsStayDecided, SettlesStayDecided, DecidesAtQuorum};
 ghost use Rattle.txn_laws.specs.Outs.{BeginsOut, AnswersOut, CopiesOut, BeginsLose, AnswersLose, CopiesLose};
 ghost use Rattle.txn_laws.specs.Own.{BeginsStay, AnswersStay, CopiesStay};
@@ -151,11 +151,14 @@ pub fn confirmations_are_handed_in()
 {}
 
 /// Each turn keeps what these laws rest on: in a lock phase each replica before the one that is asked is out, or has granted its
-/// lock; and each that has granted its lock has shown a row for each cell. The call does nothing: its contract exports this.
+/// lock; and each that has granted its lock has shown a row for each cell. A lock phase that begins after another phase has no
+/// grants and no rows. The call does nothing: its contract exports this.
 pub fn lock_phases_follow()
     ensures begin { BeginsFollow }
     ensures answers { AnswersFollow }
     ensures copies { CopiesFollow }
+    ensures begins { AnswersBegin }
+    ensures begins_after_copies { CopiesBegin }
 {}
 
 /// The laws of a turn hold of each turn of a run, from the begin of a job on, by whatever answers of replicas that are asked and
