@@ -1,4 +1,5 @@
 pub mod Counts
+pub mod Draws
 pub mod Elsewhere
 pub mod Ending
 pub mod Failures

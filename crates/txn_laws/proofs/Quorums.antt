@@ -132,7 +132,7 @@ module _ (txn : Txn) (live : Mask) (last : List ℕ) (settles : is_some txn.sett
   part_leaves ledger (None, parts) = all_leave ledger
   part_leaves ledger (Some part, parts) = cond_both (has_source txn part) _ _ (λ (t : Txn × (Need × State Cell)). t.1.1 ≡ ledger) (λ e. refl) (λ e. refl)
 
-  ended_leaves : (group : List Bool) (done : Bool) (after : State Cell) → (settle_ended txn group done after live last).1.1 ≡ after
+  pub ended_leaves : (group : List Bool) (done : Bool) (after : State Cell) → (settle_ended txn group done after live last).1.1 ≡ after
   ended_leaves group true after = part_leaves after (next_part txn (settle_parts txn group))
   ended_leaves group false after = refl
 

@@ -33,6 +33,7 @@ use Rattle.afr_transaction.proofs.Posts.{posts_follow}
 use Rattle.txn_laws.specs.Granted.{is_as_asked, SendsNone, SendsSome, Follows}
 use Rattle.txn_laws.specs.Laws.{PostTurn, SettleTurn}
 use Rattle.txn_laws.specs.Runs.{Event, Answer, Finish, AwaitsAnswer, AwaitsCopy, AreEvents, since_sent, has_said, AreSaid, AnswerIsLawful, CopyIsLawful, TurnsAreLawful, RunsAreLawful}
+use Rattle.txn_laws.proofs.Draws.{answers_draw_to_mark, copies_draw_to_mark}
 use Rattle.txn_laws.proofs.Failures.{begins_have_causes, answers_have_causes, copies_have_causes}
 use Rattle.txn_laws.proofs.Known.{begins_confirm, begins_follow, answers_begin, answers_stay, answers_grant, answers_show, answers_follow, answers_lose, answers_take, copies_begin, copies_stay, copies_follow, copies_lose, copies_take}
 use Rattle.txn_laws.proofs.Quorums.{posts_in_turns, settles_in_turns}
@@ -162,6 +163,7 @@ module _ (txn : Txn) (k mark : ℕ) (r : BrickRep) (ledger : State Cell) (live :
     confirmed = (taken_told txn.wave said k as_asked told).are;
     ops = λ change is. subst (λ (c : Bool). OpsAreConfirmed (taken txn.wave k c) t.1.0) (in_phase (phase.Marking change) is refl) (ops_follow txn k mark change r ledger live last asking tracks asked is);
     posts = λ change is. subst (λ (c : Bool). PostsAccuse txn.size.n (taken txn.wave k c) t.1.0) (in_phase (phase.Writing change) is refl) (posts_follow txn k mark change r ledger live last asking keeps asked is);
+    draws = answers_draw_to_mark txn k mark r ledger live last asking;
     moves = answers_move txn k mark r ledger live last asking;
     adopts = λ change is.
         subst (λ (c : Bool). PostTurn txn.size.q (effect_of txn.job) change ledger (taken txn.wave k c) t) (in_phase (phase.Posting change None) is refl) (posts_in_turns txn k mark change r ledger live last is);
@@ -194,6 +196,7 @@ module _ (txn : Txn) (done : CopyDone) (ledger : State Cell) (live : Mask) (last
     own = copies_stay txn done ledger live last;
     goes_on = copies txn done ledger live last copying;
     sends = copy_sends txn done ledger live last copying keeps;
+    draws = copies_draw_to_mark txn done ledger live last;
     moves = copies_draw txn done ledger live last;
     outs = λ j out h. copies_lose txn done ledger live last j out copying keeps follows h;
     begins = λ at e. copies_begin txn done ledger live last at e;

@@ -1,12 +1,13 @@
 -- A change is decided exactly with the q-th confirmation of its post or its settle, in the turn of that answer.
-use Rattle.std.specs.Prelude.{◌≡◌, ℕ, ◌≤◌, ◌<◌, Bool, true, false, length, List, Option, Some, None}
+use Rattle.std.specs.Prelude.{◌≡◌, ℕ, ◌+◌, ◌≤◌, ◌<◌, ◌⊎◌, Bool, true, false, length, List, Option, Some, None}
 use Rattle.fop_types.specs.declared.cells.Cell.{Cell}
 use Rattle.fop_types.specs.declared.contents.Mask.{Mask}
 use Rattle.fop_types.specs.declared.history.Entry.{Entry}
+use Rattle.fop_types.specs.declared.copy_jobs.CopyDone.{CopyDone}
 use Rattle.fop_types.specs.declared.jobs.SetReply.TheVariants as reply
 use Rattle.fop_types.specs.declared.messages.BrickRep.{BrickRep}
 use Rattle.afr_ledger.specs.Changes.{numbered}
-use Rattle.afr_ledger.specs.Ledger.{State, decided, entry_number}
+use Rattle.afr_ledger.specs.Ledger.{State, decided, entry_number, with_number}
 use Rattle.afr_ledger.specs.declared.unsettled.Unsettled.{Unsettled}
 use Rattle.afr_phases.specs.declared.wave.Wave.{Wave}
 use Rattle.afr_phases.specs.Answers.{is_plain_done}
@@ -16,11 +17,12 @@ use Rattle.afr_transaction.specs.declared.phase.Adopted.{Adopted}
 use Rattle.afr_transaction.specs.declared.phase.Phase.TheVariants as phase
 use Rattle.afr_transaction.specs.declared.phase.Verdict.{Verdict}
 use Rattle.afr_transaction.specs.declared.txn.Txn.{Txn}
-use Rattle.afr_transaction.specs.Answers.{answered}
+use Rattle.afr_transaction.specs.Answers.{answered, copied}
 use Rattle.afr_transaction.specs.Causes.{reply_of}
 use Rattle.afr_transaction.specs.Changes.{effect_of, entry_from, post_decided}
 use Rattle.afr_transaction.specs.Settles.{settle_decided}
 use Rattle.afr_transaction.specs.Shapes.{is_asking}
+use Rattle.txn_laws.specs.Granted.{SendsSome}
 
 -- ---- in a turn
 
@@ -80,6 +82,18 @@ SettlesStayDecided = (txn : Txn) (k mark : ℕ) (verdict : Verdict) (rep : Brick
     → is_asking txn ≡ true → txn.phase ≡ phase.Settling verdict → verdict.decided ≡ true
     → ((answered txn k rep mark ledger live last).1.1 ≡ ledger)
     × SettleGoesOn verdict true (is_over (taken txn.wave k (is_plain_done rep))) (answered txn k rep mark ledger live last)
+
+-- a turn draws no number, or the next one, and sends the mark of its change with it
+abbrev pub DrawsToMark : State Cell → Txn × (Need × State Cell) → Type 0
+DrawsToMark ledger t = (t.1.1.drawn ≡ ledger.drawn) ⊎ ((t.1.1 ≡ with_number ledger) × ((t.0.phase ≡ phase.Marking (ledger.drawn + 1)) × SendsSome t.1.0))
+
+abbrev pub AnswersDrawToMark : Type 0
+AnswersDrawToMark = (txn : Txn) (k mark : ℕ) (rep : BrickRep) (ledger : State Cell) (live : Mask) (last : List ℕ)
+    → is_asking txn ≡ true → DrawsToMark ledger (answered txn k rep mark ledger live last)
+
+abbrev pub CopiesDrawToMark : Type 0
+CopiesDrawToMark = (txn : Txn) (done : CopyDone) (ledger : State Cell) (live : Mask) (last : List ℕ)
+    → DrawsToMark ledger (copied txn done ledger live last)
 
 -- ---- what the turns decide by
 

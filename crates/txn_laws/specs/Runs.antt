@@ -33,7 +33,7 @@ use Rattle.afr_transaction.specs.Ops.{OpsAreConfirmed}
 use Rattle.afr_transaction.specs.Requests.{PostsAccuse, Sends}
 use Rattle.afr_transaction.specs.Shapes.{AfterAnswer, GoesOn}
 use Rattle.txn_laws.specs.Granted.{is_as_asked, rows_by, IsGrant, IsLocking, IsShowing, KnowsNone}
-use Rattle.txn_laws.specs.Laws.{PostTurn, SettleTurn}
+use Rattle.txn_laws.specs.Laws.{DrawsToMark, PostTurn, SettleTurn}
 use Rattle.txn_laws.specs.Outs.{IsAmong, IsOutBy, WasLost}
 use Rattle.txn_laws.specs.Own.{IsOwn}
 use Rattle.txn_laws.specs.Splits.{SplitHasQuorum}
@@ -104,6 +104,7 @@ pub record AnswerIsLawful (txn : Txn) (k mark : ℕ) (rep : BrickRep) (ledger : 
   pub confirmed : AreSaid (taken txn.wave k (is_as_asked txn.phase txn.cells rep)) said
   pub ops : (change : ℕ) → txn.phase ≡ phase.Marking change → OpsAreConfirmed (taken txn.wave k (is_as_asked txn.phase txn.cells rep)) t.1.0
   pub posts : (change : ℕ) → txn.phase ≡ phase.Writing change → PostsAccuse txn.size.n (taken txn.wave k (is_as_asked txn.phase txn.cells rep)) t.1.0
+  pub draws : DrawsToMark ledger t
   pub moves : IsMove txn (taken txn.wave k (is_plain_done rep)) ledger t.1.1
   pub adopts : (change : ℕ) → txn.phase ≡ phase.Posting change None → PostTurn txn.size.q (effect_of txn.job) change ledger (taken txn.wave k (is_as_asked txn.phase txn.cells rep)) t
   pub settles : (verdict : Verdict) → txn.phase ≡ phase.Settling verdict → verdict.decided ≡ false → SettleTurn txn.size.q verdict ledger (taken txn.wave k (is_as_asked txn.phase txn.cells rep)) t
@@ -119,6 +120,7 @@ pub record CopyIsLawful (txn : Txn) (done : CopyDone) (ledger : State Cell) (liv
   pub own : IsOwn txn t.0
   pub goes_on : GoesOn txn.size t.0 t.1.0
   pub sends : Sends t.0 t.1.0
+  pub draws : DrawsToMark ledger t
   pub moves : (t.1.1 ≡ ledger) ⊎ (t.1.1 ≡ with_number ledger)
   pub outs : (j : ℕ) (out : Out) → slice_index_or t.0.outs.at j None ≡ Some out → (slice_index_or txn.outs.at j None ≡ Some out) ⊎ (IsAmong out done.outs ⊎ WasLost txn.locks live last j)
   pub begins : (at : ℕ) → t.0.phase ≡ phase.Locking at → IsLocking txn.phase ⊎ KnowsNone t.0

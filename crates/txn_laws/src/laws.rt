@@ -2,7 +2,7 @@ ghost use Rattle.afr_transaction.specs.Causes.{BeginsHaveCauses, AnswersHaveCaus
 ghost use Rattle.txn_laws.specs.Ends.{JobsEnd};
 ghost use Rattle.txn_laws.specs.Free.{SplitsLackFree};
 ghost use Rattle.txn_laws.specs.Granted.{BeginsGrant, AnswersGrant, CopiesGrant, BeginsShow, AnswersShow, CopiesShow, BeginsConfirm, AnswersConfirm, CopiesConfirm, AnswersTake, CopiesTake, BeginsFollow, AnswersFollow, CopiesFollow, AnswersBegin, CopiesBegin};
-ghost use Rattle.txn_laws.specs.Laws.{PostsDecideInTurns, SettlesDecideInTurns, PostsStayDecided, SettlesStayDecided, DecidesAtQuorum};
+ghost use Rattle.txn_laws.specs.Laws.{PostsDecideInTurns, SettlesDecideInTurns, PostsStayDecided, SettlesStayDecided, AnswersDrawToMark, CopiesDrawToMark, DecidesAtQuorum};
 ghost use Rattle.txn_laws.specs.Outs.{BeginsOut, AnswersOut, CopiesOut, BeginsLose, AnswersLose, CopiesLose};
 ghost use Rattle.txn_laws.specs.Own.{BeginsStay, AnswersStay, CopiesStay};
 ghost use Rattle.txn_laws.specs.Rounds.{BeginsHaveFewRounds, EachAnswerIsPaid, EachCopyIsPaid, DrawsRaiseNothing, DecisionsRaiseNothing, BeginsRaiseByTwo, BeginsElsewhereRaiseNothing};
@@ -24,11 +24,13 @@ pub fn quorums_decide()
 {}
 
 /// What a turn does to the ledger: it draws one number, makes its own change unsettled once the mark is confirmed, decides the
-/// change of its post or its settle once a quorum has confirmed that, or leaves the ledger as it is. The call does nothing:
-/// its contract exports this.
+/// change of its post or its settle once a quorum has confirmed that, or leaves the ledger as it is. The number is the next one,
+/// and the turn sends the mark of its change with it. The call does nothing: its contract exports this.
 pub fn turns_move_the_ledger()
     ensures answers { AnswersMove }
     ensures copies { CopiesDraw }
+    ensures draws { AnswersDrawToMark }
+    ensures draws_after_copies { CopiesDrawToMark }
 {}
 
 /// An I/O error has its cause. One for lack of replicas is decided on only where so many are out that the others are no
