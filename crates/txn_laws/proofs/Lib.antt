@@ -4,9 +4,11 @@ pub mod Elsewhere
 pub mod Ending
 pub mod Failures
 pub mod Freed
+pub mod Growing
 pub mod Handed
 pub mod Idle
 pub mod Known
+pub mod Listing
 pub mod LostBy
 pub mod Noted
 pub mod Others

@@ -36,6 +36,7 @@ use Rattle.txn_laws.specs.Runs.{Event, Answer, Finish, AwaitsAnswer, AwaitsCopy,
 use Rattle.txn_laws.proofs.Draws.{answers_draw_to_mark, copies_draw_to_mark}
 use Rattle.txn_laws.proofs.Failures.{begins_have_causes, answers_have_causes, copies_have_causes}
 use Rattle.txn_laws.proofs.Known.{begins_confirm, begins_follow, answers_begin, answers_stay, answers_grant, answers_show, answers_follow, answers_lose, answers_take, copies_begin, copies_stay, copies_follow, copies_lose, copies_take}
+use Rattle.txn_laws.proofs.Listing.{answers_list, copies_list}
 use Rattle.txn_laws.proofs.Quorums.{posts_in_turns, settles_in_turns}
 use Rattle.txn_laws.proofs.Splits.{answers_split, copies_do_not_split}
 
@@ -174,6 +175,7 @@ module _ (txn : Txn) (k mark : ℕ) (r : BrickRep) (ledger : State Cell) (live :
     rows = λ j rows h. answers_show txn k mark r ledger live last j rows h;
     begins = λ at e. answers_begin txn k mark at r ledger live last e;
     causes = (answers_have_causes txn k mark r ledger live last asking keeps tracks asked).1;
+    lists = λ reply error none e is. answers_list txn k mark r ledger live last reply error asking keeps tracks asked none e is;
     splits = λ number rows none e. answers_split txn k mark r ledger live last number rows asking keeps tracks asked follows none e;
   }
 
@@ -201,6 +203,7 @@ module _ (txn : Txn) (done : CopyDone) (ledger : State Cell) (live : Mask) (last
     outs = λ j out h. copies_lose txn done ledger live last j out copying keeps follows h;
     begins = λ at e. copies_begin txn done ledger live last at e;
     causes = (copies_have_causes txn done ledger live last copying keeps).1;
+    lists = λ reply error e is. copies_list txn done ledger live last reply error copying keeps e is;
     splits = λ number rows e. copies_do_not_split txn done ledger live last number rows copying keeps e;
   }
 

@@ -38,7 +38,7 @@ use Rattle.txn_laws.specs.Granted.{Follows}
 use Rattle.txn_laws.specs.Own.{IsOwn}
 use Rattle.txn_laws.specs.Splits.{HasQuorum, SplitHasQuorum, IsSkipCause, SkipHasCause, BeginsDoNotSplit, CopiesDoNotSplit, AnswersSplit, AnswersSkip, CopiesSkip}
 use Rattle.txn_laws.specs.Work.{how_many}
-use Rattle.txn_laws.proofs.Failures.{Said, SkipSaid, SkipsFor, DecidedSaid, IsKeptOrSaid, Reaches, LockReaches, begins_said, answers_said, copies_said}
+use Rattle.txn_laws.proofs.Failures.{AnyOuts, any_grow, Said, SkipSaid, SkipsFor, DecidedSaid, IsKeptOrSaid, Reaches, LockReaches, begins_said, answers_said, copies_said}
 use Rattle.txn_laws.proofs.Freed.{splits_lack}
 use Rattle.txn_laws.proofs.Handed.{HasAll, Given, left_base, grant_base}
 use Rattle.txn_laws.proofs.Known.{answers_stay, copies_stay, given}
@@ -109,7 +109,7 @@ enough_used outs n q few five enough =
 -- ---- a lock phase that ends
 
 module _ (live : Mask) (last : List ℕ) where
-  ends_with : (txn : Txn) (from : ℕ) (t : Outs × LockStep) → HasAll txn → IsStepOf txn.size.n txn.size.q t → IsStepFrom txn.size.n txn.locks t → Reaches HasQuorum live last txn t
+  ends_with : (txn : Txn) (from : ℕ) (t : Outs × LockStep) → HasAll txn → IsStepOf txn.size.n txn.size.q t → IsStepFrom txn.size.n txn.locks t → Reaches HasQuorum AnyOuts any_grow live last txn t
   ends_with txn from (outs, step.Ask k) all enough left = tt
   ends_with txn from (outs, step.Short) all enough left = tt
   ends_with txn from (outs, step.Reached) all enough left = record {
@@ -118,12 +118,12 @@ module _ (live : Mask) (last : List ℕ) where
     rows = λ k is. let r = all.rows k (left.1 k is) in record { rows = r.rows; shown = r.shown; one_each = r.one_each };
   }
 
-  step_ends : (txn : Txn) (from : ℕ) → HasAll txn → Reaches HasQuorum live last txn (next_lock txn.outs txn.locks txn.size.n txn.size.q from live last)
+  step_ends : (txn : Txn) (from : ℕ) → HasAll txn → Reaches HasQuorum AnyOuts any_grow live last txn (next_lock txn.outs txn.locks txn.size.n txn.size.q from live last)
   step_ends txn from all =
       ends_with txn from (next_lock txn.outs txn.locks txn.size.n txn.size.q from live last) all (step_of txn.size.n txn.size.q live last txn.outs txn.locks from)
       (step_from txn.size.n txn.size.q from txn.outs txn.locks live last all.outs_places)
 
-skips_by : (cause : SkipCause) (job : Txn) (ledger : State Cell) → SkipsFor HasQuorum job ledger cause → IsSkipCause job ledger cause
+skips_by : (cause : SkipCause) (job : Txn) (ledger : State Cell) → SkipsFor HasQuorum AnyOuts any_grow job ledger cause → IsSkipCause job ledger cause
 skips_by skip.Majority job ledger skips = skips
 skips_by skip.Split job ledger skips = skips
 skips_by skip.Unsettled job ledger skips = skips
@@ -139,22 +139,22 @@ module _ (txn : Txn) (k mark : ℕ) (r : BrickRep) (ledger : State Cell) (live :
   taken_all at e None rows_are = (left_base (Unit {0}) live last (idle txn) k mark r (phase.Locking at) (λ q. given_at at e) (ap is_some rows_are)).all tt
   taken_all at e (Some rows) rows_are = (grant_base (Unit {0}) live last (idle txn) k mark r (phase.Locking at) (λ q. given_at at e) at rows refl rows_are (ap is_some rows_are)).all tt
 
-  reaches : LockReaches HasQuorum live last (idle txn) k mark r txn.phase
+  reaches : LockReaches HasQuorum AnyOuts any_grow live last (idle txn) k mark r txn.phase
   reaches at e None rows_are = step_ends live last (lock_taken (idle txn) k None (is_fault r) mark last) (k + 1) (taken_all at e None rows_are)
   reaches at e (Some rows) rows_are = step_ends live last (lock_taken (idle txn) k (Some rows) (is_fault r) mark last) (k + 1) (taken_all at e (Some rows) rows_are)
 
-  decided_now : reply_in txn.phase ≡ None → DecidedSaid HasQuorum turned.0 turned.1.1 (reply_of turned.0 turned.1.0)
-  decided_now none = subst (λ (o : Option SetReply). IsKeptOrSaid HasQuorum o turned.0 turned.1.1 turned.1.0) none (answers_said HasQuorum txn k mark r ledger live last asking keeps tracks asked reaches).1
+  decided_now : reply_in txn.phase ≡ None → DecidedSaid HasQuorum AnyOuts any_grow turned.0 turned.1.1 (reply_of turned.0 turned.1.0)
+  decided_now none = subst (λ (o : Option SetReply). IsKeptOrSaid HasQuorum AnyOuts any_grow o turned.0 turned.1.1 turned.1.0) none (answers_said HasQuorum AnyOuts any_grow txn k mark r ledger live last asking keeps tracks asked ((λ e. tt), (λ e. tt)) reaches).1
 
   own_since : (job : Txn) → IsOwn turned.0 job → IsOwn txn job
   own_since job own =
       let stay : IsOwn txn turned.0 = answers_stay txn k mark r ledger live last in
       record { set = own.set ∙ stay.set; size = own.size ∙ stay.size; bricks = own.bricks ∙ stay.bricks; call = own.call ∙ stay.call; job = own.job ∙ stay.job }
 
-  split_said : (number : ℕ) (rows : List SplitRow) → Said HasQuorum turned.0 turned.1.1 (io.Split number rows) → SplitHasQuorum txn turned.0 turned.1.1 (io.Split number rows)
+  split_said : (number : ℕ) (rows : List SplitRow) → Said HasQuorum AnyOuts any_grow turned.0 turned.1.1 (io.Split number rows) → SplitHasQuorum txn turned.0 turned.1.1 (io.Split number rows)
   split_said number rows said = record { job = said.job; is = said.is; own = own_since said.job said.own; reached = said.splits number rows refl; cause = said.cause; bare = λ all free. splits_lack said.job turned.1.1 number rows all free said.cause }
 
-  skip_said : (cause : SkipCause) → SkipSaid HasQuorum turned.0 turned.1.1 cause → SkipHasCause txn turned.0 turned.1.1 cause
+  skip_said : (cause : SkipCause) → SkipSaid HasQuorum AnyOuts any_grow turned.0 turned.1.1 cause → SkipHasCause txn turned.0 turned.1.1 cause
   skip_said cause said = record { job = said.job; is = said.is; own = own_since said.job said.own; skips = skips_by cause said.job turned.1.1 said.skips }
 
 -- ---- the laws
@@ -163,13 +163,13 @@ pub answers_split : AnswersSplit
 answers_split txn k mark r ledger live last number rows asking keeps tracks asked follows none e =
     let t = answered txn k r mark ledger live last in
     split_said txn k mark r ledger live last asking keeps tracks asked follows number rows
-    (subst (λ (o : Option SetReply). DecidedSaid HasQuorum t.0 t.1.1 o) e (decided_now txn k mark r ledger live last asking keeps tracks asked follows none))
+    (subst (λ (o : Option SetReply). DecidedSaid HasQuorum AnyOuts any_grow t.0 t.1.1 o) e (decided_now txn k mark r ledger live last asking keeps tracks asked follows none))
 
 pub answers_skip : AnswersSkip
 answers_skip txn k mark r ledger live last cause asking keeps tracks asked follows none e =
     let t = answered txn k r mark ledger live last in
     skip_said txn k mark r ledger live last asking keeps tracks asked follows cause
-    (subst (λ (o : Option SetReply). DecidedSaid HasQuorum t.0 t.1.1 o) e (decided_now txn k mark r ledger live last asking keeps tracks asked follows none))
+    (subst (λ (o : Option SetReply). DecidedSaid HasQuorum AnyOuts any_grow t.0 t.1.1 o) e (decided_now txn k mark r ledger live last asking keeps tracks asked follows none))
 
 -- where no lock phase ends there is no split
 abbrev Never : Txn → Type 0
@@ -178,19 +178,19 @@ Never job = ⊥
 pub begins_do_not_split : BeginsDoNotSplit
 begins_do_not_split size set call j ledger live last number rows e =
     let t = started (fresh size set call j) ledger live last in
-    let said : Said Never t.0 ledger (io.Split number rows) = subst (λ (o : Option SetReply). DecidedSaid Never t.0 ledger o) e (begins_said Never size set call j ledger live last).1 in
+    let said : Said Never AnyOuts any_grow t.0 ledger (io.Split number rows) = subst (λ (o : Option SetReply). DecidedSaid Never AnyOuts any_grow t.0 ledger o) e (begins_said Never AnyOuts any_grow size set call j ledger live last tt).1 in
     said.splits number rows refl
 
 pub copies_do_not_split : CopiesDoNotSplit
 copies_do_not_split txn done ledger live last number rows copying keeps e =
     let t = copied txn done ledger live last in
-    let said : Said Never t.0 t.1.1 (io.Split number rows) = subst (λ (o : Option SetReply). DecidedSaid Never t.0 t.1.1 o) e (copies_said Never txn done ledger live last copying keeps).1 in
+    let said : Said Never AnyOuts any_grow t.0 t.1.1 (io.Split number rows) = subst (λ (o : Option SetReply). DecidedSaid Never AnyOuts any_grow t.0 t.1.1 o) e (copies_said Never AnyOuts any_grow txn done ledger live last copying keeps tt).1 in
     said.splits number rows refl
 
 pub copies_skip : CopiesSkip
 copies_skip txn done ledger live last cause copying keeps e =
     let t = copied txn done ledger live last in
-    let said : SkipSaid HasQuorum t.0 t.1.1 cause = subst (λ (o : Option SetReply). DecidedSaid HasQuorum t.0 t.1.1 o) e (copies_said HasQuorum txn done ledger live last copying keeps).1 in
+    let said : SkipSaid HasQuorum AnyOuts any_grow t.0 t.1.1 cause = subst (λ (o : Option SetReply). DecidedSaid HasQuorum AnyOuts any_grow t.0 t.1.1 o) e (copies_said HasQuorum AnyOuts any_grow txn done ledger live last copying keeps tt).1 in
     let stay : IsOwn txn t.0 = copies_stay txn done ledger live last in
     record {
       job = said.job;

@@ -7,6 +7,7 @@ pub mod Laws
 pub mod Free
 pub mod Work
 pub mod Splits
+pub mod Lists
 pub mod Rounds
 pub mod Ends
 pub mod Runs

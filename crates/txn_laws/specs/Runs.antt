@@ -1,7 +1,8 @@
 -- A run of a job: it begins, and then answers and finished copies are handed in to it, one after another, each with the ledger and
 -- the connections of its moment, whatever others did to them since. An answer is of a replica that is asked, a copy is one that was
 -- asked for, and nothing is handed in to a job that has replied. Then the laws of a turn hold of each, with no other premise.
-use Rattle.std.specs.Prelude.{◌≡◌, ℕ, ◌<◌, ◌⊎◌, Bool, true, false, ◌&&◌, ◌||◌, ◌==◌, List, [], ◌∷◌, Some, None, slice_index_or}
+use Rattle.std.specs.Prelude.{◌≡◌, ℕ, ◌<◌, ◌⊎◌, Bool, true, false, ◌&&◌, ◌||◌, ◌==◌, if◌then◌else◌, List, [], ◌∷◌, Some, None, slice_index_or}
+use Rattle.fop_types.specs.declared.answers.IoError.{IoError}
 use Rattle.fop_types.specs.declared.answers.IoError.TheVariants as io
 use Rattle.fop_types.specs.declared.answers.SplitRow.{SplitRow}
 use Rattle.fop_types.specs.declared.cells.Cell.{Cell}
@@ -11,12 +12,14 @@ use Rattle.fop_types.specs.declared.copy_jobs.CopyDone.{CopyDone}
 use Rattle.fop_types.specs.declared.copy_jobs.Out.{Out}
 use Rattle.fop_types.specs.declared.jobs.Job.{Job}
 use Rattle.fop_types.specs.declared.jobs.SetPlan.{SetPlan}
+use Rattle.fop_types.specs.declared.jobs.SetReply.{SetReply}
 use Rattle.fop_types.specs.declared.jobs.SetReply.TheVariants as reply
 use Rattle.fop_types.specs.declared.messages.BrickRep.{BrickRep}
 use Rattle.afr_ledger.specs.Ledger.{State, with_number}
 use Rattle.afr_phases.specs.declared.wave.Wave.{Wave}
-use Rattle.afr_phases.specs.Answers.{is_plain_done}
+use Rattle.afr_phases.specs.Answers.{is_fault, is_plain_done}
 use Rattle.afr_phases.specs.Flags.{flag}
+use Rattle.afr_phases.specs.Outs.{left}
 use Rattle.afr_phases.specs.Waves.{is_asked, taken}
 use Rattle.afr_transaction.specs.declared.need.Need.{Need}
 use Rattle.afr_transaction.specs.declared.need.Need.TheVariants as need
@@ -28,12 +31,14 @@ use Rattle.afr_transaction.specs.Answers.{answered, copied}
 use Rattle.afr_transaction.specs.Begins.{fresh, started}
 use Rattle.afr_transaction.specs.Causes.{DecidedHasCause, IsKeptOrHasCause, reply_in, reply_of}
 use Rattle.afr_transaction.specs.Changes.{effect_of}
+use Rattle.afr_transaction.specs.Copies.{with_outs}
 use Rattle.afr_transaction.specs.Moves.{IsMove}
 use Rattle.afr_transaction.specs.Ops.{OpsAreConfirmed}
 use Rattle.afr_transaction.specs.Requests.{PostsAccuse, Sends}
 use Rattle.afr_transaction.specs.Shapes.{AfterAnswer, GoesOn}
 use Rattle.txn_laws.specs.Granted.{is_as_asked, rows_by, IsGrant, IsLocking, IsShowing, KnowsNone}
 use Rattle.txn_laws.specs.Laws.{DrawsToMark, PostTurn, SettleTurn}
+use Rattle.txn_laws.specs.Lists.{error_in, ListsAll}
 use Rattle.txn_laws.specs.Outs.{IsAmong, IsOutBy, WasLost}
 use Rattle.txn_laws.specs.Own.{IsOwn}
 use Rattle.txn_laws.specs.Splits.{SplitHasQuorum}
@@ -113,6 +118,8 @@ pub record AnswerIsLawful (txn : Txn) (k mark : ℕ) (rep : BrickRep) (ledger : 
   pub rows : (j : ℕ) (rows : List Row) → rows_by t.0.shown j ≡ Some rows → (rows_by txn.shown j ≡ Some rows) ⊎ IsShowing txn k rep j rows
   pub begins : (at : ℕ) → t.0.phase ≡ phase.Locking at → IsLocking txn.phase ⊎ KnowsNone t.0
   pub causes : IsKeptOrHasCause (reply_in txn.phase) t.0 t.1.1 t.1.0
+  pub lists : (r : SetReply) (error : IoError) → reply_in txn.phase ≡ None → reply_of t.0 t.1.0 ≡ Some r → error_in r ≡ Some error
+      → ListsAll txn t.0 t.1.1 error (if is_as_asked txn.phase txn.cells rep then txn.outs else left txn.outs k (is_fault rep) mark)
   pub splits : (number : ℕ) (rows : List SplitRow) → reply_in txn.phase ≡ None → reply_of t.0 t.1.0 ≡ Some (reply.Io (io.Split number rows)) → SplitHasQuorum txn t.0 t.1.1 (io.Split number rows)
 
 -- the turn of a copy that is done
@@ -125,6 +132,7 @@ pub record CopyIsLawful (txn : Txn) (done : CopyDone) (ledger : State Cell) (liv
   pub outs : (j : ℕ) (out : Out) → slice_index_or t.0.outs.at j None ≡ Some out → (slice_index_or txn.outs.at j None ≡ Some out) ⊎ (IsAmong out done.outs ⊎ WasLost txn.locks live last j)
   pub begins : (at : ℕ) → t.0.phase ≡ phase.Locking at → IsLocking txn.phase ⊎ KnowsNone t.0
   pub causes : DecidedHasCause t.0 t.1.1 (reply_of t.0 t.1.0)
+  pub lists : (r : SetReply) (error : IoError) → reply_of t.0 t.1.0 ≡ Some r → error_in r ≡ Some error → ListsAll txn t.0 t.1.1 error (with_outs txn.size.n txn.outs done.outs)
   pub splits : (number : ℕ) (rows : List SplitRow) → reply_of t.0 t.1.0 ≡ Some (reply.Io (io.Split number rows)) → ⊥
 
 abbrev pub TurnIsLawful : Event → Txn → List (ℕ × Bool) → Type 0

@@ -4,6 +4,7 @@ ghost use Rattle.txn_laws.specs.Free.{SplitsLackFree};
 ghost use Rattle.txn_laws.specs.Granted.{BeginsGrant, AnswersGrant, CopiesGrant, BeginsShow, AnswersShow, CopiesShow, BeginsConfirm, AnswersConfirm, CopiesConfirm, AnswersTake, CopiesTake, BeginsFollow, AnswersFollow, CopiesFollow, AnswersBegin, CopiesBegin};
 ghost use Rattle.txn_laws.specs.Laws.{PostsDecideInTurns, SettlesDecideInTurns, PostsStayDecided, SettlesStayDecided, AnswersDrawToMark, CopiesDrawToMark, DecidesAtQuorum};
 ghost use Rattle.txn_laws.specs.Outs.{BeginsOut, AnswersOut, CopiesOut, BeginsLose, AnswersLose, CopiesLose};
+ghost use Rattle.txn_laws.specs.Lists.{AnswersList, CopiesList};
 ghost use Rattle.txn_laws.specs.Own.{BeginsStay, AnswersStay, CopiesStay};
 ghost use Rattle.txn_laws.specs.Rounds.{BeginsHaveFewRounds, EachAnswerIsPaid, EachCopyIsPaid, DrawsRaiseNothing, DecisionsRaiseNothing, BeginsRaiseByTwo, BeginsElsewhereRaiseNothing};
 ghost use Rattle.txn_laws.specs.Runs.{RunsAreLawful};
@@ -42,6 +43,14 @@ pub fn failures_have_causes()
     ensures begin { BeginsHaveCauses }
     ensures answers { AnswersHaveCauses }
     ensures copies { CopiesHaveCauses }
+{}
+
+/// An I/O error for lack of replicas lists all that are out: of the job by which it is decided on each that was out before the turn,
+/// and the replica that has answered, if not as asked, or each that went out in the copy, is out, with its mark. The call does
+/// nothing: its contract exports this.
+pub fn failures_list_all()
+    ensures answers { AnswersList }
+    ensures copies { CopiesList }
 {}
 
 /// A split is decided on only by an answer, for this job, and by the rows of a quorum: in the lock phase whose rows it lists at least
