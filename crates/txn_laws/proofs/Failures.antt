@@ -67,7 +67,7 @@ use Rattle.afr_transaction.specs.Settles.{verdict_by, settle_decided, settle_par
 use Rattle.afr_transaction.specs.Requests.{Keeps}
 use Rattle.afr_transaction.specs.Shapes.{is_asking, is_copying, suits, are_copies}
 use Rattle.afr_transaction.specs.Txns.{alive, fault_pairs, io_by, lost_pairs, over, heal_reply, healing, ending, io_of, is_heal, kept}
-use Rattle.txn_laws.specs.Own.{IsOwn}
+use Rattle.txn_laws.specs.Own.{IsSameJob}
 use Rattle.txn_laws.specs.Granted.{is_as_asked}
 use Rattle.txn_laws.specs.Lists.{AreOutStill}
 use Rattle.txn_laws.proofs.Growing.{step_grows}
@@ -86,13 +86,13 @@ module _ (S : Txn → Type 0) (B : Outs → Type 0) (grow : (a b : Outs) → Are
   pub record SkipSaid (now : Txn) (ledger : State Cell) (cause : SkipCause) : Type 0 where
     pub job : Txn
     pub is : IsThen now job
-    pub own : IsOwn now job
+    pub own : IsSameJob now job
     pub skips : SkipsFor job ledger cause
 
   pub record Said (now : Txn) (ledger : State Cell) (error : IoError) : Type 0 where
     pub job : Txn
     pub is : IsThen now job
-    pub own : IsOwn now job
+    pub own : IsSameJob now job
     pub cause : IsCause job ledger error
     pub whole : B job.outs
     pub splits : (number : ℕ) (rows : List SplitRow) → error ≡ io.Split number rows → S job
@@ -135,7 +135,7 @@ module _ (S : Txn → Type 0) (B : Outs → Type 0) (grow : (a b : Outs) → Are
 
   -- ---- the job that decided
 
-  over_own : (txn : Txn) → IsOwn (record txn { phase = phase.Over }) txn
+  over_own : (txn : Txn) → IsSameJob (record txn { phase = phase.Over }) txn
   over_own txn = record { set = refl; size = refl; bricks = refl; call = refl; job = refl }
 
   is_over_now : (txn : Txn) → IsThen (record txn { phase = phase.Over }) txn
@@ -150,7 +150,7 @@ module _ (S : Txn → Type 0) (B : Outs → Type 0) (grow : (a b : Outs) → Are
   not_split set [] lost number rows e = absurd cc
   not_split set (fault ∷ faults) lost number rows e = absurd cc
 
-  io_said : (now txn : Txn) (ledger : State Cell) → IsThen now txn → IsOwn now txn → B txn.outs → IsCause txn ledger (io_of txn) → Said now ledger (io_of txn)
+  io_said : (now txn : Txn) (ledger : State Cell) → IsThen now txn → IsSameJob now txn → B txn.outs → IsCause txn ledger (io_of txn) → Said now ledger (io_of txn)
   io_said now txn ledger is own whole cause = record {
     job = txn;
     is = is;
@@ -160,7 +160,7 @@ module _ (S : Txn → Type 0) (B : Outs → Type 0) (grow : (a b : Outs) → Are
     splits = λ number rows e. absurd (not_split txn.set (fault_pairs txn.bricks txn.outs.at) (lost_pairs txn.bricks txn.outs.at) number rows e);
   }
 
-  healed_own : (txn : Txn) → IsOwn (record txn { records = []; phase = phase.Over }) txn
+  healed_own : (txn : Txn) → IsSameJob (record txn { records = []; phase = phase.Over }) txn
   healed_own txn = record { set = refl; size = refl; bricks = refl; call = refl; job = refl }
 
   is_healed_now : (txn : Txn) → IsThen (record txn { records = []; phase = phase.Over }) txn
@@ -214,13 +214,13 @@ module _ (S : Txn → Type 0) (B : Outs → Type 0) (grow : (a b : Outs) → Are
     is_releasing : (txn : Txn) (r : SetReply) → IsThen (releasing_for txn r) txn
     is_releasing txn r = record { set = refl; bricks = refl; size = refl; cells = refl; settles = refl; shown = refl; outs = λ k out h. noted_keeps txn.size.n txn.outs txn.locks live last k out h }
 
-    given_own : (txn : Txn) → IsOwn (given txn) txn
+    given_own : (txn : Txn) → IsSameJob (given txn) txn
     given_own txn = record { set = refl; size = refl; bricks = refl; call = refl; job = refl }
 
-    releasing_own : (txn : Txn) (r : SetReply) → IsOwn (releasing_for txn r) txn
+    releasing_own : (txn : Txn) (r : SetReply) → IsSameJob (releasing_for txn r) txn
     releasing_own txn r = record { set = refl; size = refl; bricks = refl; call = refl; job = refl }
 
-    answer_caused : (txn : Txn) (r : SetReply) (ledger : State Cell) → ((now : Txn) → IsThen now txn → IsOwn now txn → ReplySaid now ledger r) → Caused ledger (unlock txn (next.Answer r) ledger live last)
+    answer_caused : (txn : Txn) (r : SetReply) (ledger : State Cell) → ((now : Txn) → IsThen now txn → IsSameJob now txn → ReplySaid now ledger r) → Caused ledger (unlock txn (next.Answer r) ledger live last)
     answer_caused txn r ledger has =
         cond_both (is_none (lowest (standing txn.locks live last))) _ _ (Caused ledger) (λ e. (tt, has (given txn) (is_given txn) (given_own txn))) (λ e. (tt, has (releasing_for txn r) (is_releasing txn r) (releasing_own txn r)))
 
@@ -230,7 +230,7 @@ module _ (S : Txn → Type 0) (B : Outs → Type 0) (grow : (a b : Outs) → Are
         (λ e. again_caused (lost_noted txn live last) ledger (lost_five txn.size.n txn.outs txn.locks live last five) (grow txn.outs (lost_noted txn live last).outs (noted_keeps txn.size.n txn.outs txn.locks live last) whole)) (λ e. (tt, tt))
 
     -- a heal forgets what it has copied, and is else what it was
-    before_heal : (txn now : Txn) (ledger : State Cell) (cause : SkipCause) → IsThen now (record txn { records = [] }) → IsOwn now (record txn { records = [] }) → SkipsFor txn ledger cause → SkipSaid now ledger cause
+    before_heal : (txn now : Txn) (ledger : State Cell) (cause : SkipCause) → IsThen now (record txn { records = [] }) → IsSameJob now (record txn { records = [] }) → SkipsFor txn ledger cause → SkipSaid now ledger cause
     before_heal txn now ledger cause is own skips = record {
       job = txn;
       is = record { set = is.set; bricks = is.bricks; size = is.size; cells = is.cells; settles = is.settles; shown = is.shown; outs = is.outs };

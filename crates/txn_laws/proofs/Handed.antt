@@ -42,7 +42,7 @@ use Rattle.afr_transaction.specs.Txns.{is_heal, kept}
 use Rattle.afr_transaction.proofs.TurnsCopies.{outs_five}
 use Rattle.txn_laws.specs.Granted.{IsLocking, KnowsNone, rows_by, is_as_asked, SendsNone, SendsSome, CoversIn, HasRows, Follows}
 use Rattle.txn_laws.specs.Outs.{IsSame, IsAmong, IsLostAs, LostLock, WasLost}
-use Rattle.txn_laws.specs.Own.{IsOwn}
+use Rattle.txn_laws.specs.Own.{IsSameJob}
 use Rattle.txn_laws.proofs.LostBy.{set_at, left_at, left_stays, none_there, Lost, Covers}
 use Rattle.txn_laws.proofs.Noted.{After, AfterWith, bearing_after, fail_after, fetch_after, listing_after, lock_on_after, marking_after, noted_after, opening_after, posting_after, releasing_after, settling_after, waits_after, writing_after}
 
@@ -99,7 +99,7 @@ pub record HasAll (b : Txn) : Type 0 where
   pub rows : (j : ℕ) → HasGranted b j → HasRows b j
 
 module _ (P T : Type 0) (live : Mask) (last : List ℕ) (b : Txn) (t : Txn × Need) (l : After P T live last b t) where
-  pub own_after : IsOwn b t.0
+  pub own_after : IsSameJob b t.0
   own_after = record { set = l.set_is; size = l.size_is; bricks = l.bricks_is; call = l.call_is; job = l.job_is }
 
   pub grants_after : (j connection : ℕ) → slice_index_or t.0.locks.at j None ≡ Some connection → slice_index_or b.locks.at j None ≡ Some connection
@@ -186,7 +186,7 @@ module _ (P : Type 0) (live : Mask) (last : List ℕ) (txn : Txn) (k mark : ℕ)
 
   -- a job that has taken the answer
   pub record Based (b : Txn) : Type 0 where
-    pub own : IsOwn txn b
+    pub own : IsSameJob txn b
     pub outs : (j : ℕ) (out : Out) → slice_index_or b.outs.at j None ≡ Some out → (slice_index_or txn.outs.at j None ≡ Some out) ⊎ OutBy j out
     pub grants : (j connection : ℕ) → slice_index_or b.locks.at j None ≡ Some connection → (slice_index_or txn.locks.at j None ≡ Some connection) ⊎ GrantBy j connection
     pub rows : (j : ℕ) (rows : List Row) → rows_by b.shown j ≡ Some rows → (rows_by txn.shown j ≡ Some rows) ⊎ RowsBy j rows
@@ -197,7 +197,7 @@ module _ (P : Type 0) (live : Mask) (last : List ℕ) (txn : Txn) (k mark : ℕ)
 
   -- and after its turn
   pub record HandedIn (a : Txn) (turned : Need) : Type 0 where
-    pub own : IsOwn txn a
+    pub own : IsSameJob txn a
     pub outs : (j : ℕ) (out : Out) → slice_index_or a.outs.at j None ≡ Some out → (slice_index_or txn.outs.at j None ≡ Some out) ⊎ (OutBy j out ⊎ (IsLostAs last j out × (P → WasLost txn.locks live last j)))
     pub grants : (j connection : ℕ) → slice_index_or a.locks.at j None ≡ Some connection → (slice_index_or txn.locks.at j None ≡ Some connection) ⊎ GrantBy j connection
     pub rows : (j : ℕ) (rows : List Row) → rows_by a.shown j ≡ Some rows → (rows_by txn.shown j ≡ Some rows) ⊎ RowsBy j rows
@@ -464,7 +464,7 @@ all_outs n outs (one ∷ list) j out h = by (all_outs n (with_out n outs one) li
 
 module _ (P : Type 0) (live : Mask) (last : List ℕ) (txn : Txn) (done : CopyDone) where
   pub record CopyHanded (T : Type 0) (a : Txn) (turned : Need) : Type 0 where
-    pub own : IsOwn txn a
+    pub own : IsSameJob txn a
     pub outs : (j : ℕ) (out : Out) → slice_index_or a.outs.at j None ≡ Some out → (slice_index_or txn.outs.at j None ≡ Some out) ⊎ (IsAmong out done.outs ⊎ (IsLostAs last j out × (P → WasLost txn.locks live last j)))
     pub grants : (j connection : ℕ) → slice_index_or a.locks.at j None ≡ Some connection → slice_index_or txn.locks.at j None ≡ Some connection
     pub rows : (j : ℕ) (rows : List Row) → rows_by a.shown j ≡ Some rows → rows_by txn.shown j ≡ Some rows

@@ -14,6 +14,7 @@ pub mod Noted
 pub mod Others
 pub mod Paying
 pub mod Quorums
+pub mod RunEnding
 pub mod Running
 pub mod Sources
 pub mod Splits

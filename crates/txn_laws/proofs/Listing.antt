@@ -19,7 +19,7 @@ use Rattle.afr_transaction.specs.Copies.{with_outs}
 use Rattle.afr_transaction.specs.Locked.{lock_taken}
 use Rattle.txn_laws.specs.Granted.{is_as_asked}
 use Rattle.txn_laws.specs.Lists.{AreOutStill, error_in, ListsAll, AnswersList, CopiesList}
-use Rattle.txn_laws.specs.Own.{IsOwn}
+use Rattle.txn_laws.specs.Own.{IsSameJob}
 use Rattle.txn_laws.proofs.Failures.{Said, DecidedSaid, IsKeptOrSaid, ReplySaid, Reaches, answers_said, copies_said}
 use Rattle.txn_laws.proofs.Known.{answers_stay, copies_stay}
 
@@ -45,7 +45,7 @@ module _ (outs : Outs) where
   error_said now ledger (reply.Skipped cause) error said e = absurd cc
   error_said now ledger (reply.Io other) error said e = let same : other ≡ error = cc in subst (λ (x : IoError). Said Any All more now ledger x) same said
 
-  lists : (txn now : Txn) (ledger : State Cell) (error : IoError) → IsOwn txn now → Said Any All more now ledger error → ListsAll txn now ledger error outs
+  lists : (txn now : Txn) (ledger : State Cell) (error : IoError) → IsSameJob txn now → Said Any All more now ledger error → ListsAll txn now ledger error outs
   lists txn now ledger error stay said = record {
     job = said.job;
     is = said.is;

@@ -35,7 +35,7 @@ use Rattle.afr_transaction.specs.Locked.{lock_taken}
 use Rattle.afr_transaction.specs.Requests.{Keeps}
 use Rattle.afr_transaction.specs.Shapes.{is_asking}
 use Rattle.txn_laws.specs.Granted.{Follows}
-use Rattle.txn_laws.specs.Own.{IsOwn}
+use Rattle.txn_laws.specs.Own.{IsSameJob}
 use Rattle.txn_laws.specs.Splits.{HasQuorum, SplitHasQuorum, IsSkipCause, SkipHasCause, BeginsDoNotSplit, CopiesDoNotSplit, AnswersSplit, AnswersSkip, CopiesSkip}
 use Rattle.txn_laws.specs.Work.{how_many}
 use Rattle.txn_laws.proofs.Failures.{AnyOuts, any_grow, Said, SkipSaid, SkipsFor, DecidedSaid, IsKeptOrSaid, Reaches, LockReaches, begins_said, answers_said, copies_said}
@@ -146,9 +146,9 @@ module _ (txn : Txn) (k mark : ℕ) (r : BrickRep) (ledger : State Cell) (live :
   decided_now : reply_in txn.phase ≡ None → DecidedSaid HasQuorum AnyOuts any_grow turned.0 turned.1.1 (reply_of turned.0 turned.1.0)
   decided_now none = subst (λ (o : Option SetReply). IsKeptOrSaid HasQuorum AnyOuts any_grow o turned.0 turned.1.1 turned.1.0) none (answers_said HasQuorum AnyOuts any_grow txn k mark r ledger live last asking keeps tracks asked ((λ e. tt), (λ e. tt)) reaches).1
 
-  own_since : (job : Txn) → IsOwn turned.0 job → IsOwn txn job
+  own_since : (job : Txn) → IsSameJob turned.0 job → IsSameJob txn job
   own_since job own =
-      let stay : IsOwn txn turned.0 = answers_stay txn k mark r ledger live last in
+      let stay : IsSameJob txn turned.0 = answers_stay txn k mark r ledger live last in
       record { set = own.set ∙ stay.set; size = own.size ∙ stay.size; bricks = own.bricks ∙ stay.bricks; call = own.call ∙ stay.call; job = own.job ∙ stay.job }
 
   split_said : (number : ℕ) (rows : List SplitRow) → Said HasQuorum AnyOuts any_grow turned.0 turned.1.1 (io.Split number rows) → SplitHasQuorum txn turned.0 turned.1.1 (io.Split number rows)
@@ -191,7 +191,7 @@ pub copies_skip : CopiesSkip
 copies_skip txn done ledger live last cause copying keeps e =
     let t = copied txn done ledger live last in
     let said : SkipSaid HasQuorum AnyOuts any_grow t.0 t.1.1 cause = subst (λ (o : Option SetReply). DecidedSaid HasQuorum AnyOuts any_grow t.0 t.1.1 o) e (copies_said HasQuorum AnyOuts any_grow txn done ledger live last copying keeps tt).1 in
-    let stay : IsOwn txn t.0 = copies_stay txn done ledger live last in
+    let stay : IsSameJob txn t.0 = copies_stay txn done ledger live last in
     record {
       job = said.job;
       is = said.is;

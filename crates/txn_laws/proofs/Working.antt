@@ -60,7 +60,7 @@ use Rattle.afr_transaction.specs.Settles.{settle_decided, settle_parts}
 use Rattle.afr_transaction.specs.Requests.{Keeps}
 use Rattle.afr_transaction.specs.Shapes.{suits, are_copies, has_cell, is_asking, is_copying}
 use Rattle.afr_transaction.specs.Txns.{alive, heal_reply, healing, io_of, is_heal, kept, only}
-use Rattle.txn_laws.specs.Own.{IsOwn}
+use Rattle.txn_laws.specs.Own.{IsSameJob}
 use Rattle.txn_laws.proofs.Handed.{own_after}
 use Rattle.txn_laws.proofs.Known.{answers_stay, copies_stay}
 use Rattle.txn_laws.proofs.Noted.{again_after}
@@ -600,7 +600,7 @@ module _ (P : Type 0) (live : Mask) (last : List ℕ) (txn : Txn) (ledger : Stat
       of_idle (copied txn done ledger live last) (copying_less P live last txn.phase (idle txn) done ledger b.1 five kept loss)
 
 -- it is this job: it is after the turn what it was before, and so is a job that begins again
-this_again : (txn : Txn) (ledger : State Cell) (live : Mask) (last : List ℕ) (after : Txn) (turned : Need) → IsOwn txn after → BeginsAgain ledger live last after turned → Again txn ledger live last after turned
+this_again : (txn : Txn) (ledger : State Cell) (live : Mask) (last : List ℕ) (after : Txn) (turned : Need) → IsSameJob txn after → BeginsAgain ledger live last after turned → Again txn ledger live last after turned
 this_again txn ledger live last after turned own h =
     let redo = own_after ⊥ ⊥ live last h.job (again h.job ledger live last) (again_after ⊥ ⊥ live last h.job ledger (λ q. absurd q)) in
     record {
@@ -617,11 +617,11 @@ this_again txn ledger live last after turned own h =
     }
 
 -- with nothing known of the ledger the work alone is less
-work_alone : (live : Mask) (last : List ℕ) (txn : Txn) (most budget : ℕ) (t : Txn × (Need × State Cell)) → IsOwn txn t.0 → Less ⊥ live last most budget t → (work t.0 < most) ⊎ Again txn t.1.1 live last t.0 t.1.0
+work_alone : (live : Mask) (last : List ℕ) (txn : Txn) (most budget : ℕ) (t : Txn × (Need × State Cell)) → IsSameJob txn t.0 → Less ⊥ live last most budget t → (work t.0 < most) ⊎ Again txn t.1.1 live last t.0 t.1.0
 work_alone live last txn most budget t own (inl h) = inl h.0
 work_alone live last txn most budget t own (inr h) = inr (this_again txn t.1.1 live last t.0 t.1.0 own h.0)
 
-with_rounds : (live : Mask) (last : List ℕ) (txn : Txn) (ledger : State Cell) (t : Txn × (Need × State Cell)) → IsOwn txn t.0 → Less (Unit {0}) live last (work txn) (rounds txn ledger) t → IsPaid txn ledger live last t
+with_rounds : (live : Mask) (last : List ℕ) (txn : Txn) (ledger : State Cell) (t : Txn × (Need × State Cell)) → IsSameJob txn t.0 → Less (Unit {0}) live last (work txn) (rounds txn ledger) t → IsPaid txn ledger live last t
 with_rounds live last txn ledger t own (inl h) = inl (h.0, h.1 tt)
 with_rounds live last txn ledger t own (inr h) = inr (this_again txn t.1.1 live last t.0 t.1.0 own h.0, h.1 tt)
 

@@ -11,3 +11,4 @@ pub mod Lists
 pub mod Rounds
 pub mod Ends
 pub mod Runs
+pub mod RunEnds

@@ -21,7 +21,7 @@ use Rattle.afr_transaction.specs.Copies.{with_outs}
 use Rattle.afr_transaction.specs.Requests.{Keeps}
 use Rattle.afr_transaction.specs.Shapes.{is_asking, is_copying}
 use Rattle.txn_laws.specs.Granted.{is_as_asked}
-use Rattle.txn_laws.specs.Own.{IsOwn}
+use Rattle.txn_laws.specs.Own.{IsSameJob}
 
 -- each that was out is out still, with the same mark
 abbrev pub AreOutStill : Outs → Outs → Type 0
@@ -41,7 +41,7 @@ error_in (reply.Io error) = Some error
 pub record ListsAll (txn now : Txn) (ledger : State Cell) (error : IoError) (outs : Outs) : Type 0 where
   pub job : Txn
   pub is : IsThen now job
-  pub own : IsOwn txn job
+  pub own : IsSameJob txn job
   pub cause : IsCause job ledger error
   pub all : AreOutStill outs job.outs
 

@@ -12,7 +12,7 @@ use Rattle.afr_transaction.specs.declared.txn.Txn.{Txn}
 use Rattle.afr_transaction.specs.Answers.{answered, copied}
 use Rattle.afr_transaction.specs.Begins.{fresh, started}
 
-pub record IsOwn (before after : Txn) : Type 0 where
+pub record IsSameJob (before after : Txn) : Type 0 where
   pub set : after.set ≡ before.set
   pub size : after.size ≡ before.size
   pub bricks : after.bricks ≡ before.bricks
@@ -21,12 +21,12 @@ pub record IsOwn (before after : Txn) : Type 0 where
 
 abbrev pub BeginsStay : Type 0
 BeginsStay = (size : Size) (set : SetPlan) (call : ℕ) (job : Job) (ledger : State Cell) (live : Mask) (last : List ℕ)
-    → IsOwn (fresh size set call job) (started (fresh size set call job) ledger live last).0
+    → IsSameJob (fresh size set call job) (started (fresh size set call job) ledger live last).0
 
 abbrev pub AnswersStay : Type 0
 AnswersStay = (txn : Txn) (k mark : ℕ) (rep : BrickRep) (ledger : State Cell) (live : Mask) (last : List ℕ)
-    → IsOwn txn (answered txn k rep mark ledger live last).0
+    → IsSameJob txn (answered txn k rep mark ledger live last).0
 
 abbrev pub CopiesStay : Type 0
 CopiesStay = (txn : Txn) (done : CopyDone) (ledger : State Cell) (live : Mask) (last : List ℕ)
-    → IsOwn txn (copied txn done ledger live last).0
+    → IsSameJob txn (copied txn done ledger live last).0

@@ -40,7 +40,7 @@ use Rattle.txn_laws.specs.Granted.{is_as_asked, rows_by, IsGrant, IsLocking, IsS
 use Rattle.txn_laws.specs.Laws.{DrawsToMark, PostTurn, SettleTurn}
 use Rattle.txn_laws.specs.Lists.{error_in, ListsAll}
 use Rattle.txn_laws.specs.Outs.{IsAmong, IsOutBy, WasLost}
-use Rattle.txn_laws.specs.Own.{IsOwn}
+use Rattle.txn_laws.specs.Own.{IsSameJob}
 use Rattle.txn_laws.specs.Splits.{SplitHasQuorum}
 
 -- ---- what is handed in
@@ -103,7 +103,7 @@ AreSaid wave said = (j : ℕ) → j < 5 → flag wave.confirmed j ≡ has_said s
 -- that granted its lock where it is under one; ops go to those who confirmed the mark, and posts accuse exactly those who did not
 -- confirm the op; at most one number is drawn; a post and a settle decide with the q-th confirmation.
 pub record AnswerIsLawful (txn : Txn) (k mark : ℕ) (rep : BrickRep) (ledger : State Cell) (live : Mask) (last : List ℕ) (said : List (ℕ × Bool)) (t : Txn × (Need × State Cell)) : Type 0 where
-  pub own : IsOwn txn t.0
+  pub own : IsSameJob txn t.0
   pub goes_on : AfterAnswer txn.size k txn.wave t.0 t.1.0
   pub sends : Sends t.0 t.1.0
   pub confirmed : AreSaid (taken txn.wave k (is_as_asked txn.phase txn.cells rep)) said
@@ -124,7 +124,7 @@ pub record AnswerIsLawful (txn : Txn) (k mark : ℕ) (rep : BrickRep) (ledger : 
 
 -- the turn of a copy that is done
 pub record CopyIsLawful (txn : Txn) (done : CopyDone) (ledger : State Cell) (live : Mask) (last : List ℕ) (t : Txn × (Need × State Cell)) : Type 0 where
-  pub own : IsOwn txn t.0
+  pub own : IsSameJob txn t.0
   pub goes_on : GoesOn txn.size t.0 t.1.0
   pub sends : Sends t.0 t.1.0
   pub draws : DrawsToMark ledger t

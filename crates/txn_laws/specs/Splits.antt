@@ -29,7 +29,7 @@ use Rattle.afr_transaction.specs.Shapes.{is_asking, is_copying}
 use Rattle.afr_transaction.specs.Txns.{io_of}
 use Rattle.txn_laws.specs.Free.{AllShow, HasItsFree}
 use Rattle.txn_laws.specs.Granted.{HasRows, Follows}
-use Rattle.txn_laws.specs.Own.{IsOwn}
+use Rattle.txn_laws.specs.Own.{IsSameJob}
 use Rattle.txn_laws.specs.Work.{how_many}
 
 -- a lock phase that has reached a quorum
@@ -43,7 +43,7 @@ pub record HasQuorum (job : Txn) : Type 0 where
 pub record SplitHasQuorum (txn now : Txn) (ledger : State Cell) (error : IoError) : Type 0 where
   pub job : Txn
   pub is : IsThen now job
-  pub own : IsOwn txn job
+  pub own : IsSameJob txn job
   pub reached : HasQuorum job
   pub cause : IsCause job ledger error
   pub bare : AllShow job → HasItsFree job → ⊥
@@ -58,7 +58,7 @@ IsSkipCause job ledger skip.Unsettled = is_some (touching cell_cmp job.set job.c
 pub record SkipHasCause (txn now : Txn) (ledger : State Cell) (cause : SkipCause) : Type 0 where
   pub job : Txn
   pub is : IsThen now job
-  pub own : IsOwn txn job
+  pub own : IsSameJob txn job
   pub skips : IsSkipCause job ledger cause
 
 -- ---- the laws

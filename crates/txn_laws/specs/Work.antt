@@ -17,7 +17,7 @@ use Rattle.afr_transaction.specs.Locked.{again}
 use Rattle.afr_transaction.specs.Requests.{Keeps}
 use Rattle.afr_transaction.specs.Shapes.{is_asking, is_copying}
 use Rattle.afr_transaction.specs.Txns.{alive}
-use Rattle.txn_laws.specs.Own.{IsOwn}
+use Rattle.txn_laws.specs.Own.{IsSameJob}
 
 -- of how many replicas it is true
 unfoldable pub how_many : List Bool → ℕ
@@ -46,7 +46,7 @@ work txn = 6 * phases_left txn.phase txn + how_many txn.wave.asked
 -- the job begins again, with what it knows after the turn: it settles what touches its cells, and takes its locks anew
 pub record BeginsAgain (txn : Txn) (ledger : State Cell) (live : Mask) (last : List ℕ) (after : Txn) (turned : Need) : Type 0 where
   pub job : Txn
-  pub own : IsOwn txn job
+  pub own : IsSameJob txn job
   pub after_is : after ≡ (again job ledger live last).0
   pub need_is : turned ≡ (again job ledger live last).1
 

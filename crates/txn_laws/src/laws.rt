@@ -7,6 +7,7 @@ ghost use Rattle.txn_laws.specs.Outs.{BeginsOut, AnswersOut, CopiesOut, BeginsLo
 ghost use Rattle.txn_laws.specs.Lists.{AnswersList, CopiesList};
 ghost use Rattle.txn_laws.specs.Own.{BeginsStay, AnswersStay, CopiesStay};
 ghost use Rattle.txn_laws.specs.Rounds.{BeginsHaveFewRounds, EachAnswerIsPaid, EachCopyIsPaid, DrawsRaiseNothing, DecisionsRaiseNothing, BeginsRaiseByTwo, BeginsElsewhereRaiseNothing};
+ghost use Rattle.txn_laws.specs.RunEnds.{RunsEnd};
 ghost use Rattle.txn_laws.specs.Runs.{RunsAreLawful};
 ghost use Rattle.txn_laws.specs.Splits.{BeginsDoNotSplit, AnswersSplit, CopiesDoNotSplit, AnswersSkip, CopiesSkip};
 ghost use Rattle.afr_transaction.specs.Moves.{AnswersMove, CopiesDraw};
@@ -180,4 +181,12 @@ pub fn lock_phases_follow()
 /// exports this.
 pub fn runs_are_lawful()
     ensures { RunsAreLawful }
+{}
+
+/// A run of a job ends, with no premise on the job but its bounds, as long as its copies leave sinks only as said above: it takes at
+/// most 228 answers and finished copies for each replica of its set, for each change that is unsettled on its cells as it begins,
+/// and once more, and 456 for each change that becomes unsettled on its cells meanwhile. The call does nothing: its contract exports
+/// this.
+pub fn runs_end()
+    ensures { RunsEnd }
 {}

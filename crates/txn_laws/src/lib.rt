@@ -11,6 +11,6 @@ pub use laws::{
     confirmations_are_handed_in, failures_have_causes, failures_list_all, grants_are_handed_in,
     jobs_end, jobs_stay, lock_phases_follow, losses_are_losses, others_add_few_rounds,
     outs_are_handed_in, quorums_decide, requests_end, rounds_are_paid, rows_are_handed_in,
-    runs_are_lawful, skips_have_causes, splits_have_quorums, splits_lack_free,
+    runs_are_lawful, runs_end, skips_have_causes, splits_have_quorums, splits_lack_free,
     turns_move_the_ledger,
 };
