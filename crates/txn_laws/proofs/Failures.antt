@@ -529,7 +529,7 @@ module _ (S : Txn → Type 0) (B : Outs → Type 0) (grow : (a b : Outs) → Are
 -- ---- the laws
 
 -- nothing is asked of a lock phase, and of who is out
-abbrev Any : Txn → Type 0
+abbrev pub Any : Txn → Type 0
 Any job = Unit {0}
 
 abbrev pub AnyOuts : Outs → Type 0
@@ -562,10 +562,10 @@ weak_kept : (before : Option SetReply) (now : Txn) (ledger : State Cell) (turned
 weak_kept None now ledger turned said = weak_decided now ledger (reply_of now turned) said
 weak_kept (Some r) now ledger turned said = said
 
-any_reached : (live : Mask) (last : List ℕ) (txn : Txn) (t : Outs × LockStep) → Reaches Any AnyOuts any_grow live last txn t
-any_reached live last txn (outs, step.Ask k) = tt
-any_reached live last txn (outs, step.Short) = tt
-any_reached live last txn (outs, step.Reached) = tt
+pub any_reached : (B : Outs → Type 0) (grow : (a b : Outs) → AreOutStill a b → B a → B b) (live : Mask) (last : List ℕ) (txn : Txn) (t : Outs × LockStep) → Reaches Any B grow live last txn t
+any_reached B grow live last txn (outs, step.Ask k) = tt
+any_reached B grow live last txn (outs, step.Short) = tt
+any_reached B grow live last txn (outs, step.Reached) = tt
 
 pub begins_have_causes : BeginsHaveCauses
 begins_have_causes size set call j ledger live last =
@@ -577,7 +577,7 @@ pub answers_have_causes : AnswersHaveCauses
 answers_have_causes txn k mark rep ledger live last asking keeps tracks asked =
     let t = answered txn k rep mark ledger live last in
     let said = answers_said Any AnyOuts any_grow txn k mark rep ledger live last asking keeps tracks asked ((λ e. tt), (λ e. tt))
-    (λ at e rows r. any_reached live last (lock_taken (idle txn) k rows (is_fault rep) mark last) (next_lock (lock_taken (idle txn) k rows (is_fault rep) mark last).outs (lock_taken (idle txn) k rows (is_fault rep) mark last).locks txn.size.n txn.size.q (k + 1) live last)) in
+    (λ at e rows r. any_reached AnyOuts any_grow live last (lock_taken (idle txn) k rows (is_fault rep) mark last) (next_lock (lock_taken (idle txn) k rows (is_fault rep) mark last).outs (lock_taken (idle txn) k rows (is_fault rep) mark last).locks txn.size.n txn.size.q (k + 1) live last)) in
     (said.0, weak_kept (reply_in txn.phase) t.0 t.1.1 t.1.0 said.1)
 
 pub copies_have_causes : CopiesHaveCauses

@@ -58,7 +58,7 @@ set_flag (x ∷ xs) (suc i) (suc j) b h = by (set_flag xs i j b h) where
   by (inl there) = inl there
   by (inr e) = inr (ap suc e.0, e.1)
 
-set_length : {A : Type 0} (xs : List A) (i : ℕ) (x : A) → length (slice_set xs i x) ≡ length xs
+pub set_length : {A : Type 0} (xs : List A) (i : ℕ) (x : A) → length (slice_set xs i x) ≡ length xs
 set_length [] i x = refl
 set_length (y ∷ ys) zero x = refl
 set_length (y ∷ ys) (suc i) x = ap suc (set_length ys i x)

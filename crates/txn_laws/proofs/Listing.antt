@@ -1,14 +1,11 @@
 -- An I/O error for lack of replicas lists all that are out.
-use Rattle.std.proofs.Common.{◌≡◌, ◌∙◌, ℕ, ◌+◌, Bool, true, false, if◌then◌else◌, List, Option, Some, None, sym, subst}
+use Rattle.std.proofs.Common.{◌≡◌, ◌∙◌, ◌+◌, Bool, true, false, if◌then◌else◌, Option, Some, None, sym, subst}
 use Rattle.std.proofs.lemmas.Bool.{true≢false}
 use Rattle.fop_types.specs.declared.answers.IoError.{IoError}
 use Rattle.fop_types.specs.declared.cells.Cell.{Cell}
-use Rattle.fop_types.specs.declared.contents.Mask.{Mask}
 use Rattle.fop_types.specs.declared.jobs.SetReply.{SetReply}
 use Rattle.fop_types.specs.declared.jobs.SetReply.TheVariants as reply
 use Rattle.afr_ledger.specs.Ledger.{State}
-use Rattle.afr_phases.specs.declared.locking.LockStep.{LockStep}
-use Rattle.afr_phases.specs.declared.locking.LockStep.TheVariants as step
 use Rattle.afr_phases.specs.declared.outs.Outs.{Outs}
 use Rattle.afr_phases.specs.Answers.{is_fault}
 use Rattle.afr_phases.specs.Locking.{next_lock}
@@ -20,12 +17,8 @@ use Rattle.afr_transaction.specs.Locked.{lock_taken}
 use Rattle.txn_laws.specs.Granted.{is_as_asked}
 use Rattle.txn_laws.specs.Lists.{AreOutStill, error_in, ListsAll, AnswersList, CopiesList}
 use Rattle.txn_laws.specs.Own.{IsSameJob}
-use Rattle.txn_laws.proofs.Failures.{Said, DecidedSaid, IsKeptOrSaid, ReplySaid, Reaches, answers_said, copies_said}
+use Rattle.txn_laws.proofs.Failures.{Any, any_reached, Said, DecidedSaid, IsKeptOrSaid, ReplySaid, answers_said, copies_said}
 use Rattle.txn_laws.proofs.Known.{answers_stay, copies_stay}
-
--- nothing is asked of a lock phase
-abbrev Any : Txn → Type 0
-Any job = Unit {0}
 
 -- all of these are out
 module _ (outs : Outs) where
@@ -54,11 +47,6 @@ module _ (outs : Outs) where
     all = said.whole;
   }
 
-  any_reached : (live : Mask) (last : List ℕ) (txn : Txn) (t : Outs × LockStep) → Reaches Any All more live last txn t
-  any_reached live last txn (o, step.Ask k) = tt
-  any_reached live last txn (o, step.Short) = tt
-  any_reached live last txn (o, step.Reached) = tt
-
 -- who is out with an answer
 with_asked : (outs gone : Outs) (c : Bool) → c ≡ true → AreOutStill (if c then outs else gone) outs
 with_asked outs gone true e = λ k out h. h
@@ -75,7 +63,7 @@ answers_list txn k mark rep ledger live last r error asking keeps tracks asked n
     let outs : Outs = if is_as_asked txn.phase txn.cells rep then txn.outs else gone in
     let judged = answers_said Any (All outs) (more outs) txn k mark rep ledger live last asking keeps tracks asked
     ((λ c. with_asked txn.outs gone (is_as_asked txn.phase txn.cells rep) c), (λ c. with_other txn.outs gone (is_as_asked txn.phase txn.cells rep) c))
-    (λ at a rows b. any_reached outs live last (lock_taken (idle txn) k rows (is_fault rep) mark last) (next_lock (lock_taken (idle txn) k rows (is_fault rep) mark last).outs (lock_taken (idle txn) k rows (is_fault rep) mark last).locks txn.size.n txn.size.q (k + 1) live last)) in
+    (λ at a rows b. any_reached (All outs) (more outs) live last (lock_taken (idle txn) k rows (is_fault rep) mark last) (next_lock (lock_taken (idle txn) k rows (is_fault rep) mark last).outs (lock_taken (idle txn) k rows (is_fault rep) mark last).locks txn.size.n txn.size.q (k + 1) live last)) in
     let decided = subst (λ (o : Option SetReply). IsKeptOrSaid Any (All outs) (more outs) o t.0 t.1.1 t.1.0) none judged.1 in
     let said = subst (λ (o : Option SetReply). DecidedSaid Any (All outs) (more outs) t.0 t.1.1 o) e decided in
     lists outs txn t.0 t.1.1 error (answers_stay txn k mark rep ledger live last) (error_said outs t.0 t.1.1 r error said is)

@@ -35,9 +35,6 @@ set_some (z ∷ zs) zero (suc j) x h = h
 set_some (z ∷ zs) (suc i) zero x h = h
 set_some (z ∷ zs) (suc i) (suc j) x h = set_some zs i j x h
 
-set_is : {A : Type 0} (xs : List (Option A)) (i j : ℕ) (x : A) → is_some (slice_index_or (slice_set xs i (Some x)) i None) ≡ true → j ≡ i → is_some (slice_index_or (slice_set xs i (Some x)) j None) ≡ true
-set_is xs i j x h e = subst (λ (m : ℕ). is_some (slice_index_or (slice_set xs i (Some x)) m None) ≡ true) (sym e) h
-
 pub none_there : {A : Type 0} (j : ℕ) (x : A) → slice_index_or (None ∷ None ∷ None ∷ None ∷ None ∷ []) j None ≡ Some x → ⊥
 none_there zero x h = absurd cc
 none_there (suc zero) x h = absurd cc

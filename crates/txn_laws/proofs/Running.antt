@@ -35,17 +35,13 @@ use Rattle.txn_laws.specs.Laws.{PostTurn, SettleTurn}
 use Rattle.txn_laws.specs.Runs.{Event, Answer, Finish, AwaitsAnswer, AwaitsCopy, AreEvents, since_sent, has_said, AreSaid, AnswerIsLawful, CopyIsLawful, TurnsAreLawful, RunsAreLawful}
 use Rattle.txn_laws.proofs.Draws.{answers_draw_to_mark, copies_draw_to_mark}
 use Rattle.txn_laws.proofs.Failures.{begins_have_causes, answers_have_causes, copies_have_causes}
+use Rattle.txn_laws.proofs.Handed.{set_length}
 use Rattle.txn_laws.proofs.Known.{begins_confirm, begins_follow, answers_begin, answers_stay, answers_grant, answers_show, answers_follow, answers_lose, answers_take, copies_begin, copies_stay, copies_follow, copies_lose, copies_take}
 use Rattle.txn_laws.proofs.Listing.{answers_list, copies_list}
 use Rattle.txn_laws.proofs.Quorums.{posts_in_turns, settles_in_turns}
 use Rattle.txn_laws.proofs.Splits.{answers_split, copies_do_not_split}
 
 -- ---- confirmations
-
-set_length : (xs : List Bool) (i : ℕ) (b : Bool) → length (slice_set xs i b) ≡ length xs
-set_length [] i b = refl
-set_length (x ∷ xs) zero b = refl
-set_length (x ∷ xs) (suc i) b = ap suc (set_length xs i b)
 
 set_same : (xs : List Bool) (i : ℕ) → i < length xs → flag (slice_set xs i true) i ≡ true
 set_same [] i low = absurd (omega arith)
