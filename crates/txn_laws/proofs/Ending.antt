@@ -36,7 +36,7 @@ first_work txn (outs, step.Ask k) bounds = few_work (length txn.cells) k (how_ma
 first_work txn (outs, step.Short) bounds = no_work (how_many (first_step txn (outs, step.Short)).0.wave.asked) (few_flags (first_step txn (outs, step.Short)).0.wave.asked)
 first_work txn (outs, step.Reached) bounds = no_work (how_many (first_step txn (outs, step.Reached)).0.wave.asked) (few_flags (first_step txn (outs, step.Reached)).0.wave.asked)
 
-again_work : (job : Txn) (ledger : State Cell) (live : Mask) (last : List ℕ) → BoundsIn (again job ledger live last).0.phase (again job ledger live last).0 → work (again job ledger live last).0 < 228
+pub again_work : (job : Txn) (ledger : State Cell) (live : Mask) (last : List ℕ) → BoundsIn (again job ledger live last).0.phase (again job ledger live last).0 → work (again job ledger live last).0 < 228
 again_work job ledger live last bounds =
     first_work (record job { cells = cells_for job ledger (to_settle job ledger); settles = to_settle job ledger; locks = no_locks; shown = nothing_shown })
     (next_lock job.outs no_locks job.size.n job.size.q 0 live last) bounds

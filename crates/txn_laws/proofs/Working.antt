@@ -51,7 +51,7 @@ use Rattle.afr_transaction.specs.Copied.{healed, is_change, copied_all, copy_by,
 use Rattle.afr_transaction.specs.Copies.{has_sink, has_source, next_part, is_left}
 use Rattle.afr_transaction.specs.Encodings.{BoundsIn, HasBounds, TakesLocks}
 use Rattle.afr_transaction.specs.Jobs.{kind_of, birth_op, change_op}
-use Rattle.afr_transaction.specs.Locked.{going, job_cells, lost_noted, unlock, fail, lock_taken, reached}
+use Rattle.afr_transaction.specs.Locked.{again, going, job_cells, lost_noted, unlock, fail, lock_taken, reached}
 use Rattle.afr_transaction.specs.Parts.{common_of, is_split, sources_for, place_of, joined_at, joined, with_copy, parts_from, all_parts}
 use Rattle.afr_transaction.specs.Polls.{list_ended}
 use Rattle.afr_transaction.specs.Reads.{lacks, sound_on, is_split_read, split_rows, with_absent, fetching, fetch_at, fetch_next, fetch_taken, ready_to_read}
@@ -60,14 +60,18 @@ use Rattle.afr_transaction.specs.Settles.{settle_decided, settle_parts}
 use Rattle.afr_transaction.specs.Requests.{Keeps}
 use Rattle.afr_transaction.specs.Shapes.{suits, are_copies, has_cell, is_asking, is_copying}
 use Rattle.afr_transaction.specs.Txns.{alive, heal_reply, healing, io_of, is_heal, kept, only}
-use Rattle.txn_laws.specs.Work.{how_many, phases_left, work, BeginsAgain, EachAnswerLeavesLess, EachCopyLeavesLess}
+use Rattle.txn_laws.specs.Own.{IsSameJob}
+use Rattle.txn_laws.proofs.Handed.{own_after}
+use Rattle.txn_laws.proofs.Known.{answers_stay, copies_stay}
+use Rattle.txn_laws.proofs.Noted.{again_after}
+use Rattle.txn_laws.specs.Work.{how_many, phases_left, work, BeginsAgain as Again, EachAnswerLeavesLess, EachCopyLeavesLess}
 use Rattle.txn_laws.specs.Rounds.{unsettled_on, occasions, is_settled, is_met, is_one_out, is_lock_late, is_read_late, is_copy_late, is_mark_late, is_settle_late, rounds_in, rounds, LedgerKeeps, IsPaid, EachAnswerIsPaid, sinks_in, LeavesForLoss, EachCopyIsPaid}
 use Rattle.txn_laws.proofs.Counts.{bit_less, few_flags, asked_less, used_less_one, none_more, none_out}
 use Rattle.txn_laws.proofs.Paying.{fewer, less_late, is_due, spared, at_most_one, beside, moved, same, Pays, released, own_budget, pays_since, noted_pays, again_pays, mark_late, settle_pays, read_pays, reads_in, copies_met, rest_late, settles_late, met_late, other_late, part_late, lock_since, noted_late, noted_loss, changes_copy, heals_copy, births_have, opens_take_none, indexes_take_none}
 use Rattle.txn_laws.proofs.Sources.{all_have, LackFrom, next_lacks, read_late, same_split, stops}
 use Rattle.txn_laws.proofs.Unsettled.{nobody_on}
 use Rattle.txn_laws.proofs.Used.{IsSince, step_since}
-use Rattle.txn_laws.proofs.Failures.{tracks_idle, suits_idle}
+use Rattle.txn_laws.proofs.Idle.{tracks_idle, suits_idle}
 use Rattle.afr_transaction.proofs.Steps.{one_longer}
 
 -- ---- phases
@@ -142,6 +146,12 @@ next_few txn (part ∷ parts) =
     (λ e. subst (λ (n : ℕ). NextFew n (next_part txn parts)) one (next_more (length parts) (next_part txn parts) (next_few txn parts)))
 
 -- ---- turns after which so many phases may follow at most
+
+-- some job begins again
+record BeginsAgain (ledger : State Cell) (live : Mask) (last : List ℕ) (after : Txn) (turned : Need) : Type 0 where
+  pub job : Txn
+  pub after_is : after ≡ (again job ledger live last).0
+  pub need_is : turned ≡ (again job ledger live last).1
 
 -- Where P holds they leave no more rounds than a budget, and fewer where the job begins again.
 module _ (P : Type 0) (live : Mask) (last : List ℕ) where
@@ -589,29 +599,46 @@ module _ (P : Type 0) (live : Mask) (last : List ℕ) (txn : Txn) (ledger : Stat
       let b = and_parts (are_granted_within txn.size.n txn.locks) (are_copies txn.phase) a.1 in
       of_idle (copied txn done ledger live last) (copying_less P live last txn.phase (idle txn) done ledger b.1 five kept loss)
 
--- with nothing known of the ledger the work alone is less
-work_alone : (live : Mask) (last : List ℕ) (most budget : ℕ) (t : Txn × (Need × State Cell)) → Less ⊥ live last most budget t → (work t.0 < most) ⊎ BeginsAgain t.1.1 live last t.0 t.1.0
-work_alone live last most budget t (inl h) = inl h.0
-work_alone live last most budget t (inr h) = inr h.0
+-- it is this job: it is after the turn what it was before, and so is a job that begins again
+this_again : (txn : Txn) (ledger : State Cell) (live : Mask) (last : List ℕ) (after : Txn) (turned : Need) → IsSameJob txn after → BeginsAgain ledger live last after turned → Again txn ledger live last after turned
+this_again txn ledger live last after turned own h =
+    let redo = own_after ⊥ ⊥ live last h.job (again h.job ledger live last) (again_after ⊥ ⊥ live last h.job ledger (λ q. absurd q)) in
+    record {
+      job = h.job;
+      own = record {
+        set = sym redo.set ∙ ap (λ (t : Txn). t.set) (sym h.after_is) ∙ own.set;
+        size = sym redo.size ∙ ap (λ (t : Txn). t.size) (sym h.after_is) ∙ own.size;
+        bricks = sym redo.bricks ∙ ap (λ (t : Txn). t.bricks) (sym h.after_is) ∙ own.bricks;
+        call = sym redo.call ∙ ap (λ (t : Txn). t.call) (sym h.after_is) ∙ own.call;
+        job = sym redo.job ∙ ap (λ (t : Txn). t.job) (sym h.after_is) ∙ own.job;
+      };
+      after_is = h.after_is;
+      need_is = h.need_is;
+    }
 
-with_rounds : (live : Mask) (last : List ℕ) (txn : Txn) (ledger : State Cell) (t : Txn × (Need × State Cell)) → Less (Unit {0}) live last (work txn) (rounds txn ledger) t → IsPaid txn ledger live last t
-with_rounds live last txn ledger t (inl h) = inl (h.0, h.1 tt)
-with_rounds live last txn ledger t (inr h) = inr (h.0, h.1 tt)
+-- with nothing known of the ledger the work alone is less
+work_alone : (live : Mask) (last : List ℕ) (txn : Txn) (most budget : ℕ) (t : Txn × (Need × State Cell)) → IsSameJob txn t.0 → Less ⊥ live last most budget t → (work t.0 < most) ⊎ Again txn t.1.1 live last t.0 t.1.0
+work_alone live last txn most budget t own (inl h) = inl h.0
+work_alone live last txn most budget t own (inr h) = inr (this_again txn t.1.1 live last t.0 t.1.0 own h.0)
+
+with_rounds : (live : Mask) (last : List ℕ) (txn : Txn) (ledger : State Cell) (t : Txn × (Need × State Cell)) → IsSameJob txn t.0 → Less (Unit {0}) live last (work txn) (rounds txn ledger) t → IsPaid txn ledger live last t
+with_rounds live last txn ledger t own (inl h) = inl (h.0, h.1 tt)
+with_rounds live last txn ledger t own (inr h) = inr (this_again txn t.1.1 live last t.0 t.1.0 own h.0, h.1 tt)
 
 pub answers_leave_less : EachAnswerLeavesLess
 answers_leave_less txn k mark rep ledger live last asking keeps tracks asked =
-    work_alone live last (work txn) (rounds txn ledger) (answered txn k rep mark ledger live last)
+    work_alone live last txn (work txn) (rounds txn ledger) (answered txn k rep mark ledger live last) (answers_stay txn k mark rep ledger live last)
     (answer_less ⊥ live last txn ledger k mark rep asking keeps tracks asked (λ p. absurd p) (λ p. absurd p))
 
 pub copies_leave_less : EachCopyLeavesLess
 copies_leave_less txn done ledger live last copying =
-    work_alone live last (work txn) (rounds txn ledger) (copied txn done ledger live last) (copy_less ⊥ live last txn ledger done copying (λ p. absurd p) (λ p. absurd p) (λ p. absurd p))
+    work_alone live last txn (work txn) (rounds txn ledger) (copied txn done ledger live last) (copies_stay txn done ledger live last) (copy_less ⊥ live last txn ledger done copying (λ p. absurd p) (λ p. absurd p) (λ p. absurd p))
 
 pub answers_are_paid : EachAnswerIsPaid
 answers_are_paid txn k mark rep ledger live last asking keeps tracks bounds kept asked =
-    with_rounds live last txn ledger (answered txn k rep mark ledger live last)
+    with_rounds live last txn ledger (answered txn k rep mark ledger live last) (answers_stay txn k mark rep ledger live last)
     (answer_less (Unit {0}) live last txn ledger k mark rep asking keeps tracks asked (λ p. bounds) (λ p. kept))
 
 pub copies_are_paid : EachCopyIsPaid
 copies_are_paid txn done ledger live last copying keeps kept loss =
-    with_rounds live last txn ledger (copied txn done ledger live last) (copy_less (Unit {0}) live last txn ledger done copying (λ p. keeps.places) (λ p. kept) (λ p. loss))
+    with_rounds live last txn ledger (copied txn done ledger live last) (copies_stay txn done ledger live last) (copy_less (Unit {0}) live last txn ledger done copying (λ p. keeps.places) (λ p. kept) (λ p. loss))

@@ -1,9 +1,14 @@
--- In reading order: decisions; when a split has no cause; with which marks I/O errors list replicas, and by whose rows; that
--- requests end; how often a job begins again; and that jobs end.
+-- In reading order: a job stays what it is; what it knows of its replicas, and who is out; decisions; when a split has no cause;
+-- that requests end; how often a job begins again; and that jobs end.
+pub mod Own
+pub mod Granted
+pub mod Outs
 pub mod Laws
 pub mod Free
-pub mod Marks
-pub mod Handed
 pub mod Work
+pub mod Splits
+pub mod Lists
 pub mod Rounds
 pub mod Ends
+pub mod Runs
+pub mod RunEnds

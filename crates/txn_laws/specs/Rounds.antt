@@ -139,7 +139,7 @@ pub record LedgerKeeps (ledger : State Cell) : Type 0 where
 abbrev pub IsPaid : Txn → State Cell → Mask → List ℕ → Txn × (Need × State Cell) → Type 0
 IsPaid txn ledger live last t =
     ((work t.0 < work txn) × (rounds t.0 t.1.1 ≤ rounds txn ledger))
-    ⊎ (BeginsAgain t.1.1 live last t.0 t.1.0 × (rounds t.0 t.1.1 < rounds txn ledger))
+    ⊎ (BeginsAgain txn t.1.1 live last t.0 t.1.0 × (rounds t.0 t.1.1 < rounds txn ledger))
 
 -- a job begins with one round at most for each replica and each unsettled change on its cells
 abbrev pub BeginsHaveFewRounds : Type 0

@@ -17,6 +17,7 @@ use Rattle.afr_transaction.specs.Locked.{again}
 use Rattle.afr_transaction.specs.Requests.{Keeps}
 use Rattle.afr_transaction.specs.Shapes.{is_asking, is_copying}
 use Rattle.afr_transaction.specs.Txns.{alive}
+use Rattle.txn_laws.specs.Own.{IsSameJob}
 
 -- of how many replicas it is true
 unfoldable pub how_many : List Bool → ℕ
@@ -42,9 +43,10 @@ phases_left phase.Over txn = 0
 abbrev pub work : Txn → ℕ
 work txn = 6 * phases_left txn.phase txn + how_many txn.wave.asked
 
--- a job begins again, as it is after some turn: it settles what touches its cells, and takes its locks anew
-pub record BeginsAgain (ledger : State Cell) (live : Mask) (last : List ℕ) (after : Txn) (turned : Need) : Type 0 where
+-- the job begins again, with what it knows after the turn: it settles what touches its cells, and takes its locks anew
+pub record BeginsAgain (txn : Txn) (ledger : State Cell) (live : Mask) (last : List ℕ) (after : Txn) (turned : Need) : Type 0 where
   pub job : Txn
+  pub own : IsSameJob txn job
   pub after_is : after ≡ (again job ledger live last).0
   pub need_is : turned ≡ (again job ledger live last).1
 
@@ -54,10 +56,10 @@ abbrev pub EachAnswerLeavesLess : Type 0
 EachAnswerLeavesLess = (txn : Txn) (k mark : ℕ) (rep : BrickRep) (ledger : State Cell) (live : Mask) (last : List ℕ)
     → is_asking txn ≡ true → Keeps txn → Tracks txn → is_asked txn.wave k ≡ true
     → (work (answered txn k rep mark ledger live last).0 < work txn)
-    ⊎ BeginsAgain (answered txn k rep mark ledger live last).1.1 live last (answered txn k rep mark ledger live last).0 (answered txn k rep mark ledger live last).1.0
+    ⊎ BeginsAgain txn (answered txn k rep mark ledger live last).1.1 live last (answered txn k rep mark ledger live last).0 (answered txn k rep mark ledger live last).1.0
 
 abbrev pub EachCopyLeavesLess : Type 0
 EachCopyLeavesLess = (txn : Txn) (done : CopyDone) (ledger : State Cell) (live : Mask) (last : List ℕ)
     → is_copying txn ≡ true
     → (work (copied txn done ledger live last).0 < work txn)
-    ⊎ BeginsAgain (copied txn done ledger live last).1.1 live last (copied txn done ledger live last).0 (copied txn done ledger live last).1.0
+    ⊎ BeginsAgain txn (copied txn done ledger live last).1.1 live last (copied txn done ledger live last).0 (copied txn done ledger live last).1.0

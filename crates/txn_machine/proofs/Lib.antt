@@ -7,4 +7,6 @@ pub mod LockSteps
 pub mod OneRequest
 pub mod Others
 pub mod Rows
+pub mod Runs
 pub mod Turns
+pub mod Witness

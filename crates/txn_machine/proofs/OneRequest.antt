@@ -210,8 +210,8 @@ module _ (size : Size) (m : State) (t : ℕ) (txn : Txn) (wave : Wave) (ledger :
       let pair : ◌≡◌ {A = ℕ × StoreOp} op (drawn.fd, (m.changes change).op) = cc in
       ap (λ (p : ℕ × StoreOp). p.1) pair
 
-  drawn_apart : (change : ℕ) → own_in txn.phase ≡ Some change → AreLeftAlone m t (cells_of (births (m.changes change).op))
-  drawn_apart change at = subst (λ (j : Job). AreBirthsApart m t j) (after.itself.own change at).is after.apart
+  drawn_apart : (change : ℕ) → txn.phase ≡ phase.Writing change → AreLeftAlone m t (cells_of (births (m.changes change).op))
+  drawn_apart change e = subst (λ (j : Job). AreBirthsApart m t j) (after.itself.own change (ap own_in e)).is (after.apart change e)
 
   -- ---- one request
 
@@ -314,7 +314,7 @@ module _ (size : Size) (m : State) (t : ℕ) (txn : Txn) (wave : Wave) (ledger :
           turn = stage_in (phase.Writing change) e;
           op_is = drawn_op change fits.1.op (ap own_in e) fits.1.at;
           unsettled = after.unsettled change (unsettled_of txn change) asks.1 refl;
-          births_apart = subst (λ (op : StoreOp). AreLeftAlone m t (cells_of (births op))) (sym (drawn_op change fits.1.op (ap own_in e) fits.1.at)) (drawn_apart change (ap own_in e));
+          births_apart = subst (λ (op : StoreOp). AreLeftAlone m t (cells_of (births op))) (sym (drawn_op change fits.1.op (ap own_in e) fits.1.at)) (drawn_apart change e);
         })))
     by_phase (phase.Posting change adopted) r e works fits asks =
         to_members (phase.Posting change adopted) r (Stage.Posting change) e refl refl (stage_in (phase.Posting change adopted) e) (λ h. absurd cc) works.0 asks.0 fits.0

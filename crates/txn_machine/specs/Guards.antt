@@ -39,7 +39,7 @@ pub record IsAfter (size : Size) (m : State) (t : ℕ) (txn : Txn) (wave : Wave)
   pub links : AreLinksOf size m t live last
   pub unsettled : IsLedgerOf m txn.set ledger
   pub done : (change : ℕ) (adopted : Option Adopted) → txn.phase ≡ phase.Posting change adopted → (k : ℕ) → k < size.replicas → (m.changes change).done k ≡ flag wave.confirmed k
-  pub apart : AreBirthsApart m t txn.job
+  pub apart : (change : ℕ) → txn.phase ≡ phase.Writing change → AreBirthsApart m t txn.job
 
 -- The request to a replica meets its guard. A member of a lock phase that has lost its lock with its connection is not asked:
 -- it is missed, where it is one of several; a read waits for it no more.

@@ -135,8 +135,8 @@ pub record AreLinksOf (size : Size) (m : State) (t : ℕ) (live : Mask) (last : 
 abbrev pub IsLedgerOf : State → ℕ → Ledger Cell → Type 0
 IsLedgerOf m set ledger = (u : ℕ) (change : Unsettled Cell) → numbered u ledger.unsettled ≡ Some change → change.set ≡ set → is_unsettled (m.changes u).verdict ≡ true
 
--- Nobody else works on the cells to which the op of a change gives birth. A premise: it is about all transactions of the set,
--- and is kept by whoever runs them.
+-- Nobody else works on the cells to which the op of a change gives birth. A premise where the op is sent: it is about all
+-- transactions of the set, and is kept by whoever runs them.
 abbrev pub AreBirthsApart : State → ℕ → Job → Type 0
 AreBirthsApart m t (job.Read cells fd dir) = Unit {0}
 AreBirthsApart m t (job.Change cells fd op effect) = AreLeftAlone m t (cells_of (births op))

@@ -2,6 +2,8 @@ ghost use Rattle.txn_machine.specs.Copies.{CopiesBeginMeet, CopyAnswersMeet};
 ghost use Rattle.txn_machine.specs.Ends.{JobsWithCopiesEnd};
 ghost use Rattle.txn_machine.specs.Guards.{BeginsMeet, AnswersMeet, CopiesMeet};
 ghost use Rattle.txn_machine.specs.Leaves.{BeginsAskFor, AnswersAskFor, CopiesAskFor, RunsBegin, RunsGoOn, RunsLeaveForLoss};
+ghost use Rattle.txn_machine.specs.Runs.{RunsMeetGuards};
+ghost use Rattle.txn_machine.specs.Witness.{PostIsMet};
 ghost use Rattle.txn_machine.specs.Sent.{OneAfterAnother};
 
 /// Each request that a turn sends meets its guard: whenever the state of the machine is that of the moment after the turn,
@@ -11,6 +13,18 @@ pub fn requests_meet_guards()
     ensures begin { BeginsMeet }
     ensures answers { AnswersMeet }
     ensures copies { CopiesMeet }
+{}
+
+/// Each request of a run of a transaction, from its begin on, meets its guard so at its turn, whatever the replicas that are asked
+/// answer, and whatever others do to the ledger and the connections meanwhile. The call does nothing: its contract exports this.
+pub fn runs_meet_guards()
+    ensures { RunsMeetGuards }
+{}
+
+/// The premises of these laws can be met: in a set of one replica allowed steps lead to a state that is that of the moment after a
+/// turn in which a change sends its post. The call does nothing: its contract exports this.
+pub fn posts_are_met()
+    ensures { PostIsMet }
 {}
 
 /// Requests to different replicas, each of which meets its guard, may be sent one after another: sending one, and missing one,

@@ -22,12 +22,12 @@
 //! And a copy leaves a sink out of date only where a replica that its transaction used went out in it, which `txn_laws` asks for
 //! where it counts how often a job begins again.
 //!
-//! The crate has definitions and laws alone: each public function has no body, and its contract is a law of every turn.
+//! The crate has definitions and laws alone: each public function has no body, and its contract is a law of every turn, or of every run.
 #![tactic(auto)]
 
 mod laws;
 
 pub use laws::{
     copies_are_asked_for, copies_leave_for_loss, copies_meet_guards, jobs_with_copies_end,
-    requests_go_one_after_another, requests_meet_guards,
+    posts_are_met, requests_go_one_after_another, requests_meet_guards, runs_meet_guards,
 };

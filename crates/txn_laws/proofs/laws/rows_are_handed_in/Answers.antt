@@ -1,4 +1,4 @@
-use Rattle.txn_laws.proofs.ShownRows.{begins_show, answers_show, copies_show}
+use Rattle.txn_laws.proofs.Known.{begins_show, answers_show, copies_show}
 use Rattle.txn_laws.proofs.laws.rows_are_handed_in.Goals as goal
 
 pub returns-clause-begin : goal.returns-clause-begin
