@@ -1,8 +1,10 @@
--- Copies were made: each copy that the log has is of a cell whose content a brick of a set answered to a fetch, and which the
--- sink, another brick of the set, replaced by just this content: its replacement was sent in the event in which that answer
+-- Copies were made: each copy that the log has is of a cell whose content a brick of a set answered to a fetch, which is sound by
+-- the rows that the copy names, and which the sink, another brick of the set, replaced by just this content: its replacement was sent in the event in which that answer
 -- arrived, for a wind of the same call, and confirmed by the event of the copy. No two copies have the same replacement.
-use Rattle.std.specs.Prelude.{◌≡◌, ◌≢◌, ℕ, ◌+◌, ◌-◌, ◌<◌, true, List, Some, Contains, length, slice_get}
+use Rattle.std.specs.Prelude.{◌≡◌, ◌≢◌, ℕ, ◌+◌, ◌-◌, ◌<◌, ◌==◌, true, List, [], ◌∷◌, Option, None, Some, Contains, length, map, slice_get, if◌then◌else◌}
+use Rattle.fop_types.specs.declared.answers.SplitRow.{SplitRow}
 use Rattle.fop_types.specs.declared.contents.Content.{Content as Held}
+use Rattle.fop_types.specs.declared.contents.Row.{Row}
 use Rattle.fop_types.specs.declared.copy_jobs.CopyRecord.{CopyRecord}
 use Rattle.fop_types.specs.declared.jobs.SetPlan.{SetPlan}
 use Rattle.fop_types.specs.declared.messages.BrickRep.TheVariants.{Done}
@@ -12,6 +14,7 @@ use Rattle.fop_types.specs.declared.messages.DoneArm.{DoneArm}
 use Rattle.fop_types.specs.declared.messages.DoneArm.TheVariants.{Nothing, Content}
 use Rattle.fop_types.specs.declared.messages.Input.TheVariants.{Request}
 use Rattle.fop_types.specs.declared.messages.OutKind.TheVariants.{Reply}
+use Rattle.afr_changelog.specs.Soundness.{IsSound}
 use Rattle.graph_build.specs.declared.plans.Plan.{Plan}
 use Rattle.script_lang.specs.declared.scripts.Script.{Script}
 use Rattle.wire_xdr.specs.WireText.{input_text, output_text}
@@ -42,12 +45,23 @@ pub record IsOpenedIn (winds : List WindLine) (call wind number : ℕ) : Type 0 
   pub number_is : wind_number line.wind ≡ wind
   pub event_is : line.event ≡ number
 
--- the source and the sink of a copy are two bricks of one set of a graph
+-- the row of a brick among those that a copy names, if there is one
+abbrev pub row_for : List SplitRow → ℕ → Option Row
+row_for [] brick = None
+row_for (r ∷ rows) brick = if r.brick == brick then Some r.row else row_for rows brick
+
+-- by the rows that a copy names its source is sound
+pub record HasSoundSource (plan : SetPlan) (copy : CopyRecord) : Type 0 where
+  pub replica : ℕ
+  pub source_is : slice_get plan.bricks replica ≡ Some copy.source
+  pub sound : IsSound (map (row_for copy.rows) plan.bricks) (length plan.bricks) plan.q replica
+
+-- the source and the sink of a copy are two bricks of one set of a graph, and the source is sound
 pub record IsWithinSet (script : Script) (plans : List Plan) (log : Log) (graph : ℕ) (copy : CopyRecord) : Type 0 where
   pub set : ℕ
   pub plan : SetPlan
   pub plan_is : set_of_plan (plan_of_volfile plans (slice_get (volfiles_of script log) (graph - 1))) set ≡ Some plan
-  pub source : Contains plan.bricks copy.source
+  pub source : HasSoundSource plan copy
   pub sink : Contains plan.bricks copy.sink
   pub differ : copy.source ≢ copy.sink
 

@@ -14,7 +14,7 @@ use Rattle.mount_log.specs.Causes.{plan_of_volfile, set_of_plan}
 use Rattle.mount_log.specs.declared.logs.Log.{Log}
 use Rattle.change_audit.specs.Borne.{IsWindFor}
 use Rattle.change_audit.specs.Claims.{claim_of}
-use Rattle.change_audit.specs.Copied.{IsDoneIn, IsMade}
+use Rattle.change_audit.specs.Copied.{IsDoneIn, HasSoundSource, IsMade}
 use Rattle.change_audit.specs.declared.call_graphs.CallGraphs.{CallGraphs}
 use Rattle.change_audit.specs.declared.copy_requests.Replacement.{Replacement}
 
@@ -57,12 +57,12 @@ pub record HasFetch (log : Log) (bricks : List Journal) (brick call event : ℕ)
   pub fetched : IsFetchedFor log bricks brick event r wind
   pub opened : IsWindFor log.winds call wind
 
--- the source and the sink of a copy are two bricks of one set of a graph, by its volfile in the table
+-- the source and the sink of a copy are two bricks of one set of a graph, by its volfile in the table, and the source is sound
 pub record IsWithinTables (plans : List Plan) (tables : CallGraphs) (graph : ℕ) (copy : CopyRecord) : Type 0 where
   pub set : ℕ
   pub plan : SetPlan
   pub plan_is : set_of_plan (plan_of_volfile plans (slice_get tables.volfiles (graph - 1))) set ≡ Some plan
-  pub source : Contains plan.bricks copy.source
+  pub source : HasSoundSource plan copy
   pub sink : Contains plan.bricks copy.sink
   pub differ : copy.source ≢ copy.sink
 

@@ -13,4 +13,5 @@ pub mod Claims
 pub mod Placing
 pub mod Entries
 pub mod Copying
+pub mod Sources
 pub mod Listings

@@ -12,6 +12,7 @@ use crate::claims::Claims;
 use crate::copy_finding::{Found, Replacements, find_replacements};
 use crate::copy_requests::{Replacement, confirmed, fetched, is_cell};
 use crate::openings::{is_opened_in, is_wind_for};
+use crate::sources::has_sound_source;
 use brick_machine::Brick;
 use fop_types::{CopyRecord, SetPlan};
 use graph_build::Plan;
@@ -86,25 +87,34 @@ fn replacement_for(
 
 // ---- its set
 
-fn has_ends(plan: &SetPlan, copy: &CopyRecord) -> bool
-    ensures source { result ≡ true → Contains plan.now.bricks copy.now.source }
+fn has_sink(plan: &SetPlan, copy: &CopyRecord) -> bool
     ensures sink { result ≡ true → Contains plan.now.bricks copy.now.sink }
     ensures differ { result ≡ true → copy.now.source ≢ copy.now.sink }
 {
-    copy.source != copy.sink && has_member(plan, copy.source) && has_member(plan, copy.sink)
+    copy.source != copy.sink && has_member(plan, copy.sink)
 }
 
-// Whether the source and the sink of a copy are two bricks of one set of a graph.
-fn is_within(plans: &[Plan], graphs: &CallGraphs, graph: usize, copy: &CopyRecord) -> bool
-    ensures { result ≡ true → IsWithinTables plans.now graphs.now graph copy.now }
+// Whether the source and the sink of a copy are two bricks of one set of a graph, and the source is sound.
+fn is_within(
+    alloc: Global,
+    plans: &[Plan],
+    graphs: &CallGraphs,
+    graph: usize,
+    copy: &CopyRecord,
+) -> Result<bool, AllocError>
+    ensures { IfOk result (λ yes. yes ≡ true → IsWithinTables plans.now graphs.now graph copy.now) }
 {
     let Some(set) = set_with(plans, graphs, graph, copy.sink) else {
-        return false;
+        return Ok(false);
     };
     let Some(plan) = set_in(plans, graphs, graph, set) else {
-        return false;
+        return Ok(false);
     };
-    has_ends(plan, copy)
+    if !has_sink(plan, copy) {
+        return Ok(false);
+    }
+    let yes = has_sound_source(alloc, plan, copy)?;
+    Ok(yes)
 }
 
 // ---- the copies
@@ -127,7 +137,7 @@ fn made_by(
     let Some(by) = replacement_for(alloc, log, bricks, copy, number, at)? else {
         return Ok(None);
     };
-    if !is_within(plans, graphs, by.graph as usize, copy) {
+    if !is_within(alloc, plans, graphs, by.graph as usize, copy)? {
         return Ok(None);
     }
     Ok(Some(by.wind))
@@ -211,7 +221,7 @@ fn are_numbered(log: &Log) -> bool
 /// Whether each copy and each skip of the log has the number of its event, and each copy was made, by a replacement of its own:
 /// the source answered the fetch of the cell, in that event the replacement of the cell by just that answer was sent to the
 /// sink for a wind of the same call, and the sink confirmed it by the event of the copy. Both are bricks of one set of the
-/// graph.
+/// graph, and the source is sound by the rows that the copy names.
 ///
 /// # Errors
 /// Out of memory.

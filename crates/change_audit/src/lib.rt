@@ -39,6 +39,7 @@ pub mod openings;
 mod placing;
 pub mod served;
 mod skips;
+mod sources;
 
 pub use changes::changes_are_borne;
 pub use copies::copies_are_made;
