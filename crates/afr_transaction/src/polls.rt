@@ -113,8 +113,7 @@ impl Txn {
         let cells = cells_in(rep);
         self.take_list(k, cells, fault, mark, &mut all)?;
         if !self.wave.is_over() {
-            self.phase = Phase::Listing(all);
-            return Ok(Need::Wait);
+            return Ok(self.wait(Phase::Listing(all)));
         }
         self.end_list(alloc, all)
     }

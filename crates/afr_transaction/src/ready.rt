@@ -1,5 +1,6 @@
 ghost use Rattle.std.specs.Prelude.{◌≡◌, IfOk, OnErr};
-ghost use Rattle.afr_transaction.specs.Ready.{split, skipping, ready_to_change, is_touched, heal_copies, ready_to_heal, bearing, ready};
+ghost use Rattle.afr_transaction.specs.Jobs.{kind_of};
+ghost use Rattle.afr_transaction.specs.Ready.{split, skipping, ready_to_change, is_touched, heal_copies, ready_to_heal, bearing, ready_by, ready};
 
 use crate::jobs::{Kind, birth_op, kind_of};
 use crate::need::Need;
@@ -152,6 +153,20 @@ impl Txn {
             let need = self.ready_to_settle(alloc, change, ledger, live, last)?;
             return Ok(need);
         }
+        self.ready_for_job(alloc, ledger, live, last)
+    }
+
+    // The lock phase of the job itself has ended.
+    fn ready_for_job(
+        &mut self,
+        alloc: Global,
+        ledger: &mut Ledger<Cell>,
+        live: Mask,
+        last: &[u32],
+    ) -> Result<Need, AllocError>
+        ensures turn { IfOk result (λ need. (self.new, (need, ledger.new)) ≡ ready_by (kind_of self.old.job) self.old ledger.old live last.now) }
+        ensures err { OnErr result (ledger.new ≡ ledger.old) }
+    {
         match kind_of(&self.job) {
             Kind::Read => {
                 let need = self.ready_to_read(alloc, ledger, live, last)?;
@@ -163,14 +178,8 @@ impl Txn {
                 Ok(need)
             }
             Kind::Heal => self.ready_to_heal(alloc, ledger, live, last),
-            Kind::Open { .. } => {
-                let need = self.unlock(alloc, Then::Again, ledger, live, last)?;
-                Ok(need)
-            }
-            Kind::Index => {
-                let need = self.unlock(alloc, Then::Again, ledger, live, last)?;
-                Ok(need)
-            }
+            Kind::Open { .. } => self.leave(alloc, Then::Again, ledger, live, last),
+            Kind::Index => self.leave(alloc, Then::Again, ledger, live, last),
         }
     }
 }
