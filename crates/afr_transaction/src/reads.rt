@@ -8,7 +8,7 @@ use crate::phase::{Phase, Then};
 use crate::txn::{Txn, only};
 use afr_ledger::Ledger;
 use afr_phases::{Flags, both, lowest, miss};
-use fop_types::{BrickReq, Cell, Content, IoError, Job, Mask, Row, Seq, SetReply, SplitRow};
+use fop_types::{BrickReq, Cell, Content, Job, Mask, Row, Seq, SetReply, SplitRow};
 use std::alloc::{AllocError, Global};
 
 impl Txn {
@@ -53,12 +53,7 @@ impl Txn {
     {
         if self.is_split_read() {
             let rows = self.split_rows(alloc)?;
-            let error = IoError::Split {
-                set: self.set,
-                rows,
-            };
-            let after = Then::Answer(SetReply::Io(error));
-            return self.unlock(alloc, after, ledger, live, last);
+            return self.answer_split(alloc, rows, ledger, live, last);
         }
         ledger.keep_apart();
         let place = ledger.history().len() as u32;

@@ -104,7 +104,10 @@ impl Txn {
             Phase::Copying { sinks, rest } => {
                 self.take_copy(alloc, sinks, rest, done, ledger, live, last)
             }
-            other => Ok(self.wait(other)),
+            other => {
+                drop(done);
+                Ok(self.wait(other))
+            }
         }
     }
 }
