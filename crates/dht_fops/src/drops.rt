@@ -8,7 +8,7 @@ ghost use Rattle.dht_fops.specs.declared.step.Turn.TheVariants as turn;
 ghost use Rattle.dht_fops.specs.declared.volume.Volume.{Volume};
 ghost use Rattle.fop_types.specs.Names.{has_real_name as has_real_name_in};
 
-use crate::cells::{both_names, change_job, is_directory, one_dir};
+use crate::cells::{both_names, change_job, is_directory, one_dir, unlink_job};
 use crate::look::Seen;
 use crate::state::{OnNames, OnNumber, OnReply, State};
 use crate::step::{Step, Turn, answer, ask, fail, refuse};
@@ -51,8 +51,9 @@ pub(crate) fn drop_link(
     if !dropped.has_link {
         return Ok(answer(Answer::Done, number));
     }
+    let cells = one_dir(alloc, dropped.parent)?;
     let job = Job::Change {
-        cells: one_dir(alloc, dropped.parent)?,
+        cells,
         fd: 0,
         op: StoreOp::DropName {
             parent: dropped.parent,
@@ -66,13 +67,13 @@ pub(crate) fn drop_link(
 fn unlink_on(alloc: Global, volume: Volume, dropped: NameDrop, set: u8) -> Result<Step, AllocError>
     ensures { IfOk result (λ step. course_of volume step ≡ unlinks volume dropped.parent dropped.name dropped.hashed dropped.has_link set) }
 {
-    let cells = one_dir(alloc, dropped.parent)?;
-    let op = StoreOp::DropName {
-        parent: dropped.parent,
-        name: dropped.name.copy(alloc)?,
-    };
-    let job = change_job(volume, 1, cells, op);
-    Ok(ask(set, job, State::Number(OnNumber::Unlink(dropped))))
+    match unlink_job(alloc, volume, dropped.parent, &dropped.name) {
+        Ok(job) => Ok(ask(set, job, State::Number(OnNumber::Unlink(dropped)))),
+        Err(error) => {
+            drop(dropped);
+            Err(error)
+        }
+    }
 }
 
 pub(crate) fn unlink_found(

@@ -92,7 +92,10 @@ fn on_reply(
     match state {
         OnReply::End => Ok(answer(Answer::Done, None)),
         OnReply::LinkDrop(number) => Ok(answer(Answer::Done, number)),
-        OnReply::Extend(_) => Ok(answer(Answer::Done, None)),
+        OnReply::Extend(dir) => {
+            drop(dir);
+            Ok(answer(Answer::Done, None))
+        }
         OnReply::NewLink(source, number) => drop_old_link(alloc, volume, source, number),
         OnReply::Reopen(opening) => open_from(alloc, volume, opening.fds, opening.next),
         OnReply::Index(indexing) => {
