@@ -171,11 +171,7 @@ fn look_by(
     }
 }
 
-fn learn(
-    learnt: &mut Seq<Layout>,
-    dir: Gfid,
-    spans: Seq<Option<Span>>,
-) -> Result<(), AllocError>
+fn learn(learnt: &mut Seq<Layout>, dir: Gfid, spans: Seq<Option<Span>>) -> Result<(), AllocError>
     ensures { OnOk result (learnt.new ≡ learnt.old ++ record { dir = dir; spans = spans } ∷ []) }
 {
     learnt.push(Layout { dir, spans })?;
