@@ -88,6 +88,7 @@ pub(crate) fn unlink_found(
     match found {
         Found::Item { set, gfid: _, kind } => {
             if is_directory(kind) {
+                drop(ended);
                 return Ok(refuse(AppError::Eisdir, Some(seen.place)));
             }
             let dropped = NameDrop {
@@ -98,8 +99,14 @@ pub(crate) fn unlink_found(
             };
             unlink_on(alloc, volume, dropped, set)
         }
-        Found::Absent => Ok(refuse(AppError::Enoent, Some(seen.place))),
-        Found::Io(error) => Ok(fail(error)),
+        Found::Absent => {
+            drop(ended);
+            Ok(refuse(AppError::Enoent, Some(seen.place)))
+        }
+        Found::Io(error) => {
+            drop(ended);
+            Ok(fail(error))
+        }
     }
 }
 
@@ -123,6 +130,7 @@ pub(crate) fn rmdir_found(volume: Volume, ended: Ended, found: Found, seen: Seen
     match found {
         Found::Item { set: _, gfid, kind } => {
             if !is_directory(kind) {
+                drop(ended);
                 return refuse(AppError::Enotdir, Some(seen.place));
             }
             let dir = DirDrop {
@@ -132,8 +140,14 @@ pub(crate) fn rmdir_found(volume: Volume, ended: Ended, found: Found, seen: Seen
             };
             extend(dir)
         }
-        Found::Absent => refuse(AppError::Enoent, Some(seen.place)),
-        Found::Io(error) => fail(error),
+        Found::Absent => {
+            drop(ended);
+            refuse(AppError::Enoent, Some(seen.place))
+        }
+        Found::Io(error) => {
+            drop(ended);
+            fail(error)
+        }
     }
 }
 
