@@ -73,9 +73,8 @@ impl Txn {
         if !self.may_begin(change, ledger) {
             return self.leave(alloc, Then::Again, ledger, live, last);
         }
-        let u = self.unsettled(alloc, change)?;
         match change_op(alloc, &self.job)? {
-            Some((fd, op)) => self.begin_write(alloc, change, u, fd, op, ledger),
+            Some((fd, op)) => self.begin_write(alloc, change, fd, op, ledger),
             None => self.leave(alloc, Then::Again, ledger, live, last),
         }
     }
@@ -106,12 +105,10 @@ impl Txn {
         &mut self,
         alloc: Global,
         change: u64,
-        u: Unsettled<Cell>,
         fd: u32,
         op: StoreOp,
         ledger: &mut Ledger<Cell>,
     ) -> Result<Need, AllocError>
-        requires is { u ≡ unsettled_of self.old change }
         requires apart { touching cell_cmp self.old.set self.old.cells ledger.old.unsettled ≡ None }
         requires drawn { (1 ≤ change) × (change ≤ ledger.old.drawn) }
         requires new { numbered change ledger.old.unsettled ≡ None }
@@ -120,6 +117,7 @@ impl Txn {
     {
         let to = self.alive();
         let list = sends(alloc, &to, BrickReq::Op { change, fd, op })?;
+        let u = self.unsettled(alloc, change)?;
         ledger.begin(alloc, u)?;
         Ok(self.send(to, list, Phase::Writing { change }))
     }

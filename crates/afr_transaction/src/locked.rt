@@ -203,7 +203,7 @@ impl Txn {
         self.unlock(alloc, Then::Answer(reply), ledger, live, last)
     }
 
-    /// Too few replicas are left, in a turn that has the ledger.
+    /// Too few replicas are left; the ledger stays as it is.
     ///
     /// # Errors
     /// Out of memory.
@@ -221,7 +221,7 @@ impl Txn {
         Ok(need)
     }
 
-    /// The lock phase is over, in a turn that has the ledger.
+    /// The lock phase is over; the ledger stays as it is.
     ///
     /// # Errors
     /// Out of memory.
