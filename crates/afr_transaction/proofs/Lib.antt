@@ -4,6 +4,7 @@ pub mod EachTurn
 pub mod Encodings
 pub mod Entries
 pub mod FewCells
+pub mod Growing
 pub mod Joins
 pub mod Marked
 pub mod Moves

@@ -4,10 +4,12 @@ use Rattle.std.proofs.Common.{◌≡◌, ◌∙◌, ℕ, Bool, List, Option, Res
 use Rattle.std.specs.Prelude.{IfOk, OnErr}
 use Rattle.fop_types.specs.declared.cells.Cell.{Cell}
 use Rattle.fop_types.specs.declared.contents.Mask.{Mask}
+use Rattle.fop_types.specs.declared.copy_jobs.CopyDone.{CopyDone}
 use Rattle.fop_types.specs.declared.messages.BrickRep.{BrickRep}
 use Rattle.afr_ledger.specs.Ledger.{State}
 use Rattle.afr_transaction.specs.declared.need.Need.{Need}
 use Rattle.afr_transaction.specs.declared.phase.Adopted.{Adopted}
+use Rattle.afr_transaction.specs.declared.phase.Part.{Part}
 use Rattle.afr_transaction.specs.declared.phase.Phase.{Phase}
 use Rattle.afr_transaction.specs.declared.phase.Phase.TheVariants as phase
 use Rattle.afr_transaction.specs.declared.phase.Then.{Then}
@@ -15,7 +17,8 @@ use Rattle.afr_transaction.specs.declared.phase.Verdict.{Verdict}
 use Rattle.afr_transaction.specs.declared.txn.Txn.{Txn}
 use Rattle.afr_transaction.specs.Txns.{kept}
 use Rattle.afr_transaction.specs.Settles.{settle_decided}
-use Rattle.afr_transaction.specs.Answers.{hearing, idle, unlock_answered, mark_answered, write_answered, post_answered, settle_step, settle_answered, birth_answered, open_answered, answered_in, answered, IsLeftIn}
+use Rattle.afr_transaction.specs.Copied.{copy_taken}
+use Rattle.afr_transaction.specs.Answers.{hearing, idle, unlock_answered, mark_answered, write_answered, post_answered, settle_step, settle_answered, birth_answered, open_answered, answered_in, answered, waiting, copied_in, copied, IsLeftIn}
 
 pub settle_steps : (txn : Txn) (verdict : Verdict) (ledger after : State Cell) (live : Mask) (last : List ℕ) (decided : Bool) (turn : Txn × (Need × State Cell)) → (decided, after) ≡ settle_decided txn verdict ledger → turn ≡ settle_step txn (record verdict { decided = decided }) after live last → turn ≡ settle_answered txn verdict ledger live last
 settle_steps txn verdict ledger after live last decided turn e step =
@@ -26,6 +29,34 @@ settle_steps txn verdict ledger after live last decided turn e step =
 pub on_err : {T E : Type 0} {P : Type 0} (result : Result T E) → P → OnErr result P
 on_err (Ok v) h = tt
 on_err (Err e) h = h
+
+-- a copy that is done, to a job that has asked for none: it waits on
+module _ (txn : Txn) (done : CopyDone) (ledger : State Cell) (live : Mask) (last : List ℕ) where
+  waits : (p : Phase) → ((sinks : List Bool) (parts : List Part) → ¬ (p ≡ phase.Copying sinks parts)) → copied_in p (idle txn) done ledger live last ≡ kept (waiting (idle txn) p) ledger
+  waits (phase.Locking at) other = refl
+  waits (phase.Unlocking after) other = refl
+  waits (phase.Fetching place from contents) other = refl
+  waits (phase.Marking change) other = refl
+  waits (phase.Writing change) other = refl
+  waits (phase.Posting change adopted) other = refl
+  waits (phase.Settling verdict) other = refl
+  waits phase.Bearing other = refl
+  waits phase.Opening other = refl
+  waits (phase.Listing all) other = refl
+  waits phase.Over other = refl
+  waits (phase.Copying sinks parts) other = absurd (other sinks parts refl)
+
+  pub no_copy : (was : Phase) → was ≡ txn.phase → ((sinks : List Bool) (parts : List Part) → ¬ (was ≡ phase.Copying sinks parts)) → (to : Txn) (need : Need) → ◌≡◌ {A = Txn × Need} (to, need) (waiting (idle txn) was) → ◌≡◌ {A = Txn × (Need × State Cell)} (to, (need, ledger)) (copied txn done ledger live last)
+  no_copy was value other to need made =
+      let turn : ◌≡◌ {A = Txn × (Need × State Cell)} (to, (need, ledger)) (kept (waiting (idle txn) was) ledger) = ap (λ (t : Txn × Need). kept t ledger) made in
+      turn ∙ sym (waits was other) ∙ ap (λ (p : Phase). copied_in p (idle txn) done ledger live last) value
+
+  pub copy_ends : {E : Type 0} (was left : Phase) (sinks : List Bool) (parts : List Part) → was ≡ txn.phase → left ≡ phase.Over → was ≡ phase.Copying sinks parts → (to : Txn) (made : State Cell) (result : Result Need E)
+      → IfOk result (λ need. (to, (need, made)) ≡ copy_taken (record txn { phase = left }) sinks parts done ledger live last) → IfOk result (λ need. (to, (need, made)) ≡ copied txn done ledger live last)
+  copy_ends was left sinks parts value over is to made (Ok need) h =
+      let taken : copy_taken (record txn { phase = left }) sinks parts done ledger live last ≡ copy_taken (idle txn) sinks parts done ledger live last = ap (λ (p : Phase). copy_taken (record txn { phase = p }) sinks parts done ledger live last) over in
+      h ∙ taken ∙ ap (λ (p : Phase). copied_in p (idle txn) done ledger live last) (sym is ∙ value)
+  copy_ends was left sinks parts value over is to made (Err e) h = h
 
 -- A replica has answered where `was` is the phase of the job, `left` the phase that it is left in for the turn, and `now` the
 -- job with the answer: the turn is that of the call for its phase. Such a call gives the ledger, or leaves it as it is.

@@ -4,7 +4,6 @@ ghost use Rattle.afr_transaction.specs.Answers.{lock_on, lock_answered, hearing,
 ghost use Rattle.afr_transaction.specs.Answers.{post_ended, post_answered};
 ghost use Rattle.afr_transaction.specs.Changes.{post_decided};
 
-use crate::jobs::change_op;
 use crate::need::Need;
 use crate::phase::{Adopted, Phase, Then};
 use crate::reads::Fetched;
@@ -40,10 +39,7 @@ impl Txn {
                 let need = self.ask_lock(alloc, k)?;
                 Ok(need)
             }
-            LockStep::Short => {
-                let need = self.fail(alloc, ledger, live, last)?;
-                Ok(need)
-            }
+            LockStep::Short => self.give_up(alloc, ledger, live, last),
             LockStep::Reached => {
                 self.reach();
                 self.ready(alloc, ledger, live, last)
@@ -83,6 +79,7 @@ impl Txn {
         ensures { self.new ≡ hearing self.old k rep mark }
     {
         hear(&mut self.outs, &mut self.wave, k, &rep, mark);
+        drop(rep);
     }
 
     /// A replica has answered the mark.
@@ -101,20 +98,12 @@ impl Txn {
         ensures err { OnErr result (ledger.new ≡ ledger.old) }
     {
         if !self.wave.is_over() {
-            self.phase = Phase::Marking { change };
-            return Ok(Need::Wait);
+            return Ok(self.wait(Phase::Marking { change }));
         }
         if self.outs.is_short(self.size.n, self.size.q) {
-            let need = self.fail(alloc, ledger, live, last)?;
-            return Ok(need);
+            return self.give_up(alloc, ledger, live, last);
         }
-        match change_op(alloc, &self.job)? {
-            Some((fd, op)) => self.write(alloc, change, fd, op, ledger, live, last),
-            None => {
-                let need = self.unlock(alloc, Then::Again, ledger, live, last)?;
-                Ok(need)
-            }
-        }
+        self.write(alloc, change, ledger, live, last)
     }
 
     /// A replica has answered the op of a change.
@@ -132,8 +121,7 @@ impl Txn {
         ensures { IfOk result (λ need. (self.new, need) ≡ write_answered self.old change ledger.now live last.now) }
     {
         if !self.wave.is_over() {
-            self.phase = Phase::Writing { change };
-            return Ok(Need::Wait);
+            return Ok(self.wait(Phase::Writing { change }));
         }
         if self.outs.is_short(self.size.n, self.size.q) {
             return self.fail(alloc, ledger, live, last);
@@ -182,8 +170,7 @@ impl Txn {
             let need = self.post_ended(alloc, adopted, ledger, live, last)?;
             return Ok(need);
         }
-        self.phase = Phase::Posting { change, adopted };
-        Ok(Need::Wait)
+        Ok(self.wait(Phase::Posting { change, adopted }))
     }
 
     /// A replica has answered the op of a birth.
@@ -200,8 +187,7 @@ impl Txn {
         ensures { IfOk result (λ need. (self.new, need) ≡ birth_answered self.old ledger.now live last.now) }
     {
         if !self.wave.is_over() {
-            self.phase = Phase::Bearing;
-            return Ok(Need::Wait);
+            return Ok(self.wait(Phase::Bearing));
         }
         if self.outs.is_short(self.size.n, self.size.q) {
             return self.fail(alloc, ledger, live, last);
@@ -225,8 +211,7 @@ impl Txn {
         ensures { IfOk result (λ need. (self.new, need) ≡ unlock_answered self.old after ledger.now live last.now) }
     {
         if !self.wave.is_over() {
-            self.phase = Phase::Unlocking(after);
-            return Ok(Need::Wait);
+            return Ok(self.wait(Phase::Unlocking(after)));
         }
         self.go(alloc, after, ledger, live, last)
     }
@@ -239,8 +224,7 @@ impl Txn {
         ensures { IfOk result (λ need. (self.new, need) ≡ open_answered self.old) }
     {
         if !self.wave.is_over() {
-            self.phase = Phase::Opening;
-            return Ok(Need::Wait);
+            return Ok(self.wait(Phase::Opening));
         }
         self.end_open(alloc)
     }

@@ -37,8 +37,13 @@ impl Txn {
             q: set.q,
         };
         let mut txn = Txn::fresh(alloc, size, set, call, job)?;
-        let need = txn.start(alloc, ledger, live, last)?;
-        Ok((txn, need))
+        match txn.start(alloc, ledger, live, last) {
+            Ok(need) => Ok((txn, need)),
+            Err(error) => {
+                txn.discard();
+                Err(error)
+            }
+        }
     }
 
     // A job that knows nothing of its replicas yet.
@@ -51,21 +56,27 @@ impl Txn {
     ) -> Result<Txn, AllocError>
         ensures { IfOk result (λ txn. txn ≡ fresh size set.now call job) }
     {
-        Ok(Txn {
-            set: set.number,
-            size,
-            bricks: set.bricks.copy(alloc)?,
-            call,
-            job,
-            outs: Outs::new(),
-            locks: Locks::new(),
-            wave: Wave::new(),
-            cells: Seq::new(alloc),
-            settles: None,
-            shown: Shown::new(),
-            records: Seq::new(alloc),
-            phase: Phase::Over,
-        })
+        match set.bricks.copy(alloc) {
+            Ok(bricks) => Ok(Txn {
+                set: set.number,
+                size,
+                bricks,
+                call,
+                job,
+                outs: Outs::new(),
+                locks: Locks::new(),
+                wave: Wave::new(),
+                cells: Seq::new(alloc),
+                settles: None,
+                shown: Shown::new(),
+                records: Seq::new(alloc),
+                phase: Phase::Over,
+            }),
+            Err(error) => {
+                drop(job);
+                Err(error)
+            }
+        }
     }
 
     // The first turn.

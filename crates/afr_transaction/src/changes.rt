@@ -1,13 +1,16 @@
 ghost use Rattle.std.specs.Prelude.{◌≡◌, ◌^◌, ◌-◌, ◌<◌, ◌≤◌, IfOk, OnErr, None, length};
 ghost use Rattle.fop_types.specs.Orders.{cell_cmp};
 ghost use Rattle.afr_ledger.specs.Changes.{numbered, touching};
-ghost use Rattle.afr_transaction.specs.Changes.{effect_of, has_number, has_room, is_drawn, marking, drawing, may_begin, writing, begun, posting, decides, same_entry, entry_from, adopting, post_decided};
+ghost use Rattle.afr_transaction.specs.Answers.{write_by};
+ghost use Rattle.afr_transaction.specs.Jobs.{change_op};
+ghost use Rattle.afr_transaction.specs.Changes.{effect_of, has_number, has_room, is_drawn, marking, drawing, may_begin, unsettled_of, begun, posting, decides, same_entry, entry_from, adopting, post_decided};
 
+use crate::jobs::change_op;
 use crate::need::Need;
 use crate::phase::{Adopted, Phase, Then};
 use crate::txn::Txn;
 use afr_ledger::{Ledger, Unsettled};
-use afr_phases::{mask_of, outside};
+use afr_phases::{mask_of, outside, sends};
 use fop_types::{BrickReq, Cell, Entry, Job, Mask, Seq, StoreOp};
 use std::alloc::{AllocError, Global};
 
@@ -27,8 +30,7 @@ impl Txn {
         ensures err { OnErr result (ledger.new ≡ ledger.old) }
     {
         if !has_number(ledger) {
-            let need = self.fail(alloc, ledger, live, last)?;
-            return Ok(need);
+            return self.give_up(alloc, ledger, live, last);
         }
         self.draw(alloc, ledger)
     }
@@ -61,20 +63,32 @@ impl Txn {
         &mut self,
         alloc: Global,
         change: u64,
-        fd: u32,
-        op: StoreOp,
         ledger: &mut Ledger<Cell>,
         live: Mask,
         last: &[u32],
     ) -> Result<Need, AllocError>
-        ensures turn { IfOk result (λ need. (self.new, (need, ledger.new)) ≡ writing self.old change fd op ledger.old live last.now) }
+        ensures turn { IfOk result (λ need. (self.new, (need, ledger.new)) ≡ write_by (change_op self.old.job) self.old change ledger.old live last.now) }
         ensures err { OnErr result (ledger.new ≡ ledger.old) }
     {
         if !self.may_begin(change, ledger) {
-            let need = self.unlock(alloc, Then::Again, ledger, live, last)?;
-            return Ok(need);
+            return self.leave(alloc, Then::Again, ledger, live, last);
         }
-        self.begin_write(alloc, change, fd, op, ledger)
+        match change_op(alloc, &self.job)? {
+            Some((fd, op)) => self.begin_write(alloc, change, fd, op, ledger),
+            None => self.leave(alloc, Then::Again, ledger, live, last),
+        }
+    }
+
+    // What becomes unsettled.
+    fn unsettled(&self, alloc: Global, change: u64) -> Result<Unsettled<Cell>, AllocError>
+        ensures { IfOk result (λ u. u ≡ unsettled_of self.now change) }
+    {
+        Ok(Unsettled {
+            change,
+            set: self.set,
+            cells: self.cells.copy(alloc)?,
+            effect: effect_of(&self.job),
+        })
     }
 
     // Whether the change may become unsettled.
@@ -101,22 +115,11 @@ impl Txn {
         ensures turn { IfOk result (λ need. (self.new, (need, ledger.new)) ≡ begun self.old change fd op ledger.old) }
         ensures err { OnErr result (ledger.new ≡ ledger.old) }
     {
-        let cells = self.cells.copy(alloc)?;
-        let u = Unsettled {
-            change,
-            set: self.set,
-            cells,
-            effect: effect_of(&self.job),
-        };
         let to = self.alive();
-        let need = self.ask(
-            alloc,
-            to,
-            BrickReq::Op { change, fd, op },
-            Phase::Writing { change },
-        )?;
+        let list = sends(alloc, &to, BrickReq::Op { change, fd, op })?;
+        let u = self.unsettled(alloc, change)?;
         ledger.begin(alloc, u)?;
-        Ok(need)
+        Ok(self.send(to, list, Phase::Writing { change }))
     }
 
     /// The post goes to those who confirmed the op, and accuses all others.

@@ -1,6 +1,10 @@
 ghost use Rattle.std.specs.Prelude.{◌≡◌, ◌++◌, ◌≤◌, Some, IfOk, OnOk, OnErr};
 ghost use Rattle.afr_transaction.specs.Copies.{sinks_left, has_sink, has_source, next_part, copying, with_out, with_outs, is_left};
-ghost use Rattle.afr_transaction.specs.Copied.{is_change, copied_all, copy_by, copy_next, copy_noted, copy_taken};
+ghost use Rattle.afr_transaction.specs.Locked.{unlock};
+ghost use Rattle.afr_transaction.specs.Txns.{kept};
+ghost use Rattle.afr_transaction.specs.declared.phase.Then.TheVariants as next;
+ghost use Rattle.fop_types.specs.declared.jobs.SetReply.TheVariants as reply;
+ghost use Rattle.afr_transaction.specs.Copied.{healed, is_change, copied_all, copy_by, copy_next, copy_noted, copy_taken};
 
 use crate::need::Need;
 use crate::phase::{Part, Phase, Then};
@@ -47,7 +51,7 @@ impl Txn {
             sinks: mask_of(sinks),
             held: mask_of(self.alive()),
         };
-        self.phase = Phase::Copying { sinks, rest };
+        self.enter(Phase::Copying { sinks, rest });
         Ok(Need::Copy(job, rows))
     }
 
@@ -118,20 +122,31 @@ impl Txn {
         ensures err { OnErr result (ledger.new ≡ ledger.old) }
     {
         if self.settles.is_some() {
-            let need = self.unlock(alloc, Then::Again, ledger, live, last)?;
-            return Ok(need);
+            return self.leave(alloc, Then::Again, ledger, live, last);
         }
         if is_change(&self.job) {
             return self.mark(alloc, ledger, live, last);
         }
         if is_heal(&self.job) {
-            let records = std::mem::replace(&mut self.records, Seq::new(alloc));
-            let after = Then::Answer(SetReply::Healed(records));
-            let need = self.unlock(alloc, after, ledger, live, last)?;
-            return Ok(need);
+            return self.end_heal(alloc, ledger, live, last);
         }
-        let need = self.unlock(alloc, Then::Again, ledger, live, last)?;
-        Ok(need)
+        self.leave(alloc, Then::Again, ledger, live, last)
+    }
+
+    // A heal is done.
+    fn end_heal(
+        &mut self,
+        alloc: Global,
+        ledger: &mut Ledger<Cell>,
+        live: Mask,
+        last: &[u32],
+    ) -> Result<Need, AllocError>
+        ensures turn { IfOk result (λ need. (self.new, (need, ledger.new)) ≡ kept (unlock (healed self.old) (next.Answer (reply.Healed self.old.records)) ledger.old live last.now) ledger.old) }
+        ensures err { OnErr result (ledger.new ≡ ledger.old) }
+    {
+        let records = std::mem::replace(&mut self.records, Seq::new(alloc));
+        let after = Then::Answer(SetReply::Healed(records));
+        self.leave(alloc, after, ledger, live, last)
     }
 
     /// A copy is done.
@@ -154,12 +169,10 @@ impl Txn {
         let current = done.current;
         self.note_copy(done)?;
         if self.outs.is_short(self.size.n, self.size.q) {
-            let need = self.fail(alloc, ledger, live, last)?;
-            return Ok(need);
+            return self.give_up(alloc, ledger, live, last);
         }
         if self.is_left(sinks, current) {
-            let need = self.unlock(alloc, Then::Again, ledger, live, last)?;
-            return Ok(need);
+            return self.leave(alloc, Then::Again, ledger, live, last);
         }
         self.copy_next(alloc, rest, ledger, live, last)
     }

@@ -1,5 +1,6 @@
-ghost use Rattle.std.specs.Prelude.{◌≡◌, ◌<◌, ◌∷◌, [], true, IfOk, slice_index};
+ghost use Rattle.std.specs.Prelude.{◌≡◌, ◌<◌, ◌∷◌, [], true, IfOk, OnErr, slice_index};
 ghost use Rattle.afr_phases.specs.Waves.{is_asked};
+ghost use Rattle.afr_transaction.specs.Txns.{kept};
 ghost use Rattle.afr_transaction.specs.Locked.{job_cells, settles_first, is_read, to_settle, cells_for, locking, first_lock, start_lock, again, going, lost_noted, releasing, unlock, fail, lock_taken, reached};
 
 use crate::need::Need;
@@ -200,6 +201,43 @@ impl Txn {
     {
         let reply = self.short_reply(alloc)?;
         self.unlock(alloc, Then::Answer(reply), ledger, live, last)
+    }
+
+    /// Too few replicas are left; the ledger stays as it is.
+    ///
+    /// # Errors
+    /// Out of memory.
+    pub(crate) fn give_up(
+        &mut self,
+        alloc: Global,
+        ledger: &mut Ledger<Cell>,
+        live: Mask,
+        last: &[u32],
+    ) -> Result<Need, AllocError>
+        ensures turn { IfOk result (λ need. (self.new, (need, ledger.new)) ≡ kept (fail self.old ledger.old live last.now) ledger.old) }
+        ensures err { OnErr result (ledger.new ≡ ledger.old) }
+    {
+        let need = self.fail(alloc, ledger, live, last)?;
+        Ok(need)
+    }
+
+    /// The lock phase is over; the ledger stays as it is.
+    ///
+    /// # Errors
+    /// Out of memory.
+    pub(crate) fn leave(
+        &mut self,
+        alloc: Global,
+        after: Then,
+        ledger: &mut Ledger<Cell>,
+        live: Mask,
+        last: &[u32],
+    ) -> Result<Need, AllocError>
+        ensures turn { IfOk result (λ need. (self.new, (need, ledger.new)) ≡ kept (unlock self.old after ledger.old live last.now) ledger.old) }
+        ensures err { OnErr result (ledger.new ≡ ledger.old) }
+    {
+        let need = self.unlock(alloc, after, ledger, live, last)?;
+        Ok(need)
     }
 
     /// A replica that was asked for its lock answers: with a row for each cell, or it is out.

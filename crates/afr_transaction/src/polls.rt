@@ -72,8 +72,8 @@ impl Txn {
     fn end_list(&mut self, alloc: Global, all: Listed) -> Result<Need, AllocError>
         ensures { IfOk result (λ need. (self.new, need) ≡ list_ended self.old all) }
     {
-        let short = self.short_of(alloc)?;
         let cells = all.into_list(alloc)?;
+        let short = self.short_of(alloc)?;
         let answered = mask_of(self.wave.confirmed);
         Ok(self.finish(SetReply::Listed {
             cells,
@@ -113,8 +113,7 @@ impl Txn {
         let cells = cells_in(rep);
         self.take_list(k, cells, fault, mark, &mut all)?;
         if !self.wave.is_over() {
-            self.phase = Phase::Listing(all);
-            return Ok(Need::Wait);
+            return Ok(self.wait(Phase::Listing(all)));
         }
         self.end_list(alloc, all)
     }

@@ -1,4 +1,4 @@
-ghost use Rattle.std.specs.Prelude.{◌≡◌, ◌++◌, ◌-◌, ◌<◌, true, IfOk, OnOk, length, slice_get};
+ghost use Rattle.std.specs.Prelude.{◌≡◌, ◌++◌, ◌-◌, ◌<◌, true, None, IfOk, OnOk, length, slice_get};
 ghost use Rattle.afr_phases.specs.Waves.{is_asked};
 ghost use Rattle.afr_transaction.specs.Sound.{is_absent, is_here};
 ghost use Rattle.afr_transaction.specs.Reads.{is_directory_read, fd_of, lacks, sound_on, is_bare, is_split_read, split_cell, split_rows, with_absent, fetching, fetch_at, fetch_next, ready_to_read, fetch_taken};
@@ -8,7 +8,7 @@ use crate::phase::{Phase, Then};
 use crate::txn::{Txn, only};
 use afr_ledger::Ledger;
 use afr_phases::{Flags, both, lowest, miss};
-use fop_types::{BrickReq, Cell, Content, IoError, Job, Mask, Row, Seq, SetReply, SplitRow};
+use fop_types::{BrickReq, Cell, Content, Job, Mask, Row, Seq, SetReply, SplitRow};
 use std::alloc::{AllocError, Global};
 
 impl Txn {
@@ -53,12 +53,7 @@ impl Txn {
     {
         if self.is_split_read() {
             let rows = self.split_rows(alloc)?;
-            let error = IoError::Split {
-                set: self.set,
-                rows,
-            };
-            let after = Then::Answer(SetReply::Io(error));
-            return self.unlock(alloc, after, ledger, live, last);
+            return self.answer_split(alloc, rows, ledger, live, last);
         }
         ledger.keep_apart();
         let place = ledger.history().len() as u32;
@@ -203,22 +198,40 @@ impl Txn {
         requires asked { is_asked self.old.wave k ≡ true }
         ensures { IfOk result (λ need. (self.new, need) ≡ fetch_taken self.old fetched.place k fetched.contents content fetched.fault fetched.mark ledger.now live last.now) }
     {
-        let mut contents = fetched.contents;
         let Some((content, _)) = content else {
-            miss(
-                &mut self.outs,
-                &mut self.wave,
-                k,
-                fetched.fault,
-                fetched.mark,
-            );
-            if self.outs.is_short(self.size.n, self.size.q) {
-                return self.fail(alloc, ledger, live, last);
-            }
-            return self.fetch_next(alloc, fetched.place, contents, ledger, live, last);
+            return self.miss_fetch(alloc, k, fetched, ledger, live, last);
         };
         self.wave.take(k, true);
+        let mut contents = fetched.contents;
         contents.push(Some(content))?;
+        self.fetch_next(alloc, fetched.place, contents, ledger, live, last)
+    }
+
+    // The replica is out, and the next sound one is asked.
+    fn miss_fetch(
+        &mut self,
+        alloc: Global,
+        k: u8,
+        fetched: Fetched,
+        ledger: &Ledger<Cell>,
+        live: Mask,
+        last: &[u32],
+    ) -> Result<Need, AllocError>
+        requires place { k < 5 }
+        requires asked { is_asked self.old.wave k ≡ true }
+        ensures { IfOk result (λ need. (self.new, need) ≡ fetch_taken self.old fetched.place k fetched.contents None fetched.fault fetched.mark ledger.now live last.now) }
+    {
+        let contents = fetched.contents;
+        miss(
+            &mut self.outs,
+            &mut self.wave,
+            k,
+            fetched.fault,
+            fetched.mark,
+        );
+        if self.outs.is_short(self.size.n, self.size.q) {
+            return self.fail(alloc, ledger, live, last);
+        }
         self.fetch_next(alloc, fetched.place, contents, ledger, live, last)
     }
 }

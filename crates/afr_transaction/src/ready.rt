@@ -1,12 +1,17 @@
 ghost use Rattle.std.specs.Prelude.{◌≡◌, IfOk, OnErr};
-ghost use Rattle.afr_transaction.specs.Ready.{split, skipping, ready_to_change, is_touched, heal_copies, ready_to_heal, bearing, ready};
+ghost use Rattle.fop_types.specs.declared.answers.IoError.TheVariants as io;
+ghost use Rattle.fop_types.specs.declared.jobs.SetReply.TheVariants as reply;
+ghost use Rattle.afr_transaction.specs.declared.phase.Then.TheVariants as next;
+ghost use Rattle.afr_transaction.specs.Jobs.{kind_of};
+ghost use Rattle.afr_transaction.specs.Locked.{unlock};
+ghost use Rattle.afr_transaction.specs.Ready.{split, skipping, ready_to_change, is_touched, heal_copies, ready_to_heal, bearing, ready_by, ready};
 
 use crate::jobs::{Kind, birth_op, kind_of};
 use crate::need::Need;
 use crate::phase::{Phase, Then};
 use crate::txn::Txn;
 use afr_ledger::Ledger;
-use fop_types::{BrickReq, Cell, IoError, Mask, SetReply, SkipCause};
+use fop_types::{BrickReq, Cell, IoError, Mask, Seq, SetReply, SkipCause, SplitRow};
 use std::alloc::{AllocError, Global};
 
 impl Txn {
@@ -26,6 +31,23 @@ impl Txn {
         let rows = self
             .shown
             .list(alloc, self.cells.as_slice(), self.bricks.as_slice())?;
+        self.answer_split(alloc, rows, ledger, live, last)
+    }
+
+    /// The job is answered with the rows of a split.
+    ///
+    /// # Errors
+    /// Out of memory.
+    pub(crate) fn answer_split(
+        &mut self,
+        alloc: Global,
+        rows: Seq<SplitRow>,
+        ledger: &Ledger<Cell>,
+        live: Mask,
+        last: &[u32],
+    ) -> Result<Need, AllocError>
+        ensures { IfOk result (λ need. (self.new, need) ≡ unlock self.old (next.Answer (reply.Io (io.Split self.old.set rows))) ledger.now live last.now) }
+    {
         let error = IoError::Split {
             set: self.set,
             rows,
@@ -152,6 +174,20 @@ impl Txn {
             let need = self.ready_to_settle(alloc, change, ledger, live, last)?;
             return Ok(need);
         }
+        self.ready_for_job(alloc, ledger, live, last)
+    }
+
+    // The lock phase of the job itself has ended.
+    fn ready_for_job(
+        &mut self,
+        alloc: Global,
+        ledger: &mut Ledger<Cell>,
+        live: Mask,
+        last: &[u32],
+    ) -> Result<Need, AllocError>
+        ensures turn { IfOk result (λ need. (self.new, (need, ledger.new)) ≡ ready_by (kind_of self.old.job) self.old ledger.old live last.now) }
+        ensures err { OnErr result (ledger.new ≡ ledger.old) }
+    {
         match kind_of(&self.job) {
             Kind::Read => {
                 let need = self.ready_to_read(alloc, ledger, live, last)?;
@@ -163,14 +199,8 @@ impl Txn {
                 Ok(need)
             }
             Kind::Heal => self.ready_to_heal(alloc, ledger, live, last),
-            Kind::Open { .. } => {
-                let need = self.unlock(alloc, Then::Again, ledger, live, last)?;
-                Ok(need)
-            }
-            Kind::Index => {
-                let need = self.unlock(alloc, Then::Again, ledger, live, last)?;
-                Ok(need)
-            }
+            Kind::Open { .. } => self.leave(alloc, Then::Again, ledger, live, last),
+            Kind::Index => self.leave(alloc, Then::Again, ledger, live, last),
         }
     }
 }

@@ -116,6 +116,20 @@ impl Txn {
         let Some(source) = lowest(&common) else {
             return self.split(alloc, ledger, live, last);
         };
+        self.settle_from(alloc, change, common, source)
+    }
+
+    // The replicas that agree with the source are the group.
+    fn settle_from(
+        &mut self,
+        alloc: Global,
+        change: u64,
+        common: Flags,
+        source: u8,
+    ) -> Result<Need, AllocError>
+        requires { source < 5 }
+        ensures { IfOk result (λ need. (self.new, need) ≡ settling self.old change (has_it self.old change source) (group_of self.old change common source)) }
+    {
         let held = self.has_it(change, source);
         let group = self.group_of(change, common, source);
         self.settle(alloc, change, held, group)
@@ -183,8 +197,7 @@ impl Txn {
         ensures err { OnErr result (ledger.new ≡ ledger.old) }
     {
         if !self.wave.is_over() {
-            self.phase = Phase::Settling(verdict);
-            return Ok(Need::Wait);
+            return Ok(self.wait(Phase::Settling(verdict)));
         }
         let group = verdict.group;
         self.settle_ended(alloc, group, verdict.decided, ledger, live, last)
@@ -204,8 +217,7 @@ impl Txn {
         ensures err { OnErr result (ledger.new ≡ ledger.old) }
     {
         if !decided {
-            let need = self.fail(alloc, ledger, live, last)?;
-            return Ok(need);
+            return self.give_up(alloc, ledger, live, last);
         }
         let parts = self.settle_parts(alloc, group)?;
         self.copy_next(alloc, parts, ledger, live, last)

@@ -48,8 +48,8 @@ impl Txn {
                 alloc, replica, rep, mark, place, contents, ledger, live, last,
             ),
             Phase::Copying { sinks, rest } => {
-                self.phase = Phase::Copying { sinks, rest };
-                Ok(Need::Wait)
+                drop(rep);
+                Ok(self.wait(Phase::Copying { sinks, rest }))
             }
             Phase::Marking { change } => {
                 self.take_reply(replica, rep, mark);
@@ -76,7 +76,10 @@ impl Txn {
                 self.open_answered(alloc)
             }
             Phase::Listing(all) => self.list_answered(alloc, replica, rep, mark, all),
-            Phase::Over => Ok(Need::Wait),
+            Phase::Over => {
+                drop(rep);
+                Ok(Need::Wait)
+            }
         }
     }
 
@@ -102,8 +105,8 @@ impl Txn {
                 self.take_copy(alloc, sinks, rest, done, ledger, live, last)
             }
             other => {
-                self.phase = other;
-                Ok(Need::Wait)
+                drop(done);
+                Ok(self.wait(other))
             }
         }
     }

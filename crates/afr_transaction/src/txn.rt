@@ -1,4 +1,9 @@
 ghost use Rattle.std.specs.Prelude.{◌≡◌, IfOk};
+ghost use Rattle.afr_phases.specs.Waves.{sent_to};
+ghost use Rattle.afr_transaction.specs.Answers.{waiting};
+ghost use Rattle.afr_transaction.specs.declared.need.Need.{Need};
+ghost use Rattle.afr_transaction.specs.declared.need.Need.TheVariants as need;
+ghost use Rattle.afr_transaction.specs.declared.txn.Txn.{Txn};
 ghost use Rattle.afr_transaction.specs.Txns.{only, asking, over, is_heal, alive};
 
 use crate::need::Need;
@@ -7,6 +12,7 @@ use crate::size::Size;
 use afr_phases::{Flags, Locks, Outs, Shown, Wave, sends};
 use fop_types::{BrickReq, Cell, CopyRecord, Job, Seq, SetReply};
 use std::alloc::{AllocError, Global};
+use std::mem;
 
 /// A job of a set under way, and what it knows of its replicas.
 #[derive(Drop)]
@@ -51,18 +57,52 @@ impl Txn {
     ) -> Result<Need, AllocError>
         ensures { IfOk result (λ need. (self.new, need) ≡ asking self.old to req phase) }
     {
-        let list = sends(alloc, &to, req)?;
+        match sends(alloc, &to, req) {
+            Ok(list) => Ok(self.send(to, list, phase)),
+            Err(error) => {
+                drop(phase);
+                Err(error)
+            }
+        }
+    }
+
+    /// Requests go to some replicas, and a phase begins.
+    pub(crate) fn send(&mut self, to: Flags, list: Seq<(u8, BrickReq)>, phase: Phase) -> Need
+        ensures { ◌≡◌ {A = Txn × Need} (self.new, result) (record self.old { wave = sent_to to; phase = phase }, need.Send list) }
+    {
         self.wave = Wave::of(to);
-        self.phase = phase;
-        Ok(Need::Send(list))
+        self.enter(phase);
+        Need::Send(list)
+    }
+
+    /// The job waits for another answer.
+    pub(crate) fn wait(&mut self, phase: Phase) -> Need
+        ensures { (self.new, result) ≡ waiting self.old phase }
+    {
+        self.enter(phase);
+        Need::Wait
     }
 
     /// The job is answered.
     pub(crate) fn finish(&mut self, reply: SetReply) -> Need
         ensures { (self.new, result) ≡ over self.old reply }
     {
-        self.phase = Phase::Over;
+        self.enter(Phase::Over);
         Need::Reply(reply)
+    }
+
+    /// The next phase begins.
+    pub(crate) fn enter(&mut self, phase: Phase)
+        ensures { self.new ≡ record self.old { phase = phase } }
+    {
+        drop(mem::replace(&mut self.phase, phase));
+    }
+
+    /// The job ends without an answer.
+    pub(crate) fn discard(self) {
+        let Txn { job, phase, .. } = self;
+        drop(job);
+        drop(phase);
     }
 }
 

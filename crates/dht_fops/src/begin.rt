@@ -1,4 +1,4 @@
-ghost use Rattle.std.specs.Prelude.{◌≡◌, ◌≤◌, length, IfOk};
+ghost use Rattle.std.specs.Prelude.{◌≡◌, ◌≤◌, ◌<◌, length, IfOk, IfSome};
 ghost use Rattle.dht_fops.specs.Fops.{fop_course, renames};
 ghost use Rattle.dht_fops.specs.Volumes.{known_set as known_set_of};
 ghost use Rattle.dht_fops.specs.code.Waits.{course_of, looks_for};
@@ -38,10 +38,38 @@ fn look_known(
     requires second { IsSecondSet purpose volume.sets }
     ensures { IfOk result (λ step. course_of volume step ≡ looks_for volume purpose dir name names.now (known_set_of volume kept.now.entries dir name)) }
 {
-    let known = known_set(alloc, volume, kept, dir, name.as_slice())?;
+    match known_among(alloc, volume, names, kept, dir, name.as_slice()) {
+        Ok((known, names)) => {
+            let step = look_for(alloc, volume, purpose, dir, name, names, known)?;
+            Ok(step)
+        }
+        Err(error) => {
+            drop(name);
+            drop(purpose);
+            Err(error)
+        }
+    }
+}
+
+// The set to which a name belongs, where it is known, and the names of the sets.
+fn known_among(
+    alloc: Global,
+    volume: Volume,
+    names: &[Seq<u8>],
+    kept: &BTreeMap<Gfid, Seq<Option<Span>>>,
+    dir: Gfid,
+    name: &[u8],
+) -> Result<(Option<u8>, SetNames), AllocError>
+    requires root { 1 ≤ volume.root_sets }
+    requires within { volume.root_sets ≤ volume.sets }
+    requires names { length names.now ≡ volume.sets }
+    ensures set { IfOk result (λ both. both.0 ≡ known_set_of volume kept.now.entries dir name.now) }
+    ensures within { IfOk result (λ both. IfSome both.0 (λ s. s < volume.sets)) }
+    ensures names { IfOk result (λ both. both.1 ≡ names.now) }
+{
+    let known = known_set(alloc, volume, kept, dir, name)?;
     let names = SetNames::copied(alloc, names)?;
-    let step = look_for(alloc, volume, purpose, dir, name, names, known)?;
-    Ok(step)
+    Ok((known, names))
 }
 
 // A fop on a name of a directory looks for it.
@@ -61,9 +89,11 @@ fn on_name(
     ensures { IfOk result (λ step. course_of volume step ≡ begins volume names.now kept.now.entries parent name purpose) }
 {
     if !is_directory(parent.kind) {
+        drop(purpose);
         return Ok(refuse(AppError::Enotdir, None));
     }
     if NAME_LIMIT < name.len() {
+        drop(purpose);
         return Ok(refuse(AppError::Enametoolong, None));
     }
     look_known(alloc, volume, names, kept, parent.gfid, name, purpose)

@@ -6,6 +6,7 @@ ghost use Rattle.fop_types.specs.Cells.{names_cell as names_cell_of};
 ghost use Rattle.fop_types.specs.Names.{is_directory as is_directory_of};
 ghost use Rattle.fop_types.specs.StoreOps.{both_names as both_names_of};
 ghost use Rattle.fop_types.specs.declared.jobs.Job.TheVariants as job;
+ghost use Rattle.fop_types.specs.declared.store_ops.StoreOp.TheVariants as op;
 
 use crate::volume::Volume;
 use fop_types::{Aspect, Cell, Entry, Gfid, Job, Kind, Object, Seq, Span, StoreOp};
@@ -97,6 +98,26 @@ pub(crate) fn change_job(volume: Volume, part: u8, cells: Seq<Cell>, op: StoreOp
             part,
         }),
     }
+}
+
+/// The job by which a name of a directory is dropped, the first part of the call.
+///
+/// # Errors
+/// Out of memory.
+pub(crate) fn unlink_job(
+    alloc: Global,
+    volume: Volume,
+    parent: Gfid,
+    name: &Seq<u8>,
+) -> Result<Job, AllocError>
+    ensures { IfOk result (λ made. made ≡ job.Change (names_cell_of parent ∷ []) 0 (op.DropName parent name.now) (Some (entry volume 1))) }
+{
+    let cells = one_dir(alloc, parent)?;
+    let op = StoreOp::DropName {
+        parent,
+        name: name.copy(alloc)?,
+    };
+    Ok(change_job(volume, 1, cells, op))
 }
 
 /// The job that reads an object's metadata.

@@ -8,7 +8,7 @@ ghost use Rattle.dht_fops.specs.declared.step.Turn.TheVariants as turn;
 ghost use Rattle.dht_fops.specs.declared.volume.Volume.{Volume};
 ghost use Rattle.fop_types.specs.Names.{has_real_name as has_real_name_in};
 
-use crate::cells::{both_names, change_job, is_directory, one_dir};
+use crate::cells::{both_names, change_job, is_directory, one_dir, unlink_job};
 use crate::look::Seen;
 use crate::state::{OnNames, OnNumber, OnReply, State};
 use crate::step::{Step, Turn, answer, ask, fail, refuse};
@@ -51,8 +51,9 @@ pub(crate) fn drop_link(
     if !dropped.has_link {
         return Ok(answer(Answer::Done, number));
     }
+    let cells = one_dir(alloc, dropped.parent)?;
     let job = Job::Change {
-        cells: one_dir(alloc, dropped.parent)?,
+        cells,
         fd: 0,
         op: StoreOp::DropName {
             parent: dropped.parent,
@@ -66,13 +67,13 @@ pub(crate) fn drop_link(
 fn unlink_on(alloc: Global, volume: Volume, dropped: NameDrop, set: u8) -> Result<Step, AllocError>
     ensures { IfOk result (λ step. course_of volume step ≡ unlinks volume dropped.parent dropped.name dropped.hashed dropped.has_link set) }
 {
-    let cells = one_dir(alloc, dropped.parent)?;
-    let op = StoreOp::DropName {
-        parent: dropped.parent,
-        name: dropped.name.copy(alloc)?,
-    };
-    let job = change_job(volume, 1, cells, op);
-    Ok(ask(set, job, State::Number(OnNumber::Unlink(dropped))))
+    match unlink_job(alloc, volume, dropped.parent, &dropped.name) {
+        Ok(job) => Ok(ask(set, job, State::Number(OnNumber::Unlink(dropped)))),
+        Err(error) => {
+            drop(dropped);
+            Err(error)
+        }
+    }
 }
 
 pub(crate) fn unlink_found(
@@ -87,6 +88,7 @@ pub(crate) fn unlink_found(
     match found {
         Found::Item { set, gfid: _, kind } => {
             if is_directory(kind) {
+                drop(ended);
                 return Ok(refuse(AppError::Eisdir, Some(seen.place)));
             }
             let dropped = NameDrop {
@@ -97,8 +99,14 @@ pub(crate) fn unlink_found(
             };
             unlink_on(alloc, volume, dropped, set)
         }
-        Found::Absent => Ok(refuse(AppError::Enoent, Some(seen.place))),
-        Found::Io(error) => Ok(fail(error)),
+        Found::Absent => {
+            drop(ended);
+            Ok(refuse(AppError::Enoent, Some(seen.place)))
+        }
+        Found::Io(error) => {
+            drop(ended);
+            Ok(fail(error))
+        }
     }
 }
 
@@ -122,6 +130,7 @@ pub(crate) fn rmdir_found(volume: Volume, ended: Ended, found: Found, seen: Seen
     match found {
         Found::Item { set: _, gfid, kind } => {
             if !is_directory(kind) {
+                drop(ended);
                 return refuse(AppError::Enotdir, Some(seen.place));
             }
             let dir = DirDrop {
@@ -131,8 +140,14 @@ pub(crate) fn rmdir_found(volume: Volume, ended: Ended, found: Found, seen: Seen
             };
             extend(dir)
         }
-        Found::Absent => refuse(AppError::Enoent, Some(seen.place)),
-        Found::Io(error) => fail(error),
+        Found::Absent => {
+            drop(ended);
+            refuse(AppError::Enoent, Some(seen.place))
+        }
+        Found::Io(error) => {
+            drop(ended);
+            fail(error)
+        }
     }
 }
 

@@ -128,8 +128,14 @@ pub(crate) fn mkdir_found(
             set: _,
             gfid: _,
             kind: _,
-        } => Ok(refuse(AppError::Eexist, Some(seen.place))),
-        Found::Io(error) => Ok(fail(error)),
+        } => {
+            drop(ended);
+            Ok(refuse(AppError::Eexist, Some(seen.place)))
+        }
+        Found::Io(error) => {
+            drop(ended);
+            Ok(fail(error))
+        }
     }
 }
 
@@ -176,7 +182,13 @@ pub(crate) fn create_found(
             set: _,
             gfid: _,
             kind: _,
-        } => Ok(refuse(AppError::Eexist, Some(seen.place))),
-        Found::Io(error) => Ok(fail(error)),
+        } => {
+            drop(ended);
+            Ok(refuse(AppError::Eexist, Some(seen.place)))
+        }
+        Found::Io(error) => {
+            drop(ended);
+            Ok(fail(error))
+        }
     }
 }

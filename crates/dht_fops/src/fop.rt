@@ -48,14 +48,21 @@ impl DhtFop {
         };
         let step = begin_fop(alloc, volume, fop, names, kept)?;
         let asked = step.turn.asked();
-        let (state, next) = step.into_next(alloc)?;
-        let begun = DhtFop {
-            volume,
-            learnt: Seq::new(alloc),
-            asked,
-            state,
-        };
-        Ok((begun, next))
+        match step.turn.into_next(alloc) {
+            Ok(next) => {
+                let begun = DhtFop {
+                    volume,
+                    learnt: Seq::new(alloc),
+                    asked,
+                    state: step.state,
+                };
+                Ok((begun, next))
+            }
+            Err(error) => {
+                drop(step.state);
+                Err(error)
+            }
+        }
     }
 
     /// The layouts that this fop has read.
@@ -120,8 +127,8 @@ impl DhtFop {
         ensures one { IfOk result (λ next. GivesOneJob next) }
     {
         let asked = step.turn.asked();
-        let (state, next) = step.into_next(alloc)?;
-        drop(mem::replace(&mut self.state, state));
+        drop(mem::replace(&mut self.state, step.state));
+        let next = step.turn.into_next(alloc)?;
         self.asked = asked;
         Ok(next)
     }

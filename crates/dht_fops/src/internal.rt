@@ -132,11 +132,26 @@ fn front(cells: &[Cell], most: usize) -> &[Cell]
     }
 }
 
-/// The cells so far with those that a set listed, up to the bound.
+/// A set has listed its cells: the next set does, or they are healed.
 ///
 /// # Errors
 /// Out of memory.
-pub(crate) fn with_cells(indexing: Indexing, listed: &[Cell]) -> Result<Seq<(u8, Cell)>, AllocError>
+pub(crate) fn index_on(
+    alloc: Global,
+    volume: Volume,
+    indexing: Indexing,
+    listed: Seq<Cell>,
+) -> Result<Step, AllocError>
+    ensures { IfOk result (λ step. course_of volume step ≡ indexes indexing.count (sets_from volume indexing.next) (with_cells_of indexing.cells indexing.count indexing.set listed)) }
+{
+    let count = indexing.count;
+    let next = indexing.next;
+    let cells = with_cells(indexing, listed.as_slice())?;
+    index_from(alloc, volume, count, cells, next)
+}
+
+// The cells so far with those that a set listed, up to the bound.
+fn with_cells(indexing: Indexing, listed: &[Cell]) -> Result<Seq<(u8, Cell)>, AllocError>
     ensures { IfOk result (λ cells. cells ≡ with_cells_of indexing.cells indexing.count indexing.set listed.now) }
 {
     let most = 2 * indexing.count as usize + 2;

@@ -139,7 +139,15 @@ fn look_further(
     let place = shown.place;
     let purpose = look.purpose;
     let mut lookup = look.lookup;
-    match lookup.answer(set, Ok(shown.items))? {
+    let next = match lookup.answer(set, Ok(shown.items)) {
+        Ok(next) => next,
+        Err(error) => {
+            drop(lookup);
+            drop(purpose);
+            return Err(error);
+        }
+    };
+    match next {
         Next::Ask(next) => {
             let look = Look {
                 lookup,

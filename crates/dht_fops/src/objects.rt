@@ -48,7 +48,9 @@ pub(crate) fn dir_stat(volume: Volume, contents: Seq<Option<Content>>, place: u3
     ensures { course_of volume result ≡ dir_stat contents place }
 {
     let mut contents = contents;
-    let mode = mode_of(&take_first(&mut contents));
+    let meta = take_first(&mut contents);
+    let mode = mode_of(&meta);
+    drop(meta);
     let stat = Answer::Stat {
         kind: Kind::Dir,
         mode,
@@ -113,7 +115,9 @@ pub(crate) fn file_stat(
 {
     let mut contents = contents;
     let bytes = bytes_of(alloc, take_first(&mut contents));
-    let mode = mode_of(&take_first(&mut contents));
+    let meta = take_first(&mut contents);
+    let mode = mode_of(&meta);
+    drop(meta);
     let stat = Answer::Stat {
         kind: Kind::File,
         mode,

@@ -1,15 +1,21 @@
-ghost use Rattle.std.specs.Prelude.{◌≡◌, IfOk};
-ghost use Rattle.dht_fops.specs.Renames.{drops_old_link, adds_link, moves, bears, replaces, changes_names};
+ghost use Rattle.std.specs.Prelude.{◌≡◌, IfOk, Some, None};
+ghost use Rattle.dht_fops.specs.Courses.{after_any};
+ghost use Rattle.dht_fops.specs.Courses.Course.{Asks};
+ghost use Rattle.dht_fops.specs.Renames.{link_of, drops_old_link, adds_link, moves, bears, replaces, changes_names};
 ghost use Rattle.dht_fops.specs.code.Waits.{course_of};
+ghost use Rattle.dht_fops.specs.Volumes.{entry};
 ghost use Rattle.dht_fops.specs.declared.volume.Volume.{Volume};
+ghost use Rattle.fop_types.specs.StoreOps.{both_names as both_names_of};
+ghost use Rattle.fop_types.specs.declared.jobs.Job.TheVariants as job;
+ghost use Rattle.fop_types.specs.declared.store_ops.StoreOp.TheVariants as op;
 
-use crate::cells::{birth_job, both_names, change_job, one_dir};
+use crate::cells::{birth_job, both_names, change_job, one_dir, unlink_job};
 use crate::drops::{NameDrop, drop_link};
 use crate::state::{OnNames, OnNumber, OnReply, State};
 use crate::step::{Step, ask};
 use crate::volume::Volume;
 use dht_linkto::names_job;
-use fop_types::{Gfid, Item, Job, Kind, Seq, StoreOp};
+use fop_types::{Cell, Gfid, Item, Job, Kind, Seq, StoreOp};
 use std::alloc::{AllocError, Global};
 
 /// A file that is renamed: its first name, the set to which that belongs, and whether that set showed a link of it; the
@@ -71,7 +77,18 @@ pub(crate) fn add_link(
     if renaming.hashed == renaming.source.set {
         return drop_old_link(alloc, volume, renaming.source, number);
     }
-    let cells = one_dir(alloc, renaming.target)?;
+    match one_dir(alloc, renaming.target) {
+        Ok(cells) => Ok(ask_link(volume, renaming, cells, number)),
+        Err(error) => {
+            drop(renaming);
+            Err(error)
+        }
+    }
+}
+
+fn ask_link(volume: Volume, renaming: Renaming, cells: Seq<Cell>, number: Option<u32>) -> Step
+    ensures { course_of volume result ≡ Asks renaming.hashed (job.Change cells 0 (op.AddName renaming.target (link_of renaming) 0 None) None) (after_any (drops_old_link renaming.source number)) }
+{
     let item = Item {
         name: renaming.new_name,
         gfid: renaming.source.gfid,
@@ -89,11 +106,11 @@ pub(crate) fn add_link(
         },
         effect: None,
     };
-    Ok(ask(
+    ask(
         renaming.hashed,
         job,
         State::Reply(OnReply::NewLink(renaming.source, number)),
-    ))
+    )
 }
 
 /// The move on the file's set.
@@ -107,19 +124,31 @@ pub(crate) fn move_name(
 ) -> Result<Step, AllocError>
     ensures { IfOk result (λ step. course_of volume step ≡ moves volume renaming) }
 {
+    match move_job(alloc, volume, &renaming) {
+        Ok(job) => Ok(ask(
+            renaming.source.set,
+            job,
+            State::Number(OnNumber::Move(renaming)),
+        )),
+        Err(error) => {
+            drop(renaming);
+            Err(error)
+        }
+    }
+}
+
+fn move_job(alloc: Global, volume: Volume, renaming: &Renaming) -> Result<Job, AllocError>
+    ensures { IfOk result (λ made. made ≡ job.Change (both_names_of renaming.now.source.parent renaming.now.target) 0 (op.Move renaming.now.source.parent renaming.now.source.name renaming.now.target renaming.now.new_name) (Some (entry volume 2))) }
+{
     let cells = both_names(alloc, renaming.source.parent, renaming.target)?;
+    let name = renaming.source.name.copy(alloc)?;
     let op = StoreOp::Move {
         parent: renaming.source.parent,
-        name: renaming.source.name.copy(alloc)?,
+        name,
         target: renaming.target,
         new_name: renaming.new_name.copy(alloc)?,
     };
-    let job = change_job(volume, 2, cells, op);
-    Ok(ask(
-        renaming.source.set,
-        job,
-        State::Number(OnNumber::Move(renaming)),
-    ))
+    Ok(change_job(volume, 2, cells, op))
 }
 
 /// The new parent's copy is born on the file's set where that set lacks one; then the move is made.
@@ -137,12 +166,17 @@ pub(crate) fn bear(
     if has_copy {
         return move_name(alloc, volume, renaming);
     }
-    let job = birth_job(alloc, renaming.target, None)?;
-    Ok(ask(
-        renaming.source.set,
-        job,
-        State::Number(OnNumber::Bear(renaming)),
-    ))
+    match birth_job(alloc, renaming.target, None) {
+        Ok(job) => Ok(ask(
+            renaming.source.set,
+            job,
+            State::Number(OnNumber::Bear(renaming)),
+        )),
+        Err(error) => {
+            drop(renaming);
+            Err(error)
+        }
+    }
 }
 
 /// A file of the new name on another set is unlinked; then the move follows.
@@ -160,19 +194,17 @@ pub(crate) fn replace(
 {
     match replaced {
         None => bear(alloc, volume, renaming, has_copy),
-        Some(set) => {
-            let cells = one_dir(alloc, renaming.target)?;
-            let op = StoreOp::DropName {
-                parent: renaming.target,
-                name: renaming.new_name.copy(alloc)?,
-            };
-            let job = change_job(volume, 1, cells, op);
-            Ok(ask(
+        Some(set) => match unlink_job(alloc, volume, renaming.target, &renaming.new_name) {
+            Ok(job) => Ok(ask(
                 set,
                 job,
                 State::Number(OnNumber::Replace(renaming, has_copy)),
-            ))
-        }
+            )),
+            Err(error) => {
+                drop(renaming);
+                Err(error)
+            }
+        },
     }
 }
 
@@ -191,13 +223,16 @@ pub(crate) fn change_names(
 {
     match copy {
         Some(has_copy) => replace(alloc, volume, renaming, replaced, has_copy),
-        None => {
-            let job = names_job(alloc, renaming.target)?;
-            Ok(ask(
+        None => match names_job(alloc, renaming.target) {
+            Ok(job) => Ok(ask(
                 renaming.source.set,
                 job,
                 State::Names(OnNames::Copy(renaming, replaced)),
-            ))
-        }
+            )),
+            Err(error) => {
+                drop(renaming);
+                Err(error)
+            }
+        },
     }
 }

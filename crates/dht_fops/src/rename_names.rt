@@ -43,13 +43,17 @@ fn target_by(
     match found {
         Found::Item { set, gfid: _, kind } => {
             if is_directory(kind) {
+                drop(renaming);
                 return Ok(refuse(AppError::Eisdir, Some(seen.place)));
             }
             let replaced = other_set(set, renaming.source.set);
             change_names(alloc, volume, renaming, replaced, seen.copy)
         }
         Found::Absent => change_names(alloc, volume, renaming, None, seen.copy),
-        Found::Io(error) => Ok(fail(error)),
+        Found::Io(error) => {
+            drop(renaming);
+            Ok(fail(error))
+        }
     }
 }
 
@@ -67,15 +71,24 @@ pub(crate) fn target_found(
 ) -> Result<Step, AllocError>
     ensures { IfOk result (λ step. course_of volume step ≡ target_ending volume source ended.parent ended.name ended.names ended.hashed found seen) }
 {
-    let set_name = Seq::from_bytes(alloc, ended.names.name_of(source.set))?;
-    let renaming = Renaming {
-        source,
-        target: ended.parent,
-        new_name: ended.name,
-        hashed: ended.hashed,
-        set_name,
-    };
-    target_by(alloc, volume, renaming, found, seen)
+    match Seq::from_bytes(alloc, ended.names.name_of(source.set)) {
+        Ok(set_name) => {
+            let renaming = Renaming {
+                source,
+                target: ended.parent,
+                new_name: ended.name,
+                hashed: ended.hashed,
+                set_name,
+            };
+            target_by(alloc, volume, renaming, found, seen)
+        }
+        Err(error) => {
+            drop(source);
+            drop(ended);
+            drop(found);
+            Err(error)
+        }
+    }
 }
 
 // ---- the look at the first name
@@ -84,6 +97,12 @@ fn is_same_name(parent: Gfid, name: &[u8], target: Gfid, new_name: &[u8]) -> boo
     ensures { result ≡ is_same_name_of parent name.now target new_name.now }
 {
     parent.cmp(&target).is_eq() && name == new_name
+}
+
+fn discard(source: Source, wanted: Wanted, names: SetNames) {
+    drop(source);
+    drop(wanted);
+    drop(names);
 }
 
 // The first name is a file's.
@@ -101,13 +120,16 @@ fn rename_file(
 {
     let target = wanted.target;
     if !is_directory(target.kind) {
+        discard(source, wanted, names);
         return Ok(refuse(AppError::Enotdir, Some(place)));
     }
     if NAME_LIMIT < wanted.new_name.len() {
+        discard(source, wanted, names);
         return Ok(refuse(AppError::Enametoolong, Some(place)));
     }
     let name = source.name.as_slice();
     if is_same_name(source.parent, name, target.gfid, wanted.new_name.as_slice()) {
+        discard(source, wanted, names);
         return Ok(answer(Answer::Done, Some(place)));
     }
     look_for(
@@ -140,6 +162,8 @@ pub(crate) fn source_found(
     match found {
         Found::Item { set, gfid, kind } => {
             if is_directory(kind) {
+                drop(ended);
+                drop(wanted);
                 return Ok(refuse(AppError::Eopnotsupp, Some(seen.place)));
             }
             let source = Source {
@@ -152,7 +176,15 @@ pub(crate) fn source_found(
             };
             rename_file(alloc, volume, source, wanted, ended.names, seen.place)
         }
-        Found::Absent => Ok(refuse(AppError::Enoent, Some(seen.place))),
-        Found::Io(error) => Ok(fail(error)),
+        Found::Absent => {
+            drop(ended);
+            drop(wanted);
+            Ok(refuse(AppError::Enoent, Some(seen.place)))
+        }
+        Found::Io(error) => {
+            drop(ended);
+            drop(wanted);
+            Ok(fail(error))
+        }
     }
 }

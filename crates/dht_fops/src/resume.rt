@@ -5,7 +5,7 @@ ghost use Rattle.dht_fops.specs.declared.volume.Volume.{Volume};
 use crate::changes::attr_seen;
 use crate::drops::{drop_link, empty_from, names_shown};
 use crate::entries::bear_from;
-use crate::internal::{heal_from, index_from, open_from, with_cells};
+use crate::internal::{heal_from, index_on, open_from};
 use crate::layouts::Layout;
 use crate::list::names_listed;
 use crate::look::look_on;
@@ -92,15 +92,13 @@ fn on_reply(
     match state {
         OnReply::End => Ok(answer(Answer::Done, None)),
         OnReply::LinkDrop(number) => Ok(answer(Answer::Done, number)),
-        OnReply::Extend(_) => Ok(answer(Answer::Done, None)),
+        OnReply::Extend(dir) => {
+            drop(dir);
+            Ok(answer(Answer::Done, None))
+        }
         OnReply::NewLink(source, number) => drop_old_link(alloc, volume, source, number),
         OnReply::Reopen(opening) => open_from(alloc, volume, opening.fds, opening.next),
-        OnReply::Index(indexing) => {
-            let count = indexing.count;
-            let next = indexing.next;
-            let cells = with_cells(indexing, listed.as_slice())?;
-            index_from(alloc, volume, count, cells, next)
-        }
+        OnReply::Index(indexing) => index_on(alloc, volume, indexing, listed),
         OnReply::Heal(healing) => heal_from(alloc, volume, healing.cells, healing.next),
     }
 }

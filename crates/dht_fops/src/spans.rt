@@ -1,5 +1,6 @@
-ghost use Rattle.std.specs.Prelude.{◌≡◌, ◌∷◌, [], ◌+◌, ◌<◌, ◌≤◌, length, IfOk, IfSome};
-ghost use Rattle.dht_fops.specs.Looks.{span_job as span_job_of};
+ghost use Rattle.std.specs.Prelude.{◌≡◌, ◌∷◌, ◌++◌, [], ◌+◌, ◌<◌, ◌≤◌, length, IfOk, OnOk, IfSome};
+ghost use Rattle.dht_linkto.specs.DirNames.{first_content};
+ghost use Rattle.dht_fops.specs.Looks.{span_job as span_job_of, span_of as span_of_content};
 ghost use Rattle.dht_fops.specs.Renames.{second_set as second_set_of};
 ghost use Rattle.dht_fops.specs.code.Purposes.{IsSecondSet};
 ghost use Rattle.dht_fops.specs.code.Waits.{course_of, with_spans as with_spans_of, looks_after_spans, looks_for, reads_on, sets_left, spans_read, with_span, learnt_at};
@@ -154,21 +155,74 @@ fn look_by(
     let spans = read.spans;
     let hashed = hashed_set(spans.as_slice(), read.name.as_slice());
     let purpose = with_spans(read.dir, spans.as_slice(), read.purpose);
-    learnt.push(Layout {
-        dir: read.dir,
-        spans,
-    })?;
-    let step = look_in(
-        alloc, volume, purpose, read.dir, read.name, read.names, hashed,
-    )?;
-    Ok(step)
+    match learn(learnt, read.dir, spans) {
+        Ok(()) => {
+            let step = look_in(
+                alloc, volume, purpose, read.dir, read.name, read.names, hashed,
+            )?;
+            Ok(step)
+        }
+        Err(error) => {
+            drop(purpose);
+            drop(read.name);
+            drop(read.names);
+            Err(error)
+        }
+    }
+}
+
+fn learn(learnt: &mut Seq<Layout>, dir: Gfid, spans: Seq<Option<Span>>) -> Result<(), AllocError>
+    ensures { OnOk result (learnt.new ≡ learnt.old ++ record { dir = dir; spans = spans } ∷ []) }
+{
+    learnt.push(Layout { dir, spans })?;
+    Ok(())
+}
+
+// The range in the first of the contents.
+fn first_span(contents: Seq<Option<Content>>) -> Option<Span>
+    ensures { result ≡ span_of_content (first_content contents) }
+{
+    let mut contents = contents;
+    let first = take_first(&mut contents);
+    let span = span_of(&first);
+    drop(first);
+    span
+}
+
+fn add_span(read: &mut SpansRead, span: Option<Span>) -> Result<(), AllocError>
+    ensures { OnOk result (read.new ≡ record read.old { spans = read.old.spans ++ span ∷ [] }) }
+{
+    read.spans.push(span)?;
+    Ok(())
+}
+
+// The next set is asked; once each has shown its range, the layout is learnt and the name is looked for.
+#[tactic(auto, using(crate::proofs::Sets::sets_step))]
+fn read_on(
+    alloc: Global,
+    volume: Volume,
+    learnt: &mut Seq<Layout>,
+    read: SpansRead,
+) -> Result<Step, AllocError>
+    requires some { 1 ≤ length read.spans }
+    requires sets { read.count ≡ length read.names }
+    requires spans { length read.spans ≡ read.next }
+    requires within { read.next ≤ read.count }
+    requires second { IsSecondSet read.purpose (length read.names) }
+    ensures course { IfOk result (λ step. course_of volume step ≡ reads_on volume read) }
+    ensures learnt { IfOk result (λ step. learnt.new ≡ learnt_at (sets_left read) read learnt.old) }
+{
+    if read.next < read.count {
+        ask_span(alloc, volume, read)
+    } else {
+        look_by(alloc, volume, learnt, read)
+    }
 }
 
 /// One more set showed the directory's metadata. Once each has, the layout is learnt and the name is looked for.
 ///
 /// # Errors
 /// Out of memory.
-#[tactic(auto, using(crate::proofs::Sets::sets_step))]
 pub(crate) fn span_shown(
     alloc: Global,
     volume: Volume,
@@ -183,12 +237,12 @@ pub(crate) fn span_shown(
     ensures course { IfOk result (λ step. course_of volume step ≡ spans_read volume read contents) }
     ensures learnt { IfOk result (λ step. learnt.new ≡ learnt_at (sets_left read) (with_span read contents) learnt.old) }
 {
-    let mut contents = contents;
     let mut read = read;
-    read.spans.push(span_of(&take_first(&mut contents)))?;
-    if read.next < read.count {
-        ask_span(alloc, volume, read)
-    } else {
-        look_by(alloc, volume, learnt, read)
+    match add_span(&mut read, first_span(contents)) {
+        Ok(()) => read_on(alloc, volume, learnt, read),
+        Err(error) => {
+            drop(read);
+            Err(error)
+        }
     }
 }

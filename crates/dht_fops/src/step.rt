@@ -65,25 +65,6 @@ pub(crate) struct Step {
     pub turn: Turn,
 }
 
-impl Step {
-    /// What the fop waits with, and the turn as callers see it.
-    ///
-    /// # Errors
-    /// Out of memory.
-    pub fn into_next(self, alloc: Global) -> Result<(State, DhtNext), AllocError>
-        ensures state { IfOk result (λ parts. parts.0 ≡ self.state) }
-        ensures next { IfOk result (λ parts. parts.1 ≡ next_of self.turn) }
-    {
-        match self.turn.into_next(alloc) {
-            Ok(next) => Ok((self.state, next)),
-            Err(error) => {
-                drop(self.state);
-                Err(error)
-            }
-        }
-    }
-}
-
 /// The fop waits for a job of a set.
 pub(crate) fn ask(set: u8, job: Job, state: State) -> Step
     ensures { result ≡ record { state = state; turn = turn.Ask set job } }
