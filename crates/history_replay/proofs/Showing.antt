@@ -86,7 +86,7 @@ replies_same calls replies i c within read h here =
 -- ---- bounds
 
 pub first_long : (reached : List ℕ) → reached ≡ replicate 256 0 → length reached ≡ 256
-first_long reached is = ap length is ∙ length-replicate 256 0
+first_long reached is = ap length is ∙ length-replicate {A = ℕ} 256 0
 
 pub since_first : (lines : List CallLine) (calls : List ReportCall) (reached since : List ℕ) → reached ≡ replicate 256 0 → since ≡ []
     → since ++ since_from reached (map (λ l. l.session) (drop 0 lines)) (map (λ c. c.places) (drop 0 calls))
