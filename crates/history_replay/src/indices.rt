@@ -130,10 +130,7 @@ pub(crate) fn are_indexed(trace: &Trace, f: &Findings) -> bool
     are_lasts(trace, f)
 }
 
-fn add_indices<T: Copy>(
-    indices: &mut Vec<Option<T>>,
-    count: usize,
-) -> Result<(), AllocError> {
+fn add_indices<T: Copy>(indices: &mut Vec<Option<T>>, count: usize) -> Result<(), AllocError> {
     for _ in 0..count {
         indices.push(None)?;
     }

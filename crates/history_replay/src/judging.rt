@@ -274,7 +274,9 @@ fn walk(
 {
     let replies = replies_shown(alloc, shown, answers)?;
     let trace = with_replies(base, replies.as_slice());
-    find(alloc, &trace)
+    let found = find(alloc, &trace);
+    drop(replies);
+    found
 }
 
 // The verdict on a trace with the replies that show these answers.
@@ -340,8 +342,9 @@ fn judge_answers(
     ensures { IfOk result (λ v. v ≡ verdict.Lawful → (fails ≡ None) × IsLawfulWithReplies shown.now base.now) }
 {
     let mut walked = walk(alloc, shown, answers, base)?;
-    let found = judge_found(alloc, shown, answers, base, &mut walked, fails)?;
-    Ok(found)
+    let found = judge_found(alloc, shown, answers, base, &mut walked, fails);
+    drop(walked);
+    found
 }
 
 // The verdict on a trace with the replies that calls show.
@@ -354,8 +357,9 @@ fn judge_base(
     ensures { IfOk result (λ v. v ≡ verdict.Lawful → (fails ≡ None) × IsLawfulWithReplies shown.now base.now) }
 {
     let mut answers = answers_shown(alloc, shown)?;
-    let found = judge_answers(alloc, shown, &mut answers, base, fails)?;
-    Ok(found)
+    let found = judge_answers(alloc, shown, &mut answers, base, fails);
+    drop(answers);
+    found
 }
 
 // The verdict on the trace of these calls and this history, with the bounds that a report shows.
@@ -460,13 +464,15 @@ fn judge_calls(
     ensures { IfOk result (λ v. v ≡ verdict.Lawful → IsLawfulReport script.now report.now) }
 {
     let assigned = assign(alloc, script, report.calls.as_slice(), idle)?;
-    judge_assigned(
+    let found = judge_assigned(
         alloc,
         script,
         report,
         assigned.lines.as_slice(),
         assigned.fails,
-    )
+    );
+    drop(assigned);
+    found
 }
 
 fn idle_line(alloc: Global) -> CallLine {

@@ -374,7 +374,10 @@ fn is_same_session(
 {
     let one = named_of(alloc, lines, session)?;
     let other = calls_of(alloc, phase, session)?;
-    Ok(same_lines(one.as_slice(), other.as_slice()))
+    let same = same_lines(one.as_slice(), other.as_slice());
+    drop(one);
+    drop(other);
+    Ok(same)
 }
 
 // Whether the calls of each session are those of the phase, in their order.

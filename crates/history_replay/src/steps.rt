@@ -12,6 +12,7 @@ use crate::trace::Replied;
 use flat_fs::FlatFs;
 use fop_types::{Answer, FlatAnswer, FlatOp, Gfid, Seq};
 use std::alloc::{AllocError, Global};
+use std::mem;
 
 /// The change of an entry; its answer is that of a reply, if it has one.
 #[derive(Drop)]
@@ -58,7 +59,7 @@ impl Step {
         ensures { result ≡ true → (self.old.change ≡ None) × (self.new ≡ with_change self.old change) }
     {
         let was_free = self.is_free();
-        self.change = Some(change);
+        drop(mem::replace(&mut self.change, Some(change)));
         was_free
     }
 }
@@ -328,12 +329,7 @@ fn all_hold(
 }
 
 // Whether a change was made with an answer, and it is that of the reply, if there is one.
-fn is_made(
-    changes: bool,
-    replies: &[Replied],
-    reply: Option<usize>,
-    answer: &FlatAnswer,
-) -> bool
+fn is_made(changes: bool, replies: &[Replied], reply: Option<usize>, answer: &FlatAnswer) -> bool
     ensures changes { result ≡ true → (changes && is_granted_of answer.now) ≡ true }
     ensures replied { result ≡ true → IsRepliedIf replies.now reply answer.now }
 {
