@@ -1,5 +1,5 @@
 -- Claims that are added one after another.
-use Rattle.std.proofs.Common.{◌≡◌, ◌∷◌, ◌++◌, refl, sym, ap, subst, ◌∙◌, ℕ, ◌+◌, ◌<◌, List, [], length, drop, get_or, append_assoc, append-nil, true≢false}
+use Rattle.std.proofs.Common.{◌≡◌, ◌∷◌, ◌++◌, refl, sym, ap, subst, ◌∙◌, ℕ, ◌+◌, ◌<◌, List, [], length, drop, replicate, get_or, append_assoc, append-nil, true≢false}
 use Rattle.std.proofs.lemmas.Bool.{and_parts, ltb-true}
 use Rattle.std.proofs.lemmas.List.{drop_more}
 use Rattle.std.specs.Prelude.{Bool, true, false, ◌&&◌, nat_lt, Option, Some, None, if◌then◌else◌}
@@ -12,7 +12,7 @@ use Rattle.fop_types.specs.declared.answers.Answer.{Answer}
 use Rattle.fop_types.specs.declared.cells.Gfid.{Gfid}
 use Rattle.history_replay.specs.code.Cases.{Case, is_whole, op_of, found_by, once_by, case_claims}
 use Rattle.history_replay.specs.code.Claims.{walk_claims, walk_ends}
-use Rattle.history_replay.specs.code.Runs.{Progress, GoesTo, has_session, fits_at, fits_by, case_of, reply_at, answer_by, fds_after, bounds_after, after_claims, after_case, after_submission, after_call, after_calls}
+use Rattle.history_replay.specs.code.Runs.{Progress, GoesTo, has_session, fits_at, fits_by, case_of, reply_at, answer_by, fds_after, bounds_after, after_claims, after_case, after_submission, after_call, after_calls, begun, AreClaimsOf}
 use Rattle.history_replay.specs.declared.findings.Findings.{Findings}
 use Rattle.history_replay.specs.declared.claims.Claim.{Claim}
 
@@ -49,6 +49,20 @@ calls_next t f count p q o calls i s did same within read holds goes so_far =
 
 abbrev made_of : ℕ → List Descriptors → List ℕ → ℕ → List Claim → Progress
 made_of at fds bounds made claims = record { at = at; fds = fds; bounds = bounds; made = made; claims = claims }
+
+pub claims_reached : (t : Trace) (f : Findings) (count : ℕ) (p q : Progress) (claims : List Claim) → p ≡ begun → after_calls t f count (Some p) t.calls ≡ Some q
+    → claims ≡ q.claims → AreClaimsOf t f count claims
+claims_reached t f count p q claims is reached same = record {
+  end = q;
+  reached = subst (λ (x : Progress). after_calls t f count (Some x) t.calls ≡ Some q) is reached;
+  claims_are = sym same;
+}
+
+pub begins : (fds : List Descriptors) (bounds : List ℕ) (claims : List Claim) → fds ≡ replicate 256 empty → bounds ≡ replicate 256 0 → claims ≡ []
+    → made_of 0 fds bounds 0 claims ≡ begun
+begins fds bounds claims fds_are bounds_are none =
+    ap (λ (x : List Descriptors). made_of 0 x bounds 0 claims) fds_are ∙ ap (λ (x : List ℕ). made_of 0 (replicate 256 empty) x 0 claims) bounds_are
+    ∙ ap (λ (x : List Claim). made_of 0 (replicate 256 empty) (replicate 256 0) 0 x) none
 
 -- a call with its claims
 pub goes_on : (t : Trace) (f : Findings) (p q : Progress) (s : Submission) (made : ℕ) (c : Case) (o : Option (List Claim)) → Adds true p.claims q.claims o

@@ -9,10 +9,12 @@ use Rattle.fop_types.specs.declared.answers.Answer.{Answer}
 use Rattle.fop_types.specs.declared.flat.FlatAnswer.TheVariants as flat_answers
 use Rattle.fop_types.specs.declared.flat.FlatOp.{FlatOp}
 use Rattle.history_replay.specs.code.Claims.{IsReplied, IsRepliedIf, IsHeld, AreHeld, IsEntered}
-use Rattle.history_replay.specs.code.Runs.{IsHeldOn, AreHeldOn, IsDone, Runs, RunsBy, ops_of, with_op, IsChangeHeld, IsStepHeld, AreBorne, with_claim, with_change, PutsClaim, PutsChange, Puts, ArePut, RunsWith, Bears}
+use Rattle.history_replay.specs.code.Runs.{IsHeldOn, AreHeldOn, IsDone, Runs, RunsBy, ops_of, with_op, IsChangeHeld, IsStepHeld, AreBorne, with_claim, with_change, PutsClaim, PutsChange, Puts, ArePut, RunsWith, Bears, Passes, PassesBy, IsMadeBy}
 use Rattle.history_replay.specs.declared.claims.Claim.{Claim}
 use Rattle.history_replay.specs.declared.claims.Claim.TheVariants as claim
 use Rattle.history_replay.specs.declared.steps.Change.{Change}
+use Rattle.history_replay.specs.declared.steps.Pass.{Pass}
+use Rattle.history_replay.specs.declared.steps.Pass.TheVariants as passed
 use Rattle.history_replay.specs.declared.steps.Step.{Step}
 use Rattle.history_replay.proofs.Basics.{some_is, same_some, none_some, get_read}
 
@@ -258,3 +260,19 @@ passes_on before mid after at replies step change held is same done made rest ru
     let after_is : after ≡ flat_after before change.op = made ∙ ap (λ (f : Files). flat_after f change.op) same in
     let on : Runs (flat_after before change.op) (at + 1) replies rest = subst (λ (f : Files). Runs f (at + 1) replies rest) after_is runs in
     (held, subst (λ (o : Option Change). RunsBy o before replies rest (λ next. Runs next (at + 1) replies rest)) (sym is) (done_here, on))
+
+made_on : (o : Option Change) (before mid after : Files) (at : ℕ) (replies : List Reply) (step : Step) → AreHeldOn before at replies step.claims → step.change ≡ o
+    → mid ≡ before → IsMadeBy o mid after replies → (rest : List Step) → Runs after (at + 1) replies rest → Runs before at replies (step ∷ rest)
+made_on None before mid after at replies step held is same made rest runs = absurd made
+made_on (Some change) before mid after at replies step held is same made rest runs =
+    passes_on before mid after at replies step change held is same made.0 made.1 rest runs
+
+pub passes_by : (pass : Pass) (before mid after : Files) (at : ℕ) (replies : List Reply) (step : Step) → AreHeldOn before at replies step.claims → mid ≡ before
+    → PassesBy pass mid after replies step.change → Passes pass before after at replies step
+passes_by passed.Fails before mid after at replies step held same by = tt
+passes_by passed.Ends before mid after at replies step held same by = passes_last before at replies step held by
+passes_by passed.GoesOn before mid after at replies step held same by = made_on step.change before mid after at replies step held refl same by
+
+pub passes_made : (o : Option Change) (change : Change) (before after : Files) (replies : List Reply) → o ≡ Some change → IsDone before replies change
+    → after ≡ flat_after before change.op → PassesBy passed.GoesOn before after replies o
+passes_made o change before after replies is done made = subst (λ (x : Option Change). IsMadeBy x before after replies) (sym is) (done, made)

@@ -1,7 +1,7 @@
 -- Answers, replies and bounds that are shown, one call after another.
 use Rattle.std.proofs.Common.{◌≡◌, ◌∷◌, ◌++◌, refl, sym, ap, subst, ◌∙◌, ℕ, ◌+◌, ◌<◌, ◌≤◌, zero, suc, List, [], length, take, drop, map, replicate, get_or, arith, append_assoc, append-nil}
 use Rattle.std.specs.Prelude.{Bool, true, false, not, cond, Option, Some, None, slice_set}
-use Rattle.std.proofs.lemmas.List.{take_more, drop_more, drop_all}
+use Rattle.std.proofs.lemmas.List.{take_more, drop_more, drop_all, length-map, length-replicate}
 use Rattle.std.proofs.lemmas.List.Elements.{filter-append}
 use Rattle.fop_types.specs.Calls.{Submission}
 use Rattle.fop_types.specs.History.{Reply}
@@ -13,6 +13,7 @@ use Rattle.script_lang.specs.declared.scripts.CallLine.{CallLine}
 use Rattle.script_lang.specs.declared.scripts.Script.{Script}
 use Rattle.history_replay.specs.Reports.{is_silent, with_answers, IsAnswerShown, AreAnswersShown, ShowsReply, IsReplyShown, AreShown, last_or, since_from, AreCallsOf, AreInPhases, submission_of, entry_shown, IsTraceOf, IsLawfulFor, IsLawfulReport}
 use Rattle.history_replay.specs.Traces.{Trace, IsLawfulTrace}
+use Rattle.history_replay.specs.code.Shown.{replied, IsLawfulWithReplies, IsLawfulOf}
 
 -- ---- answers
 
@@ -84,6 +85,16 @@ replies_same calls replies i c within read h here =
 
 -- ---- bounds
 
+pub first_long : (reached : List ℕ) → reached ≡ replicate 256 0 → length reached ≡ 256
+first_long reached is = ap length is ∙ length-replicate {A = ℕ} 256 0
+
+pub since_first : (lines : List CallLine) (calls : List ReportCall) (reached since : List ℕ) → reached ≡ replicate 256 0 → since ≡ []
+    → since ++ since_from reached (map (λ l. l.session) (drop 0 lines)) (map (λ c. c.places) (drop 0 calls))
+    ≡ since_from (replicate 256 0) (map (λ l. l.session) lines) (map (λ c. c.places) calls)
+since_first lines calls reached since is none =
+    ap (λ (l : List ℕ). l ++ since_from reached (map (λ x. x.session) lines) (map (λ c. c.places) calls)) none
+    ∙ ap (λ (l : List ℕ). since_from l (map (λ x. x.session) lines) (map (λ c. c.places) calls)) is
+
 pub since_next : (lines : List CallLine) (calls : List ReportCall) (i : ℕ) (line : CallLine) (call : ReportCall) (reached after since all : List ℕ) (before : ℕ)
     → i < length lines → i < length calls → line ≡ get_or lines i line → call ≡ get_or calls i call
     → before ≡ get_or reached line.session 0 → after ≡ slice_set reached line.session (last_or (get_or reached line.session 0) call.places)
@@ -118,23 +129,38 @@ since_all lines calls i reached since all past so_far =
 
 -- ---- the report
 
-pub lawful_for : (lines : List CallLine) (calls : List ReportCall) (entries : List (ℕ × ℕ)) (t : Trace) (submissions : List Submission) (replies : List Reply) (history : List Entry)
-    (submitted since until : List ℕ) (none count many : ℕ) → t.calls ≡ submissions → submissions ≡ map submission_of lines → t.replies ≡ replies → AreShown (with_answers calls) replies
-    → t.history ≡ history → history ≡ map entry_shown entries → t.submitted ≡ submitted → submitted ≡ replicate none 0
+pub lawful_with : (calls : List ReportCall) (t with_them : Trace) (replies : List Reply) → AreShown (with_answers calls) replies → with_them ≡ replied t replies
+    → IsLawfulTrace with_them → IsLawfulWithReplies calls t
+lawful_with calls t with_them replies shown is lawful = record { replies = replies; shown = shown; lawful = subst IsLawfulTrace is lawful }
+
+pub lawful_for : (lines : List CallLine) (calls : List ReportCall) (t : Trace) (submissions : List Submission) (history : List Entry)
+    (submitted since until : List ℕ) (none count many : ℕ) → t.calls ≡ submissions → t.history ≡ history → t.submitted ≡ submitted → submitted ≡ replicate none 0
     → none ≡ length lines → t.since ≡ since
     → since ≡ since_from (replicate 256 0) (map (λ l. l.session) lines) (map (λ c. c.places) calls) → t.until ≡ until → until ≡ replicate count many
-    → count ≡ length lines → many ≡ length entries → IsLawfulTrace t → IsLawfulFor lines calls entries
-lawful_for lines calls entries t submissions replies history submitted since until none count many t_calls calls_are t_replies shown t_history history_is t_submitted submitted_is none_is t_since since_is t_until until_is count_is many_is lawful = record {
+    → count ≡ length lines → many ≡ length history → IsLawfulWithReplies calls t → IsLawfulOf lines calls submissions history
+lawful_for lines calls t submissions history submitted since until none count many calls_are history_is t_submitted submitted_is none_is t_since since_is t_until until_is count_is many_is lawful = record {
   trace = t;
-  shows = record {
-    calls_are = t_calls ∙ calls_are;
-    replies = subst (AreShown (with_answers calls)) (sym t_replies) shown;
-    history_is = t_history ∙ history_is;
-    submitted = t_submitted ∙ submitted_is ∙ ap (λ (n : ℕ). replicate n 0) none_is;
-    since = t_since ∙ since_is;
-    until = t_until ∙ until_is ∙ ap (λ (n : ℕ). replicate n many) count_is ∙ ap (λ (n : ℕ). replicate (length lines) n) many_is;
-  };
+  calls_are = calls_are;
+  history_is = history_is;
+  submitted = t_submitted ∙ submitted_is ∙ ap (λ (n : ℕ). replicate n 0) none_is;
+  since = t_since ∙ since_is;
+  until = t_until ∙ until_is ∙ ap (λ (n : ℕ). replicate n many) count_is ∙ ap (λ (n : ℕ). replicate (length lines) n) many_is;
   lawful = lawful;
+}
+
+pub lawful_from : (lines : List CallLine) (calls : List ReportCall) (entries : List (ℕ × ℕ)) (submissions : List Submission) (history : List Entry)
+    → submissions ≡ map submission_of lines → history ≡ map entry_shown entries → IsLawfulOf lines calls submissions history → IsLawfulFor lines calls entries
+lawful_from lines calls entries submissions history calls_are history_is h = record {
+  trace = replied h.trace h.lawful.replies;
+  shows = record {
+    calls_are = h.calls_are ∙ calls_are;
+    replies = h.lawful.shown;
+    history_is = h.history_is ∙ history_is;
+    submitted = h.submitted;
+    since = h.since;
+    until = h.until ∙ ap (λ (n : ℕ). replicate (length lines) n) (ap length history_is ∙ length-map entries entry_shown);
+  };
+  lawful = h.lawful.lawful;
 }
 
 pub lawful_report : (script : Script) (report : Report) (lines : List CallLine) (calls : List ReportCall) (entries : List (ℕ × ℕ)) → calls ≡ report.calls → entries ≡ report.history

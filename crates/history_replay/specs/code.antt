@@ -2,3 +2,4 @@
 pub mod Claims
 pub mod Cases
 pub mod Runs
+pub mod Shown

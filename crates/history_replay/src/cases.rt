@@ -1,10 +1,11 @@
 //! The claims of one call.
 ghost use Rattle.std.specs.Prelude.{◌≡◌, ◌++◌, ◌∷◌, [], ◌&&◌, List, Some, None, IfOk, OnOk};
 ghost use Rattle.flat_fs.specs.Walks.{objects};
-ghost use Rattle.fop_types.specs.Calls.{Descriptors, last_op as last_op_of};
+ghost use Rattle.fop_types.specs.Calls.{Descriptors, looked_up, last_op as last_op_of};
 ghost use Rattle.fop_types.specs.Flat.{is_change as is_change_of};
 ghost use Rattle.fop_types.specs.Replies.{is_ok as is_ok_of};
-ghost use Rattle.history_replay.specs.code.Cases.{Adds, is_none as is_none_of, is_before as is_before_of, are_at_most as are_at_most_of, is_free as is_free_of, is_late as is_late_of, is_done as is_done_of, is_first as is_first_of, lookup_places, last_place as last_place_of, is_whole as is_whole_of, part_claims, first_by, entry_by, done_by, read_by, placed_by, answered_by, last_by, op_claims, stopped_by, unfound_by, said_by, found_by, once_by, case_claims, file_given as file_given_of};
+ghost use Rattle.history_replay.specs.code.Claims.{next_lookup as next_lookup_of};
+ghost use Rattle.history_replay.specs.code.Cases.{Adds, is_none as is_none_of, is_before as is_before_of, are_at_most as are_at_most_of, is_free as is_free_of, is_late as is_late_of, is_done as is_done_of, is_first as is_first_of, lookup_places, last_place as last_place_of, is_whole as is_whole_of, when, part_claims, first_by, entry_by, done_by, read_by, placed_by, answered_by, last_by, op_claims, stopped_by, unfound_by, said_by, found_by, once_by, case_claims, file_given as file_given_of};
 
 use crate::claims::Claim;
 use crate::copies::{rename_of, unlink_of};
@@ -166,17 +167,24 @@ fn is_before(index: u32, other: Option<u32>) -> bool
 
 // ---- entries
 
-// Claims that an entry is this operation, with the answer of this reply if there is one.
-fn enter(
-    claims: &mut Seq<Claim>,
-    index: u32,
-    op: FlatOp,
-    reply: Option<usize>,
-) -> Result<(), AllocError>
-    ensures { OnOk result (claims.new ≡ claims.old ++ Claim.Enters index op reply ∷ []) }
+// Puts a claim to the others.
+pub(crate) fn add_claim(claims: &mut Seq<Claim>, claim: Claim) -> Result<(), AllocError>
+    ensures { OnOk result (claims.new ≡ claims.old ++ claim ∷ []) }
 {
-    claims.push(Claim::Enters { index, op, reply })?;
+    claims.push(claim)?;
     Ok(())
+}
+
+// Puts a claim to the others, if it may be made.
+fn claim_if(may: bool, claim: Claim, claims: &mut Seq<Claim>) -> Result<bool, AllocError>
+    ensures { IfOk result (λ did. Adds did claims.old claims.new (when may (claim ∷ []))) }
+{
+    if !may {
+        drop(claim);
+        return Ok(false);
+    }
+    add_claim(claims, claim)?;
+    Ok(true)
 }
 
 // The claims of a rename's part 1: the entry is the unlink of the new name, and the rename was possible.
@@ -200,6 +208,27 @@ fn claim_part(
     }
 }
 
+// Claims that an entry is the unlink of this name.
+fn claim_part_entry(
+    alloc: Global,
+    index: u32,
+    target: Gfid,
+    new_name: &Seq<u8>,
+    claims: &mut Seq<Claim>,
+) -> Result<(), AllocError>
+    ensures { OnOk result (claims.new ≡ claims.old ++ Claim.Enters index (FlatOp.Unlink target new_name.now) None ∷ []) }
+{
+    let op = unlink_of(alloc, target, new_name)?;
+    add_claim(
+        claims,
+        Claim::Enters {
+            index,
+            op,
+            reply: None,
+        },
+    )
+}
+
 fn claim_unlink(
     alloc: Global,
     index: u32,
@@ -215,11 +244,9 @@ fn claim_unlink(
     if is_same_name(parent, name.as_slice(), target, new_name.as_slice()) {
         return Ok(false);
     }
-    enter(claims, index, unlink_of(alloc, target, new_name)?, None)?;
-    claims.push(Claim::Accepts {
-        place: seen,
-        op: rename_of(alloc, parent, name, target, new_name)?,
-    })?;
+    claim_part_entry(alloc, index, target, new_name, claims)?;
+    let op = rename_of(alloc, parent, name, target, new_name)?;
+    add_claim(claims, Claim::Accepts { place: seen, op })?;
     Ok(true)
 }
 
@@ -248,14 +275,19 @@ fn claim_entry(case: &Case, last: FlatOp, claims: &mut Seq<Claim>) -> Result<boo
     ensures { IfOk result (λ did. Adds did claims.old claims.new (entry_by case.now.last case.now last)) }
 {
     match case.last {
-        None => Ok(true),
-        Some(index) => {
-            if !case.is_late(index) {
-                return Ok(false);
-            }
-            enter(claims, index, last, None)?;
+        None => {
+            drop(last);
             Ok(true)
         }
+        Some(index) => claim_if(
+            case.is_late(index),
+            Claim::Enters {
+                index,
+                op: last,
+                reply: None,
+            },
+            claims,
+        ),
     }
 }
 
@@ -268,14 +300,19 @@ fn claim_done(
     ensures { IfOk result (λ did. Adds did claims.old claims.new (done_by case.now.last case.now reply last)) }
 {
     match case.last {
-        None => Ok(false),
-        Some(index) => {
-            if !case.is_done(index) {
-                return Ok(false);
-            }
-            enter(claims, index, last, Some(reply))?;
-            Ok(true)
+        None => {
+            drop(last);
+            Ok(false)
         }
+        Some(index) => claim_if(
+            case.is_done(index),
+            Claim::Enters {
+                index,
+                op: last,
+                reply: Some(reply),
+            },
+            claims,
+        ),
     }
 }
 
@@ -287,16 +324,15 @@ fn claim_read(
 ) -> Result<bool, AllocError>
     ensures { IfOk result (λ did. Adds did claims.old claims.new (read_by case.now reply last)) }
 {
-    if !case.is_free() {
-        return Ok(false);
-    }
-    let place = case.last_place();
-    claims.push(Claim::Answers {
-        place,
-        op: last,
-        reply,
-    })?;
-    Ok(true)
+    claim_if(
+        case.is_free(),
+        Claim::Answers {
+            place: case.last_place(),
+            op: last,
+            reply,
+        },
+        claims,
+    )
 }
 
 // ---- the last operation
@@ -326,11 +362,13 @@ fn claim_answered(
 {
     if case.places.len() == case.lookups {
         if !is_io(reply.answer) {
+            drop(last);
             return Ok(false);
         }
         return claim_entry(case, last, claims);
     }
     if case.lookups.checked_add(1) != Some(case.places.len()) {
+        drop(last);
         return Ok(false);
     }
     claim_placed(case, reply, last, claims)
@@ -354,10 +392,16 @@ fn claim_parts(
 ) -> Result<bool, AllocError>
     ensures { IfOk result (λ did. Adds did claims.old claims.new (op_claims case.now (Some last))) }
 {
-    if claim_first(alloc, case, &last, claims)? {
-        claim_last(case, last, claims)
-    } else {
-        Ok(false)
+    match claim_first(alloc, case, &last, claims) {
+        Ok(true) => claim_last(case, last, claims),
+        Ok(false) => {
+            drop(last);
+            Ok(false)
+        }
+        Err(_) => {
+            drop(last);
+            Err(AllocError)
+        }
     }
 }
 
@@ -376,6 +420,20 @@ fn claim_op(
 }
 
 // ---- a call whose lookups did not find all
+
+// Claims the answer of the lookup that found nothing.
+fn claim_next(
+    alloc: Global,
+    case: &Case,
+    place: u32,
+    reply: usize,
+    claims: &mut Seq<Claim>,
+) -> Result<(), AllocError>
+    ensures { OnOk result (claims.new ≡ claims.old ++ Claim.Answers place (next_lookup_of (looked_up case.now.call) case.now.found) reply ∷ []) }
+{
+    let op = next_lookup(alloc, case.call, case.found)?;
+    add_claim(claims, Claim::Answers { place, op, reply })
+}
 
 #[tactic(auto, using(crate::proofs::Adding::adds_nothing))]
 fn claim_stopped(
@@ -398,12 +456,7 @@ fn claim_stopped(
     if case.places.len() - 1 != case.found.len() {
         return Ok(false);
     }
-    let op = next_lookup(alloc, case.call, case.found)?;
-    claims.push(Claim::Answers {
-        place: *place,
-        op,
-        reply: reply.reply,
-    })?;
+    claim_next(alloc, case, *place, reply.reply, claims)?;
     Ok(true)
 }
 
@@ -429,17 +482,18 @@ fn claim_said(case: &Case, answer: Answer, claims: &mut Seq<Claim>) -> Result<bo
     ensures { IfOk result (λ did. Adds did claims.old claims.new (said_by case.now.reply case.now answer)) }
 {
     match &case.reply {
-        None => Ok(true),
-        Some(reply) => {
-            if !case.places.is_empty() {
-                return Ok(false);
-            }
-            claims.push(Claim::Says {
-                reply: reply.reply,
-                answer,
-            })?;
+        None => {
+            drop(answer);
             Ok(true)
         }
+        Some(reply) => claim_if(
+            case.places.is_empty(),
+            Claim::Says {
+                reply: reply.reply,
+                answer,
+            },
+            claims,
+        ),
     }
 }
 
@@ -466,6 +520,7 @@ fn claim_once(case: &Case, answer: Answer, claims: &mut Seq<Claim>) -> Result<bo
     ensures { IfOk result (λ did. (fds : Descriptors) → Adds did claims.old claims.new (once_by (Some answer) case.now fds)) }
 {
     if !case.is_free() {
+        drop(answer);
         return Ok(false);
     }
     claim_said(case, answer, claims)

@@ -130,12 +130,11 @@ pub(crate) fn are_indexed(trace: &Trace, f: &Findings) -> bool
     are_lasts(trace, f)
 }
 
-fn no_indices<T: Copy>(alloc: Global, count: usize) -> Result<Vec<Option<T>>, AllocError> {
-    let mut indices = Vec::new(alloc);
+fn add_indices<T: Copy>(indices: &mut Vec<Option<T>>, count: usize) -> Result<(), AllocError> {
     for _ in 0..count {
         indices.push(None)?;
     }
-    Ok(indices)
+    Ok(())
 }
 
 fn put_index<T: Copy>(indices: &mut Vec<Option<T>>, at: usize, index: T) {
@@ -144,22 +143,22 @@ fn put_index<T: Copy>(indices: &mut Vec<Option<T>>, at: usize, index: T) {
     }
 }
 
-/// The indices of the replies, by their calls.
+/// Finds the indices of the replies, by their calls.
 ///
 /// # Errors
 /// Out of memory.
-pub(crate) fn replies_by_call(
-    alloc: Global,
+pub(crate) fn find_replies(
     trace: &Trace,
-) -> Result<Vec<Option<usize>>, AllocError> {
-    let mut replied = no_indices(alloc, trace.calls.len())?;
+    replied: &mut Vec<Option<usize>>,
+) -> Result<(), AllocError> {
+    add_indices(replied, trace.calls.len())?;
     for index in 0..trace.replies.len() {
         let reply = &trace.replies[index];
         if let Some(at) = reply.call.checked_sub(1) {
-            put_index(&mut replied, at as usize, index);
+            put_index(replied, at as usize, index);
         }
     }
-    Ok(replied)
+    Ok(())
 }
 
 /// The first and the last part of each call in the history.
@@ -171,14 +170,19 @@ pub(crate) struct Parts {
 
 impl Parts {
     /// No part.
-    ///
-    /// # Errors
-    /// Out of memory.
-    pub(crate) fn new(alloc: Global, trace: &Trace) -> Result<Parts, AllocError> {
-        Ok(Parts {
-            first: no_indices(alloc, trace.calls.len())?,
-            last: no_indices(alloc, trace.calls.len())?,
-        })
+    pub(crate) fn new(alloc: Global) -> Parts {
+        Parts {
+            first: Vec::new(alloc),
+            last: Vec::new(alloc),
+        }
+    }
+
+    fn put(&mut self, call: &Call, at: usize, index: u32, part: u8) {
+        if part == last_part_number(call) {
+            put_index(&mut self.last, at, index);
+        } else if part == 1 {
+            put_index(&mut self.first, at, index);
+        }
     }
 
     fn enter(&mut self, trace: &Trace, index: u32, entry: Entry) {
@@ -186,27 +190,23 @@ impl Parts {
             return;
         };
         let at = at as usize;
-        let Some(call) = trace.calls.get(at) else {
-            return;
-        };
-        if entry.part == last_part_number(call.call) {
-            put_index(&mut self.last, at, index);
-        } else if entry.part == 1 {
-            put_index(&mut self.first, at, index);
+        if let Some(call) = trace.calls.get(at) {
+            self.put(call.call, at, index, entry.part);
         }
     }
 }
 
-/// The indices of the entries, by their calls.
+/// Finds the indices of the entries, by their calls.
 ///
 /// # Errors
 /// Out of memory.
-pub(crate) fn parts_by_call(alloc: Global, trace: &Trace) -> Result<Parts, AllocError> {
-    let mut parts = Parts::new(alloc, trace)?;
+pub(crate) fn find_parts(trace: &Trace, parts: &mut Parts) -> Result<(), AllocError> {
+    add_indices(&mut parts.first, trace.calls.len())?;
+    add_indices(&mut parts.last, trace.calls.len())?;
     for index in 0..trace.history.len() {
         if index <= u32::MAX as usize {
             parts.enter(trace, index as u32, trace.history[index]);
         }
     }
-    Ok(parts)
+    Ok(())
 }

@@ -1,9 +1,11 @@
 //! The verdict on a report.
-ghost use Rattle.std.specs.Prelude.{◌≡◌, true, None, length, map, replicate, get_or, slice_set, IfOk, IfSome};
-ghost use Rattle.history_replay.specs.Reports.{AreShown, with_answers, last_or as last_or_of, since_from, entry_shown, IsAnswerShown, AreAnswersShown, IsReplyShown, IsLawfulFor, IsLawfulReport};
+ghost use Rattle.std.specs.Prelude.{◌≡◌, true, None, length, map, replicate, get_or, slice_set, IfOk, MatchOption};
+ghost use Rattle.history_replay.specs.Reports.{AreShown, with_answers, last_or as last_or_of, since_from, entry_shown, Shows, IsAnswerShown, AreAnswersShown, IsReplyShown, IsLawfulFor, IsLawfulReport};
+ghost use Rattle.history_replay.specs.code.Shown.{replied, IsLawfulWithReplies, IsLawfulOf};
 ghost use Rattle.history_replay.specs.Traces.{IsLawfulTrace};
 ghost use Rattle.history_replay.specs.declared.judging.Verdict.TheVariants as verdict;
 
+use crate::filled::filled;
 use crate::finding::{Walked, find};
 use crate::findings::Findings;
 use crate::lawful::is_borne;
@@ -14,6 +16,7 @@ use fop_types::{Answer, Call, Entry, Path, Seq};
 use report_text::{Report, ReportCall};
 use script_lang::{CallLine, Script};
 use std::alloc::{AllocError, Global};
+use std::mem;
 
 /// What a judge says: the report is lawful; or the number of the first entry that is no change of the flat file system; or,
 /// where all are, that of the first call that is not answered as it answers.
@@ -80,26 +83,33 @@ fn replies_shown<'a>(
     Ok(replies)
 }
 
+// Whether a call shows a list, if one was found.
+fn shows_found(call: &ReportCall, list: &Option<Answer>) -> bool
+    ensures { result ≡ true → MatchOption list.now ⊥ (Shows call.now.answer) }
+{
+    match list {
+        None => false,
+        Some(list) => shows_list(&call.answer, list),
+    }
+}
+
 // Puts a list that was found in the place of the answer of a call that shows it.
-fn put_list(call: &ReportCall, answer: &mut Option<Answer>, list: Option<Answer>)
+fn put_list(call: &ReportCall, answer: &mut Option<Answer>, list: &mut Option<Answer>)
     requires { IsAnswerShown call.now answer.old }
     ensures { IsAnswerShown call.now answer.new }
 {
-    let Some(list) = list else {
-        return;
-    };
-    match &*answer {
-        None => {}
-        Some(_) => {
-            if shows_list(&call.answer, &list) {
-                *answer = Some(list);
-            }
-        }
+    if answer.is_some() && shows_found(call, list) {
+        mem::swap(answer, list);
     }
 }
 
 #[tactic(auto, using(crate::proofs::Showing::shown_at, crate::proofs::Showing::shown_set))]
-fn fill(calls: &[ReportCall], answers: &mut Vec<Option<Answer>>, at: usize, list: Option<Answer>)
+fn fill(
+    calls: &[ReportCall],
+    answers: &mut Vec<Option<Answer>>,
+    at: usize,
+    list: &mut Option<Answer>,
+)
     requires { AreAnswersShown calls.now answers.old.items }
     ensures { AreAnswersShown calls.now answers.new.items }
 {
@@ -108,14 +118,18 @@ fn fill(calls: &[ReportCall], answers: &mut Vec<Option<Answer>>, at: usize, list
     }
 }
 
-fn fill_lists(calls: &[ReportCall], answers: &mut Vec<Option<Answer>>, lists: Vec<Option<Answer>>)
+fn fill_lists(
+    calls: &[ReportCall],
+    answers: &mut Vec<Option<Answer>>,
+    lists: &mut Vec<Option<Answer>>,
+)
     requires { AreAnswersShown calls.now answers.old.items }
     ensures { AreAnswersShown calls.now answers.new.items }
 {
-    let mut at: usize = 0;
-    for list in lists {
-        fill(calls, answers, at, list);
-        at = at.saturating_add(1);
+    for at in 0..lists.len() {
+        if let Some(list) = lists.get_mut(at) {
+            fill(calls, answers, at, list);
+        }
     }
 }
 
@@ -142,16 +156,6 @@ fn last_or(before: u32, places: &[u32]) -> u32
     last
 }
 
-fn no_places(alloc: Global) -> Result<Vec<u32>, AllocError>
-    ensures { IfOk result (λ v. v.items ≡ replicate 256 0) }
-{
-    let mut reached = Vec::with_capacity(alloc, 256)?;
-    for _ in 0..256usize {
-        reached.push(0)?;
-    }
-    Ok(reached)
-}
-
 // The last place that a session has reached, before its call with these places.
 fn reach(reached: &mut Vec<u32>, session: u8, places: &[u32]) -> u32
     requires { length reached.old.items ≡ 256 }
@@ -170,7 +174,7 @@ fn since_of(alloc: Global, lines: &[Named], calls: &[ReportCall]) -> Result<Vec<
     requires { length lines.now ≡ length calls.now }
     ensures { IfOk result (λ v. v.items ≡ since_from (replicate 256 0) (map (λ l. l.session) lines.now) (map (λ c. c.places) calls.now)) }
 {
-    let mut reached = no_places(alloc)?;
+    let mut reached = filled(alloc, 256, 0)?;
     let mut since = Vec::new(alloc);
     for at in 0..lines.len() {
         let named = &lines[at];
@@ -178,31 +182,6 @@ fn since_of(alloc: Global, lines: &[Named], calls: &[ReportCall]) -> Result<Vec<
         since.push(reach(&mut reached, session, calls[at].places.as_slice()))?;
     }
     Ok(since)
-}
-
-// No bound, for each call.
-fn no_bounds(alloc: Global, count: usize) -> Result<Vec<u32>, AllocError>
-    ensures { IfOk result (λ v. v.items ≡ replicate count 0) }
-{
-    let mut bounds = Vec::new(alloc);
-    for _ in 0..count {
-        bounds.push(0)?;
-    }
-    Ok(bounds)
-}
-
-// The length of the history, for each call; `None` where it fits no number.
-fn until_of(alloc: Global, count: usize, entries: usize) -> Result<Option<Vec<u32>>, AllocError>
-    ensures { IfOk result (λ o. IfSome o (λ v. v.items ≡ replicate count entries)) }
-{
-    let Ok(entries) = u32::try_from(entries) else {
-        return Ok(None);
-    };
-    let mut until = Vec::new(alloc);
-    for _ in 0..count {
-        until.push(entries)?;
-    }
-    Ok(Some(until))
 }
 
 // The least number of calls whose replies are not all lawful, where those of so many are not.
@@ -270,8 +249,152 @@ fn verdict_of(
     }
 }
 
-// The verdict on the trace that calls and entries show, with what is found in it.
+// The trace with these replies.
+fn with_replies<'a>(base: &Trace<'a>, replies: &'a [Replied<'a>]) -> Trace<'a>
+    ensures { result ≡ replied base.now replies.now }
+{
+    Trace {
+        calls: base.calls,
+        replies,
+        history: base.history,
+        submitted: base.submitted,
+        since: base.since,
+        until: base.until,
+    }
+}
+
+// What is found in a trace with the replies that show these answers.
+fn walk(
+    alloc: Global,
+    shown: &[ReportCall],
+    answers: &Vec<Option<Answer>>,
+    base: &Trace,
+) -> Result<Result<Walked, u32>, AllocError>
+    requires { AreAnswersShown shown.now answers.now.items }
+{
+    let replies = replies_shown(alloc, shown, answers)?;
+    let trace = with_replies(base, replies.as_slice());
+    let found = find(alloc, &trace);
+    drop(replies);
+    found
+}
+
+// The verdict on a trace with the replies that show these answers.
+#[tactic(auto, using(crate::proofs::Showing::lawful_with))]
+fn judge_replies(
+    alloc: Global,
+    shown: &[ReportCall],
+    answers: &Vec<Option<Answer>>,
+    base: &Trace,
+    f: &Findings,
+    fails: Option<usize>,
+) -> Result<Verdict, AllocError>
+    requires { AreAnswersShown shown.now answers.now.items }
+    ensures { IfOk result (λ v. v ≡ verdict.Lawful → (fails ≡ None) × IsLawfulWithReplies shown.now base.now) }
+{
+    let replies = replies_shown(alloc, shown, answers)?;
+    let trace = with_replies(base, replies.as_slice());
+    let found = verdict_of(alloc, &trace, f, fails)?;
+    Ok(found)
+}
+
+fn judge_walked(
+    alloc: Global,
+    shown: &[ReportCall],
+    answers: &mut Vec<Option<Answer>>,
+    base: &Trace,
+    walked: &mut Walked,
+    fails: Option<usize>,
+) -> Result<Verdict, AllocError>
+    requires { AreAnswersShown shown.now answers.old.items }
+    ensures { IfOk result (λ v. v ≡ verdict.Lawful → (fails ≡ None) × IsLawfulWithReplies shown.now base.now) }
+{
+    fill_lists(shown, answers, &mut walked.lists);
+    let found = judge_replies(alloc, shown, answers, base, &walked.findings, fails)?;
+    Ok(found)
+}
+
+fn judge_found(
+    alloc: Global,
+    shown: &[ReportCall],
+    answers: &mut Vec<Option<Answer>>,
+    base: &Trace,
+    walked: &mut Result<Walked, u32>,
+    fails: Option<usize>,
+) -> Result<Verdict, AllocError>
+    requires { AreAnswersShown shown.now answers.old.items }
+    ensures { IfOk result (λ v. v ≡ verdict.Lawful → (fails ≡ None) × IsLawfulWithReplies shown.now base.now) }
+{
+    match walked {
+        Ok(walked) => Ok(judge_walked(alloc, shown, answers, base, walked, fails)?),
+        Err(entry) => Ok(Verdict::Entry(*entry)),
+    }
+}
+
+fn judge_answers(
+    alloc: Global,
+    shown: &[ReportCall],
+    answers: &mut Vec<Option<Answer>>,
+    base: &Trace,
+    fails: Option<usize>,
+) -> Result<Verdict, AllocError>
+    requires { AreAnswersShown shown.now answers.old.items }
+    ensures { IfOk result (λ v. v ≡ verdict.Lawful → (fails ≡ None) × IsLawfulWithReplies shown.now base.now) }
+{
+    let mut walked = walk(alloc, shown, answers, base)?;
+    let found = judge_found(alloc, shown, answers, base, &mut walked, fails);
+    drop(walked);
+    found
+}
+
+// The verdict on a trace with the replies that calls show.
+fn judge_base(
+    alloc: Global,
+    shown: &[ReportCall],
+    base: &Trace,
+    fails: Option<usize>,
+) -> Result<Verdict, AllocError>
+    ensures { IfOk result (λ v. v ≡ verdict.Lawful → (fails ≡ None) × IsLawfulWithReplies shown.now base.now) }
+{
+    let mut answers = answers_shown(alloc, shown)?;
+    let found = judge_answers(alloc, shown, &mut answers, base, fails);
+    drop(answers);
+    found
+}
+
+// The verdict on the trace of these calls and this history, with the bounds that a report shows.
 #[tactic(auto, using(crate::proofs::Showing::lawful_for))]
+fn judge_bounds(
+    alloc: Global,
+    shown: &[ReportCall],
+    lines: &[Named],
+    calls: &[Submitted],
+    history: &[Entry],
+    fails: Option<usize>,
+) -> Result<Verdict, AllocError>
+    requires { length lines.now ≡ length shown.now }
+    ensures { IfOk result (λ v. v ≡ verdict.Lawful → (fails ≡ None) × IsLawfulOf lines.now shown.now calls.now history.now) }
+{
+    let Ok(many) = u32::try_from(history.len()) else {
+        return Ok(Verdict::Entry(u32::MAX));
+    };
+    let submitted = filled(alloc, lines.len(), 0)?;
+    let since = since_of(alloc, lines, shown)?;
+    let until = filled(alloc, lines.len(), many)?;
+    let base = Trace {
+        calls,
+        replies: &[],
+        history,
+        submitted: submitted.as_slice(),
+        since: since.as_slice(),
+        until: until.as_slice(),
+    };
+    let found = judge_base(alloc, shown, &base, fails)?;
+    Ok(found)
+}
+
+// The verdict on the trace that calls and entries show, with what is found in it.
+#[tactic(auto, using(crate::proofs::Showing::lawful_from))]
 fn judge_lines(
     alloc: Global,
     shown: &[ReportCall],
@@ -284,56 +407,15 @@ fn judge_lines(
 {
     let calls = submissions(alloc, lines)?;
     let history = history_of(alloc, entries)?;
-    let submitted = no_bounds(alloc, lines.len())?;
-    let since = since_of(alloc, lines, shown)?;
-    let Some(until) = until_of(alloc, lines.len(), entries.len())? else {
-        return Ok(Verdict::Entry(u32::MAX));
-    };
-    let mut answers = answers_shown(alloc, shown)?;
-    let walked = match walk(
+    let found = judge_bounds(
         alloc,
         shown,
-        &answers,
+        lines,
         calls.as_slice(),
         history.as_slice(),
-        submitted.as_slice(),
-    )? {
-        Ok(walked) => walked,
-        Err(entry) => return Ok(Verdict::Entry(entry)),
-    };
-    fill_lists(shown, &mut answers, walked.lists);
-    let replies = replies_shown(alloc, shown, &answers)?;
-    let trace = Trace {
-        calls: calls.as_slice(),
-        replies: replies.as_slice(),
-        history: history.as_slice(),
-        submitted: submitted.as_slice(),
-        since: since.as_slice(),
-        until: until.as_slice(),
-    };
-    Ok(verdict_of(alloc, &trace, &walked.findings, fails)?)
-}
-
-fn walk<'a>(
-    alloc: Global,
-    shown: &'a [ReportCall],
-    answers: &'a Vec<Option<Answer>>,
-    calls: &'a [Submitted<'a>],
-    history: &'a [Entry],
-    submitted: &'a [u32],
-) -> Result<Result<Walked, u32>, AllocError>
-    requires { AreAnswersShown shown.now answers.now.items }
-{
-    let replies = replies_shown(alloc, shown, answers)?;
-    let trace = Trace {
-        calls,
-        replies: replies.as_slice(),
-        history,
-        submitted,
-        since: &[],
-        until: &[],
-    };
-    find(alloc, &trace)
+        fails,
+    )?;
+    Ok(found)
 }
 
 // The number of the first call that is not in its turn. Where the lines are those of the calls there is none.
@@ -382,13 +464,27 @@ fn judge_calls(
     ensures { IfOk result (λ v. v ≡ verdict.Lawful → IsLawfulReport script.now report.now) }
 {
     let assigned = assign(alloc, script, report.calls.as_slice(), idle)?;
-    judge_assigned(
+    let found = judge_assigned(
         alloc,
         script,
         report,
         assigned.lines.as_slice(),
         assigned.fails,
-    )
+    );
+    drop(assigned);
+    found
+}
+
+fn idle_line(alloc: Global) -> CallLine {
+    CallLine {
+        line: 0,
+        session: 255,
+        call: Call::Stat {
+            path: Path {
+                parts: Seq::new(alloc),
+            },
+        },
+    }
 }
 
 /// Judges a report of a script.
@@ -398,14 +494,8 @@ fn judge_calls(
 pub fn judge(alloc: Global, script: &Script, report: &Report) -> Result<Verdict, AllocError>
     ensures lawful { IfOk result (λ v. v ≡ verdict.Lawful → IsLawfulReport script.now report.now) }
 {
-    let idle = CallLine {
-        line: 0,
-        session: 255,
-        call: Call::Stat {
-            path: Path {
-                parts: Seq::new(alloc),
-            },
-        },
-    };
-    judge_calls(alloc, script, report, &idle)
+    let idle = idle_line(alloc);
+    let found = judge_calls(alloc, script, report, &idle);
+    drop(idle);
+    found
 }

@@ -2,7 +2,7 @@
 ghost use Rattle.std.specs.Prelude.{◌≡◌, ◌≤◌, true, length, IfOk, IfSome};
 ghost use Rattle.history_replay.specs.Traces.{IsLawfulWith, IsLawfulTrace};
 
-use crate::finding::find;
+use crate::finding::{Walked, find};
 use crate::findings::Findings;
 use crate::indices::are_indexed;
 use crate::progress::claims_of;
@@ -51,6 +51,19 @@ pub(crate) fn is_borne(
     }
 }
 
+fn ops_by(
+    alloc: Global,
+    trace: &Trace,
+    found: &Result<Walked, u32>,
+) -> Result<Option<Seq<FlatOp>>, AllocError>
+    ensures { IfOk result (λ o. IfSome o (λ ops. IsLawfulWith trace.now ops)) }
+{
+    match found {
+        Err(_) => Ok(None),
+        Ok(walked) => borne_by(alloc, trace, &walked.findings, trace.calls.len()),
+    }
+}
+
 /// The operations of a trace's entries, where its replies are those of one plain file system at their places after these
 /// changes; `None` where they are not. It takes time of n log n for n calls, lookups and entries, and of the bytes that are
 /// read and written.
@@ -60,11 +73,8 @@ pub(crate) fn is_borne(
 pub fn lawful_ops(alloc: Global, trace: &Trace) -> Result<Option<Seq<FlatOp>>, AllocError>
     ensures { IfOk result (λ o. IfSome o (λ ops. IsLawfulWith trace.now ops)) }
 {
-    match find(alloc, trace)? {
-        Err(_) => Ok(None),
-        Ok(walked) => {
-            let ops = borne_by(alloc, trace, &walked.findings, trace.calls.len())?;
-            Ok(ops)
-        }
-    }
+    let found = find(alloc, trace)?;
+    let ops = ops_by(alloc, trace, &found);
+    drop(found);
+    ops
 }

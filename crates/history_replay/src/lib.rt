@@ -20,6 +20,7 @@
 mod cases;
 mod claims;
 mod copies;
+mod filled;
 mod finding;
 mod findings;
 mod indices;

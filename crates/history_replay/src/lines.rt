@@ -36,22 +36,30 @@ struct Lines<'a> {
 }
 
 impl<'a> Lines<'a> {
-    fn new(alloc: Global, script: &'a Script) -> Result<Lines<'a>, AllocError> {
-        let mut lines = Lines {
+    fn new(alloc: Global) -> Lines<'a> {
+        Lines {
             calls: Vec::new(alloc),
             phases: Vec::new(alloc),
             by_number: BTreeMap::new(alloc),
-        };
+        }
+    }
+
+    fn add(&mut self, line: &'a CallLine, phase: usize) -> Result<(), AllocError> {
+        let place = self.calls.len();
+        self.by_number.insert(line.line, place)?;
+        self.calls.push(line)?;
+        self.phases.push(phase)?;
+        Ok(())
+    }
+
+    fn add_all(&mut self, script: &'a Script) -> Result<(), AllocError> {
         let phases = script.phases.as_slice();
         for phase in 0..phases.len() {
             for line in phases[phase].calls.as_slice() {
-                let place = lines.calls.len();
-                lines.by_number.insert(line.line, place)?;
-                lines.calls.push(line)?;
-                lines.phases.push(phase)?;
+                self.add(line, phase)?;
             }
         }
-        Ok(lines)
+        Ok(())
     }
 
     fn place(&self, number: u32) -> Option<usize> {
@@ -79,41 +87,64 @@ struct Order {
 }
 
 impl Order {
-    fn new(alloc: Global, lines: &Lines) -> Result<Order, AllocError> {
-        let mut order = Order {
+    fn new(alloc: Global) -> Order {
+        Order {
             next: Vec::new(alloc),
             passed: Vec::new(alloc),
             phase: 0,
-        };
-        for _ in 0..256usize {
-            order.next.push(Vec::new(alloc))?;
-            order.passed.push(0)?;
         }
+    }
+
+    fn add_sessions(&mut self, alloc: Global) -> Result<(), AllocError> {
+        for _ in 0..256usize {
+            self.next.push(Vec::new(alloc))?;
+            self.passed.push(0)?;
+        }
+        Ok(())
+    }
+
+    fn add_calls(&mut self, lines: &Lines) -> Result<(), AllocError> {
         for place in 0..lines.calls.len() {
-            if let Some(list) = order.next.get_mut(lines.calls[place].session as usize) {
+            if let Some(list) = self.next.get_mut(lines.calls[place].session as usize) {
                 list.push(place)?;
             }
         }
-        Ok(order)
+        Ok(())
+    }
+
+    fn next_of(&self, session: usize) -> Option<usize> {
+        let passed = self.passed.get(session)?;
+        self.next.get(session)?.get(*passed).copied()
+    }
+
+    // Whether the call at this place is the next one of its session, which is passed.
+    fn passes(&mut self, session: usize, place: usize) -> bool {
+        if self.next_of(session) != Some(place) {
+            return false;
+        }
+        if let Some(passed) = self.passed.get_mut(session) {
+            *passed = (*passed).saturating_add(1);
+        }
+        true
+    }
+
+    // Whether a phase is none before one that came.
+    fn reaches(&mut self, phase: usize) -> bool {
+        let in_phase = phase >= self.phase;
+        self.phase = self.phase.max(phase);
+        in_phase
     }
 
     // Whether the call at this place of the script comes in its turn.
     fn takes(&mut self, lines: &Lines, place: usize) -> bool {
-        let (Some(line), Some(phase)) = (lines.calls.get(place), lines.phases.get(place)) else {
+        let Some(line) = lines.calls.get(place) else {
             return false;
         };
-        let session = line.session as usize;
-        let in_phase = *phase >= self.phase;
-        self.phase = self.phase.max(*phase);
-        let (Some(next), Some(passed)) = (self.next.get(session), self.passed.get_mut(session))
-        else {
+        let Some(phase) = lines.phases.get(place) else {
             return false;
         };
-        if next.get(*passed).copied() != Some(place) {
-            return false;
-        }
-        *passed = (*passed).saturating_add(1);
-        in_phase
+        let in_phase = self.reaches(*phase);
+        self.passes(line.session as usize, place) && in_phase
     }
 
     // Takes the line at this place as the next of its session: false where it isn't its turn, or isn't the call's.
@@ -150,6 +181,85 @@ impl<'a> Assigned<'a> {
             self.fails = Some(number);
         }
     }
+
+    // Finds the line of a call.
+    fn add(
+        &mut self,
+        script: &Script,
+        lines: &Lines<'a>,
+        order: &mut Order,
+        number: usize,
+        call: &ReportCall,
+        idle: &'a CallLine,
+    ) -> Result<(), AllocError> {
+        let place = lines.place(call.line);
+        if !order.fits(script, lines, place, number, call) {
+            self.fail(number);
+        }
+        self.lines.push(Named {
+            line: lines.line_or(place, idle),
+        })?;
+        Ok(())
+    }
+
+    fn add_all(
+        &mut self,
+        script: &Script,
+        lines: &Lines<'a>,
+        order: &mut Order,
+        calls: &[ReportCall],
+        idle: &'a CallLine,
+    ) -> Result<(), AllocError> {
+        for at in 0..calls.len() {
+            self.add(script, lines, order, at + 1, &calls[at], idle)?;
+        }
+        if calls.len() < lines.calls.len() {
+            self.fail(calls.len().saturating_add(1));
+        }
+        Ok(())
+    }
+
+    fn fill_in_order(
+        &mut self,
+        alloc: Global,
+        script: &Script,
+        calls: &[ReportCall],
+        idle: &'a CallLine,
+        lines: &Lines<'a>,
+        order: &mut Order,
+    ) -> Result<(), AllocError> {
+        order.add_sessions(alloc)?;
+        order.add_calls(lines)?;
+        self.add_all(script, lines, order, calls, idle)
+    }
+
+    fn fill_from(
+        &mut self,
+        alloc: Global,
+        script: &'a Script,
+        calls: &[ReportCall],
+        idle: &'a CallLine,
+        lines: &mut Lines<'a>,
+    ) -> Result<(), AllocError> {
+        lines.add_all(script)?;
+        let mut order = Order::new(alloc);
+        let done = self.fill_in_order(alloc, script, calls, idle, lines, &mut order);
+        drop(order);
+        done
+    }
+
+    fn fill(
+        &mut self,
+        alloc: Global,
+        script: &'a Script,
+        calls: &[ReportCall],
+        idle: &'a CallLine,
+    ) -> Result<(), AllocError> {
+        let mut lines = Lines::new(alloc);
+        let done = self.fill_from(alloc, script, calls, idle, &mut lines);
+        drop(lines);
+        done
+    }
 }
 
 /// Finds the line of each call by its number.
@@ -162,25 +272,12 @@ pub(crate) fn assign<'a>(
     calls: &[ReportCall],
     idle: &'a CallLine,
 ) -> Result<Assigned<'a>, AllocError> {
-    let lines = Lines::new(alloc, script)?;
-    let mut order = Order::new(alloc, &lines)?;
     let mut assigned = Assigned {
         lines: Vec::new(alloc),
         fails: None,
     };
-    for at in 0..calls.len() {
-        let place = lines.place(calls[at].line);
-        if !order.fits(script, &lines, place, at + 1, &calls[at]) {
-            assigned.fail(at + 1);
-        }
-        assigned.lines.push(Named {
-            line: lines.line_or(place, idle),
-        })?;
-    }
-    if calls.len() < lines.calls.len() {
-        assigned.fail(calls.len() + 1);
-    }
-    Ok(assigned)
+    let done = assigned.fill(alloc, script, calls, idle);
+    done.and(Ok(assigned))
 }
 
 // ---- whether these are the lines
@@ -266,14 +363,29 @@ fn same_lines(one: &[Named], other: &[Named]) -> bool
     true
 }
 
+// Whether the calls of a session are those of the phase, in their order.
+fn is_same_session(
+    alloc: Global,
+    lines: &[Named],
+    phase: &[CallLine],
+    session: u8,
+) -> Result<bool, AllocError>
+    ensures { IfOk result (λ same. same ≡ true → of_session session lines.now ≡ of_session session phase.now) }
+{
+    let one = named_of(alloc, lines, session)?;
+    let other = calls_of(alloc, phase, session)?;
+    let same = same_lines(one.as_slice(), other.as_slice());
+    drop(one);
+    drop(other);
+    Ok(same)
+}
+
 // Whether the calls of each session are those of the phase, in their order.
 fn are_lines(alloc: Global, lines: &[Named], phase: &[CallLine]) -> Result<bool, AllocError>
     ensures { IfOk result (λ same. same ≡ true → AreTheseLines lines.now phase.now) }
 {
     for session in 0..256usize {
-        let one = named_of(alloc, lines, session as u8)?;
-        let other = calls_of(alloc, phase, session as u8)?;
-        if !same_lines(one.as_slice(), other.as_slice()) {
+        if !is_same_session(alloc, lines, phase, session as u8)? {
             return Ok(false);
         }
     }

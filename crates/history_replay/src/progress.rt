@@ -1,12 +1,13 @@
 //! The claims of all calls, one call after another.
-ghost use Rattle.std.specs.Prelude.{◌≡◌, ◌+◌, ◌<◌, ◌==◌, [], Some, None, nat_lt, length, get_or, replicate, if◌then◌else◌, IfOk, IfSome, OnOk};
+ghost use Rattle.std.specs.Prelude.{◌≡◌, ◌+◌, ◌<◌, ◌==◌, [], true, Some, None, nat_lt, length, get_or, replicate, if◌then◌else◌, IfOk, IfSome, OnOk};
 ghost use Rattle.std.specs.FinMap as map;
 ghost use Rattle.fop_types.specs.Calls.{makes as makes_of};
 ghost use Rattle.history_replay.specs.code.Cases.{case_claims};
-ghost use Rattle.history_replay.specs.code.Runs.{fits_at, after_claims, reply_at, answer_by, places_by, case_of, fits_reply as fits_reply_of, fits as fits_of, fds_after, bounds_after, after_call, begun, state_of, GoesTo, AreClaimsOf};
+ghost use Rattle.history_replay.specs.code.Runs.{fits_at, after_claims, reply_at, answer_by, places_by, case_of, fits_reply as fits_reply_of, fits as fits_of, fds_after, bounds_after, after_call, after_calls, begun, state_of, GoesTo, AreClaimsOf};
 
 use crate::cases::{AnswerAt, Case, claim_case};
 use crate::claims::Claim;
+use crate::filled::filled;
 use crate::findings::Findings;
 use crate::lookups::lookups;
 use crate::places::are_between;
@@ -14,6 +15,7 @@ use crate::trace::{Replied, Submitted, Trace};
 use flat_fs::Fds;
 use fop_types::{Call, Gfid, Seq};
 use std::alloc::{AllocError, Global};
+use std::mem;
 
 /// How far the calls of a trace are: the descriptors of each session; the number of replies that are not behind those of the
 /// session's calls; how many objects the calls asked for; and the claims.
@@ -179,16 +181,6 @@ fn no_fds(alloc: Global) -> Result<Vec<Fds>, AllocError>
     Ok(fds)
 }
 
-fn no_bounds(alloc: Global) -> Result<Vec<usize>, AllocError>
-    ensures { IfOk result (λ v. v.items ≡ replicate 256 0) }
-{
-    let mut bounds = Vec::with_capacity(alloc, 256)?;
-    for _ in 0..256usize {
-        bounds.push(0)?;
-    }
-    Ok(bounds)
-}
-
 impl Progress {
     fn new(alloc: Global) -> Result<Progress, AllocError>
         ensures { IfOk result (λ p. state_of p ≡ begun) }
@@ -196,7 +188,7 @@ impl Progress {
         Ok(Progress {
             at: 0,
             fds: no_fds(alloc)?,
-            bounds: no_bounds(alloc)?,
+            bounds: filled(alloc, 256, 0)?,
             made: 0,
             claims: Seq::new(alloc),
         })
@@ -312,6 +304,24 @@ fn go_on(
     go_on_with(alloc, trace, f, p, call, made, &case)
 }
 
+// All calls, one after another.
+fn go_through(
+    alloc: Global,
+    trace: &Trace,
+    f: &Findings,
+    count: usize,
+    p: &mut Progress,
+) -> Result<bool, AllocError>
+    ensures { IfOk result (λ did. did ≡ true → after_calls trace.now f.now count (Some (state_of p.old)) trace.now.calls ≡ Some (state_of p.new)) }
+{
+    for call in trace.calls {
+        if !go_on(alloc, trace, f, count, p, call)? {
+            return Ok(false);
+        }
+    }
+    Ok(true)
+}
+
 /// Makes the claims of all calls, with those of the replies to the first `count` calls. `None` where one is not lawful, whatever
 /// the flat file system answers.
 ///
@@ -326,10 +336,18 @@ pub(crate) fn claims_of(
     ensures { IfOk result (λ found. IfSome found (λ claims. AreClaimsOf trace.now f.now count claims)) }
 {
     let mut p = Progress::new(alloc)?;
-    for call in trace.calls {
-        if !go_on(alloc, trace, f, count, &mut p, call)? {
-            return Ok(None);
+    let gone = go_through(alloc, trace, f, count, &mut p);
+    let claims = mem::replace(&mut p.claims, Seq::new(alloc));
+    drop(p);
+    match gone {
+        Ok(true) => Ok(Some(claims)),
+        Ok(false) => {
+            drop(claims);
+            Ok(None)
+        }
+        Err(_) => {
+            drop(claims);
+            Err(AllocError)
         }
     }
-    Ok(Some(p.claims))
 }

@@ -1,8 +1,8 @@
 //! The run of the flat file system that bears claims out.
-ghost use Rattle.std.specs.Prelude.{◌≡◌, ◌+◌, ◌++◌, [], true, None, length, IfOk, IfSome, OnOk};
+ghost use Rattle.std.specs.Prelude.{◌≡◌, ◌+◌, ◌++◌, ◌&&◌, [], true, false, None, length, IfOk, IfSome, OnOk};
 ghost use Rattle.fop_types.specs.Flat.{flat, flat_answer, flat_after, IsChange};
-ghost use Rattle.history_replay.specs.code.Claims.{is_granted as is_granted_of, IsFound, IsReplied};
-ghost use Rattle.history_replay.specs.code.Runs.{IsHeldOn, AreHeldOn, IsDone, Passes, Takes, RunsWith, with_op, with_claim, with_change, PutsClaim, PutsChange, Puts, ArePut, Bears};
+ghost use Rattle.history_replay.specs.code.Claims.{is_granted as is_granted_of, IsFound, IsReplied, IsRepliedIf};
+ghost use Rattle.history_replay.specs.code.Runs.{IsHeldOn, AreHeldOn, IsDone, Passes, PassesBy, Takes, RunsWith, with_op, with_claim, with_change, PutsClaim, PutsChange, Puts, ArePut, Bears};
 
 use crate::claims::Claim;
 use crate::copies::copy_op;
@@ -12,6 +12,7 @@ use crate::trace::Replied;
 use flat_fs::FlatFs;
 use fop_types::{Answer, FlatAnswer, FlatOp, Gfid, Seq};
 use std::alloc::{AllocError, Global};
+use std::mem;
 
 /// The change of an entry; its answer is that of a reply, if it has one.
 #[derive(Drop)]
@@ -44,18 +45,33 @@ impl Step {
         Ok(())
     }
 
-    // Takes a change, if it has none yet.
-    fn take(&mut self, change: Change) -> bool
-        ensures { result ≡ true → (self.old.change ≡ None) × (self.new ≡ with_change self.old change) }
+    fn is_free(&self) -> bool
+        ensures { result ≡ true → self.now.change ≡ None }
     {
         match &self.change {
             Some(_) => false,
-            None => {
-                self.change = Some(change);
-                true
-            }
+            None => true,
         }
     }
+
+    // Takes a change. It is false where it had one.
+    fn take(&mut self, change: Change) -> bool
+        ensures { result ≡ true → (self.old.change ≡ None) × (self.new ≡ with_change self.old change) }
+    {
+        let was_free = self.is_free();
+        drop(mem::replace(&mut self.change, Some(change)));
+        was_free
+    }
+}
+
+fn add_step(alloc: Global, steps: &mut Vec<Step>) -> Result<(), AllocError>
+    ensures { OnOk result (length steps.new.items ≡ length steps.old.items + 1) }
+{
+    steps.push(Step {
+        claims: Seq::new(alloc),
+        change: None,
+    })?;
+    Ok(())
 }
 
 // So many places without claims, and one more.
@@ -64,15 +80,9 @@ fn empty_steps(alloc: Global, count: usize) -> Result<Vec<Step>, AllocError>
 {
     let mut steps = Vec::new(alloc);
     for _ in 0..count {
-        steps.push(Step {
-            claims: Seq::new(alloc),
-            change: None,
-        })?;
+        add_step(alloc, &mut steps)?;
     }
-    steps.push(Step {
-        claims: Seq::new(alloc),
-        change: None,
-    })?;
+    add_step(alloc, &mut steps)?;
     Ok(steps)
 }
 
@@ -112,6 +122,7 @@ fn put_claim(steps: &mut Vec<Step>, place: u32, claim: Claim) -> Result<bool, Al
 {
     let index = place as usize;
     if index >= steps.len() {
+        drop(claim);
         return Ok(false);
     }
     steps[index].add(claim)?;
@@ -124,6 +135,7 @@ fn put_change(steps: &mut Vec<Step>, index: u32, change: Change) -> bool
 {
     let index = index as usize;
     if index >= steps.len() {
+        drop(change);
         return false;
     }
     steps[index].take(change)
@@ -139,6 +151,14 @@ fn place_of(claim: &Claim) -> Option<u32> {
     }
 }
 
+fn is_said(replies: &[Replied], reply: usize, answer: Answer) -> bool
+    ensures { result ≡ true → IsReplied replies.now reply (FlatAnswer.Call answer) }
+{
+    let said = is_answer(replies, reply, &answer);
+    drop(answer);
+    said
+}
+
 // Puts a claim of a reply or of an entry.
 #[tactic(auto, using(crate::proofs::Running::puts_said))]
 fn put_other(replies: &[Replied], steps: &mut Vec<Step>, claim: Claim) -> bool
@@ -146,9 +166,12 @@ fn put_other(replies: &[Replied], steps: &mut Vec<Step>, claim: Claim) -> bool
     ensures count { length steps.new.items ≡ length steps.old.items }
 {
     match claim {
-        Claim::Says { reply, answer } => is_answer(replies, reply, &answer),
+        Claim::Says { reply, answer } => is_said(replies, reply, answer),
         Claim::Enters { index, op, reply } => put_change(steps, index, Change { op, reply }),
-        _ => false,
+        other => {
+            drop(other);
+            false
+        }
     }
 }
 
@@ -165,24 +188,39 @@ fn put(replies: &[Replied], steps: &mut Vec<Step>, claim: Claim) -> Result<bool,
 
 // ---- the run
 
+// Whether nothing was made with an answer, and it is that of a reply.
+fn is_kept(changes: bool, replies: &[Replied], reply: usize, answer: &FlatAnswer) -> bool
+    ensures keeps { result ≡ true → (changes && is_granted_of answer.now) ≡ false }
+    ensures replied { result ≡ true → IsReplied replies.now reply answer.now }
+{
+    if changes && is_granted(answer) {
+        return false;
+    }
+    is_replied(replies, reply, answer)
+}
+
 // Whether an operation has the answer of a reply. It is none that would be made.
 #[tactic(auto, using(crate::proofs::Outcomes::kept))]
 fn answers(
     alloc: Global,
     files: &mut FlatFs,
+    is_here: bool,
     replies: &[Replied],
     op: FlatOp,
     reply: usize,
 ) -> Result<bool, AllocError>
+    ensures here { IfOk result (λ did. did ≡ true → is_here ≡ true) }
     ensures answer { IfOk result (λ did. did ≡ true → IsReplied replies.now reply (flat_answer files.old op)) }
     ensures files { IfOk result (λ did. did ≡ true → files.new ≡ files.old) }
 {
     let changes = is_change(&op);
-    let answer = files.apply(alloc, op)?;
-    if changes && is_granted(&answer) {
-        return Ok(false);
-    }
-    Ok(is_replied(replies, reply, &answer))
+    let answer = files.apply(alloc, op);
+    let found = match &answer {
+        Ok(answer) => Ok(is_here && is_kept(changes, replies, reply, answer)),
+        Err(_) => Err(AllocError),
+    };
+    drop(answer);
+    found
 }
 
 fn is_granted(answer: &FlatAnswer) -> bool
@@ -198,20 +236,27 @@ fn is_granted(answer: &FlatAnswer) -> bool
 fn finds(
     alloc: Global,
     files: &mut FlatFs,
+    is_here: bool,
     parent: Gfid,
     name: Seq<u8>,
     found: Gfid,
 ) -> Result<bool, AllocError>
+    ensures here { IfOk result (λ did. did ≡ true → is_here ≡ true) }
     ensures answer { IfOk result (λ did. did ≡ true → IsFound found (flat_answer files.old (FlatOp.Lookup parent name))) }
     ensures files { OnOk result (files.new ≡ files.old) }
 {
-    let answer = files.apply(alloc, FlatOp::Lookup { parent, name })?;
-    Ok(is_found(&answer, found))
+    let answer = files.apply(alloc, FlatOp::Lookup { parent, name });
+    let finds = match &answer {
+        Ok(answer) => Ok(is_here && is_found(answer, found)),
+        Err(_) => Err(AllocError),
+    };
+    drop(answer);
+    finds
 }
 
 // Whether a rename would be made. No other operation is asked for.
 #[tactic(auto, using(crate::proofs::Outcomes::accepted_is))]
-fn accepts(files: &FlatFs, op: &FlatOp) -> bool
+fn would_make(files: &FlatFs, op: &FlatOp) -> bool
     ensures { result ≡ true → IsChange (flat files.now op.now) }
 {
     match op {
@@ -223,6 +268,15 @@ fn accepts(files: &FlatFs, op: &FlatOp) -> bool
         } => files.accepts_rename(*parent, name.as_slice(), *target, new_name.as_slice()),
         _ => false,
     }
+}
+
+fn accepts(files: &FlatFs, is_here: bool, op: FlatOp) -> bool
+    ensures here { result ≡ true → is_here ≡ true }
+    ensures change { result ≡ true → IsChange (flat files.now op) }
+{
+    let accepts = is_here && would_make(files, &op);
+    drop(op);
+    accepts
 }
 
 // Whether a claim holds on the files at this place.
@@ -242,25 +296,15 @@ fn holds(
             parent,
             name,
             found,
-        } => {
-            if place as usize != at {
-                return Ok(false);
-            }
-            finds(alloc, files, parent, name, found)
-        }
+        } => finds(alloc, files, place as usize == at, parent, name, found),
         Claim::Answers { place, op, reply } => {
-            if place as usize != at {
-                return Ok(false);
-            }
-            answers(alloc, files, replies, op, reply)
+            answers(alloc, files, place as usize == at, replies, op, reply)
         }
-        Claim::Accepts { place, op } => {
-            if place as usize != at {
-                return Ok(false);
-            }
-            Ok(accepts(files, &op))
+        Claim::Accepts { place, op } => Ok(accepts(files, place as usize == at, op)),
+        other => {
+            drop(other);
+            Ok(false)
         }
-        _ => Ok(false),
     }
 }
 
@@ -284,6 +328,20 @@ fn all_hold(
     Ok(true)
 }
 
+// Whether a change was made with an answer, and it is that of the reply, if there is one.
+fn is_made(changes: bool, replies: &[Replied], reply: Option<usize>, answer: &FlatAnswer) -> bool
+    ensures changes { result ≡ true → (changes && is_granted_of answer.now) ≡ true }
+    ensures replied { result ≡ true → IsRepliedIf replies.now reply answer.now }
+{
+    if !changes || !is_granted(answer) {
+        return false;
+    }
+    match reply {
+        None => true,
+        Some(reply) => is_replied(replies, reply, answer),
+    }
+}
+
 // Makes the change of an entry. It is false where it is none, or has another answer than the reply's.
 #[tactic(auto, using(crate::proofs::Outcomes::changed))]
 fn make(
@@ -296,18 +354,40 @@ fn make(
     ensures files { OnOk result (files.new ≡ flat_after files.old change.op) }
 {
     let changes = is_change(&change.op);
-    let answer = files.apply(alloc, change.op)?;
-    if !changes || !is_granted(&answer) {
-        return Ok(false);
-    }
-    match change.reply {
-        None => Ok(true),
-        Some(reply) => Ok(is_replied(replies, reply, &answer)),
+    let reply = change.reply;
+    let answer = files.apply(alloc, change.op);
+    let made = match &answer {
+        Ok(answer) => Ok(is_made(changes, replies, reply, answer)),
+        Err(_) => Err(AllocError),
+    };
+    drop(answer);
+    made
+}
+
+// Makes the change of a step whose claims hold.
+#[tactic(auto, using(crate::proofs::Running::passes_made))]
+fn make_pass(
+    alloc: Global,
+    files: &mut FlatFs,
+    replies: &[Replied],
+    change: Option<Change>,
+) -> Result<Pass, AllocError>
+    ensures { IfOk result (λ pass. PassesBy pass files.old files.new replies.now change) }
+{
+    match change {
+        None => Ok(Pass::Ends),
+        Some(change) => {
+            if make(alloc, files, replies, change)? {
+                Ok(Pass::GoesOn)
+            } else {
+                Ok(Pass::Fails)
+            }
+        }
     }
 }
 
 // Whether a step holds at its place, and its change is made.
-#[tactic(auto, using(crate::proofs::Running::passes_last, crate::proofs::Running::passes_on))]
+#[tactic(auto, using(crate::proofs::Running::passes_by))]
 fn take_step(
     alloc: Global,
     files: &mut FlatFs,
@@ -317,16 +397,16 @@ fn take_step(
 ) -> Result<Pass, AllocError>
     ensures { IfOk result (λ pass. Passes pass files.old files.new at replies.now step) }
 {
-    if !all_hold(alloc, files, at, replies, step.claims)? {
-        return Ok(Pass::Fails);
-    }
-    match step.change {
-        None => Ok(Pass::Ends),
-        Some(change) => {
-            if !make(alloc, files, replies, change)? {
-                return Ok(Pass::Fails);
-            }
-            Ok(Pass::GoesOn)
+    let Step { claims, change } = step;
+    match all_hold(alloc, files, at, replies, claims) {
+        Ok(true) => Ok(make_pass(alloc, files, replies, change)?),
+        Ok(false) => {
+            drop(change);
+            Ok(Pass::Fails)
+        }
+        Err(_) => {
+            drop(change);
+            Err(AllocError)
         }
     }
 }
@@ -360,10 +440,13 @@ impl Run {
         ensures { IfOk result (λ did. did ≡ true → Takes self.old self.new replies.now step) }
     {
         if self.ended {
+            drop(step);
             return Ok(false);
         }
-        note(alloc, &mut self.ops, &step.change)?;
-        match take_step(alloc, &mut self.files, self.at, replies, step)? {
+        let noted = note(alloc, &mut self.ops, &step.change);
+        let passed = take_step(alloc, &mut self.files, self.at, replies, step);
+        noted?;
+        match passed? {
             Pass::Fails => Ok(false),
             Pass::Ends => {
                 self.ended = true;

@@ -218,6 +218,16 @@ Passes passed.Fails before after at replies step = Unit {0}
 Passes passed.Ends before after at replies step = Runs before at replies (step ∷ [])
 Passes passed.GoesOn before after at replies step = (rest : List Step) → Runs after (at + 1) replies rest → Runs before at replies (step ∷ rest)
 
+-- how a change passes, on the files before and after it
+abbrev pub IsMadeBy : Option Change → Files → Files → List Reply → Type 0
+IsMadeBy None before after replies = ⊥
+IsMadeBy (Some change) before after replies = IsDone before replies change × (after ≡ flat_after before change.op)
+
+abbrev pub PassesBy : Pass → Files → Files → List Reply → Option Change → Type 0
+PassesBy passed.Fails before after replies change = Unit {0}
+PassesBy passed.Ends before after replies change = change ≡ None
+PassesBy passed.GoesOn before after replies change = IsMadeBy change before after replies
+
 -- the operations of the steps' entries
 abbrev pub with_op : Option Change → List FlatOp → List FlatOp
 with_op None ops = ops
