@@ -166,7 +166,11 @@ fn is_caused(
         return Ok(true);
     }
     match input_of(alloc, line.bytes.as_slice())? {
-        Message::Whole(input) => Ok(is_input_caused(log, k, line, &input, armed)),
+        Message::Whole(input) => {
+            let yes = is_input_caused(log, k, line, &input, armed);
+            drop(input);
+            Ok(yes)
+        }
         Message::Wrong { place: _ } => Ok(true),
     }
 }

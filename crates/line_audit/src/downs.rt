@@ -65,7 +65,11 @@ fn is_text_for(alloc: Global, bytes: &[u8], a: &Action) -> Result<bool, AllocErr
     ensures { IfOk result (λ yes. yes ≡ true → IsTextFor a.now bytes.now) }
 {
     match input_of(alloc, bytes)? {
-        Message::Whole(input) => Ok(is_for(&input, a)),
+        Message::Whole(input) => {
+            let yes = is_for(&input, a);
+            drop(input);
+            Ok(yes)
+        }
         Message::Wrong { place: _ } => Ok(false),
     }
 }

@@ -80,10 +80,15 @@ pub fn last_uses(alloc: Global, log: &Log, count: usize) -> Result<Option<Vec<u6
     let calls = calls_of(alloc, log.events.as_slice())?;
     let mut until = zeros(alloc, count)?;
     if !note_winds(&mut until, log.winds.as_slice()) {
+        drop(until);
+        drop(calls);
         return Ok(None);
     }
     if !note_replies(&mut until, log, calls.as_slice()) {
+        drop(until);
+        drop(calls);
         return Ok(None);
     }
+    drop(calls);
     Ok(Some(until))
 }

@@ -42,7 +42,11 @@ fn what_of(alloc: Global, bytes: &[u8]) -> Result<What, AllocError>
     ensures { IfOk result (λ w. w ≡ what_of (input_in bytes.now)) }
 {
     match input_of(alloc, bytes)? {
-        Message::Whole(sent) => Ok(what_in(&sent)),
+        Message::Whole(sent) => {
+            let what = what_in(&sent);
+            drop(sent);
+            Ok(what)
+        }
         Message::Wrong { place: _ } => Ok(What::Wrong),
     }
 }
@@ -94,10 +98,12 @@ pub fn by_event(alloc: Global, log: &Log) -> Result<Option<Vec<Vec<Item>>>, Allo
     let mut lists = empty_lists(alloc, log.events.len() + 1)?;
     for k in 0..log.sent.len() {
         let Some(line) = line_at(log, k) else {
+            drop(lists);
             return Ok(None);
         };
         let item = item_of(alloc, line)?;
         if !put(&mut lists, item)? {
+            drop(lists);
             return Ok(None);
         }
     }

@@ -217,8 +217,12 @@ pub fn are_linked(
         return Ok(false);
     };
     if lists.is_empty() || lists.len() - 1 != log.events.len() {
+        drop(lists);
+        drop(tables);
         return Ok(false);
     }
     let yes = all_pass(alloc, script, plans, log, heads, &tables, lists.as_slice())?;
+    drop(lists);
+    drop(tables);
     Ok(yes)
 }

@@ -46,16 +46,21 @@ fn winds_of(alloc: Global, log: &Log) -> Result<Winds, AllocError> {
         closings: BTreeMap::new(alloc),
         disconnects: BTreeMap::new(alloc),
     };
-    for place in 0..log.winds.len() {
-        winds.note(log, place)?;
-    }
-    for at in 0..log.sent.len() {
-        winds.note_disconnect(alloc, log, at)?;
-    }
-    Ok(winds)
+    let done = winds.note_all(alloc, log);
+    done.and(Ok(winds))
 }
 
 impl Winds {
+    fn note_all(&mut self, alloc: Global, log: &Log) -> Result<(), AllocError> {
+        for place in 0..log.winds.len() {
+            self.note(log, place)?;
+        }
+        for at in 0..log.sent.len() {
+            self.note_disconnect(alloc, log, at)?;
+        }
+        Ok(())
+    }
+
     fn note(&mut self, log: &Log, place: usize) -> Result<(), AllocError> {
         let Some(line) = log.winds.as_slice().get(place) else {
             return Ok(());
@@ -124,15 +129,29 @@ impl Winds {
     }
 }
 
+fn graph_of(input: &Input) -> Option<u32> {
+    match input {
+        Input::Disconnect { graph } => Some(*graph),
+        _ => None,
+    }
+}
+
+fn graph_in(message: &Message<Input>) -> Option<u32> {
+    match message {
+        Message::Whole(input) => graph_of(input),
+        Message::Wrong { place: _ } => None,
+    }
+}
+
 // The graph of a Disconnect. Requests are not read.
 fn disconnected_in(alloc: Global, line: &SentLine) -> Result<Option<u32>, AllocError> {
     if request_proc(line.bytes.as_slice()).is_some() {
         return Ok(None);
     }
-    match input_of(alloc, line.bytes.as_slice())? {
-        Message::Whole(Input::Disconnect { graph }) => Ok(Some(graph)),
-        _ => Ok(None),
-    }
+    let message = input_of(alloc, line.bytes.as_slice())?;
+    let graph = graph_in(&message);
+    drop(message);
+    Ok(graph)
 }
 
 // The number that a request has behind the four bytes of its kind.
@@ -207,6 +226,25 @@ impl TieNotes {
             None => 0,
         }
     }
+
+    fn note_winds(&mut self, log: &Log, winds: &Winds) -> Result<(), AllocError> {
+        for reply in log.replies.as_slice() {
+            self.ends.push(winds.end_of(reply.event, reply.call))?;
+        }
+        for _ in 0..log.winds.len() {
+            self.sent_for.push(NOT_SENT)?;
+        }
+        Ok(())
+    }
+
+    fn note_all(&mut self, log: &Log, winds: &Winds) -> Result<(), AllocError> {
+        note_replied(&mut self.replied, log)?;
+        self.note_winds(log, winds)?;
+        for line in log.sent.as_slice() {
+            self.add(log, winds, line)?;
+        }
+        Ok(())
+    }
 }
 
 const NOT_ENDED: EndedAt = EndedAt {
@@ -219,9 +257,8 @@ const NOT_SENT: SentFor = SentFor {
     open: 0,
 };
 
-// Where the reply of each call is.
-fn replied_in(alloc: Global, log: &Log) -> Result<Vec<usize>, AllocError> {
-    let mut replied = Vec::new(alloc);
+// Notes where the reply of each call is.
+fn note_replied(replied: &mut Vec<usize>, log: &Log) -> Result<(), AllocError> {
     for _ in 0..log.replies.len() {
         replied.push(0)?;
     }
@@ -229,10 +266,10 @@ fn replied_in(alloc: Global, log: &Log) -> Result<Vec<usize>, AllocError> {
         if let Some(reply) = log.replies.as_slice().get(k)
             && reply.call != 0
         {
-            note_reply(&mut replied, reply.call as usize - 1, k);
+            note_reply(replied, reply.call as usize - 1, k);
         }
     }
-    Ok(replied)
+    Ok(())
 }
 
 fn note_reply(replied: &mut Vec<usize>, call: usize, k: usize) {
@@ -249,19 +286,12 @@ pub fn tie_notes_of(alloc: Global, log: &Log) -> Result<TieNotes, AllocError> {
     let winds = winds_of(alloc, log)?;
     let mut notes = TieNotes {
         ends: Vec::new(alloc),
-        replied: replied_in(alloc, log)?,
+        replied: Vec::new(alloc),
         openings: Vec::new(alloc),
         ended: Vec::new(alloc),
         sent_for: Vec::new(alloc),
     };
-    for reply in log.replies.as_slice() {
-        notes.ends.push(winds.end_of(reply.event, reply.call))?;
-    }
-    for _ in 0..log.winds.len() {
-        notes.sent_for.push(NOT_SENT)?;
-    }
-    for line in log.sent.as_slice() {
-        notes.add(log, &winds, line)?;
-    }
-    Ok(notes)
+    let done = notes.note_all(log, &winds);
+    drop(winds);
+    done.and(Ok(notes))
 }

@@ -95,7 +95,11 @@ fn says_disconnect(alloc: Global, bytes: &[u8], graph: u32) -> Result<bool, Allo
     ensures { IfOk result (λ yes. yes ≡ true → SaysDisconnect graph (input_in bytes.now)) }
 {
     match input_of(alloc, bytes)? {
-        Message::Whole(found) => Ok(disconnects(&found, graph)),
+        Message::Whole(found) => {
+            let yes = disconnects(&found, graph);
+            drop(found);
+            Ok(yes)
+        }
         Message::Wrong { place: _ } => Ok(false),
     }
 }

@@ -46,9 +46,11 @@ fn is_line_tied(
 {
     let message = input_of(alloc, line.bytes.as_slice())?;
     if !is_message_tied(log, all, place, k, line.event, &message) {
+        drop(message);
         return Ok(false);
     }
     let yes = is_message_ended(alloc, log, heads, ended, line.brick, &message)?;
+    drop(message);
     Ok(yes)
 }
 

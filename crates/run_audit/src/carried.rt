@@ -111,6 +111,7 @@ fn sends_action(alloc: Global, bytes: &[u8], action: Action) -> Result<bool, All
 {
     let message = input_of(alloc, bytes)?;
     let yes = says(&message, action);
+    drop(message);
     Ok(yes)
 }
 

@@ -6,6 +6,7 @@ use fop_types::Seq;
 use mount_log::{HubEvent, Log};
 use script_lang::Script;
 use std::alloc::{AllocError, Global};
+use std::mem;
 
 /// What was found so far: the notes, the phase, and how many of the lines and the replies were passed.
 #[derive(Drop)]
@@ -136,6 +137,25 @@ impl Noting {
         self.notes.by_line = Seq::from_vec(by_line);
         self.end(alloc, last)
     }
+
+    // All events, one after another.
+    fn note_all(&mut self, alloc: Global, script: &Script, log: &Log) -> Result<(), AllocError> {
+        self.now.begin(alloc, script)?;
+        let events = log.events.as_slice();
+        for k in 0..events.len() {
+            self.event(alloc, script, log, k as u64, &events[k])?;
+        }
+        self.finish(alloc, script, events.len() as u64)
+    }
+}
+
+fn no_notes(alloc: Global) -> RunNotes {
+    RunNotes {
+        carried: Seq::new(alloc),
+        ended: Seq::new(alloc),
+        by_event: Seq::new(alloc),
+        by_line: Seq::new(alloc),
+    }
 }
 
 /// The notes of a run, as far as its log shows them. A phase ends directly before the first event that submits a call of a
@@ -144,24 +164,14 @@ impl Noting {
 /// # Errors
 /// Out of memory.
 pub fn notes_of(alloc: Global, script: &Script, log: &Log) -> Result<RunNotes, AllocError> {
-    let notes = RunNotes {
-        carried: Seq::new(alloc),
-        ended: Seq::new(alloc),
-        by_event: Seq::new(alloc),
-        by_line: Seq::new(alloc),
-    };
     let mut noting = Noting {
-        notes,
+        notes: no_notes(alloc),
         now: InPhase::new(alloc),
         sent: 0,
         replied: 0,
     };
-    noting.now.begin(alloc, script)?;
-    let events = log.events.as_slice();
-    for k in 0..events.len() {
-        noting.event(alloc, script, log, k as u64, &events[k])?;
-    }
-    noting.finish(alloc, script, events.len() as u64)?;
-    let Noting { notes, .. } = noting;
-    Ok(notes)
+    let done = noting.note_all(alloc, script, log);
+    let notes = mem::replace(&mut noting.notes, no_notes(alloc));
+    drop(noting);
+    done.and(Ok(notes))
 }

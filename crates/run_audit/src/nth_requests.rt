@@ -75,6 +75,42 @@ fn count_line(
     count_one(counts, cell(line.brick, rank), phase)
 }
 
+// Counts all lines, and gives of each which one it is. `None` where lines do not stand in the order of their events.
+fn count_lines(
+    alloc: Global,
+    counts: &mut Vec<PhaseCount>,
+    sent: &[SentLine],
+    ended: &[u64],
+    last: u64,
+) -> Result<Option<Vec<u64>>, AllocError>
+    requires rising { AreRising ended.now last }
+    requires many { length counts.old.items ≡ 65536 }
+    requires zero { AreZero counts.old.items }
+    ensures { IfOk result (λ found. IfSome found (λ nth. AreNth ended.now last sent.now nth.items)) }
+{
+    let mut phase = 0usize;
+    let mut floor = 0u64;
+    let mut nth = Vec::new(alloc);
+    for k in 0..sent.len() {
+        let Some(line) = sent.get(k) else {
+            drop(nth);
+            return Ok(None);
+        };
+        if line.event < floor || line.event > last {
+            drop(nth);
+            return Ok(None);
+        }
+        floor = line.event;
+        phase = phase_from(ended, last, phase, line.event);
+        let Some(n) = count_line(counts, ended, last, phase, line) else {
+            drop(nth);
+            return Ok(None);
+        };
+        nth.push(n)?;
+    }
+    Ok(Some(nth))
+}
+
 /// For each line that was sent, if it is a request, which one it is of its procedure to its brick in its phase. `None` where
 /// lines do not stand in the order of their events.
 ///
@@ -90,22 +126,7 @@ pub fn nth_requests(
     ensures { IfOk result (λ found. IfSome found (λ nth. AreNth ended.now last sent.now nth.items)) }
 {
     let mut counts = no_counts(alloc)?;
-    let mut phase = 0usize;
-    let mut floor = 0u64;
-    let mut nth = Vec::new(alloc);
-    for k in 0..sent.len() {
-        let Some(line) = sent.get(k) else {
-            return Ok(None);
-        };
-        if line.event < floor || line.event > last {
-            return Ok(None);
-        }
-        floor = line.event;
-        phase = phase_from(ended, last, phase, line.event);
-        let Some(n) = count_line(&mut counts, ended, last, phase, line) else {
-            return Ok(None);
-        };
-        nth.push(n)?;
-    }
-    Ok(Some(nth))
+    let nth = count_lines(alloc, &mut counts, sent, ended, last);
+    drop(counts);
+    nth
 }

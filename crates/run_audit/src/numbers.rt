@@ -93,7 +93,11 @@ fn is_owed(alloc: Global, bytes: &[u8]) -> Result<bool, AllocError>
     ensures { IfOk result (λ yes. yes ≡ is_owed (input_in bytes.now)) }
 {
     match input_of(alloc, bytes)? {
-        Message::Whole(input) => Ok(has_output(&input)),
+        Message::Whole(input) => {
+            let owed = has_output(&input);
+            drop(input);
+            Ok(owed)
+        }
         Message::Wrong { place: _ } => Ok(false),
     }
 }

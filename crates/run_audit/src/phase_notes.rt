@@ -172,21 +172,26 @@ impl InPhase {
         }
     }
 
+    // No control waits, and no request was sent.
+    fn clear(&mut self, alloc: Global) {
+        drop(mem::replace(&mut self.waiting, BTreeSet::new(alloc)));
+        drop(mem::replace(&mut self.armed, BTreeSet::new(alloc)));
+        drop(mem::replace(&mut self.awaited, BTreeSet::new(alloc)));
+        drop(mem::replace(&mut self.come, BTreeMap::new(alloc)));
+        drop(mem::replace(&mut self.counts, BTreeMap::new(alloc)));
+    }
+
     /// The phase begins.
     ///
     /// # Errors
     /// Out of memory.
     pub(crate) fn begin(&mut self, alloc: Global, script: &Script) -> Result<(), AllocError> {
+        self.clear(alloc);
         let controls = controls_of(script, self.phase);
         self.calls = self.calls.saturating_add(calls_in(script, self.phase));
         self.left = controls.len();
         self.plain = plain_from(controls, 0);
         self.unarmed = before_from(controls, 0);
-        self.waiting = BTreeSet::new(alloc);
-        self.armed = BTreeSet::new(alloc);
-        self.awaited = BTreeSet::new(alloc);
-        self.come = BTreeMap::new(alloc);
-        self.counts = BTreeMap::new(alloc);
         for at in 0..controls.len() {
             self.add(at, &controls[at])?;
         }

@@ -58,6 +58,7 @@ fn are_alone(alloc: Global, log: &Log, calls: &[CallMade]) -> Result<bool, Alloc
 {
     let places = reply_places(alloc, calls.len(), log.replies.as_slice())?;
     let yes = are_one_by_one(log, calls, places.as_slice());
+    drop(places);
     Ok(yes)
 }
 
@@ -75,9 +76,11 @@ fn calls_are_in_phases(
         return Ok(false);
     };
     if !are_alone(alloc, log, calls.as_slice())? {
+        drop(calls);
         return Ok(false);
     }
     if !are_submitted(log, notes, calls.as_slice()) {
+        drop(calls);
         return Ok(false);
     }
     Ok(are_answered(log, notes, calls.as_slice()))
@@ -148,6 +151,7 @@ fn controls_are_carried(
         return Ok(false);
     };
     if !are_timely(script, log, &tables, numbers, notes) {
+        drop(tables);
         return Ok(false);
     }
     let yes = phases_are_carried(alloc, script, log, &tables, notes)?;
@@ -203,10 +207,12 @@ fn is_shown(
 {
     let numbers = numbers_of(alloc, log, heads)?;
     if !do_all_rise(&numbers) {
+        drop(numbers);
         return Ok(false);
     }
-    let yes = is_shown_by(alloc, script, log, &numbers, notes)?;
-    Ok(yes)
+    let yes = is_shown_by(alloc, script, log, &numbers, notes);
+    drop(numbers);
+    yes
 }
 
 // Whether the log is that of a run of the script: what `follows_script` says, but for the order of each session's lines.
@@ -221,8 +227,9 @@ pub(crate) fn is_run_of(
     ensures { IfOk result (λ yes. yes ≡ true → RunOf script.now log.now) }
 {
     let notes = notes_of(alloc, script, log)?;
-    let yes = is_shown(alloc, script, log, heads, &notes)?;
-    Ok(yes)
+    let yes = is_shown(alloc, script, log, heads, &notes);
+    drop(notes);
+    yes
 }
 
 /// Whether the log follows the script: sessions submit their lines in order, each phase ends with nothing else left, each control

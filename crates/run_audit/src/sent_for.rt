@@ -39,7 +39,11 @@ fn action_in(alloc: Global, brick: u8, bytes: &[u8]) -> Result<Option<Action>, A
         return Ok(None);
     }
     match input_of(alloc, bytes)? {
-        Message::Whole(input) => Ok(action_for(brick, &input)),
+        Message::Whole(input) => {
+            let found = action_for(brick, &input);
+            drop(input);
+            Ok(found)
+        }
         Message::Wrong { place: _ } => Ok(None),
     }
 }
