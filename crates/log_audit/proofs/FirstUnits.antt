@@ -1,6 +1,6 @@
 -- The encoding of an output begins with its head.
 use Rattle.std.proofs.Common.{◌≡◌, refl, sym, ap, ap₂, ◌∙◌, arith}
-use Rattle.std.specs.Prelude.{ℕ, ◌<◌, ◌≤◌, ◌+◌, ◌-◌, ◌*◌, ◌/◌, ◌%◌, ◌^◌, nat_lt, Bool, true, false, List, ◌++◌, length, take, drop, if◌then◌else◌}
+use Rattle.std.specs.Prelude.{ℕ, ◌<◌, ◌≤◌, ◌+◌, ◌-◌, ◌*◌, ◌/◌, ◌%◌, ◌^◌, nat_lt, Bool, true, false, List, [], ◌++◌, length, take, drop, if◌then◌else◌}
 use Rattle.std.proofs.lemmas.Bool.{lt-ltb, le-ltb}
 use Rattle.std.proofs.lemmas.List.{length-append, length-drop, take_rest}
 use Rattle.byteorder.specs.Endian.{big_number}
@@ -48,19 +48,19 @@ first_is n rest small =
 -- ---- the units of an output
 
 module _ (a b k : ℕ) (arm : List ℕ) where
-  abbrev bytes : List ℕ
-  bytes = (unit a ++ unit b) ++ (unit k ++ arm)
+  abbrev begun : List ℕ
+  begun = (unit a ++ unit b) ++ (unit k ++ arm)
 
-  high_is : a < 2 ^ 32 → unit_at bytes 0 ≡ a
-  unfolding unit, unit_at
+  high_is : a < 2 ^ 32 → unit_at begun 0 ≡ a
+  unfolding unit unit_at
   high_is small = first_is a (unit b ++ (unit k ++ arm)) small
 
-  low_is : b < 2 ^ 32 → unit_at bytes 4 ≡ b
-  unfolding unit, unit_at
+  low_is : b < 2 ^ 32 → unit_at begun 4 ≡ b
+  unfolding unit unit_at
   low_is small = first_is b (unit k ++ arm) small
 
-  kind_is : k < 2 ^ 32 → unit_at bytes 8 ≡ k
-  unfolding unit, unit_at
+  kind_is : k < 2 ^ 32 → unit_at begun 8 ≡ k
+  unfolding unit unit_at
   kind_is small = first_is k arm small
 
 module _ (a b k c d s : ℕ) (arm : List ℕ) where
@@ -68,15 +68,15 @@ module _ (a b k c d s : ℕ) (arm : List ℕ) where
   reply = (unit a ++ unit b) ++ (unit k ++ ((unit c ++ unit d) ++ (unit s ++ arm)))
 
   wind_high_is : c < 2 ^ 32 → unit_at reply 12 ≡ c
-  unfolding unit, unit_at
+  unfolding unit unit_at
   wind_high_is small = first_is c (unit d ++ (unit s ++ arm)) small
 
   wind_low_is : d < 2 ^ 32 → unit_at reply 16 ≡ d
-  unfolding unit, unit_at
+  unfolding unit unit_at
   wind_low_is small = first_is d (unit s ++ arm) small
 
   status_is : s < 2 ^ 32 → unit_at reply 20 ≡ s
-  unfolding unit, unit_at
+  unfolding unit unit_at
   status_is small = first_is s arm small
 
 high_small : (n : ℕ) → n < 2 ^ 64 → n / 4294967296 < 2 ^ 32
