@@ -1,6 +1,6 @@
 -- The encoding of an output begins with its head.
 use Rattle.std.proofs.Common.{◌≡◌, refl, sym, ap, ap₂, ◌∙◌, arith}
-use Rattle.std.specs.Prelude.{ℕ, ◌<◌, ◌≤◌, ◌+◌, ◌-◌, ◌*◌, ◌/◌, ◌%◌, ◌^◌, nat_lt, Bool, true, false, List, [], ◌++◌, length, take, drop, if◌then◌else◌}
+use Rattle.std.specs.Prelude.{ℕ, ◌<◌, ◌≤◌, ◌+◌, ◌-◌, ◌/◌, ◌%◌, ◌^◌, nat_lt, Bool, true, false, List, [], ◌++◌, length, take, drop, if◌then◌else◌}
 use Rattle.std.proofs.lemmas.Bool.{lt-ltb, le-ltb}
 use Rattle.std.proofs.lemmas.List.{length-append, length-drop, take_rest}
 use Rattle.byteorder.specs.Endian.{big_number}
@@ -14,7 +14,6 @@ use Rattle.wire_xdr.specs.WireText.{out_number, out_arm, out_text, IsOutKind, ou
 use Rattle.wire_xdr.specs.Xdr.{unit, hyper}
 use Rattle.wire_xdr.proofs.QuadLaws.{unit_size, unit_number}
 use Rattle.wire_messages.specs.Messages.{output_in, MessagesReadBack}
-use Rattle.wire_messages.specs.declared.messages.Message.{Message}
 use Rattle.wire_messages.specs.declared.messages.Message.TheVariants.{Whole}
 use Rattle.log_audit.specs.Arriving.{IsEncodedOutput}
 use Rattle.log_audit.specs.FirstUnits.{first_unit, unit_at, joined, reply_by, said_by, first_reply, first_head}

@@ -21,7 +21,7 @@ use Rattle.mount_log.specs.Arrivals.{inputs_to, arrivals_from, arrival_from, sen
 use Rattle.mount_log.specs.declared.logs.HubEvent.{HubEvent}
 use Rattle.mount_log.specs.declared.logs.HubEvent.TheVariants as logged
 use Rattle.mount_log.specs.declared.logs.Log.{Log}
-use Rattle.log_audit.specs.Arriving.{IsEncodedOutput, BringsOutput, BringOutputs, AreTimely, IsTimely, CountsAtMost}
+use Rattle.log_audit.specs.Arriving.{IsEncodedOutput, BringsOutput, BringOutputs, AreTimely, CountsAtMost}
 use Rattle.log_audit.specs.Honest.{IsOfBrick, IsFrom, ArrivedFrom, HasHonestArrivals, HasJournals}
 
 module _ {X : Type 0} where
@@ -75,7 +75,7 @@ module _ (stay : OutputsStay) where
       → arrivals_from brick log.events ≡ take (length (arrivals_from brick log.events)) (texts_of (inputs_to brick log.sent))
   prefix_at log bricks brick b h there =
       sym (prefix_of (arrivals_from brick log.events) (texts_of b.journal) (texts_of (inputs_to brick log.sent)) (h.arrived brick b there)
-        (texts_of_prefix (length b.journal) (inputs_to brick log.sent) b.journal (h.journals brick b there)))
+      (texts_of_prefix (length b.journal) (inputs_to brick log.sent) b.journal (h.journals brick b there)))
 
 -- nothing arrives from a brick that is not there
 none_one : (many brick : ℕ) (e : HubEvent) (rest : List (List ℕ)) → IsFrom many e → many ≤ brick → arrival_from brick e rest ≡ rest

@@ -1,4 +1,4 @@
-use Rattle.std.proofs.Common.{◌≡◌, ◌≤◌, ◌-◌, sym, ◌∙◌, arith, length}
+use Rattle.std.proofs.Common.{◌≤◌, ◌-◌, ◌∙◌, arith, length}
 use Rattle.log_audit.proofs.FirstUnits.{unit_missing, unit_there}
 use Rattle.log_audit.proofs.first_units.unit_at.Goals as goal
 

@@ -1,5 +1,5 @@
 use Rattle.std.proofs.Common.{arith}
-use Rattle.std.specs.Prelude.{ℕ, ◌<◌}
+use Rattle.std.specs.Prelude.{ℕ}
 use Rattle.log_audit.specs.Arriving.{AreTimely}
 use Rattle.log_audit.proofs.Honesty.{each_below, honest}
 use Rattle.log_audit.proofs.honest.arrivals_are_honest.Goals as goal

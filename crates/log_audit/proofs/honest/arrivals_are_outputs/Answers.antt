@@ -1,8 +1,7 @@
-use Rattle.std.proofs.Common.{◌≡◌, sym, ap, subst, ◌∙◌, arith}
-use Rattle.std.specs.Prelude.{ℕ, ◌<◌, Some, length, slice_get}
+use Rattle.std.proofs.Common.{sym, ap, subst, ◌∙◌, arith}
+use Rattle.std.specs.Prelude.{ℕ, Some, length}
 use Rattle.std.specs.List.{AllByRecursion}
 use Rattle.std.proofs.lemmas.Option.{slice_get-get_or}
-use Rattle.mount_log.specs.declared.logs.HubEvent.{HubEvent}
 use Rattle.brick_machine.specs.Journal.{Journal}
 use Rattle.log_audit.specs.Honest.{IsFrom, IsOfBrick}
 use Rattle.log_audit.proofs.Lists.{each_next}
