@@ -48,7 +48,8 @@ fn head_of(event: &HubEvent) -> Head
     }
 }
 
-/// The head of what arrives in each event, where that is the encoding of an output. It reads the first bytes alone.
+/// The head of what arrives in each event, where that is the encoding of an output: `arrivals_are_outputs` finds that out. It
+/// reads the first bytes alone.
 ///
 /// # Errors
 /// Out of memory.
