@@ -1,4 +1,5 @@
 pub mod Heading
+pub mod FirstUnits
 pub mod Bools
 pub mod Counts
 pub mod Lists

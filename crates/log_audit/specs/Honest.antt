@@ -1,6 +1,7 @@
 -- Honest arrivals: each brick's journal is a prefix of what was sent to it; what arrived from each brick is a prefix of what
 -- it puts out over what was sent to it, byte for byte; and each output came only after the inputs that it counts were sent.
-use Rattle.std.specs.Prelude.{◌≡◌, ℕ, ◌+◌, ◌≤◌, ◌<◌, List, Some, length, slice_get, take}
+use Rattle.std.specs.Prelude.{◌≡◌, ℕ, ◌+◌, ◌≤◌, ◌<◌, ◌^◌, List, Some, length, slice_get, take}
+use Rattle.std.specs.List.{AllByRecursion}
 use Rattle.fop_types.specs.declared.messages.Output.{Output}
 use Rattle.wire_messages.specs.Messages.{output_in}
 use Rattle.wire_messages.specs.declared.messages.Message.TheVariants.{Whole}
@@ -10,13 +11,13 @@ use Rattle.mount_log.specs.Arrivals.{inputs_to, arrivals_from, sent_before}
 use Rattle.mount_log.specs.declared.logs.HubEvent.{HubEvent}
 use Rattle.mount_log.specs.declared.logs.HubEvent.TheVariants as logged
 use Rattle.mount_log.specs.declared.logs.Log.{Log}
-use Rattle.log_audit.specs.Arriving.{AreTimely}
+use Rattle.log_audit.specs.Arriving.{BringOutputs}
 
 -- what the log says of one brick
-pub record IsHonestAt (log : Log) (brick : ℕ) (b : Journal) : Type 0 where
+pub record IsOfBrick (log : Log) (brick : ℕ) (b : Journal) : Type 0 where
   pub journal : take (length b.journal) (inputs_to brick log.sent) ≡ b.journal
   pub arrivals : take (length (arrivals_from brick log.events)) (texts_of b.journal) ≡ arrivals_from brick log.events
-  pub timely : AreTimely brick log.events log.sent
+  pub few : length b.journal < 2 ^ 64
 
 -- what arrives comes from one of so many bricks
 abbrev pub IsFrom : ℕ → HubEvent → Type 0
@@ -25,6 +26,11 @@ IsFrom many (logged.Submit session line) = Unit {0}
 IsFrom many (logged.Run graph task) = Unit {0}
 IsFrom many (logged.Act a) = Unit {0}
 IsFrom many (logged.Arm at p count a) = Unit {0}
+
+-- what arrives comes from these bricks, as outputs in their encoding
+pub record ArrivedFrom (bricks : List Journal) (events : List HubEvent) : Type 0 where
+  pub from : AllByRecursion (IsFrom (length bricks)) events
+  pub outputs : BringOutputs events
 
 pub record HasHonestArrivals (log : Log) : Type 0 where
   pub prefix : (brick : ℕ) →

@@ -1,5 +1,5 @@
 //! What a log says of one brick, against the brick's own journal and outputs.
-ghost use Rattle.std.specs.Prelude.{◌≡◌, ◌∷◌, true, Some, List, take, length, slice_get, option_copied};
+ghost use Rattle.std.specs.Prelude.{◌≡◌, ◌∷◌, ◌<◌, ◌^◌, true, Some, List, take, length, slice_get, option_copied};
 ghost use Rattle.mount_log.specs.Arrivals.{inputs_to, arrivals_from};
 ghost use Rattle.mount_log.specs.declared.logs.HubEvent.{HubEvent as Event};
 ghost use Rattle.mount_log.specs.declared.logs.SentLine.{SentLine as Line};
@@ -38,6 +38,13 @@ fn is_at(list: &[Bytes], at: usize, bytes: &Bytes) -> bool
         Some(found) => found.as_slice() == bytes.as_slice(),
         None => false,
     }
+}
+
+// A list of bytes has fewer than 2^64 items.
+pub fn are_few(list: &[Bytes]) -> bool
+    ensures { length list.now < 2 ^ 64 }
+{
+    list.is_empty()
 }
 
 /// Whether a brick's journal is a prefix of what was sent to it.

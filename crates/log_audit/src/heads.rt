@@ -1,12 +1,13 @@
 //! What the outputs that arrive say in short, read once for all audits.
 ghost use Rattle.std.specs.Prelude.{◌≡◌, slice_get, IfOk};
-ghost use Rattle.log_audit.specs.Heads.{reply_head, kind_head, head_in, head_of, heads_of};
+ghost use Rattle.log_audit.specs.Arriving.{IsEncodedOutput, BringsOutput, BringOutputs};
+ghost use Rattle.log_audit.specs.Heads.{head_in, head_of, heads_of};
 ghost use Rattle.wire_messages.specs.Messages.{output_in};
 
-use fop_types::{BrickRep, OutKind};
+use crate::first_units::first_head;
 use mount_log::HubEvent;
 use std::alloc::{AllocError, Global};
-use wire_messages::{Message, output_of};
+use wire_messages::messages_read_back;
 
 /// What an output says: it answers a wind, by Gone or otherwise; its brick was closed or opened; or something else.
 #[derive(Clone, Copy)]
@@ -26,64 +27,39 @@ pub struct Head {
     pub said: Said,
 }
 
-fn reply_head(wind: u64, rep: &BrickRep) -> Said
-    ensures { result ≡ reply_head wind rep.now }
+fn arrived_head(bytes: &[u8]) -> Head
+    requires { IsEncodedOutput bytes.now }
+    ensures { result ≡ head_in (output_in bytes.now) }
 {
-    match rep {
-        BrickRep::Gone => Said::Gone(wind),
-        _ => Said::Reply(wind),
-    }
+    messages_read_back();
+    first_head(bytes)
 }
 
-fn kind_head(kind: &OutKind) -> Said
-    ensures { result ≡ kind_head kind.now }
-{
-    match kind {
-        OutKind::Reply { wind, rep } => reply_head(*wind, rep),
-        OutKind::Closed => Said::Closed,
-        OutKind::Opened => Said::Opened,
-        _ => Said::Other,
-    }
-}
-
-fn head_in(alloc: Global, bytes: &[u8]) -> Result<Head, AllocError>
-    ensures { IfOk result (λ head. head ≡ head_in (output_in bytes.now)) }
-{
-    match output_of(alloc, bytes)? {
-        Message::Whole(output) => Ok(Head {
-            taken: output.taken,
-            said: kind_head(&output.kind),
-        }),
-        Message::Wrong { place: _ } => Ok(Head {
-            taken: 0,
-            said: Said::Other,
-        }),
-    }
-}
-
-fn head_of(alloc: Global, event: &HubEvent) -> Result<Head, AllocError>
-    ensures { IfOk result (λ head. head ≡ head_of event.now) }
+fn head_of(event: &HubEvent) -> Head
+    requires { BringsOutput event.now }
+    ensures { result ≡ head_of event.now }
 {
     match event {
-        HubEvent::Arrive { bytes, .. } => head_in(alloc, bytes.as_slice()),
-        _ => Ok(Head {
+        HubEvent::Arrive { bytes, .. } => arrived_head(bytes.as_slice()),
+        _ => Head {
             taken: 0,
             said: Said::Other,
-        }),
+        },
     }
 }
 
-/// The head of what arrives in each event.
+/// The head of what arrives in each event, where that is the encoding of an output: `arrivals_are_outputs` finds that out. It
+/// reads the first bytes alone.
 ///
 /// # Errors
 /// Out of memory.
 pub fn heads_of(alloc: Global, events: &[HubEvent]) -> Result<Vec<Head>, AllocError>
+    requires { BringOutputs events.now }
     ensures { IfOk result (λ heads. heads.items ≡ heads_of events.now) }
 {
     let mut heads = Vec::new(alloc);
     for k in 0..events.len() {
-        let head = head_of(alloc, &events[k])?;
-        heads.push(head)?;
+        heads.push(head_of(&events[k]))?;
     }
     Ok(heads)
 }

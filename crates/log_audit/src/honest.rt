@@ -1,15 +1,15 @@
 //! Whether what arrived is what the bricks make of what was sent to them.
-ghost use Rattle.std.specs.Prelude.{◌≡◌, true, length, IfOk};
+ghost use Rattle.std.specs.Prelude.{◌≡◌, true};
+ghost use Rattle.log_audit.specs.Arriving.{AreTimely};
 ghost use Rattle.log_audit.specs.Heads.{heads_of};
-ghost use Rattle.log_audit.specs.Honest.{IsHonestAt, IsFrom, HasHonestArrivals, HasJournals};
+ghost use Rattle.log_audit.specs.Honest.{IsOfBrick, IsFrom, ArrivedFrom, HasHonestArrivals, HasJournals};
 ghost use Rattle.std.specs.List.{AllByRecursion};
 
-use crate::bricks::{was_put_out, was_sent};
+use crate::bricks::{are_few, was_put_out, was_sent};
 use crate::heads::Head;
 use crate::timely::are_timely;
-use brick_machine::{Brick, outputs_are_in_order};
+use brick_machine::{Brick, outputs_are_encoded, outputs_are_in_order};
 use mount_log::{HubEvent, Log};
-use std::alloc::{AllocError, Global};
 
 // Whether what arrives in an event comes from one of so many bricks.
 fn is_from(event: &HubEvent, many: usize) -> bool
@@ -32,46 +32,61 @@ fn are_from(events: &[HubEvent], many: usize) -> bool
     true
 }
 
-// Whether the log is honest of one brick.
-fn is_honest(log: &Log, heads: &[Head], brick: u8, at: &Brick) -> bool
-    requires { heads.now ≡ heads_of log.now.events }
-    ensures { result ≡ true → IsHonestAt log.now brick at.now }
+// Whether the journal is a prefix of what was sent to the brick, and what arrived from it a prefix of its outputs.
+fn is_of_brick(log: &Log, brick: u8, at: &Brick) -> bool
+    ensures { result ≡ true → IsOfBrick log.now brick at.now }
 {
-    let sent = log.sent.as_slice();
-    let events = log.events.as_slice();
-    if !was_sent(brick, sent, at.journal()) {
+    let journal = at.journal();
+    are_few(journal);
+    if !was_sent(brick, log.sent.as_slice(), journal) {
         return false;
     }
-    if !was_put_out(brick, events, at.outputs()) {
-        return false;
-    }
-    are_timely(brick, events, heads, sent)
+    was_put_out(brick, log.events.as_slice(), at.outputs())
 }
 
-/// Whether each brick's journal is a prefix of what was sent to it, and what arrived is honest and of the brick's own
-/// outputs, by the heads of what arrived. It is false, too, where there are more than 255 bricks, or what was sent does not
-/// stand in the order of its events.
-///
-/// # Errors
-/// None: it does not allocate.
-pub fn arrivals_are_honest(
-    _alloc: Global,
-    log: &Log,
-    heads: &[Head],
-    bricks: &[Brick],
-) -> Result<bool, AllocError>
-    requires heads { heads.now ≡ heads_of log.now.events }
-    ensures honest { IfOk result (λ yes. yes ≡ true → HasHonestArrivals log.now) }
-    ensures journals { IfOk result (λ yes. yes ≡ true → HasJournals log.now bricks.now) }
+/// Whether each brick's journal is a prefix of what was sent to it, and what arrived comes from these bricks and is, of each, a
+/// prefix of its own outputs. It is false, too, where there are more than 255 bricks.
+pub fn arrivals_are_outputs(log: &Log, bricks: &[Brick]) -> bool
+    ensures journals { result ≡ true → HasJournals log.now bricks.now }
+    ensures arrived { result ≡ true → ArrivedFrom bricks.now log.now.events }
 {
     if bricks.len() > 255 || !are_from(log.events.as_slice(), bricks.len()) {
-        return Ok(false);
+        return false;
+    }
+    outputs_are_encoded();
+    outputs_are_in_order();
+    for brick in 0..bricks.len() {
+        if !is_of_brick(log, brick as u8, &bricks[brick]) {
+            return false;
+        }
+    }
+    true
+}
+
+fn is_timely(log: &Log, heads: &[Head], brick: u8) -> bool
+    requires { heads.now ≡ heads_of log.now.events }
+    ensures { result ≡ true → AreTimely brick log.now.events log.now.sent }
+{
+    are_timely(brick, log.events.as_slice(), heads, log.sent.as_slice())
+}
+
+/// Whether arrivals that are outputs of these bricks are honest, by the heads of what arrived: whether each came after the
+/// inputs that it counts. It is false, too, where there are more than 255 bricks, or what was sent does not stand in the order of
+/// its events.
+pub fn arrivals_are_honest(log: &Log, heads: &[Head], bricks: &[Brick]) -> bool
+    requires heads { heads.now ≡ heads_of log.now.events }
+    requires journals { HasJournals log.now bricks.now }
+    requires arrived { ArrivedFrom bricks.now log.now.events }
+    ensures { result ≡ true → HasHonestArrivals log.now }
+{
+    if bricks.len() > 255 {
+        return false;
     }
     outputs_are_in_order();
     for brick in 0..bricks.len() {
-        if !is_honest(log, heads, brick as u8, &bricks[brick]) {
-            return Ok(false);
+        if !is_timely(log, heads, brick as u8) {
+            return false;
         }
     }
-    Ok(true)
+    true
 }

@@ -5,13 +5,16 @@
 //!   winds_are_once         the winds              each was opened once and ended at most once
 //!   submits_are_in_order   the events, a script   each session submits its lines in order
 //!   is_finished            the replies, a script  each call has one reply
-//!   arrivals_are_honest    what was sent and      what arrived is what the bricks make of what was sent
-//!                          arrived, the bricks
+//!   arrivals_are_outputs   what was sent and      what arrived is what the bricks put out, and their journals are what
+//!                          arrived, the bricks    was sent
+//!   arrivals_are_honest    the same, with the     what arrived is what the bricks make of what was sent
+//!                          heads of what arrived
 //! ```
 //!
-//! `heads` decodes what arrives once: audits that need no more of an output than its head take the heads from their caller.
+//! `heads` reads how an output begins, once for all audits that need no more of it: they take the heads from their caller.
+//! What arrived must be outputs then, so `arrivals_are_outputs` comes first.
 //!
-//! Each audit goes through the log a fixed number of times, `arrivals_are_honest` once more for each brick. It knows nothing of
+//! Each audit goes through the log a fixed number of times, those of arrivals once more for each brick. It knows nothing of
 //! how the log came about. True says that its definition holds of the log; false alone says nothing: an audit may ask for
 //! more than its definition, where every log of a run has it. A program calls them before it writes a report.
 //!
@@ -28,6 +31,7 @@ pub mod call_graphs;
 pub mod calls_made;
 mod ended;
 mod finished;
+mod first_units;
 pub mod heads;
 mod honest;
 pub mod requests;
@@ -38,6 +42,6 @@ mod timely;
 mod winds;
 
 pub use ended::is_finished;
-pub use honest::arrivals_are_honest;
+pub use honest::{arrivals_are_honest, arrivals_are_outputs};
 pub use submits::submits_are_in_order;
 pub use winds::{winds_are_balanced, winds_are_once};

@@ -70,13 +70,13 @@ const CASES: [(Of, usize, &[u32], &[u8]); 32] = [
     (Of::Winds, 0, &[], b"wo"),
     (Of::Winds, 2, &[2, 2, 0, 0, 1], b"wo"),
     // An arrival that the brick did not put out, one of no brick, and one before its input.
-    (Of::Events, 1, &[1, 0, 0, 1, 3, 2, 1], b"a"),
-    (Of::Events, 12, &[1, 1, 0, 5, 3, 1, 1], b"a"),
-    (Of::Events, 12, &[1, 0, 0, 5, 3, 2, 1], b"a"),
+    (Of::Events, 1, &[1, 0, 0, 1, 3, 2, 1], b"b"),
+    (Of::Events, 12, &[1, 1, 0, 5, 3, 1, 1], b"b"),
+    (Of::Events, 12, &[1, 0, 0, 5, 3, 2, 1], b"b"),
     (Of::Sent, 1, &[3, 0, 0, 0, 0, 1, 10], b"a"),
     // Inputs that were served and not sent; the other line is no input.
-    (Of::Served, 4, &[3, 2, 1], b"a"),
-    (Of::Sent, 1, &[1, 0, 0, 0, 0, 1, 11], b"ac"),
+    (Of::Served, 4, &[3, 2, 1], b"b"),
+    (Of::Sent, 1, &[1, 0, 0, 0, 0, 1, 11], b"b"),
     // A line before its time, one that is none, and a session that is none.
     (Of::Events, 0, &[0, 0, 10], b"s"),
     (Of::Events, 10, &[0, 0, 11], b"s"),
@@ -91,8 +91,8 @@ const CASES: [(Of, usize, &[u32], &[u8]); 32] = [
     (Of::Sent, 5, &[9, 0, 3, 2, 1], b"c"),
     (Of::Sent, 5, &[8, 0, 3, 1, 1], b"c"),
     (Of::Sent, 4, &[6, 0, 3, 1, 1], b"c"),
-    // No Connect for the start, none for the switch, and a Disconnect for nothing.
-    (Of::Sent, 0, &[], b"ac"),
+    // No Connect for the start but one behind it, none for the switch, and a Disconnect for nothing.
+    (Of::Sent, 0, &[1, 0, 3, 1, 1], b"c"),
     (Of::Sent, 5, &[], b"c"),
     (Of::Sent, 6, &[11, 0, 4, 2], b"c"),
     // A Down before no request, one before an input of another brick, and one alone before its request; an Up for nothing;

@@ -8,7 +8,7 @@ ghost use Rattle.mount_log.specs.Ties.{AreTied};
 ghost use Rattle.mount_log.specs.Winds.{WindsAreBalanced};
 ghost use Rattle.script_lang.specs.Accepted.{IsAccepted};
 ghost use Rattle.log_audit.specs.Heads.{heads_of};
-ghost use Rattle.log_audit.specs.Honest.{HasHonestArrivals};
+ghost use Rattle.log_audit.specs.Honest.{ArrivedFrom, HasHonestArrivals};
 ghost use Rattle.change_audit.specs.Copied.{CopiesAreMade};
 ghost use Rattle.change_audit.specs.Listed.{SkipsAreListed};
 ghost use Rattle.mount_run.specs.Headline.{AreBricksOf, HasFiles, IsLawfulRun};
@@ -21,7 +21,9 @@ use graph_build::Plan;
 use hub_calls::Rack;
 use line_audit::{connects_are_caused, lines_are_tied};
 use log_audit::heads::{Head, heads_of};
-use log_audit::{arrivals_are_honest, is_finished, winds_are_balanced, winds_are_once};
+use log_audit::{
+    arrivals_are_honest, arrivals_are_outputs, is_finished, winds_are_balanced, winds_are_once,
+};
 use log_replay::one_file_system;
 use mount_log::Log;
 use read_audit::answers_are_read;
@@ -44,20 +46,14 @@ fn follows(alloc: Global, script: &Script, log: &Log, heads: &[Head]) -> Result<
 }
 
 // Whether there is a brick for each of the script's, each with what the log says of it.
-fn are_bricks(
-    alloc: Global,
-    script: &Script,
-    left: &Rack,
-    heads: &[Head],
-) -> Result<bool, AllocError>
-    requires { heads.now ≡ heads_of left.now.log.events }
-    ensures honest { IfOk result (λ yes. yes ≡ true → HasHonestArrivals left.now.log) }
-    ensures bricks { IfOk result (λ yes. yes ≡ true → AreBricksOf script.now left.now.log left.now.bricks) }
+fn are_bricks(script: &Script, left: &Rack) -> bool
+    ensures bricks { result ≡ true → AreBricksOf script.now left.now.log left.now.bricks }
+    ensures arrived { result ≡ true → ArrivedFrom left.now.bricks left.now.log.events }
 {
     if left.bricks.len() != script.bricks.len() {
-        return Ok(false);
+        return false;
     }
-    arrivals_are_honest(alloc, &left.log, heads, left.bricks.as_slice())
+    arrivals_are_outputs(&left.log, left.bricks.as_slice())
 }
 
 // Whether the replies are those of one plain file system, and each acknowledged change is on a quorum of bricks.
@@ -141,7 +137,7 @@ fn is_sound(
     has_causes(alloc, script, plans, log, heads)
 }
 
-// Whether what arrived is what the bricks make of what was sent, and what answers show was read from them.
+// Whether what arrived from the bricks is what they make of what was sent, and what answers show was read from them.
 fn is_from_bricks(
     alloc: Global,
     script: &Script,
@@ -151,18 +147,19 @@ fn is_from_bricks(
 ) -> Result<bool, AllocError>
     requires accepted { IsAccepted script.now }
     requires heads { heads.now ≡ heads_of left.now.log.events }
+    requires bricks { AreBricksOf script.now left.now.log left.now.bricks }
+    requires arrived { ArrivedFrom left.now.bricks left.now.log.events }
     ensures honest { IfOk result (λ yes. yes ≡ true → HasHonestArrivals left.now.log) }
-    ensures bricks { IfOk result (λ yes. yes ≡ true → AreBricksOf script.now left.now.log left.now.bricks) }
     ensures reads { IfOk result (λ yes. yes ≡ true → AnswersAreRead script.now plans.now left.now.log left.now.bricks) }
 {
-    if !are_bricks(alloc, script, left, heads)? {
+    let bricks = left.bricks.as_slice();
+    if !arrivals_are_honest(&left.log, heads, bricks) {
         return Ok(false);
     }
-    let bricks = left.bricks.as_slice();
     answers_are_read(alloc, script, plans, &left.log, bricks, heads)
 }
 
-// Whether all but the files is as a run promises. What arrived is read once for all of it.
+// Whether all but the files is as a run promises. How each output begins that arrived is read once for all of it.
 fn has_course(
     alloc: Global,
     script: &Script,
@@ -180,6 +177,9 @@ fn has_course(
     ensures connections { IfOk result (λ yes. yes ≡ true → ConnectsAreCaused script.now plans.now left.now.log) }
     ensures causes { IfOk result (λ yes. yes ≡ true → AreCaused script.now plans.now left.now.log) }
 {
+    if !are_bricks(script, left) {
+        return Ok(false);
+    }
     let heads = heads_of(alloc, left.log.events.as_slice())?;
     if !follows(alloc, script, &left.log, heads.as_slice())?
         || !is_from_bricks(alloc, script, plans, left, heads.as_slice())?
@@ -223,6 +223,10 @@ pub fn has_stopped(alloc: Global, script: &Script, left: &Rack) -> Result<bool, 
     if opened_in(winds) != 4294967295 || !winds_are_once(alloc, winds)? {
         return Ok(false);
     }
+    if !are_bricks(script, left) {
+        return Ok(false);
+    }
     let heads = heads_of(alloc, left.log.events.as_slice())?;
-    are_bricks(alloc, script, left, heads.as_slice())
+    let bricks = left.bricks.as_slice();
+    Ok(arrivals_are_honest(&left.log, heads.as_slice(), bricks))
 }

@@ -1,8 +1,6 @@
-use Rattle.std.proofs.Common.{ℕ, ◌<◌, ◌≡◌}
-use Rattle.std.specs.Prelude.{Some, slice_get}
-use Rattle.brick_machine.specs.Journal.{Journal}
-use Rattle.log_audit.specs.Honest.{IsHonestAt}
+use Rattle.std.proofs.Common.{ℕ, ◌<◌}
+use Rattle.log_audit.specs.Arriving.{AreTimely}
 use Rattle.log_audit.proofs.honest.arrivals_are_honest.Given as goal
 
 abbrev pub invariant-loop-brick : goal.invariant-loop-brick
-invariant-loop-brick l = (k : ℕ) (b : Journal) → k < l.brick → slice_get l.bricks k ≡ Some b → IsHonestAt l.log k b
+invariant-loop-brick l = (k : ℕ) → k < l.brick → AreTimely k l.log.events l.log.sent
