@@ -1,4 +1,5 @@
--- The calls that were answered well, marked in a table by their numbers, each with the number of the event of its first such reply.
+-- The calls that were answered well, marked in a table by their numbers, each with the number of the event of its first such
+-- reply.
 use Rattle.std.specs.Prelude.{◌≡◌, ℕ, ◌<◌, ◌≤◌, true, List, Option, None, Some, slice_get}
 use Rattle.fop_types.specs.Replies.{is_ok}
 use Rattle.mount_log.specs.declared.logs.ReplyLine.{ReplyLine}

@@ -24,8 +24,8 @@ use Rattle.mount_log.specs.Connections.{graph_of_call}
 use Rattle.change_audit.specs.Answered.{IsDoneIn, IsWindFor, IsOpenedSince}
 use Rattle.change_audit.specs.Placed.{IsOnSet}
 
--- A brick has served the op of a change for a call, and then its post, which was sent as the op's answer was there; the post's
--- answer arrived by the event of this number.
+-- A brick has answered Done to the op of a change for a call, and then to its post, which was sent when the op's answer had
+-- arrived; the post's answer arrived by the event of this number.
 pub record IsBorneBy (log : Log) (bricks : List Journal) (call graph change number : ℕ) (o : StoreOp) (brick : ℕ) : Type 0 where
   -- the op
   pub fd : ℕ

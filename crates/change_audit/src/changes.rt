@@ -236,7 +236,7 @@ fn take_entry(
 
 /// Whether each entry of the history whose call was answered well has a change of its own on the bricks: a quorum of the bricks
 /// of one set have answered Done to the op of the change, which makes the entry's operation, and then to its post, which was sent
-/// as that answer was there, both for winds of the call, and what they answered had arrived by the event of the call's reply; where
+/// when that answer had arrived, both for winds of the call, and the second answer arrived by the event of the call's reply; where
 /// the operation makes an object, the set is that of its name. `ops` are the operations of the entries, in their order; where
 /// they are fewer than the entries, it is false.
 ///

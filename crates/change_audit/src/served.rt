@@ -186,7 +186,7 @@ fn is_sent_since(log: &Log, at: Served, call: u32, wind: u64, event: usize) -> b
 }
 
 /// Whether the brick of a bearer has answered Done to its post, this is the post of a change in a graph, and it was sent for a wind of
-/// the call as the answer to the op was there.
+/// the call when the answer to the op had arrived.
 ///
 /// # Errors
 /// Out of memory.
