@@ -22,10 +22,12 @@ use Rattle.mount_log.specs.Causes.{plan_of_volfile, set_of_plan}
 use Rattle.mount_log.specs.declared.logs.HubEvent.{HubEvent}
 use Rattle.mount_log.specs.declared.logs.HubEvent.TheVariants.{Arrive}
 use Rattle.mount_log.specs.declared.logs.Log.{Log}
+use Rattle.change_audit.specs.Answered.{IsDoneIn, IsOpenedIn}
 use Rattle.change_audit.specs.CallGraphs.{AreGraphsOf}
 use Rattle.change_audit.specs.Claims.{KeepClaims, entry_by, place_or_first}
-use Rattle.change_audit.specs.Copied.{IsDoneIn, IsOpenedIn, IsWithinSet, IsReplaced, CopiesAreMade}
-use Rattle.change_audit.specs.Copying.{IsSentAs, IsInputOf, replace_of, IsConfirmed, IsOfCopy, HasFetch, IsWithinTables, IsCopyClaimed, IsCopyDue}
+use Rattle.change_audit.specs.Copied.{IsWithinSet, IsReplaced, CopiesAreMade}
+use Rattle.change_audit.specs.Copying.{IsSentAs, replace_of, IsConfirmed, IsOfCopy, HasFetch, IsWithinTables, IsCopyClaimed, IsCopyDue}
+use Rattle.change_audit.specs.Journals.{IsInputOf}
 use Rattle.change_audit.specs.declared.call_graphs.CallGraphs.{CallGraphs}
 use Rattle.change_audit.specs.declared.copy_requests.Replacement.{Replacement}
 use Rattle.change_audit.proofs.Items.{each_more}

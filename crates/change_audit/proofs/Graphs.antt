@@ -139,10 +139,11 @@ module _ (script : Script) (log : Log) (tables : CallGraphs) (are : AreGraphsOf 
   on_set plans ops (flat.Read gfid offset count) set is = tt
   on_set plans ops (flat.Write gfid offset bytes) set is = tt
 
-  -- a change of a call that the bricks of a set of its graph bear
-  pub borne : (plans : List Plan) (bricks : List Journal) (ops : List FlatOp) (call graph change set : ℕ) (operation : FlatOp) (plan : SetPlan) → HasGraph tables call graph
-      → set_of_plan (plan_of_volfile plans (slice_get tables.volfiles (graph - 1))) set ≡ Some plan → IsOnSetByTable plans log tables ops operation set → HasBearers log.winds bricks plan call graph change operation → IsBorne script plans log bricks ops call change operation
-  borne plans bricks ops call graph change set operation plan has set_is placed have =
+  -- a change of a call that the bricks of a set of its graph bear by the event of a number
+  pub borne : (plans : List Plan) (bricks : List Journal) (ops : List FlatOp) (call graph change number set : ℕ) (operation : FlatOp) (plan : SetPlan) → HasGraph tables call graph
+      → set_of_plan (plan_of_volfile plans (slice_get tables.volfiles (graph - 1))) set ≡ Some plan → IsOnSetByTable plans log tables ops operation set
+      → HasBearers log bricks plan call graph change number operation → IsBorne script plans log bricks ops call change number operation
+  borne plans bricks ops call graph change number set operation plan has set_is placed have =
       let same = graph_is call graph has in
       record {
         set = set;
@@ -156,5 +157,5 @@ module _ (script : Script) (log : Log) (tables : CallGraphs) (are : AreGraphsOf 
         bearers = have.bearers;
         differ = have.differ;
         quorum = have.quorum;
-        each = subst (λ (n : ℕ). AllByRecursion (IsBearer log.winds bricks plan call n change have.op) have.bearers) same have.each;
+        each = subst (λ (n : ℕ). AllByRecursion (IsBearer log bricks plan call n change number have.op) have.bearers) same have.each;
       }

@@ -1,11 +1,10 @@
--- Items of lists: what holds of those before a place; an item of a mapped list; what is behind a prefix.
+-- Items of lists: what holds of those before a place, or of a mapped list; what is behind a prefix.
 use Rattle.std.proofs.Common.{◌≡◌, refl, sym, ap, subst, ◌∙◌, arith, get_or}
 use Rattle.std.specs.Prelude.{ℕ, zero, suc, ◌<◌, ◌+◌, nat_lt, Bool, true, false, List, [], ◌∷◌, ◌++◌, Some, length, map, take, drop, slice_get}
 use Rattle.std.specs.List.{AllByRecursion}
 use Rattle.std.proofs.lemmas.Bool.{ltb-true, ltb-false}
 use Rattle.std.proofs.lemmas.List.{take_more}
 use Rattle.std.proofs.lemmas.Option.{slice_get-get_or}
-use Rattle.fop_types.specs.Bounds.{Each}
 use Rattle.mount_log.proofs.Items.{some_is}
 
 module _ {X : Type 0} where
@@ -23,20 +22,6 @@ module _ {X : Type 0} where
   pub item_is : (xs : List X) (i : ℕ) (x y : X) → i < length xs → x ≡ get_or xs i x → slice_get xs i ≡ Some y → x ≡ y
   item_is xs i x y lt read is = some_is x y (ap Some read ∙ sym (slice_get-get_or xs i x lt) ∙ is)
 
-  pub each_at : (P : X → Type 0) (xs : List X) (k : ℕ) (x : X) → Each P xs → slice_get xs k ≡ Some x → P x
-  each_at P [] k x each is = absurd cc
-  each_at P (y ∷ xs) zero x each is = subst P (some_is y x is) each.0
-  each_at P (y ∷ xs) (suc k) x each is = each_at P xs k x each.1 is
-
-  pub all_at : (P : X → Type 0) (xs : List X) (k : ℕ) (x : X) → AllByRecursion P xs → slice_get xs k ≡ Some x → P x
-  all_at P [] k x all is = absurd cc
-  all_at P (y ∷ xs) zero x all is = subst P (some_is y x is) all.0
-  all_at P (y ∷ xs) (suc k) x all is = all_at P xs k x all.1 is
-
-  pub take_long : (xs : List X) → take (length xs) xs ≡ xs
-  take_long [] = refl
-  take_long (x ∷ xs) = ap (λ l. x ∷ l) (take_long xs)
-
   drop_long : (xs ys : List X) → drop (length xs) (xs ++ ys) ≡ ys
   drop_long [] ys = refl
   drop_long (x ∷ xs) ys = drop_long xs ys
@@ -50,17 +35,6 @@ module _ {X : Type 0} where
 
   pub all_next : (P : X → Type 0) (xs : List X) (i : ℕ) (d : X) → i < length xs → P (get_or xs i d) → AllByRecursion P (take i xs) → AllByRecursion P (take (i + 1) xs)
   all_next P xs i d lt p all = subst (AllByRecursion P) (sym (take_more xs i d lt)) (all_push P (take i xs) (get_or xs i d) all p)
-
--- an item of a mapped list is that of an item
-pub record IsMapped {X Y : Type 0} (f : X → Y) (xs : List X) (k : ℕ) (y : Y) : Type 0 where
-  pub item : X
-  pub there : slice_get xs k ≡ Some item
-  pub is : f item ≡ y
-
-pub mapped : {X Y : Type 0} (f : X → Y) (xs : List X) (k : ℕ) (y : Y) → slice_get (map f xs) k ≡ Some y → IsMapped f xs k y
-mapped f [] k y is = absurd cc
-mapped f (x ∷ xs) zero y is = record { item = x; there = refl; is = some_is (f x) y is }
-mapped f (x ∷ xs) (suc k) y is = let m = mapped f xs k y is in record { item = m.item; there = m.there; is = m.is }
 
 pub all_mapped : {X Y : Type 0} (f : X → Y) (Q : X → Type 0) (P : Y → Type 0) → ((x : X) → Q x → P (f x)) → (xs : List X) → AllByRecursion Q xs → AllByRecursion P (map f xs)
 all_mapped f Q P gives [] all = tt

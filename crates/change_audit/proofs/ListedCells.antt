@@ -20,7 +20,7 @@ use Rattle.brick_machine.specs.Journal.{Journal}
 use Rattle.mount_log.proofs.Items.{some_is}
 use Rattle.mount_log.specs.declared.logs.HubEvent.TheVariants.{Arrive}
 use Rattle.mount_log.specs.declared.logs.Log.{Log}
-use Rattle.change_audit.specs.Borne.{IsWindFor}
+use Rattle.change_audit.specs.Answered.{IsWindFor}
 use Rattle.change_audit.specs.Listed.{IsIndex, IsListedIn, IsListed, SkipsAreListed}
 use Rattle.change_audit.specs.Listings.{WasAsked, event_of, AddsCell, IsAmong, AddsCells, AreListings, IsSkipDue}
 use Rattle.change_audit.proofs.Copying.{done_in, output_made}

@@ -1,53 +1,28 @@
--- Outputs by their bytes, and the texts of requests.
-use Rattle.std.proofs.Common.{◌≡◌, refl, sym, ap, subst, ◌∙◌, arith, append_assoc, length-append}
-use Rattle.std.specs.Prelude.{ℕ, ◌<◌, ◌≤◌, ◌^◌, nat_le, true, List, ◌++◌, Some, length, drop, slice_get}
-use Rattle.std.specs.List.{All}
-use Rattle.std.proofs.lemmas.Bool.{leb-true}
-use Rattle.std.proofs.lemmas.List.Elements.{filter_passes, recursion_from_All}
+-- The texts of requests, and requests that were answered.
+use Rattle.std.proofs.Common.{◌≡◌, refl, sym, ap, ◌∙◌, append_assoc, length-append}
+use Rattle.std.specs.Prelude.{ℕ, ◌<◌, ◌+◌, List, ◌++◌, Some, length, drop, slice_get}
+use Rattle.fop_types.specs.declared.messages.BrickRep.TheVariants.{Done}
 use Rattle.fop_types.specs.declared.messages.BrickReq.{BrickReq}
 use Rattle.fop_types.specs.declared.messages.BrickReq.TheVariants.{Op}
+use Rattle.fop_types.specs.declared.messages.DoneArm.TheVariants.{Nothing}
 use Rattle.fop_types.specs.declared.messages.Input.{Input}
 use Rattle.fop_types.specs.declared.messages.Input.TheVariants.{Request}
+use Rattle.fop_types.specs.declared.messages.OutKind.{OutKind}
+use Rattle.fop_types.specs.declared.messages.OutKind.TheVariants.{Reply}
 use Rattle.fop_types.specs.declared.messages.Output.{Output}
 use Rattle.fop_types.specs.declared.store_ops.StoreOp.{StoreOp}
 use Rattle.wire_xdr.specs.Xdr.{unit, hyper}
-use Rattle.wire_xdr.specs.WireText.{input_text, output_text, IsOutKind}
+use Rattle.wire_xdr.specs.WireText.{input_text, output_text}
 use Rattle.wire_xdr.proofs.QuadLaws.{unit_size}
-use Rattle.wire_messages.specs.Messages.{output_in, MessagesReadBack}
-use Rattle.wire_messages.specs.declared.messages.Message.{Message}
-use Rattle.wire_messages.specs.declared.messages.Message.TheVariants.{Whole, Wrong}
-use Rattle.brick_machine.specs.Encoded.{OutputsAreEncoded}
-use Rattle.brick_machine.specs.Laws.{OutputsByTaken, outputs_up_to}
-use Rattle.brick_machine.specs.Machine.{outputs_of, texts_of}
+use Rattle.brick_machine.specs.Journal.{Journal}
+use Rattle.mount_log.specs.declared.logs.HubEvent.TheVariants.{Arrive}
+use Rattle.mount_log.specs.declared.logs.Log.{Log}
 use Rattle.mount_log.specs.declared.logs.WindLine.{WindLine}
-use Rattle.change_audit.specs.Borne.{IsDoneRequest, IsWindFor}
-use Rattle.change_audit.specs.Served.{IsAnswered, IsOnWind, IsOpIn, IsOpText, IsPostIn, IsPostOn, IsPosted, HasText, IsServed, text_of}
-use Rattle.change_audit.proofs.Items.{all_at, drop_front, each_at, mapped, take_long}
-
--- ---- outputs
-
-abbrev value_or : Output → Message Output → Output
-value_or x (Whole y) = y
-value_or x (Wrong place) = x
-
--- an output counts inputs of the journal alone
-counts_few : (first : OutputsByTaken) (journal : List (List ℕ)) (at : ℕ) (o : Output) → slice_get (outputs_of journal) at ≡ Some o → o.taken ≤ length journal
-counts_few first journal at o there =
-    let kept : outputs_up_to (length journal) (outputs_of journal) ≡ outputs_of journal = sym (first journal (length journal)) ∙ ap outputs_of (take_long journal) in
-    let passes : All (λ (x : Output). nat_le x.taken (length journal) ≡ true) (outputs_of journal) =
-    subst (All (λ (x : Output). nat_le x.taken (length journal) ≡ true)) kept (filter_passes (λ (x : Output). nat_le x.taken (length journal)) (outputs_of journal)) in
-    leb-true o.taken (length journal) (all_at (λ (x : Output). nat_le x.taken (length journal) ≡ true) (outputs_of journal) at o (recursion_from_All _ (outputs_of journal) passes) there)
-
--- what an output's bytes are read as is the output
-pub output_is : (back : MessagesReadBack) (encoded : OutputsAreEncoded) (first : OutputsByTaken) (journal : List (List ℕ)) (few : length journal < 2 ^ 64) (at : ℕ) (bytes : List ℕ) (x : Output)
-    → slice_get (texts_of journal) at ≡ Some bytes → output_in bytes ≡ Whole x → slice_get (outputs_of journal) at ≡ Some x
-output_is back encoded first journal few at bytes x there read =
-    let m = mapped output_text (outputs_of journal) at bytes there in
-    let le = counts_few first journal at m.item m.there in
-    let small : m.item.taken < 2 ^ 64 = omega (arith, le, few) in
-    let legal : IsOutKind true m.item.kind = each_at (λ (o : Output). IsOutKind true o.kind) (outputs_of journal) at m.item (encoded journal) m.there in
-    let same : m.item ≡ x = ap (value_or m.item) (sym (back.1.0 m.item (small, legal)) ∙ ap output_in m.is ∙ read) in
-    m.there ∙ ap Some same
+use Rattle.change_audit.specs.Answered.{IsWindFor, IsOpenedIn, IsOpenedSince}
+use Rattle.change_audit.specs.Journals.{IsInputOf}
+use Rattle.change_audit.specs.Served.{done_text, IsAnswered, IsOnWind, IsOpIn, IsOpText, IsPostIn, IsPostOn, IsPosted, HasText, IsServed, text_of}
+use Rattle.change_audit.specs.declared.answers.Served.{Served}
+use Rattle.change_audit.proofs.Items.{drop_front}
 
 -- ---- texts of requests
 
@@ -69,17 +44,42 @@ op_text graph change o x bytes is op = record { fd = op.fd; is = ap (drop 12) (i
 pub post_text : (wind graph change : ℕ) (x : Input) (bytes : List ℕ) → bytes ≡ input_text x → IsPostIn wind graph change x → IsPostOn wind graph change bytes
 post_text wind graph change x bytes is post = record { cells = post.cells; mask = post.mask; is = is ∙ ap input_text post.is }
 
+-- ---- what arrived
+
+pub done_said : (output : Output) (bytes : List ℕ) (taken wind : ℕ) → bytes ≡ output_text output → output.taken ≡ taken → output.kind ≡ Reply wind (Done Nothing) → bytes ≡ done_text taken wind
+done_said output bytes taken wind text counted kind =
+    text ∙ ap (λ (n : ℕ). output_text (record output { taken = n })) counted ∙ ap (λ (k : OutKind). output_text (record { taken = taken; kind = k })) kind
+
+pub answered_there : (log : Log) (brick : ℕ) (at : Served) (wind : ℕ) (bytes : List ℕ) → slice_get log.events at.event ≡ Some (Arrive brick bytes) → bytes ≡ done_text at.taken wind → IsAnswered log brick at wind
+answered_there log brick at wind bytes there text = there ∙ ap (λ (b : List ℕ). Some (Arrive brick b)) text
+
+-- ---- winds
+
+pub opened_since : (winds : List WindLine) (call wind event number : ℕ) → IsOpenedIn winds call wind number → event < number → IsOpenedSince winds call wind event
+opened_since winds call wind event number opened lt = record { number = number; opened = opened; since = lt }
+
 -- ---- requests that were answered
 
-done : (winds : List WindLine) (journal : List (List ℕ)) (call wind graph place answer : ℕ) (req : BrickReq) → IsWindFor winds call wind → slice_get journal place ≡ Some (input_text (Request wind graph req)) → IsAnswered journal place answer wind
-    → IsDoneRequest winds journal call graph place req
-done winds journal call wind graph place answer req opened there put = record { wind = wind; of_call = opened; answer_at = answer; output = put.output; there = there; answered = put.there; caused = put.caused; reply = put.reply }
+module _ (log : Log) (bricks : List Journal) (brick : ℕ) (at : Served) where
+  -- what arrived, by the place of the input that it answers
+  arrived_for : (wind place : ℕ) → IsAnswered log brick at wind → at.taken ≡ place + 1 → slice_get log.events at.event ≡ Some (Arrive brick (done_text (place + 1) wind))
+  arrived_for wind place put counted = put ∙ ap (λ (n : ℕ). Some (Arrive brick (done_text n wind))) counted
 
-pub served : (winds : List WindLine) (journal : List (List ℕ)) (call wind place answer : ℕ) (bytes text : List ℕ) → IsWindFor winds call wind → slice_get journal place ≡ Some bytes → HasText wind text bytes → IsAnswered journal place answer wind
-    → IsServed winds journal call place text
-served winds journal call wind place answer bytes text opened there has put graph req is = done winds journal call wind graph place answer req opened (there ∙ ap Some (has graph req is)) put
+  pub served : (call wind : ℕ) (bytes text : List ℕ) → IsInputOf bricks brick at.taken bytes → HasText wind text bytes → IsWindFor log.winds call wind → IsAnswered log brick at wind → IsServed log bricks brick at call text
+  served call wind bytes text sent has opened put graph req is = record {
+    wind = wind;
+    done = record { at = sent.at; there = sent.there; place = sent.place; request = sent.input ∙ ap Some (has graph req is); arrived = arrived_for wind sent.place put sent.counted };
+    counted = sent.counted;
+    of_call = opened;
+  }
 
-pub posted : (winds : List WindLine) (journal : List (List ℕ)) (call wind graph change place answer : ℕ) (bytes : List ℕ) → IsWindFor winds call wind → slice_get journal place ≡ Some bytes → IsPostOn wind graph change bytes → IsAnswered journal place answer wind
-    → IsPosted winds journal call graph change place
-posted winds journal call wind graph change place answer bytes opened there post put =
-    record { cells = post.cells; mask = post.mask; done = done winds journal call wind graph place answer _ opened (there ∙ ap Some post.is) put }
+  pub posted : (call graph change since wind : ℕ) (bytes : List ℕ) → IsInputOf bricks brick at.taken bytes → IsPostOn wind graph change bytes → IsOpenedSince log.winds call wind since → IsAnswered log brick at wind
+      → IsPosted log bricks brick at call graph change since
+  posted call graph change since wind bytes sent post opened put = record {
+    cells = post.cells;
+    mask = post.mask;
+    wind = wind;
+    done = record { at = sent.at; there = sent.there; place = sent.place; request = sent.input ∙ ap Some post.is; arrived = arrived_for wind sent.place put sent.counted };
+    counted = sent.counted;
+    of_call = opened;
+  }

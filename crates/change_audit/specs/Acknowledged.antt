@@ -1,18 +1,40 @@
--- The calls that were answered well, marked in a table by their numbers.
-use Rattle.std.specs.Prelude.{◌≡◌, ℕ, ◌<◌, Bool, true, List, Some, slice_get}
+-- The calls that were answered well, marked in a table by their numbers, each with the number of the event of its first such
+-- reply.
+use Rattle.std.specs.Prelude.{◌≡◌, ℕ, ◌<◌, ◌≤◌, true, List, Option, None, Some, slice_get}
 use Rattle.fop_types.specs.Replies.{is_ok}
 use Rattle.mount_log.specs.declared.logs.ReplyLine.{ReplyLine}
 
-abbrev pub IsMarked : List Bool → ReplyLine → Type 0
-IsMarked marks reply = is_ok reply.answer ≡ true → slice_get marks reply.call ≡ Some true
+abbrev pub mark_or_none : Option (Option ℕ) → Option ℕ
+mark_or_none None = None
+mark_or_none (Some mark) = mark
 
-abbrev pub AreMarked : List ReplyLine → List Bool → Type 0
+-- the mark of a call, if it has one
+abbrev pub mark_of : List (Option ℕ) → ℕ → Option ℕ
+mark_of marks call = mark_or_none (slice_get marks call)
+
+-- the mark is of the event of this number, or of an earlier one
+pub record IsMarkBy (mark : Option ℕ) (bound : ℕ) : Type 0 where
+  pub number : ℕ
+  pub is : mark ≡ Some number
+  pub by : number ≤ bound
+
+abbrev pub IsMarkedBy : List (Option ℕ) → ℕ → ℕ → Type 0
+IsMarkedBy marks call bound = IsMarkBy (mark_of marks call) bound
+
+abbrev pub IsMarked : List (Option ℕ) → ReplyLine → Type 0
+IsMarked marks reply = is_ok reply.answer ≡ true → IsMarkedBy marks reply.call reply.event
+
+abbrev pub AreMarked : List ReplyLine → List (Option ℕ) → Type 0
 AreMarked replies marks = (k : ℕ) (reply : ReplyLine) → slice_get replies k ≡ Some reply → IsMarked marks reply
 
--- what was marked stays so
-abbrev pub KeepMarks : List Bool → List Bool → Type 0
-KeepMarks before after = (call : ℕ) → slice_get before call ≡ Some true → slice_get after call ≡ Some true
+-- what was marked stays so, or is marked earlier
+abbrev pub KeepMarks : List (Option ℕ) → List (Option ℕ) → Type 0
+KeepMarks before after = (call bound : ℕ) → IsMarkedBy before call bound → IsMarkedBy after call bound
 
 -- among the first replies
-abbrev pub AreMarkedTo : ℕ → List ReplyLine → List Bool → Type 0
+abbrev pub AreMarkedTo : ℕ → List ReplyLine → List (Option ℕ) → Type 0
 AreMarkedTo n replies marks = (k : ℕ) (reply : ReplyLine) → k < n → slice_get replies k ≡ Some reply → IsMarked marks reply
+
+-- no mark is of an event before this one
+abbrev pub IsNoEarlier : Option ℕ → ℕ → Type 0
+IsNoEarlier mark number = (earlier : ℕ) → mark ≡ Some earlier → number ≤ earlier

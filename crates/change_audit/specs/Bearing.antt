@@ -1,13 +1,13 @@
 -- What the bricks of one set have to show of one change.
-use Rattle.std.specs.Prelude.{◌≡◌, ℕ, ◌+◌, ◌≤◌, ◌==◌, List, [], ◌∷◌, Some, length}
+use Rattle.std.specs.Prelude.{◌≡◌, ℕ, ◌+◌, ◌<◌, ◌≤◌, ◌==◌, List, [], ◌∷◌, Some, length}
 use Rattle.std.specs.List.{AllByRecursion, IsDistinct}
 use Rattle.dht_fops.specs.Answers.{change_of}
 use Rattle.fop_types.specs.declared.flat.FlatOp.{FlatOp}
 use Rattle.fop_types.specs.declared.jobs.SetPlan.{SetPlan}
 use Rattle.fop_types.specs.declared.store_ops.StoreOp.{StoreOp}
 use Rattle.brick_machine.specs.Journal.{Journal}
-use Rattle.mount_log.specs.declared.logs.WindLine.{WindLine}
-use Rattle.change_audit.specs.declared.bearers.Bearer.{Bearer}
+use Rattle.mount_log.specs.declared.logs.Log.{Log}
+use Rattle.change_audit.specs.declared.answers.Bearer.{Bearer}
 use Rattle.change_audit.specs.Borne.{IsBorneBy, IsBearer}
 use Rattle.change_audit.specs.Served.{IsOpText}
 
@@ -25,18 +25,24 @@ pub record IsMaking (graph change : ℕ) (operation : FlatOp) (text : List ℕ) 
   pub op_is : change_of op ≡ Some operation
   pub has_text : IsOpText graph change op text
 
+-- the op was served before the post, and answered before it, and the post by the event of this number
+pub record IsInOrder (bearer : Bearer) (number : ℕ) : Type 0 where
+  pub served : bearer.op.taken < bearer.post.taken
+  pub arrived : bearer.op.event < bearer.post.event
+  pub in_time : bearer.post.event < number
+
 -- a brick has served the op of this text, and then the post of its change
-abbrev pub IsSaidBorne : List WindLine → ℕ → ℕ → ℕ → List ℕ → Journal → Type 0
-IsSaidBorne winds call graph change text at = (o : StoreOp) → IsOpText graph change o text → IsBorneBy winds call graph change o at
+abbrev pub IsSaidBorne : Log → List Journal → ℕ → ℕ → ℕ → ℕ → List ℕ → ℕ → Type 0
+IsSaidBorne log bricks call graph change number text brick = (o : StoreOp) → IsOpText graph change o text → IsBorneBy log bricks call graph change number o brick
 
-abbrev pub IsSaidBearer : List WindLine → List Journal → SetPlan → ℕ → ℕ → ℕ → List ℕ → Bearer → Type 0
-IsSaidBearer winds bricks plan call graph change text bearer = (o : StoreOp) → IsOpText graph change o text → IsBearer winds bricks plan call graph change o bearer.brick
+abbrev pub IsSaidBearer : Log → List Journal → SetPlan → ℕ → ℕ → ℕ → ℕ → List ℕ → Bearer → Type 0
+IsSaidBearer log bricks plan call graph change number text bearer = (o : StoreOp) → IsOpText graph change o text → IsBearer log bricks plan call graph change number o bearer.brick
 
--- a quorum of the bricks of a set has borne a change of a call that makes the operation
-pub record HasBearers (winds : List WindLine) (bricks : List Journal) (plan : SetPlan) (call graph change : ℕ) (operation : FlatOp) : Type 0 where
+-- by the event of this number, a quorum of the bricks of a set has borne a change of a call that makes the operation
+pub record HasBearers (log : Log) (bricks : List Journal) (plan : SetPlan) (call graph change number : ℕ) (operation : FlatOp) : Type 0 where
   pub op : StoreOp
   pub op_is : change_of op ≡ Some operation
   pub bearers : List ℕ
   pub differ : IsDistinct ◌==◌ bearers
   pub quorum : plan.q ≤ length bearers
-  pub each : AllByRecursion (IsBearer winds bricks plan call graph change op) bearers
+  pub each : AllByRecursion (IsBearer log bricks plan call graph change number op) bearers

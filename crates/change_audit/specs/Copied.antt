@@ -1,49 +1,22 @@
 -- Copies were made: each copy that the log has is of a cell whose content a brick of a set answered to a fetch, which is sound by
 -- the rows that the copy names, and which the sink, another brick of the set, replaced by just this content: its replacement was sent in the event in which that answer
 -- arrived, for a wind of the same call, and confirmed by the event of the copy. No two copies have the same replacement.
-use Rattle.std.specs.Prelude.{◌≡◌, ◌≢◌, ℕ, ◌+◌, ◌-◌, ◌<◌, ◌==◌, true, List, [], ◌∷◌, Option, None, Some, Contains, length, map, slice_get, if◌then◌else◌}
+use Rattle.std.specs.Prelude.{◌≡◌, ◌≢◌, ℕ, ◌+◌, ◌-◌, ◌<◌, ◌==◌, List, [], ◌∷◌, Option, None, Some, Contains, length, map, slice_get, if◌then◌else◌}
 use Rattle.fop_types.specs.declared.answers.SplitRow.{SplitRow}
 use Rattle.fop_types.specs.declared.contents.Content.{Content as Held}
 use Rattle.fop_types.specs.declared.contents.Row.{Row}
 use Rattle.fop_types.specs.declared.copy_jobs.CopyRecord.{CopyRecord}
 use Rattle.fop_types.specs.declared.jobs.SetPlan.{SetPlan}
-use Rattle.fop_types.specs.declared.messages.BrickRep.TheVariants.{Done}
-use Rattle.fop_types.specs.declared.messages.BrickReq.{BrickReq}
 use Rattle.fop_types.specs.declared.messages.BrickReq.TheVariants.{Fetch, Replace}
-use Rattle.fop_types.specs.declared.messages.DoneArm.{DoneArm}
 use Rattle.fop_types.specs.declared.messages.DoneArm.TheVariants.{Nothing, Content}
-use Rattle.fop_types.specs.declared.messages.Input.TheVariants.{Request}
-use Rattle.fop_types.specs.declared.messages.OutKind.TheVariants.{Reply}
 use Rattle.afr_changelog.specs.Soundness.{IsSound}
 use Rattle.graph_build.specs.declared.plans.Plan.{Plan}
 use Rattle.script_lang.specs.declared.scripts.Script.{Script}
-use Rattle.wire_xdr.specs.WireText.{input_text, output_text}
 use Rattle.brick_machine.specs.Journal.{Journal}
 use Rattle.mount_log.specs.Causes.{plan_of_volfile, set_of_plan}
 use Rattle.mount_log.specs.Graphs.{volfiles_of}
-use Rattle.mount_log.specs.declared.logs.HubEvent.TheVariants.{Arrive}
 use Rattle.mount_log.specs.declared.logs.Log.{Log}
-use Rattle.mount_log.specs.declared.logs.WindLine.{WindLine}
-use Rattle.xlator_law.specs.Numbers.{wind_number}
-use Rattle.change_audit.specs.Borne.{IsWindFor}
-
--- a request of a graph on a wind is in a brick's journal, and its Done arrived in the event at this place, from 0
-pub record IsDoneIn (log : Log) (bricks : List Journal) (brick wind graph event : ℕ) (req : BrickReq) (arm : DoneArm) : Type 0 where
-  pub at : Journal
-  pub there : slice_get bricks brick ≡ Some at
-  pub place : ℕ
-  pub request : slice_get at.journal place ≡ Some (input_text (Request wind graph req))
-  pub arrived : slice_get log.events event ≡ Some (Arrive brick (output_text (record { taken = place + 1; kind = Reply wind (Done arm) })))
-
--- the wind of this number was opened for the call, in the event of this number
-pub record IsOpenedIn (winds : List WindLine) (call wind number : ℕ) : Type 0 where
-  pub place : ℕ
-  pub line : WindLine
-  pub there : slice_get winds place ≡ Some line
-  pub opened : line.opened ≡ true
-  pub call_is : line.call ≡ call
-  pub number_is : wind_number line.wind ≡ wind
-  pub event_is : line.event ≡ number
+use Rattle.change_audit.specs.Answered.{IsDoneIn, IsWindFor, IsOpenedIn}
 
 -- the row of a brick among those that a copy names, if there is one
 abbrev pub row_for : List SplitRow → ℕ → Option Row

@@ -12,9 +12,9 @@ use Rattle.wire_xdr.specs.WireText.{input_text}
 use Rattle.brick_machine.specs.Journal.{Journal}
 use Rattle.mount_log.specs.Causes.{plan_of_volfile, set_of_plan}
 use Rattle.mount_log.specs.declared.logs.Log.{Log}
-use Rattle.change_audit.specs.Borne.{IsWindFor}
+use Rattle.change_audit.specs.Answered.{IsDoneIn, IsWindFor}
 use Rattle.change_audit.specs.Claims.{claim_of}
-use Rattle.change_audit.specs.Copied.{IsDoneIn, HasSoundSource, IsMade}
+use Rattle.change_audit.specs.Copied.{HasSoundSource, IsMade}
 use Rattle.change_audit.specs.declared.call_graphs.CallGraphs.{CallGraphs}
 use Rattle.change_audit.specs.declared.copy_requests.Replacement.{Replacement}
 
@@ -24,14 +24,6 @@ pub record IsSentAs (bricks : List Journal) (brick taken wind graph : ℕ) (req 
   pub there : slice_get bricks brick ≡ Some at
   pub place : ℕ
   pub request : slice_get at.journal place ≡ Some (input_text (Request wind graph req))
-  pub counted : taken ≡ place + 1
-
--- the bytes are the input of a brick's journal that is counted so, from 1
-pub record IsInputOf (bricks : List Journal) (brick taken : ℕ) (bytes : List ℕ) : Type 0 where
-  pub at : Journal
-  pub there : slice_get bricks brick ≡ Some at
-  pub place : ℕ
-  pub input : slice_get at.journal place ≡ Some bytes
   pub counted : taken ≡ place + 1
 
 -- the request of a replacement

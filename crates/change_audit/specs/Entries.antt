@@ -16,13 +16,16 @@ pub record AreNotesOf (script : Script) (log : Log) (notes : Notes) : Type 0 whe
   pub graphs : AreGraphsOf script log notes.graphs
   pub marks : AreMarked log.replies notes.marks
 
--- a change that makes the operation was taken for the entry at a place
-pub record IsClaimed (script : Script) (plans : List Plan) (log : Log) (bricks : List Journal) (ops : List FlatOp) (claims : List (ℕ × ℕ)) (k call : ℕ) (operation : FlatOp) : Type 0 where
+-- a change that makes the operation by the event of a number was taken for the entry at a place
+pub record IsClaimed (script : Script) (plans : List Plan) (log : Log) (bricks : List Journal) (ops : List FlatOp) (claims : List (ℕ × ℕ)) (k call number : ℕ) (operation : FlatOp) : Type 0 where
   pub change : ℕ
   pub claimed : claim_of claims change ≡ Some k
-  pub borne : IsBorne script plans log bricks ops call change operation
+  pub borne : IsBorne script plans log bricks ops call change number operation
+
+-- so by the event of each reply by which the call was answered well
+abbrev pub IsClaimedInTime : Script → List Plan → Log → List Journal → List FlatOp → List (ℕ × ℕ) → ℕ → ℕ → FlatOp → Type 0
+IsClaimedInTime script plans log bricks ops claims k call operation = (number : ℕ) → IsAcknowledged log call number → IsClaimed script plans log bricks ops claims k call number operation
 
 -- the entry at a place has its change, if its call was answered well
 abbrev pub IsEntryClaimed : Script → List Plan → Log → List Journal → List FlatOp → List (ℕ × ℕ) → ℕ → Entry → Type 0
-IsEntryClaimed script plans log bricks ops claims k entry =
-    (operation : FlatOp) → slice_get ops k ≡ Some operation → IsAcknowledged log entry.call → IsClaimed script plans log bricks ops claims k entry.call operation
+IsEntryClaimed script plans log bricks ops claims k entry = (operation : FlatOp) → slice_get ops k ≡ Some operation → IsClaimedInTime script plans log bricks ops claims k entry.call operation

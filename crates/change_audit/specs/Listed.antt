@@ -7,8 +7,7 @@ use Rattle.fop_types.specs.declared.messages.BrickReq.TheVariants.{Index}
 use Rattle.fop_types.specs.declared.messages.DoneArm.TheVariants.{Cells}
 use Rattle.brick_machine.specs.Journal.{Journal}
 use Rattle.mount_log.specs.declared.logs.Log.{Log}
-use Rattle.change_audit.specs.Borne.{IsWindFor}
-use Rattle.change_audit.specs.Copied.{IsDoneIn}
+use Rattle.change_audit.specs.Answered.{IsDoneIn, IsWindFor}
 
 -- a brick's answer to the index of an internal call arrived in the event at this place, from 0, and was this list
 pub record IsIndex (log : Log) (bricks : List Journal) (event : ℕ) (cells : List Cell) : Type 0 where

@@ -1,6 +1,6 @@
--- A request that a brick has answered Done, by the places of the request in the journal and of the answer among the outputs. A
--- request's text is what its bytes are behind the number of its wind: its graph, and what is asked.
-use Rattle.std.specs.Prelude.{◌≡◌, ℕ, ◌+◌, true, List, ◌++◌, Some, slice_get}
+-- An op or a post that a brick has answered Done by what arrived, by the count of its inputs up to the request and the place of
+-- the event. A request's text is what its bytes are behind the number of its wind: its graph, and what is asked.
+use Rattle.std.specs.Prelude.{◌≡◌, ℕ, ◌+◌, ◌<◌, true, List, ◌++◌, Some, slice_get}
 use Rattle.fop_types.specs.declared.cells.Cell.{Cell}
 use Rattle.fop_types.specs.declared.contents.Mask.{Mask}
 use Rattle.fop_types.specs.declared.messages.BrickRep.TheVariants.{Done}
@@ -10,22 +10,25 @@ use Rattle.fop_types.specs.declared.messages.DoneArm.TheVariants.{Nothing}
 use Rattle.fop_types.specs.declared.messages.Input.{Input}
 use Rattle.fop_types.specs.declared.messages.Input.TheVariants.{Request}
 use Rattle.fop_types.specs.declared.messages.OutKind.TheVariants.{Reply}
-use Rattle.fop_types.specs.declared.messages.Output.{Output}
 use Rattle.fop_types.specs.declared.store_ops.StoreOp.{StoreOp}
 use Rattle.wire_xdr.specs.MessageText.{req_text}
-use Rattle.wire_xdr.specs.WireText.{input_text}
+use Rattle.wire_xdr.specs.WireText.{input_text, output_text}
 use Rattle.wire_xdr.specs.Xdr.{unit}
-use Rattle.brick_machine.specs.Machine.{outputs_of}
+use Rattle.brick_machine.specs.Journal.{Journal}
+use Rattle.mount_log.specs.declared.logs.HubEvent.TheVariants.{Arrive}
+use Rattle.mount_log.specs.declared.logs.Log.{Log}
 use Rattle.mount_log.specs.declared.logs.WindLine.{WindLine}
 use Rattle.xlator_law.specs.Numbers.{wind_number}
-use Rattle.change_audit.specs.Borne.{IsDoneRequest}
+use Rattle.change_audit.specs.Answered.{IsDoneIn, IsWindFor, IsOpenedSince}
+use Rattle.change_audit.specs.declared.answers.Served.{Served}
 
--- the output at a place is the Done of a wind, and the input at another place caused it
-pub record IsAnswered (journal : List (List ℕ)) (place answer wind : ℕ) : Type 0 where
-  pub output : Output
-  pub there : slice_get (outputs_of journal) answer ≡ Some output
-  pub caused : output.taken ≡ place + 1
-  pub reply : output.kind ≡ Reply wind (Done Nothing)
+-- the Done of a wind, which answers the input of this count, from 1
+abbrev pub done_text : ℕ → ℕ → List ℕ
+done_text taken wind = output_text (record { taken = taken; kind = Reply wind (Done Nothing) })
+
+-- the Done of a wind arrived from a brick, where and for which input this says
+abbrev pub IsAnswered : Log → ℕ → Served → ℕ → Type 0
+IsAnswered log brick at wind = slice_get log.events at.event ≡ Some (Arrive brick (done_text at.taken wind))
 
 -- the bytes are a request on this wind
 pub record IsOnWind (wind : ℕ) (bytes : List ℕ) : Type 0 where
@@ -81,12 +84,23 @@ pub record IsOpeningFor (call wind : ℕ) (line : WindLine) : Type 0 where
   pub call_is : line.call ≡ call
   pub number_is : wind_number line.wind ≡ wind
 
--- the brick has answered Done to the request of this text at a place, which was sent for a wind of the call
-abbrev pub IsServed : List WindLine → List (List ℕ) → ℕ → ℕ → List ℕ → Type 0
-IsServed winds journal call place text = (graph : ℕ) (req : BrickReq) → text ≡ text_of graph req → IsDoneRequest winds journal call graph place req
+-- a brick has answered Done, where this says, to the request of a graph, which was sent for a wind of the call
+pub record IsServedAs (log : Log) (bricks : List Journal) (brick : ℕ) (at : Served) (call graph : ℕ) (req : BrickReq) : Type 0 where
+  pub wind : ℕ
+  pub done : IsDoneIn log bricks brick wind graph at.event req Nothing
+  pub counted : at.taken ≡ done.place + 1
+  pub of_call : IsWindFor log.winds call wind
 
--- the brick has answered Done to the post of a change at a place, which was sent for a wind of the call
-pub record IsPosted (winds : List WindLine) (journal : List (List ℕ)) (call graph change place : ℕ) : Type 0 where
+-- so to the request of this text
+abbrev pub IsServed : Log → List Journal → ℕ → Served → ℕ → List ℕ → Type 0
+IsServed log bricks brick at call text = (graph : ℕ) (req : BrickReq) → text ≡ text_of graph req → IsServedAs log bricks brick at call graph req
+
+-- a brick has answered Done, where this says, to the post of a change in a graph, which was sent for a wind of the call since an
+-- event at this place
+pub record IsPosted (log : Log) (bricks : List Journal) (brick : ℕ) (at : Served) (call graph change since : ℕ) : Type 0 where
   pub cells : List Cell
   pub mask : Mask
-  pub done : IsDoneRequest winds journal call graph place (Post change cells mask)
+  pub wind : ℕ
+  pub done : IsDoneIn log bricks brick wind graph at.event (Post change cells mask) Nothing
+  pub counted : at.taken ≡ done.place + 1
+  pub of_call : IsOpenedSince log.winds call wind since

@@ -1,7 +1,7 @@
-//! Which calls were answered well.
-ghost use Rattle.std.specs.Prelude.{◌≡◌, true, Some, slice_get, IfOk, IfSome};
+//! Which calls were answered well, and by which event.
+ghost use Rattle.std.specs.Prelude.{◌≡◌, true, false, IfOk, IfSome};
 ghost use Rattle.fop_types.specs.Replies.{is_ok as is_well};
-ghost use Rattle.change_audit.specs.Acknowledged.{IsMarked, AreMarked, KeepMarks};
+ghost use Rattle.change_audit.specs.Acknowledged.{mark_of as marked_as, IsMarkBy, IsMarkedBy, IsMarked, AreMarked, KeepMarks, IsNoEarlier};
 
 use fop_types::{Answer, Seq};
 use mount_log::ReplyLine;
@@ -19,37 +19,53 @@ fn is_ok(answer: &Answer) -> bool
 }
 
 // No call of so many is marked.
-fn no_marks(alloc: Global, calls: usize) -> Result<Vec<bool>, AllocError> {
+fn no_marks(alloc: Global, calls: usize) -> Result<Vec<Option<u64>>, AllocError> {
     let mut marks = Vec::with_capacity(alloc, calls)?;
     for _ in 0..calls {
-        marks.push(false)?;
+        marks.push(None)?;
     }
     Ok(marks)
 }
 
-fn set_mark(marks: &mut Vec<bool>, call: usize) -> bool
-    ensures set { result ≡ true → slice_get marks.new.items call ≡ Some true }
+// Whether a mark is of the event of this number, or of an earlier one.
+fn is_by(mark: Option<u64>, number: u64) -> bool
+    ensures by { result ≡ true → IsMarkBy mark number }
+    ensures no_earlier { result ≡ false → IsNoEarlier mark number }
+{
+    match mark {
+        Some(earlier) => earlier <= number,
+        None => false,
+    }
+}
+
+// Marks a call with the number of an event, unless its mark is of an earlier one. It is false where there is no room for the call.
+fn set_mark(marks: &mut Vec<Option<u64>>, call: u32, number: u64) -> bool
+    ensures set { result ≡ true → IsMarkedBy marks.new.items call number }
     ensures keeps { KeepMarks marks.old.items marks.new.items }
 {
-    if call >= marks.len() {
+    if call as usize >= marks.len() {
         return false;
     }
-    marks[call] = true;
+    if is_by(mark_of(marks.as_slice(), call), number) {
+        return true;
+    }
+    marks[call as usize] = Some(number);
     true
 }
 
 // Marks the call of a reply, if it was answered well. It is false where there is no room for the call.
-fn mark(marks: &mut Vec<bool>, reply: &ReplyLine) -> bool
+fn mark(marks: &mut Vec<Option<u64>>, reply: &ReplyLine) -> bool
     ensures marked { result ≡ true → IsMarked marks.new.items reply.now }
     ensures keeps { KeepMarks marks.old.items marks.new.items }
 {
     if !is_ok(&reply.answer) {
         return true;
     }
-    set_mark(marks, reply.call as usize)
+    set_mark(marks, reply.call, reply.event)
 }
 
-/// The calls that were answered well, by their numbers, where all of them are below a bound.
+/// The calls that were answered well, by their numbers, where all of them are below a bound: of each the number of the event of
+/// its first such reply.
 ///
 /// # Errors
 /// Out of memory.
@@ -57,7 +73,7 @@ pub(crate) fn answered_well(
     alloc: Global,
     replies: &[ReplyLine],
     bound: usize,
-) -> Result<Option<Seq<bool>>, AllocError>
+) -> Result<Option<Seq<Option<u64>>>, AllocError>
     ensures { IfOk result (λ found. IfSome found (λ marks. AreMarked replies.now marks)) }
 {
     let mut marks = no_marks(alloc, bound)?;
@@ -69,12 +85,12 @@ pub(crate) fn answered_well(
     Ok(Some(Seq::from_vec(marks)))
 }
 
-/// Whether a call is marked.
-pub(crate) fn is_marked(marks: &[bool], call: u32) -> bool
-    ensures { slice_get marks.now call ≡ Some true → result ≡ true }
+/// The number of the event by which a call was answered well, if it was.
+pub(crate) fn mark_of(marks: &[Option<u64>], call: u32) -> Option<u64>
+    ensures { result ≡ marked_as marks.now call }
 {
     match marks.get(call as usize) {
-        Some(marked) => *marked,
-        None => false,
+        Some(mark) => *mark,
+        None => None,
     }
 }

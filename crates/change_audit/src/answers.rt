@@ -1,69 +1,30 @@
-//! What a brick has answered Done, among its outputs.
-ghost use Rattle.std.specs.Prelude.{◌≡◌, ◌+◌, ◌<◌, ◌^◌, true, Some, length, option_copied, slice_get, IfOk, IfSome};
+//! What a brick has answered Done, by what arrived.
+ghost use Rattle.std.specs.Prelude.{◌≡◌, true, IfOk, IfSome};
 ghost use Rattle.fop_types.specs.declared.messages.BrickRep.TheVariants.{Done};
 ghost use Rattle.fop_types.specs.declared.messages.DoneArm.TheVariants.{Nothing};
 ghost use Rattle.fop_types.specs.declared.messages.OutKind.TheVariants.{Reply};
-ghost use Rattle.wire_messages.specs.Messages.{output_in};
-ghost use Rattle.wire_messages.specs.declared.messages.Message.TheVariants.{Whole};
-ghost use Rattle.brick_machine.specs.Machine.{outputs_of};
-ghost use Rattle.change_audit.specs.Served.{IsAnswered};
+ghost use Rattle.change_audit.specs.Served.{done_text, IsAnswered};
 
-use brick_machine::{Brick, outputs_are_encoded, outputs_are_in_order};
-use bytes::Bytes;
+use crate::arrivals::{arrived, written_output};
 use fop_types::{BrickRep, DoneArm, OutKind, Output};
+use mount_log::Log;
 use std::alloc::{AllocError, Global};
-use wire_messages::{Message, messages_read_back, output_of};
 
-/// A request in a brick's journal, its answer among the brick's outputs, and the opening of its wind among the wind lines, by
-/// their places from 0.
+/// A request that a brick has answered Done: the count of the brick's inputs up to it, the place of the event in which the answer
+/// arrived, and that of the opening of its wind among the wind lines, both from 0.
 #[derive(Clone, Copy)]
 pub struct Served {
-    pub place: usize,
-    pub answer: usize,
+    pub taken: u64,
+    pub event: usize,
     pub opening: usize,
 }
 
-/// The bytes at a place.
-pub fn bytes_at(list: &[Bytes], at: usize) -> Option<&Bytes>
-    ensures { option_copied result ≡ slice_get list.now at }
-{
-    list.get(at)
-}
-
-/// The output that the bytes are, if they are one.
-///
-/// # Errors
-/// Out of memory.
-pub(crate) fn whole_output(alloc: Global, bytes: &[u8]) -> Result<Option<Output>, AllocError>
-    ensures { IfOk result (λ found. IfSome found (λ x. output_in bytes.now ≡ Whole x)) }
-{
-    match output_of(alloc, bytes)? {
-        Message::Whole(output) => Ok(Some(output)),
-        Message::Wrong { place: _ } => Ok(None),
-    }
-}
-
-fn are_few(journal: &[Bytes]) -> bool
-    ensures { length journal.now < 2 ^ 64 }
-{
-    journal.is_empty()
-}
-
-// The output at a place.
-fn output_at(alloc: Global, brick: &Brick, at: usize) -> Result<Option<Output>, AllocError>
-    ensures { IfOk result (λ found. IfSome found (λ x. slice_get (outputs_of brick.now.journal) at ≡ Some x)) }
-{
-    outputs_are_encoded();
-    outputs_are_in_order();
-    messages_read_back();
-    are_few(brick.journal());
-    let Some(bytes) = bytes_at(brick.outputs(), at) else {
-        return Ok(None);
-    };
-    let Some(output) = whole_output(alloc, bytes.as_slice())? else {
-        return Ok(None);
-    };
-    Ok(Some(output))
+/// A brick that is said to bear a change, with its op and its post.
+#[derive(Clone, Copy)]
+pub struct Bearer {
+    pub brick: u8,
+    pub op: Served,
+    pub post: Served,
 }
 
 fn is_nothing(arm: &DoneArm) -> bool
@@ -103,32 +64,39 @@ fn says_done(kind: &OutKind, wind: u64) -> bool
     }
 }
 
-fn is_caused_by(output: &Output, place: usize) -> bool
-    ensures { result ≡ true → output.now.taken ≡ place + 1 }
+fn is_done_of(output: &Output, taken: u64, wind: u64) -> bool
+    ensures taken { result ≡ true → output.now.taken ≡ taken }
+    ensures kind { result ≡ true → output.now.kind ≡ Reply wind (Done Nothing) }
 {
-    output.taken > 0 && output.taken - 1 == place as u64
+    output.taken == taken && says_done(&output.kind, wind)
 }
 
-/// Whether the output at a place is the Done of a wind, and the input at the other place caused it.
+// Whether the bytes are the Done of a wind that answers the input of this count.
+fn is_done_text(alloc: Global, bytes: &[u8], taken: u64, wind: u64) -> Result<bool, AllocError>
+    ensures { IfOk result (λ yes. yes ≡ true → bytes.now ≡ done_text taken wind) }
+{
+    match written_output(alloc, bytes)? {
+        Some(output) => Ok(is_done_of(&output, taken, wind)),
+        None => Ok(false),
+    }
+}
+
+/// Whether the Done of a wind arrived from a brick, where and for which input it is said.
 ///
 /// # Errors
 /// Out of memory.
 pub(crate) fn is_answered(
     alloc: Global,
-    brick: &Brick,
+    log: &Log,
+    brick: u8,
     at: Served,
     wind: u64,
 ) -> Result<bool, AllocError>
-    ensures { IfOk result (λ yes. yes ≡ true → IsAnswered brick.now.journal at.place at.answer wind) }
+    ensures { IfOk result (λ yes. yes ≡ true → IsAnswered log.now brick at wind) }
 {
-    let Some(output) = output_at(alloc, brick, at.answer)? else {
+    let Some(bytes) = arrived(log, at.event, brick) else {
         return Ok(false);
     };
-    if !is_caused_by(&output, at.place) {
-        return Ok(false);
-    }
-    if !says_done(&output.kind, wind) {
-        return Ok(false);
-    }
-    Ok(true)
+    let yes = is_done_text(alloc, bytes, at.taken, wind)?;
+    Ok(yes)
 }

@@ -1,30 +1,16 @@
 //! Whether the bricks of a set bear a change, where they are said to.
-ghost use Rattle.std.specs.Prelude.{◌≡◌, ◌==◌, ◌≤◌, true, length, map, drop, option_copied, slice_get, Contains, IfOk};
+ghost use Rattle.std.specs.Prelude.{◌≡◌, ◌==◌, ◌≤◌, true, length, map, drop, Contains, IfOk};
 ghost use Rattle.std.specs.List.{AllByRecursion, IsDistinct};
-ghost use Rattle.change_audit.specs.Bearing.{brick_of, RisesFrom, IsMaking, IsSaidBorne, IsSaidBearer, HasBearers};
+ghost use Rattle.change_audit.specs.Bearing.{brick_of, RisesFrom, IsMaking, IsInOrder, IsSaidBorne, IsSaidBearer, HasBearers};
 
-use crate::answers::{Served, bytes_at};
+use crate::answers::Bearer;
+use crate::journals::input_at;
 use crate::making::makes;
 use crate::served::{is_posted, is_served, op_in, text_in};
 use brick_machine::Brick;
 use fop_types::{FlatOp, SetPlan};
-use mount_log::WindLine;
+use mount_log::Log;
 use std::alloc::{AllocError, Global};
-
-/// A brick that is said to bear a change, with the places of its op and of its post.
-#[derive(Drop)]
-pub struct Bearer {
-    pub brick: u8,
-    pub op: Served,
-    pub post: Served,
-}
-
-/// The brick of a number.
-pub fn brick_at(bricks: &[Brick], brick: u8) -> Option<&Brick>
-    ensures { option_copied result ≡ slice_get bricks.now brick }
-{
-    bricks.get(brick as usize)
-}
 
 /// Whether a brick is one of the set.
 pub fn has_member(plan: &SetPlan, brick: u8) -> bool
@@ -33,68 +19,79 @@ pub fn has_member(plan: &SetPlan, brick: u8) -> bool
     plan.bricks.as_slice().contains(&brick)
 }
 
-// Whether a brick has served the op of this text, and later the post of the change.
+// Whether the op was served before the post, and answered before it, and the post by the event of this number.
+fn is_in_order(bearer: &Bearer, number: u64) -> bool
+    ensures { result ≡ true → IsInOrder bearer.now number }
+{
+    bearer.op.taken < bearer.post.taken
+        && bearer.op.event < bearer.post.event
+        && (bearer.post.event as u64) < number
+}
+
+// Whether a brick has served the op of this text, and then the post of the change, by the event of this number.
 fn is_borne_by(
     alloc: Global,
-    winds: &[WindLine],
-    brick: &Brick,
+    log: &Log,
+    bricks: &[Brick],
     call: u32,
     graph: usize,
     change: u64,
+    number: u64,
     text: &[u8],
     bearer: &Bearer,
 ) -> Result<bool, AllocError>
-    ensures { IfOk result (λ yes. yes ≡ true → IsSaidBorne winds.now call graph change text.now brick.now) }
+    ensures { IfOk result (λ yes. yes ≡ true → IsSaidBorne log.now bricks.now call graph change number text.now bearer.now.brick) }
 {
-    if bearer.op.place >= bearer.post.place {
+    if !is_in_order(bearer, number) {
         return Ok(false);
     }
-    if !is_served(alloc, winds, brick, bearer.op, call, text)? {
+    if !is_served(alloc, log, bricks, *bearer, call, text)? {
         return Ok(false);
     }
-    let yes = is_posted(alloc, winds, brick, bearer.post, call, graph, change)?;
+    let yes = is_posted(alloc, log, bricks, *bearer, call, graph, change)?;
     Ok(yes)
 }
 
 fn is_bearer(
     alloc: Global,
-    winds: &[WindLine],
+    log: &Log,
     bricks: &[Brick],
     plan: &SetPlan,
     call: u32,
     graph: usize,
     change: u64,
+    number: u64,
     text: &[u8],
     bearer: &Bearer,
 ) -> Result<bool, AllocError>
-    ensures { IfOk result (λ yes. yes ≡ true → IsSaidBearer winds.now bricks.now plan.now call graph change text.now bearer.now) }
+    ensures { IfOk result (λ yes. yes ≡ true → IsSaidBearer log.now bricks.now plan.now call graph change number text.now bearer.now) }
 {
     if !has_member(plan, bearer.brick) {
         return Ok(false);
     }
-    let Some(brick) = brick_at(bricks, bearer.brick) else {
-        return Ok(false);
-    };
-    let yes = is_borne_by(alloc, winds, brick, call, graph, change, text, bearer)?;
+    let yes = is_borne_by(
+        alloc, log, bricks, call, graph, change, number, text, bearer,
+    )?;
     Ok(yes)
 }
 
 fn are_bearers(
     alloc: Global,
-    winds: &[WindLine],
+    log: &Log,
     bricks: &[Brick],
     plan: &SetPlan,
     call: u32,
     graph: usize,
     change: u64,
+    number: u64,
     text: &[u8],
     bearers: &[Bearer],
 ) -> Result<bool, AllocError>
-    ensures { IfOk result (λ yes. yes ≡ true → AllByRecursion (IsSaidBearer winds.now bricks.now plan.now call graph change text.now) bearers.now) }
+    ensures { IfOk result (λ yes. yes ≡ true → AllByRecursion (IsSaidBearer log.now bricks.now plan.now call graph change number text.now) bearers.now) }
 {
     for bearer in bearers {
         if !is_bearer(
-            alloc, winds, bricks, plan, call, graph, change, text, bearer,
+            alloc, log, bricks, plan, call, graph, change, number, text, bearer,
         )? {
             return Ok(false);
         }
@@ -131,9 +128,7 @@ fn are_enough(plan: &SetPlan, bearers: &[Bearer]) -> bool
 // The bytes of the op of the first bearer.
 fn first_op<'a>(bricks: &'a [Brick], bearers: &[Bearer]) -> Option<&'a [u8]> {
     let first = bearers.first()?;
-    let brick = brick_at(bricks, first.brick)?;
-    let bytes = bytes_at(brick.journal(), first.op.place)?;
-    Some(bytes.as_slice())
+    input_at(bricks, first.brick, first.op.taken)
 }
 
 // Whether bytes are the op of a change in a graph that makes the operation.
@@ -152,23 +147,24 @@ fn is_making(
     }
 }
 
-/// Whether a quorum of the bricks of a set bears a change of a call in a graph that makes the operation: those who are said to,
-/// by rising numbers.
+/// Whether a quorum of the bricks of a set bears a change of a call in a graph that makes the operation, by the event of this
+/// number: those who are said to, by rising numbers.
 ///
 /// # Errors
 /// Out of memory.
 pub(crate) fn has_bearers(
     alloc: Global,
-    winds: &[WindLine],
+    log: &Log,
     bricks: &[Brick],
     plan: &SetPlan,
     call: u32,
     graph: usize,
-    operation: &FlatOp,
     change: u64,
+    number: u64,
+    operation: &FlatOp,
     bearers: &[Bearer],
 ) -> Result<bool, AllocError>
-    ensures { IfOk result (λ yes. yes ≡ true → HasBearers winds.now bricks.now plan.now call graph change operation.now) }
+    ensures { IfOk result (λ yes. yes ≡ true → HasBearers log.now bricks.now plan.now call graph change number operation.now) }
 {
     if !are_apart(bearers) {
         return Ok(false);
@@ -186,7 +182,7 @@ pub(crate) fn has_bearers(
         return Ok(false);
     };
     let yes = are_bearers(
-        alloc, winds, bricks, plan, call, graph, change, text, bearers,
+        alloc, log, bricks, plan, call, graph, change, number, text, bearers,
     )?;
     Ok(yes)
 }

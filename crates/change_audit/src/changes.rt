@@ -1,16 +1,17 @@
 //! The audit.
 ghost use Rattle.std.specs.Prelude.{◌≡◌, true, Some, option_copied, slice_get, IfOk, IfSome};
 ghost use Rattle.fop_types.specs.declared.history.Entry.{Entry as Made};
-ghost use Rattle.change_audit.specs.Borne.{IsBorne, IsAcknowledged, AreBorne};
+ghost use Rattle.change_audit.specs.Borne.{IsBorne, AreBorne};
 ghost use Rattle.change_audit.specs.CallGraphs.{AreGraphsOf};
 ghost use Rattle.change_audit.specs.Claims.{KeepClaims};
-ghost use Rattle.change_audit.specs.Entries.{AreNotesOf, IsClaimed, IsEntryClaimed};
+ghost use Rattle.change_audit.specs.Entries.{AreNotesOf, IsClaimed, IsClaimedInTime, IsEntryClaimed};
 
-use crate::acknowledged::{answered_well, is_marked};
+use crate::acknowledged::{answered_well, mark_of};
 use crate::bearers::has_bearers;
 use crate::call_graphs::{CallGraphs, call_graphs, graph_of, set_in, set_with};
+use crate::candidates::{Candidate, Candidates};
 use crate::claims::Claims;
-use crate::finding::{Candidate, Candidates, find};
+use crate::finding::find;
 use crate::placing::{Makers, is_on_set, makers_of};
 use brick_machine::Brick;
 use fop_types::{Entry, FlatOp, Seq};
@@ -19,12 +20,12 @@ use mount_log::Log;
 use script_lang::Script;
 use std::alloc::{AllocError, Global};
 
-/// What is known of a run before its history is gone through: the graphs of its calls, which calls were answered well, which
-/// changes bricks are said to bear, and which entries make directories.
+/// What is known of a run before its history is gone through: the graphs of its calls, which calls were answered well and by
+/// which event, which changes bricks are said to bear, and which entries make directories.
 #[derive(Drop)]
 pub struct Notes {
     pub graphs: CallGraphs,
-    pub marks: Seq<bool>,
+    pub marks: Seq<Option<u64>>,
     pub found: Candidates,
     pub makers: Makers,
 }
@@ -44,7 +45,7 @@ fn notes_of(
         return Ok(None);
     };
     let graphs = call_graphs(alloc, script, log)?;
-    let found = find(alloc, log.winds.as_slice(), bricks)?;
+    let found = find(alloc, log, bricks, marks.as_slice())?;
     let makers = makers_of(alloc, ops)?;
     Ok(Some(Notes {
         graphs,
@@ -60,7 +61,8 @@ fn set_of(plans: &[Plan], graphs: &CallGraphs, graph: usize, change: &Candidate)
     set_with(plans, graphs, graph, first.brick)
 }
 
-// Whether the bricks of a set bear this change of a call, and it makes the operation, on the set of the name of the object that this makes.
+// Whether the bricks of a set bear this change of a call by the event of a number, and it makes the operation, on the set of the
+// name of the object that this makes.
 fn is_borne(
     alloc: Global,
     script: &Script,
@@ -70,11 +72,12 @@ fn is_borne(
     ops: &[FlatOp],
     notes: &Notes,
     call: u32,
+    number: u64,
     operation: &FlatOp,
     change: &Candidate,
 ) -> Result<bool, AllocError>
     requires { AreGraphsOf script.now log.now notes.now.graphs }
-    ensures { IfOk result (λ yes. yes ≡ true → IsBorne script.now plans.now log.now bricks.now ops.now call change.now.change operation.now) }
+    ensures { IfOk result (λ yes. yes ≡ true → IsBorne script.now plans.now log.now bricks.now ops.now call change.now.change number operation.now) }
 {
     let graphs = &notes.graphs;
     let Some(graph) = graph_of(graphs, call) else {
@@ -90,23 +93,16 @@ fn is_borne(
     if !is_on_set(alloc, plans, log, graphs, ops, makers, operation, set)? {
         return Ok(false);
     }
-    let winds = log.winds.as_slice();
     let bearers = change.bearers.as_slice();
+    let of = change.change;
     let yes = has_bearers(
-        alloc,
-        winds,
-        bricks,
-        plan,
-        call,
-        graph,
-        operation,
-        change.change,
-        bearers,
+        alloc, log, bricks, plan, call, graph, of, number, operation, bearers,
     )?;
     Ok(yes)
 }
 
-// The number of a change of a call that makes the operation and is on the bricks of a set: the first that was not taken.
+// The number of a change of a call that makes the operation and is on the bricks of a set by the event of a number: the first
+// that was not taken.
 fn change_for(
     alloc: Global,
     script: &Script,
@@ -117,10 +113,11 @@ fn change_for(
     notes: &Notes,
     claims: &Claims,
     call: u32,
+    number: u64,
     operation: &FlatOp,
 ) -> Result<Option<u64>, AllocError>
     requires { AreGraphsOf script.now log.now notes.now.graphs }
-    ensures { IfOk result (λ found. IfSome found (λ change. IsBorne script.now plans.now log.now bricks.now ops.now call change operation.now)) }
+    ensures { IfOk result (λ found. IfSome found (λ change. IsBorne script.now plans.now log.now bricks.now ops.now call change number operation.now)) }
 {
     for at in notes.found.begin(call)..notes.found.count() {
         let Some(change) = notes.found.change(at, call) else {
@@ -130,7 +127,7 @@ fn change_for(
             continue;
         }
         if is_borne(
-            alloc, script, plans, log, bricks, ops, notes, call, operation, change,
+            alloc, script, plans, log, bricks, ops, notes, call, number, operation, change,
         )? {
             return Ok(Some(change.change));
         }
@@ -138,7 +135,7 @@ fn change_for(
     Ok(None)
 }
 
-// Takes a change for the entry at a place, whose call and operation these are.
+// Takes a change for the entry at a place, whose call and operation these are, by the event of a number.
 fn take_change(
     alloc: Global,
     script: &Script,
@@ -150,14 +147,15 @@ fn take_change(
     claims: &mut Claims,
     k: usize,
     call: u32,
+    number: u64,
     operation: &FlatOp,
 ) -> Result<bool, AllocError>
     requires { AreGraphsOf script.now log.now notes.now.graphs }
-    ensures claimed { IfOk result (λ yes. yes ≡ true → IsClaimed script.now plans.now log.now bricks.now ops.now claims.new k call operation.now) }
+    ensures claimed { IfOk result (λ yes. yes ≡ true → IsClaimed script.now plans.now log.now bricks.now ops.now claims.new k call number operation.now) }
     ensures keeps { IfOk result (λ yes. KeepClaims claims.old claims.new) }
 {
     let found = change_for(
-        alloc, script, plans, log, bricks, ops, notes, claims, call, operation,
+        alloc, script, plans, log, bricks, ops, notes, claims, call, number, operation,
     )?;
     let Some(change) = found else {
         return Ok(false);
@@ -181,14 +179,14 @@ fn take_due(
     operation: &FlatOp,
 ) -> Result<bool, AllocError>
     requires { AreNotesOf script.now log.now notes.now }
-    ensures claimed { IfOk result (λ yes. yes ≡ true → IsAcknowledged log.now call → IsClaimed script.now plans.now log.now bricks.now ops.now claims.new k call operation.now) }
+    ensures claimed { IfOk result (λ yes. yes ≡ true → IsClaimedInTime script.now plans.now log.now bricks.now ops.now claims.new k call operation.now) }
     ensures keeps { IfOk result (λ yes. KeepClaims claims.old claims.new) }
 {
-    if !is_marked(notes.marks.as_slice(), call) {
+    let Some(number) = mark_of(notes.marks.as_slice(), call) else {
         return Ok(true);
-    }
+    };
     let yes = take_change(
-        alloc, script, plans, log, bricks, ops, notes, claims, k, call, operation,
+        alloc, script, plans, log, bricks, ops, notes, claims, k, call, number, operation,
     )?;
     Ok(yes)
 }
@@ -237,9 +235,10 @@ fn take_entry(
 }
 
 /// Whether each entry of the history whose call was answered well has a change of its own on the bricks: a quorum of the bricks
-/// of one set have served the op of the change, which makes the entry's operation, and later its post, for winds of the call,
-/// and have answered both Done; where the operation makes an object, the set is that of its name. `ops` are the operations of the entries, in their order; where they are fewer than the entries,
-/// it is false.
+/// of one set have answered Done to the op of the change, which makes the entry's operation, and then to its post, which was sent
+/// when that answer had arrived, both for winds of the call, and the second answer arrived by the event of the call's reply; where
+/// the operation makes an object, the set is that of its name. `ops` are the operations of the entries, in their order; where
+/// they are fewer than the entries, it is false.
 ///
 /// # Errors
 /// Out of memory.

@@ -1,9 +1,10 @@
 //! The audit of copies.
 ghost use Rattle.std.specs.Prelude.{◌≡◌, ◌≢◌, ◌+◌, true, length, Contains, Some, option_copied, slice_get, IfOk, IfSome};
 ghost use Rattle.fop_types.specs.declared.copy_jobs.CopyRecord.{CopyRecord as Copied};
+ghost use Rattle.change_audit.specs.Answered.{IsOpenedIn};
 ghost use Rattle.change_audit.specs.CallGraphs.{AreGraphsOf};
 ghost use Rattle.change_audit.specs.Claims.{KeepClaims};
-ghost use Rattle.change_audit.specs.Copied.{IsOpenedIn, IsReplaced, IsMade, CopiesAreMade};
+ghost use Rattle.change_audit.specs.Copied.{IsReplaced, IsMade, CopiesAreMade};
 ghost use Rattle.change_audit.specs.Copying.{IsOfCopy, HasFetch, IsWithinTables, IsCopyClaimed, IsCopyDue};
 
 use crate::bearers::has_member;

@@ -1,8 +1,9 @@
 //! Which replacements were confirmed, found in what arrived. Nothing is said of what is found.
 
-use crate::answers::{done_wind, whole_output};
-use crate::copy_requests::{input_at, replacement_in};
-use crate::finding::{DONE, Opening, openings_for};
+use crate::arrivals::written_output;
+use crate::copy_requests::replacement_in;
+use crate::finding::{Confirmed, Opening, confirmed_in, openings_for};
+use crate::journals::input_at;
 use brick_machine::Brick;
 use fop_types::{BrickRep, Cell, CopyRecord, DoneArm, OutKind, Output, Proc};
 use log_audit::by_place::event_at;
@@ -46,39 +47,7 @@ struct Origin {
     last: u64,
 }
 
-// A Done that arrived from a brick: its wind, and the count of the input that it answers.
-#[derive(Clone, Copy)]
-struct Confirmed {
-    brick: u8,
-    wind: u64,
-    taken: u64,
-}
-
 // ---- what arrived
-
-fn confirmed_by(alloc: Global, brick: u8, bytes: &[u8]) -> Result<Option<Confirmed>, AllocError> {
-    if bytes.len() != DONE {
-        return Ok(None);
-    }
-    let Some(output) = whole_output(alloc, bytes)? else {
-        return Ok(None);
-    };
-    match done_wind(&output.kind) {
-        Some(wind) => Ok(Some(Confirmed {
-            brick,
-            wind,
-            taken: output.taken,
-        })),
-        None => Ok(None),
-    }
-}
-
-fn confirmed_in(alloc: Global, event: &HubEvent) -> Result<Option<Confirmed>, AllocError> {
-    match event {
-        HubEvent::Arrive { brick, bytes } => confirmed_by(alloc, *brick, bytes.as_slice()),
-        _ => Ok(None),
-    }
-}
 
 fn origin_by(source: u8, output: &Output) -> Option<Origin> {
     match &output.kind {
@@ -109,7 +78,7 @@ fn origin_with(source: u8, wind: u64, arm: &DoneArm) -> Option<Origin> {
 fn origin_in(alloc: Global, event: &HubEvent) -> Result<Option<Origin>, AllocError> {
     match event {
         HubEvent::Arrive { brick, bytes } => {
-            let Some(output) = whole_output(alloc, bytes.as_slice())? else {
+            let Some(output) = written_output(alloc, bytes.as_slice())? else {
                 return Ok(None);
             };
             Ok(origin_by(*brick, &output))

@@ -1,23 +1,20 @@
 //! The fetch and the replacement of a copy, in journals, and what arrived as their answers.
-ghost use Rattle.std.specs.Prelude.{◌≡◌, true, Some, option_copied, slice_get, IfOk, IfSome};
+ghost use Rattle.std.specs.Prelude.{◌≡◌, true, IfOk, IfSome};
 ghost use Rattle.fop_types.specs.declared.messages.BrickRep.TheVariants.{Done};
 ghost use Rattle.fop_types.specs.declared.messages.BrickReq.TheVariants.{Fetch};
 ghost use Rattle.fop_types.specs.declared.messages.DoneArm.TheVariants.{Content as Shown};
 ghost use Rattle.fop_types.specs.declared.messages.Input.TheVariants.{Request};
 ghost use Rattle.fop_types.specs.declared.messages.OutKind.TheVariants.{Reply};
 ghost use Rattle.wire_xdr.specs.WireText.{input_text, output_text};
-ghost use Rattle.mount_log.specs.declared.logs.HubEvent.TheVariants.{Arrive};
-ghost use Rattle.change_audit.specs.Copying.{IsSentAs, IsInputOf, replace_of, IsConfirmed, IsFetchedFor};
+ghost use Rattle.change_audit.specs.Copying.{IsSentAs, replace_of, IsConfirmed, IsFetchedFor};
 
-use crate::answers::{bytes_at, done_wind};
-use crate::bearers::brick_at;
-use crate::served::whole_input;
+use crate::answers::done_wind;
+use crate::arrivals::{arrived, written_output};
+use crate::journals::{input_at, whole_input};
 use brick_machine::Brick;
-use fop_types::{BrickReq, Cell, Content, Input, OutKind, Output};
-use log_audit::by_place::event_at;
-use mount_log::{HubEvent, Log};
+use fop_types::{BrickReq, Cell, Content, Input, OutKind};
+use mount_log::Log;
 use std::alloc::{AllocError, Global};
-use wire_messages::{Message, output_of};
 use wire_xdr::copy_bytes;
 
 /// The request of a replacement.
@@ -30,59 +27,7 @@ pub struct Replacement {
     pub content: Content,
 }
 
-// ---- what arrived
-
-fn bytes_from(event: &HubEvent, brick: u8) -> Option<&[u8]>
-    ensures { IfSome result (λ bytes. event.now ≡ Arrive brick bytes.now) }
-{
-    match event {
-        HubEvent::Arrive { brick: from, bytes } => {
-            if *from == brick {
-                Some(bytes.as_slice())
-            } else {
-                None
-            }
-        }
-        _ => None,
-    }
-}
-
-/// What arrived from a brick in the event at a place.
-pub fn arrived(log: &Log, event: usize, brick: u8) -> Option<&[u8]>
-    ensures { IfSome result (λ bytes. slice_get log.now.events event ≡ Some (Arrive brick bytes.now)) }
-{
-    match event_at(log, event) {
-        Some(event) => bytes_from(event, brick),
-        None => None,
-    }
-}
-
-/// The output that the bytes are the encoding of, if they are that of one.
-///
-/// # Errors
-/// Out of memory.
-pub fn written_output(alloc: Global, bytes: &[u8]) -> Result<Option<Output>, AllocError>
-    ensures { IfOk result (λ found. IfSome found (λ x. bytes.now ≡ output_text x)) }
-{
-    match output_of(alloc, bytes)? {
-        Message::Whole(output) => Ok(Some(output)),
-        Message::Wrong { place: _ } => Ok(None),
-    }
-}
-
 // ---- what was asked
-
-/// The input of a brick's journal that is counted so, from 1.
-pub fn input_at(bricks: &[Brick], brick: u8, taken: u64) -> Option<&[u8]>
-    ensures { IfSome result (λ bytes. IsInputOf bricks.now brick taken bytes.now) }
-{
-    if taken == 0 {
-        return None;
-    }
-    let at = brick_at(bricks, brick)?;
-    let bytes = bytes_at(at.journal(), (taken - 1) as usize)?;
-    Some(bytes.as_slice())
-}
 
 fn replacement_on(wind: u64, graph: u32, req: BrickReq) -> Option<Replacement>
     ensures { IfSome result (λ r. Request wind graph req ≡ Request r.wind r.graph (replace_of r)) }

@@ -1,34 +1,21 @@
-//! Which bricks bear which changes, found in journals and outputs. Nothing is said of what is found.
+//! Which bricks bear which changes, found in what arrived. Nothing is said of what is found.
 
-use crate::answers::{Served, done_wind, whole_output};
-use crate::bearers::Bearer;
+use crate::acknowledged::mark_of;
+use crate::answers::{Bearer, Served, done_wind};
+use crate::arrivals::written_output;
+use crate::candidates::{BearerOf, Candidates, candidates_of};
+use crate::journals::input_at;
 use brick_machine::Brick;
-use bytes::Bytes;
-use fop_types::{Proc, Seq};
+use fop_types::Proc;
 use log_audit::requests::request_proc;
-use mount_log::WindLine;
+use mount_log::{HubEvent, Log, WindLine};
 use std::alloc::{AllocError, Global};
 use std::collections::BTreeMap;
 
-/// A change of a call, and the bricks that are said to bear it, by rising numbers.
-#[derive(Drop)]
-pub struct Candidate {
-    pub call: u32,
-    pub change: u64,
-    pub bearers: Seq<Bearer>,
-}
-
-/// The changes that bricks are said to bear, by call, and where those of each call begin.
-#[derive(Drop)]
-pub struct Candidates {
-    changes: Vec<Candidate>,
-    begins: BTreeMap<u32, usize>,
-}
-
-// A change of a call, in the order of calls.
+// The op of a change at a brick.
 #[derive(Clone, Copy, PartialEq, Eq, PartialOrd, Ord)]
-struct ChangeOf {
-    call: u32,
+struct OpAt {
+    brick: u8,
     change: u64,
 }
 
@@ -74,31 +61,48 @@ pub(crate) fn openings_for(
     }
 }
 
+/// A Done with nothing that arrived from a brick: its wind, and the count of the input that it answers.
+#[derive(Clone, Copy)]
+pub struct Confirmed {
+    pub brick: u8,
+    pub wind: u64,
+    pub taken: u64,
+}
+
 // The length of the encoding of a Done with nothing, in bytes: the number of inputs, a hyper; a unit for the kind of output; the
 // wind, a hyper; a unit each for the answer and what it is done with.
-pub(crate) const DONE: usize = 28;
+const DONE: usize = 28;
 
-// The wind of an output that is a Done with nothing. Longer and shorter ones are not decoded.
-fn wind_done(alloc: Global, bytes: &[u8]) -> Result<Option<u64>, AllocError> {
+// Longer and shorter outputs are not decoded.
+fn confirmed_by(alloc: Global, brick: u8, bytes: &[u8]) -> Result<Option<Confirmed>, AllocError> {
     if bytes.len() != DONE {
         return Ok(None);
     }
-    match whole_output(alloc, bytes)? {
-        Some(output) => Ok(done_wind(&output.kind)),
+    let Some(output) = written_output(alloc, bytes)? else {
+        return Ok(None);
+    };
+    match done_wind(&output.kind) {
+        Some(wind) => Ok(Some(Confirmed {
+            brick,
+            wind,
+            taken: output.taken,
+        })),
         None => Ok(None),
     }
 }
 
-// The places of a brick's outputs that are a Done with nothing, by wind.
-fn answers_of(alloc: Global, outputs: &[Bytes]) -> Result<BTreeMap<u64, usize>, AllocError> {
-    let mut answers = BTreeMap::new(alloc);
-    for at in 0..outputs.len() {
-        let found = wind_done(alloc, outputs[at].as_slice())?;
-        if let Some(wind) = found {
-            answers.insert(wind, at)?;
-        }
+/// The Done with nothing that arrives in an event.
+///
+/// # Errors
+/// Out of memory.
+pub(crate) fn confirmed_in(
+    alloc: Global,
+    event: &HubEvent,
+) -> Result<Option<Confirmed>, AllocError> {
+    match event {
+        HubEvent::Arrive { brick, bytes } => confirmed_by(alloc, *brick, bytes.as_slice()),
+        _ => Ok(None),
     }
-    Ok(answers)
 }
 
 // What a request has to do with a change.
@@ -108,17 +112,8 @@ enum Part {
     Post(u64),
 }
 
-// An op or a post on its wind.
-#[derive(Clone, Copy)]
-struct Asked {
-    wind: u64,
-    part: Part,
-}
-
-// Where the wind of a request is in its encoding, and the change of an op or a post: behind a unit for the kind of input; and
-// behind the wind, a hyper, a unit for the graph, and one for the procedure.
-const WIND: usize = 4;
-
+// Where the change of an op or a post is in the encoding of its request: behind a unit for the kind of input; the wind, a hyper; a
+// unit for the graph; and one for the procedure.
 const CHANGE: usize = 20;
 
 // The hyper at a place.
@@ -131,188 +126,124 @@ fn hyper_at(bytes: &[u8], at: usize) -> Option<u64> {
 }
 
 // The op or the post that bytes are, read without the rest.
-fn asked_in(bytes: &[u8]) -> Option<Asked> {
+fn part_in(bytes: &[u8]) -> Option<Part> {
     let proc = request_proc(bytes)?;
-    let wind = hyper_at(bytes, WIND)?;
     let change = hyper_at(bytes, CHANGE)?;
     match proc {
-        Proc::Op => Some(Asked {
-            wind,
-            part: Part::Op(change),
-        }),
-        Proc::Post => Some(Asked {
-            wind,
-            part: Part::Post(change),
-        }),
+        Proc::Op => Some(Part::Op(change)),
+        Proc::Post => Some(Part::Post(change)),
         _ => None,
     }
 }
 
-// The changes found so far.
+// The search: the opening of each wind, the ops that wait for their posts, and the bearers found so far.
 #[derive(Drop)]
 struct Search {
     openings: BTreeMap<u64, Opening>,
-    changes: BTreeMap<ChangeOf, Seq<Bearer>>,
+    ops: BTreeMap<OpAt, Served>,
+    found: BTreeMap<BearerOf, Bearer>,
 }
 
-// One brick's journal, as far as it was read: the ops that wait for their posts.
-#[derive(Drop)]
-struct Reading {
-    brick: u8,
-    answers: BTreeMap<u64, usize>,
-    ops: BTreeMap<u64, Served>,
+// Whether what arrived in the event at a place did so by the event in which the call was answered well.
+fn is_in_time(marks: &[Option<u64>], call: u32, event: usize) -> bool {
+    match mark_of(marks, call) {
+        Some(number) => (event as u64) < number,
+        None => false,
+    }
 }
 
 impl Search {
-    fn add(&mut self, alloc: Global, key: ChangeOf, bearer: Bearer) -> Result<(), AllocError> {
-        let mut bearers = match self.changes.remove(&key) {
-            Some(bearers) => bearers,
-            None => Seq::new(alloc),
-        };
-        bearers.push(bearer)?;
-        self.changes.insert(key, bearers)?;
-        Ok(())
-    }
-
-    // A post was answered: its brick bears the change, if it has served the op.
+    // A post was answered: its brick bears the change, if it has answered the op before. An answer behind the call's reply bears
+    // nothing: its wind had ended with its connection.
     fn post(
         &mut self,
-        alloc: Global,
-        reading: &mut Reading,
+        marks: &[Option<u64>],
+        brick: u8,
         call: u32,
         change: u64,
         post: Served,
     ) -> Result<(), AllocError> {
-        let Some(op) = reading.ops.remove(&change) else {
+        let Some(op) = self.ops.remove(&OpAt { brick, change }) else {
             return Ok(());
         };
-        let bearer = Bearer {
-            brick: reading.brick,
-            op,
-            post,
+        if !is_in_time(marks, call, post.event) {
+            return Ok(());
+        }
+        let bearer = Bearer { brick, op, post };
+        let key = BearerOf {
+            call,
+            change,
+            brick,
         };
-        self.add(alloc, ChangeOf { call, change }, bearer)
+        self.found.insert(key, bearer)?;
+        Ok(())
     }
 
+    // An op or a post was answered in the event at a place.
     fn take(
         &mut self,
-        alloc: Global,
-        reading: &mut Reading,
-        place: usize,
-        asked: Asked,
+        marks: &[Option<u64>],
+        event: usize,
+        done: Confirmed,
+        part: Part,
     ) -> Result<(), AllocError> {
-        let Some(answer) = reading.answers.get(&asked.wind).copied() else {
-            return Ok(());
-        };
-        let Some(opened) = self.openings.get(&asked.wind).copied() else {
+        let Some(opened) = self.openings.get(&done.wind).copied() else {
             return Ok(());
         };
         let served = Served {
-            place,
-            answer,
+            taken: done.taken,
+            event,
             opening: opened.place,
         };
-        match asked.part {
+        let brick = done.brick;
+        match part {
             Part::Op(change) => {
-                reading.ops.insert(change, served)?;
+                self.ops.insert(OpAt { brick, change }, served)?;
                 Ok(())
             }
-            Part::Post(change) => self.post(alloc, reading, opened.call, change, served),
+            Part::Post(change) => self.post(marks, brick, opened.call, change, served),
         }
     }
 
-    fn read(&mut self, alloc: Global, brick: u8, at: &Brick) -> Result<(), AllocError> {
-        let answers = answers_of(alloc, at.outputs())?;
-        let mut reading = Reading {
-            brick,
-            answers,
-            ops: BTreeMap::new(alloc),
+    fn read(
+        &mut self,
+        alloc: Global,
+        bricks: &[Brick],
+        marks: &[Option<u64>],
+        place: usize,
+        event: &HubEvent,
+    ) -> Result<(), AllocError> {
+        let Some(done) = confirmed_in(alloc, event)? else {
+            return Ok(());
         };
-        let journal = at.journal();
-        for place in 0..journal.len() {
-            if let Some(asked) = asked_in(journal[place].as_slice()) {
-                self.take(alloc, &mut reading, place, asked)?;
-            }
+        let Some(bytes) = input_at(bricks, done.brick, done.taken) else {
+            return Ok(());
+        };
+        match part_in(bytes) {
+            Some(part) => self.take(marks, place, done, part),
+            None => Ok(()),
         }
-        Ok(())
-    }
-
-    fn read_all(&mut self, alloc: Global, bricks: &[Brick]) -> Result<(), AllocError> {
-        let mut number = 0u8;
-        for brick in bricks {
-            self.read(alloc, number, brick)?;
-            number = number.saturating_add(1);
-        }
-        Ok(())
     }
 }
 
-// The changes by call, and where those of each call begin.
-fn in_order(
-    alloc: Global,
-    changes: BTreeMap<ChangeOf, Seq<Bearer>>,
-) -> Result<Candidates, AllocError> {
-    let mut found = Candidates {
-        changes: Vec::new(alloc),
-        begins: BTreeMap::new(alloc),
-    };
-    for (key, bearers) in changes {
-        found.add(key, bearers)?;
-    }
-    Ok(found)
-}
-
-impl Candidates {
-    fn add(&mut self, key: ChangeOf, bearers: Seq<Bearer>) -> Result<(), AllocError> {
-        let at = self.changes.len();
-        if !self.begins.contains_key(&key.call) {
-            self.begins.insert(key.call, at)?;
-        }
-        self.changes.push(Candidate {
-            call: key.call,
-            change: key.change,
-            bearers,
-        })?;
-        Ok(())
-    }
-
-    /// The number of changes.
-    pub(crate) fn count(&self) -> usize {
-        self.changes.len()
-    }
-
-    /// The place of the first change of a call, and the number of changes where it has none.
-    pub(crate) fn begin(&self, call: u32) -> usize {
-        match self.begins.get(&call) {
-            Some(begin) => *begin,
-            None => self.changes.len(),
-        }
-    }
-
-    /// The change at a place, if it is one of the call.
-    pub(crate) fn change(&self, at: usize, call: u32) -> Option<&Candidate> {
-        let change = self.changes.get(at)?;
-        if change.call != call {
-            return None;
-        }
-        Some(change)
-    }
-}
-
-/// The changes that bricks bear.
+/// The changes that bricks bear of the calls that were answered well, by the marks of these calls.
 ///
 /// # Errors
 /// Out of memory.
 pub(crate) fn find(
     alloc: Global,
-    winds: &[WindLine],
+    log: &Log,
     bricks: &[Brick],
+    marks: &[Option<u64>],
 ) -> Result<Candidates, AllocError> {
-    let openings = openings_of(alloc, winds)?;
     let mut search = Search {
-        openings,
-        changes: BTreeMap::new(alloc),
+        openings: openings_of(alloc, log.winds.as_slice())?,
+        ops: BTreeMap::new(alloc),
+        found: BTreeMap::new(alloc),
     };
-    search.read_all(alloc, bricks)?;
-    in_order(alloc, search.changes)
+    let events = log.events.as_slice();
+    for place in 0..events.len() {
+        search.read(alloc, bricks, marks, place, &events[place])?;
+    }
+    candidates_of(alloc, search.found)
 }

@@ -5,39 +5,42 @@
 //!   history    entry k: call 7, part 1          its operation, by the judge of histories
 //!   replies    call 7 was answered well         call_graphs, acknowledged
 //!
-//!   brick 0    journal .. Op 12 .. Post 12 ..   each answered Done in its outputs, in the call's graph
+//!   brick 0    journal .. Op 12 .. Post 12 ..   in the call's graph, on winds of the call
 //!   brick 2    journal .. Op 12 .. Post 12 ..   one change number, one store op, which makes the operation
-//!              a quorum of the bricks of one set, each request on a wind of the call; a new file's name on the set of its hash
+//!              a quorum of the bricks of one set; a new file's name on the set of its hash
+//!   events     .. Op 12 is answered Done .. Post 12 goes out .. it is answered Done .. the call is answered
 //!
 //!   copies     cell, from brick 0 to brick 2, last change 12
 //!   events     .. the answer of brick 0 to Fetch arrives, Replace goes to brick 2 .. its Done arrives .. the copy is entered
 //! ```
 //!
-//! Bearers are found by one pass over each brick's journal and outputs (`finding`), and replacements by one over what arrived
-//! (`copy_finding`), without a contract. What was found is then checked where it is (`bearers`, `copy_requests`), each change is
-//! taken for one entry and each replacement for one copy (`claims`), and an audit's `true` rests on that alone: true says that
-//! each acknowledged change is on the bricks, by a change of its own, or that each copy was made, by a replacement of its own;
-//! false says nothing. With n inputs, outputs, events, winds, entries and copies an audit takes time of the order n log n, and of
-//! the bytes that are decoded.
+//! Bearers (`finding`) and replacements (`copy_finding`) are found by one pass each over what arrived, without a contract. What
+//! was found is then checked where it is (`bearers`, `copy_requests`), each change is taken for one entry and each replacement
+//! for one copy (`claims`), and an audit's `true` rests on that alone: true says that each acknowledged change was on the bricks
+//! by its call's reply, by a change of its own, or that each copy was made, by a replacement of its own; false says nothing. With
+//! n events, winds, entries and copies an audit takes time of the order n log n, and of the bytes that are decoded.
 //!
 //! What `read_audit` looks up as these audits do is here, in the modules that are public.
 #![tactic(auto)]
 
 mod acknowledged;
-pub mod answers;
+mod answers;
+pub mod arrivals;
 pub mod bearers;
 pub mod call_graphs;
+mod candidates;
 mod changes;
 mod claims;
 mod copies;
 mod copy_finding;
 pub mod copy_requests;
 pub mod finding;
+pub mod journals;
 mod listings;
 mod making;
 pub mod openings;
 mod placing;
-pub mod served;
+mod served;
 mod skips;
 mod sources;
 

@@ -9,10 +9,10 @@ ghost use Rattle.wire_xdr.specs.WireText.{input_text};
 ghost use Rattle.change_audit.specs.Listed.{IsIndex};
 ghost use Rattle.change_audit.specs.Listings.{event_of, WasAsked, AddsCell, AddsCells, AreListings};
 
-use crate::copy_requests::{arrived, input_at, written_output};
+use crate::arrivals::{arrived, written_output};
 use crate::finding::{Opening, openings_for};
+use crate::journals::{input_at, whole_input};
 use crate::openings::is_wind_for;
-use crate::served::whole_input;
 use brick_machine::Brick;
 use fop_types::{BrickRep, BrickReq, Cell, DoneArm, Input, OutKind, Output, Seq};
 use log_audit::by_place::event_at;

@@ -1,28 +1,15 @@
-//! Requests that a brick has answered Done.
+//! Ops and posts that a brick has answered Done.
 ghost use Rattle.std.specs.Prelude.{◌≡◌, true, drop, IfOk, IfSome};
-ghost use Rattle.wire_xdr.specs.WireText.{input_text};
+ghost use Rattle.change_audit.specs.Answered.{IsWindFor, IsOpenedSince};
 ghost use Rattle.change_audit.specs.Served.{IsOnWind, IsOpOf, IsOpIn, IsOpText, IsPostOf, IsPostIn, IsPostOn, HasText, IsServed, IsPosted};
 
-use crate::answers::{Served, bytes_at, is_answered};
-use crate::openings::is_wind_for;
+use crate::answers::{Bearer, Served, is_answered};
+use crate::journals::{input_at, whole_input};
+use crate::openings::{is_opened_since, is_wind_for};
 use brick_machine::Brick;
 use fop_types::{BrickReq, Input, StoreOp};
-use mount_log::WindLine;
+use mount_log::Log;
 use std::alloc::{AllocError, Global};
-use wire_messages::{Message, input_of};
-
-/// The input that the bytes are, if they are one.
-///
-/// # Errors
-/// Out of memory.
-pub fn whole_input(alloc: Global, bytes: &[u8]) -> Result<Option<Input>, AllocError>
-    ensures { IfOk result (λ found. IfSome found (λ x. bytes.now ≡ input_text x)) }
-{
-    match input_of(alloc, bytes)? {
-        Message::Whole(input) => Ok(Some(input)),
-        Message::Wrong { place: _ } => Ok(None),
-    }
-}
 
 // The kind of an input, a unit, and the number of a request's wind, a hyper.
 const BEFORE_TEXT: usize = 12;
@@ -68,31 +55,37 @@ fn wind_before(alloc: Global, bytes: &[u8], text: &[u8]) -> Result<Option<u64>, 
     Ok(found)
 }
 
-/// Whether the brick has answered Done to the request at a place, this is the request's text, and it was sent for a wind of the
-/// call.
+// Whether a request was sent for a wind of the call, where this says.
+fn is_of_call(log: &Log, at: Served, call: u32, wind: u64) -> bool
+    ensures { result ≡ true → IsWindFor log.now.winds call wind }
+{
+    is_wind_for(log.winds.as_slice(), at.opening, call, wind)
+}
+
+/// Whether the brick of a bearer has answered Done to its op, this is the op's text, and it was sent for a wind of the call.
 ///
 /// # Errors
 /// Out of memory.
 pub(crate) fn is_served(
     alloc: Global,
-    winds: &[WindLine],
-    brick: &Brick,
-    at: Served,
+    log: &Log,
+    bricks: &[Brick],
+    bearer: Bearer,
     call: u32,
     text: &[u8],
 ) -> Result<bool, AllocError>
-    ensures { IfOk result (λ yes. yes ≡ true → IsServed winds.now brick.now.journal call at.place text.now) }
+    ensures { IfOk result (λ yes. yes ≡ true → IsServed log.now bricks.now bearer.brick bearer.op call text.now) }
 {
-    let Some(bytes) = bytes_at(brick.journal(), at.place) else {
+    let Some(bytes) = input_at(bricks, bearer.brick, bearer.op.taken) else {
         return Ok(false);
     };
-    let Some(wind) = wind_before(alloc, bytes.as_slice(), text)? else {
+    let Some(wind) = wind_before(alloc, bytes, text)? else {
         return Ok(false);
     };
-    if !is_wind_for(winds, at.opening, call, wind) {
+    if !is_of_call(log, bearer.op, call, wind) {
         return Ok(false);
     }
-    let yes = is_answered(alloc, brick, at, wind)?;
+    let yes = is_answered(alloc, log, bearer.brick, bearer.op, wind)?;
     Ok(yes)
 }
 
@@ -185,31 +178,38 @@ fn post_in(
     }
 }
 
-/// Whether the brick has answered Done to the post of a change in a graph, which is at a place and was sent for a wind of the
-/// call.
+// Whether a post was sent for a wind of the call, where this says, and since the event at a place.
+fn is_sent_since(log: &Log, at: Served, call: u32, wind: u64, event: usize) -> bool
+    ensures { result ≡ true → IsOpenedSince log.now.winds call wind event }
+{
+    is_opened_since(log.winds.as_slice(), at.opening, call, wind, event)
+}
+
+/// Whether the brick of a bearer has answered Done to its post, this is the post of a change in a graph, and it was sent for a wind of
+/// the call when the answer to the op had arrived.
 ///
 /// # Errors
 /// Out of memory.
 pub(crate) fn is_posted(
     alloc: Global,
-    winds: &[WindLine],
-    brick: &Brick,
-    at: Served,
+    log: &Log,
+    bricks: &[Brick],
+    bearer: Bearer,
     call: u32,
     graph: usize,
     change: u64,
 ) -> Result<bool, AllocError>
-    ensures { IfOk result (λ yes. yes ≡ true → IsPosted winds.now brick.now.journal call graph change at.place) }
+    ensures { IfOk result (λ yes. yes ≡ true → IsPosted log.now bricks.now bearer.brick bearer.post call graph change bearer.op.event) }
 {
-    let Some(bytes) = bytes_at(brick.journal(), at.place) else {
+    let Some(bytes) = input_at(bricks, bearer.brick, bearer.post.taken) else {
         return Ok(false);
     };
-    let Some(wind) = post_in(alloc, bytes.as_slice(), graph, change)? else {
+    let Some(wind) = post_in(alloc, bytes, graph, change)? else {
         return Ok(false);
     };
-    if !is_wind_for(winds, at.opening, call, wind) {
+    if !is_sent_since(log, bearer.post, call, wind, bearer.op.event) {
         return Ok(false);
     }
-    let yes = is_answered(alloc, brick, at, wind)?;
+    let yes = is_answered(alloc, log, bearer.brick, bearer.post, wind)?;
     Ok(yes)
 }

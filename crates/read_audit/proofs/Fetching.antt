@@ -13,8 +13,8 @@ use Rattle.brick_machine.specs.Journal.{Journal}
 use Rattle.mount_log.specs.Causes.{set_of_plan, plan_of_volfile, set_of_call}
 use Rattle.mount_log.specs.Connections.{graph_of_call}
 use Rattle.mount_log.specs.declared.logs.Log.{Log}
+use Rattle.change_audit.specs.Answered.{IsDoneIn}
 use Rattle.change_audit.specs.CallGraphs.{AreGraphsOf}
-use Rattle.change_audit.specs.Copied.{IsDoneIn}
 use Rattle.change_audit.specs.declared.call_graphs.CallGraphs.{CallGraphs}
 use Rattle.read_audit.specs.Fetching.{IsShown, HasHolders}
 use Rattle.read_audit.specs.Read.{IsHolder, IsFetched}

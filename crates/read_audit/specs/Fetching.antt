@@ -11,8 +11,7 @@ use Rattle.fop_types.specs.declared.messages.Input.TheVariants.{Request}
 use Rattle.wire_xdr.specs.WireText.{input_text}
 use Rattle.brick_machine.specs.Journal.{Journal}
 use Rattle.mount_log.specs.declared.logs.Log.{Log}
-use Rattle.change_audit.specs.Borne.{IsWindFor}
-use Rattle.change_audit.specs.Copied.{IsDoneIn}
+use Rattle.change_audit.specs.Answered.{IsDoneIn, IsWindFor}
 use Rattle.change_audit.specs.Copying.{IsSentAs}
 use Rattle.read_audit.specs.Read.{IsGrantedIn, IsHolder}
 

@@ -41,8 +41,7 @@ use Rattle.mount_log.specs.Submissions.{submissions_of}
 use Rattle.mount_log.specs.declared.logs.HubEvent.TheVariants.{Arrive}
 use Rattle.mount_log.specs.declared.logs.Log.{Log}
 use Rattle.mount_log.specs.declared.logs.ReplyLine.{ReplyLine}
-use Rattle.change_audit.specs.Borne.{IsWindFor}
-use Rattle.change_audit.specs.Copied.{IsDoneIn}
+use Rattle.change_audit.specs.Answered.{IsDoneIn, IsWindFor}
 
 -- ---- a content that was read under locks
 

@@ -10,9 +10,10 @@ ghost use Rattle.read_audit.specs.Fetching.{WasFetched, IsShown};
 
 use crate::found::FetchAt;
 use brick_machine::Brick;
-use change_audit::copy_requests::{arrived, input_at, is_cell, written_output};
+use change_audit::arrivals::{arrived, written_output};
+use change_audit::copy_requests::is_cell;
+use change_audit::journals::{input_at, whole_input};
 use change_audit::openings::is_wind_for;
-use change_audit::served::whole_input;
 use fop_types::{BrickRep, BrickReq, Cell, Content, DoneArm, Input, OutKind, Output};
 use mount_log::Log;
 use std::alloc::{AllocError, Global};

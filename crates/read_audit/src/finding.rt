@@ -2,9 +2,8 @@
 
 use crate::found::{FetchAt, Found, Grant, LockAt};
 use brick_machine::Brick;
-use change_audit::copy_requests::input_at;
 use change_audit::finding::{Opening, openings_of};
-use change_audit::served::whole_input;
+use change_audit::journals::{input_at, whole_input};
 use fop_types::{Aspect, BrickReq, Cell, Input, Proc, Seq};
 use log_audit::heads::{Head, Said, head_at};
 use log_audit::requests::is_request_of;

@@ -11,10 +11,10 @@ ghost use Rattle.read_audit.specs.Read.{IsHolder};
 
 use crate::found::Grant;
 use brick_machine::Brick;
-use change_audit::answers::bytes_at;
-use change_audit::bearers::{brick_at, has_member};
-use change_audit::copy_requests::{arrived, is_cell, written_output};
-use change_audit::served::whole_input;
+use change_audit::arrivals::{arrived, written_output};
+use change_audit::bearers::has_member;
+use change_audit::copy_requests::is_cell;
+use change_audit::journals::{brick_at, bytes_at, whole_input};
 use fop_types::{BrickRep, BrickReq, Cell, DoneArm, Input, OutKind, Output, Row, Seq, SetPlan};
 use mount_log::Log;
 use std::alloc::{AllocError, Global};

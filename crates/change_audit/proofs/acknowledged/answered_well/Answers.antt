@@ -1,5 +1,5 @@
 use Rattle.std.proofs.Common.{sym, subst}
-use Rattle.std.specs.Prelude.{Bool, List}
+use Rattle.std.specs.Prelude.{ℕ, List, Option}
 use Rattle.change_audit.specs.Acknowledged.{AreMarked}
 use Rattle.change_audit.proofs.Marking.{marked_next, marked_all}
 use Rattle.change_audit.proofs.acknowledged.answered_well.Goals as goal
@@ -11,5 +11,5 @@ loop-reply-preserved c =
 
 pub returns : goal.returns
 returns c =
-    subst (λ (marks : List Bool). AreMarked c.args.replies.now marks) (sym c.from_vec.ensures)
+    subst (λ (marks : List (Option ℕ)). AreMarked c.args.replies.now marks) (sym c.from_vec.ensures)
     (marked_all c.args.replies.now c.loop-reply.reply-index c.loop-reply.marks.items c.loop-reply-test.false c.loop-reply.invariant)

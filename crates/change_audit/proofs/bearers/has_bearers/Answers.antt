@@ -4,5 +4,6 @@ use Rattle.change_audit.proofs.bearers.has_bearers.Goals as goal
 
 pub returns : goal.returns
 returns c = λ yes.
-    have_bearers c.args.winds.now c.args.bricks.now c.args.plan.now c.args.call c.args.graph c.args.change c.args.operation.now c.in-Some-text_in.text.now (drop 12 c.in-Some.bytes.now) c.args.bearers.now
-    (c.are_apart.ensures c.if-not-are_apart.false) (c.are_enough.ensures c.if-not-are_enough.false) (c.in_ok-is_making.ensures c.if-not-branch.false) c.in-Some-text_in.ensures (c.in_ok-yes.ensures yes)
+    have_bearers c.args.log.now c.args.bricks.now c.args.plan.now c.args.call c.args.graph c.args.change c.args.number c.in-Some-text_in.text.now c.args.operation.now (drop 12 c.in-Some.bytes.now)
+    c.args.bearers.now (c.are_apart.ensures c.if-not-are_apart.false) (c.are_enough.ensures c.if-not-are_enough.false) (c.in_ok-is_making.ensures c.if-not-branch.false) c.in-Some-text_in.ensures
+    (c.in_ok-yes.ensures yes)

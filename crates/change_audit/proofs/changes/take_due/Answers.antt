@@ -1,12 +1,15 @@
-use Rattle.std.proofs.Common.{◌≡◌, ap, ◌∙◌}
-use Rattle.std.specs.Prelude.{Bool, List, true, Some, slice_get}
-use Rattle.change_audit.proofs.Marking.{marked_well}
+use Rattle.std.proofs.Common.{sym, ap, ◌∙◌}
+use Rattle.std.specs.Prelude.{ℕ, List, Option}
+use Rattle.change_audit.specs.Acknowledged.{mark_of}
+use Rattle.change_audit.proofs.Entries.{claimed_in_time, not_due}
 use Rattle.change_audit.proofs.changes.take_due.Goals as goal
 
-pub returns-then-not-is_marked-clause-claimed : goal.returns-then-not-is_marked-clause-claimed
-returns-then-not-is_marked-clause-claimed c = λ _ well.
-    let marked : slice_get c.as_slice.result.now c.args.call ≡ Some true =
-    ap (λ (m : List Bool). slice_get m c.args.call) c.as_slice.ensures ∙ marked_well c.args.log.now c.args.notes.now.marks c.args.call c.requires.marks well in
-    let yes = c.is_marked.ensures marked in
-    let no = c.if-not-is_marked.true in
-    absurd cc
+pub returns-in_default-clause-claimed : goal.returns-in_default-clause-claimed
+returns-in_default-clause-claimed c = λ _.
+    not_due c.args.script.now c.args.plans.now c.args.log.now c.args.bricks.now c.args.ops.now c.args.notes.now.marks c.args.claims.now c.args.k c.args.call c.args.operation.now c.requires.marks
+    (ap (λ (m : List (Option ℕ)). mark_of m c.args.call) (sym c.as_slice.ensures) ∙ sym c.in_default.ensures)
+
+pub returns-clause-claimed : goal.returns-clause-claimed
+returns-clause-claimed c = λ yes.
+    claimed_in_time c.args.script.now c.args.plans.now c.args.log.now c.args.bricks.now c.args.ops.now c.args.notes.now.marks c.take_change.new.claims c.args.k c.args.call c.in-Some.number
+    c.args.operation.now c.requires.marks (ap (λ (m : List (Option ℕ)). mark_of m c.args.call) (sym c.as_slice.ensures) ∙ sym c.in-Some.ensures) (c.in_ok-yes.ensures.claimed yes)

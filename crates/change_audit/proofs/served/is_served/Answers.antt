@@ -1,14 +1,12 @@
-use Rattle.std.proofs.Common.{sym, ap, subst, ◌∙◌}
-use Rattle.std.specs.Prelude.{ℕ, List, Option, IfSome, slice_get}
+use Rattle.std.proofs.Common.{subst}
+use Rattle.std.specs.Prelude.{ℕ, Option, IfSome}
 use Rattle.change_audit.specs.Served.{HasText}
 use Rattle.change_audit.proofs.Texts.{served}
 use Rattle.change_audit.proofs.served.is_served.Goals as goal
 
 pub returns : goal.returns
 returns c = λ yes.
-    let has : HasText c.in-Some-2.wind c.args.text.now c.as_slice.result.now =
-    subst (λ (f : Option ℕ). IfSome f (λ w. HasText w c.args.text.now c.as_slice.result.now)) c.in-Some-2.is c.in_ok-wind.ensures in
-    served c.args.winds.now c.args.brick.now.journal c.args.call c.in-Some-2.wind c.args.at.place c.args.at.answer c.in-Some.bytes.now c.args.text.now
-    (c.is_wind_for.ensures c.if-not-is_wind_for.false)
-    (ap (λ (l : List (List ℕ)). slice_get l c.args.at.place) (sym c.journal.ensures) ∙ sym c.in-Some.ensures)
-    (subst (λ (b : List ℕ). HasText c.in-Some-2.wind c.args.text.now b) c.as_slice.ensures has) (c.in_ok-yes.ensures yes)
+    let has : HasText c.in-Some-2.wind c.args.text.now c.in-Some.bytes.now =
+    subst (λ (f : Option ℕ). IfSome f (λ w. HasText w c.args.text.now c.in-Some.bytes.now)) c.in-Some-2.is c.in_ok-wind.ensures in
+    served c.args.log.now c.args.bricks.now c.args.bearer.brick c.args.bearer.op c.args.call c.in-Some-2.wind c.in-Some.bytes.now c.args.text.now
+    c.in-Some.ensures has (c.is_of_call.ensures c.if-not-is_of_call.false) (c.in_ok-yes.ensures yes)

@@ -1,0 +1,48 @@
+//! What arrived from bricks.
+ghost use Rattle.std.specs.Prelude.{◌≡◌, Some, slice_get, IfOk, IfSome};
+ghost use Rattle.wire_xdr.specs.WireText.{output_text};
+ghost use Rattle.mount_log.specs.declared.logs.HubEvent.TheVariants.{Arrive};
+
+use fop_types::Output;
+use log_audit::by_place::event_at;
+use mount_log::{HubEvent, Log};
+use std::alloc::{AllocError, Global};
+use wire_messages::{Message, output_of};
+
+fn bytes_from(event: &HubEvent, brick: u8) -> Option<&[u8]>
+    ensures { IfSome result (λ bytes. event.now ≡ Arrive brick bytes.now) }
+{
+    match event {
+        HubEvent::Arrive { brick: from, bytes } => {
+            if *from == brick {
+                Some(bytes.as_slice())
+            } else {
+                None
+            }
+        }
+        _ => None,
+    }
+}
+
+/// What arrived from a brick in the event at a place.
+pub fn arrived(log: &Log, event: usize, brick: u8) -> Option<&[u8]>
+    ensures { IfSome result (λ bytes. slice_get log.now.events event ≡ Some (Arrive brick bytes.now)) }
+{
+    match event_at(log, event) {
+        Some(event) => bytes_from(event, brick),
+        None => None,
+    }
+}
+
+/// The output that the bytes are the encoding of, if they are that of one.
+///
+/// # Errors
+/// Out of memory.
+pub fn written_output(alloc: Global, bytes: &[u8]) -> Result<Option<Output>, AllocError>
+    ensures { IfOk result (λ found. IfSome found (λ x. bytes.now ≡ output_text x)) }
+{
+    match output_of(alloc, bytes)? {
+        Message::Whole(output) => Ok(Some(output)),
+        Message::Wrong { place: _ } => Ok(None),
+    }
+}
