@@ -1,7 +1,7 @@
 pub mod Fetching
-pub mod Lacking
 pub mod Listing
 pub mod NameReplies
+pub mod NoCopies
 pub mod Pages
 pub mod Reading
 pub mod Replying

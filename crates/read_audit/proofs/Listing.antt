@@ -1,6 +1,6 @@
 -- Lists of names: those of all sets, and what is shown of them.
 use Rattle.std.proofs.Common.{◌≡◌, refl, sym, ap, subst, ◌∙◌, arith, get_or}
-use Rattle.std.specs.Prelude.{ℕ, ◌+◌, ◌-◌, ◌<◌, ◌≤◌, nat_lt, Bool, true, false, List, [], ◌∷◌, ◌++◌, Some, length, slice_get}
+use Rattle.std.specs.Prelude.{ℕ, ◌+◌, ◌-◌, ◌<◌, ◌≤◌, nat_lt, Bool, true, false, List, [], ◌∷◌, ◌++◌, Some, length, take, slice_get}
 use Rattle.std.specs.List.{AllByRecursion}
 use Rattle.std.specs.declared.cmp.Ordering.TheVariants.{Less}
 use Rattle.std.proofs.lemmas.Bool.{ltb-true, ltb-false}
@@ -17,6 +17,7 @@ use Rattle.brick_machine.specs.Journal.{Journal}
 use Rattle.mount_log.specs.Causes.{plan_of_volfile}
 use Rattle.mount_log.specs.Connections.{graph_of_call}
 use Rattle.mount_log.specs.declared.logs.Log.{Log}
+use Rattle.change_audit.proofs.Items.{all_next}
 use Rattle.change_audit.specs.CallGraphs.{AreGraphsOf}
 use Rattle.change_audit.specs.declared.call_graphs.CallGraphs.{CallGraphs}
 use Rattle.read_audit.specs.Names.{HasNames, HaveNames, IsAmong, IsOnASet, AreShown, AreRising, IsListed, IsLacking}
@@ -59,7 +60,9 @@ module _ (script : Script) (plans : List Plan) (log : Log) (bricks : List Journa
       → HasNames script plans log bricks call number set dir items → HaveNames script plans log bricks call number dir 0 more
   have_next dir set lists more items long is have has =
       subst (λ (l : List (List Item)). HaveNames script plans log bricks call number dir 0 l) (sym is)
-      (have_from dir 0 lists items have (subst (λ (s : ℕ). HasNames script plans log bricks call number s dir items) (sym long) has))
+      (have_from dir 0 lists items have (subst (λ (s : ℕ). HasNames script plans log bricks call number s dir items) at has)) where
+        at : set ≡ 0 + length lists
+        at = omega (arith, long)
 
   pub none_are : (set : ℕ) (dir : Gfid) (cell : Cell) (items : List Item) → cell ≡ names_cell dir → items ≡ [] → IsLacking script plans log bricks call number set cell → HasNames script plans log bricks call number set dir items
   none_are set dir cell items same none lacking = NoCopy none (subst (λ (c : Cell). IsLacking script plans log bricks call number set c) same lacking)
@@ -84,5 +87,16 @@ module _ (script : Script) (log : Log) (tables : CallGraphs) (are : AreGraphsOf 
 
 -- ---- one name
 
-pub on_a_set : (lists : List (List Item)) (set : ℕ) (d : List Item) (shown : Item) → set < length lists → is_link shown.kind ≡ false → IsAmong (get_or lists set d) shown → IsOnASet lists shown
-on_a_set lists set d shown lt real among = record { real = real; set = set; items = get_or lists set d; there = slice_get-get_or lists set d lt; among = among }
+pub on_a_set : (lists : List (List Item)) (set : ℕ) (items slice : List Item) (shown : Item) → set < length lists → is_link shown.kind ≡ false → items ≡ get_or lists set items → slice ≡ items → IsAmong slice shown → IsOnASet lists shown
+on_a_set lists set items slice shown lt real read same among = record {
+  real = real;
+  set = set;
+  items = items;
+  there = slice_get-get_or lists set items lt ∙ ap Some (sym read);
+  among = subst (λ (l : List Item). IsAmong l shown) same among;
+}
+
+-- ---- all items
+
+pub all_read : {X : Type 0} (P : X → Type 0) (xs : List X) (i : ℕ) (x : X) → i < length xs → x ≡ get_or xs i x → P x → AllByRecursion P (take i xs) → AllByRecursion P (take (i + 1) xs)
+all_read P xs i x lt read p all = all_next P xs i x lt (subst P read p) all

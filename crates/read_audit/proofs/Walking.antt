@@ -1,5 +1,5 @@
 -- Steps, and the paths that they lead along.
-use Rattle.std.proofs.Common.{◌≡◌, refl, sym, subst, get_or}
+use Rattle.std.proofs.Common.{◌≡◌, refl, sym, ap, subst, ◌∙◌, get_or}
 use Rattle.std.specs.Prelude.{ℕ, ◌+◌, ◌<◌, ◌≤◌, false, List, [], ◌∷◌, Option, Some, length, drop, IfSome}
 use Rattle.std.proofs.Math.ListN.{drop_of_length-le}
 use Rattle.std.proofs.lemmas.List.{drop_more}
@@ -46,11 +46,12 @@ module _ (script : Script) (plans : List Plan) (log : Log) (bricks : List Journa
   abbrev pub LeadsOn : List (List ℕ) → ℕ → Object → Type 0
   LeadsOn path k from = (to : Object) → LeadsTo script plans log bricks call number (drop k path) from to → LeadsTo script plans log bricks call number path root_object to
 
-  pub leads_next : (path : List (List ℕ)) (k : ℕ) (d : List ℕ) (from next : Object) (found : Option Object) → k < length path → found ≡ Some next
-      → IfSome found (λ to. IsStep script plans log bricks call number from.gfid (get_or path k d) to) → LeadsOn path k from → LeadsOn path (k + 1) next
-  leads_next path k d from next found lt is step on to rest =
-      let own : IsStep script plans log bricks call number from.gfid (get_or path k d) next = subst (λ (f : Option Object). IfSome f (λ x. IsStep script plans log bricks call number from.gfid (get_or path k d) x)) is step in
-      on to (subst (λ (l : List (List ℕ)). LeadsTo script plans log bricks call number l from to) (sym (drop_more path k d lt)) (record { object = next; step = own; rest = rest }))
+  pub leads_next : (path : List (List ℕ)) (k : ℕ) (name : List ℕ) (from next : Object) (found : Option Object) → k < length path → name ≡ get_or path k name → found ≡ Some next
+      → IfSome found (λ to. IsStep script plans log bricks call number from.gfid name to) → LeadsOn path k from → LeadsOn path (k + 1) next
+  leads_next path k name from next found lt read is step on to rest =
+      let own : IsStep script plans log bricks call number from.gfid name next = subst (λ (f : Option Object). IfSome f (λ x. IsStep script plans log bricks call number from.gfid name x)) is step in
+      let left : drop k path ≡ name ∷ drop (k + 1) path = drop_more path k name lt ∙ ap (λ (n : List ℕ). n ∷ drop (k + 1) path) (sym read) in
+      on to (subst (λ (l : List (List ℕ)). LeadsTo script plans log bricks call number l from to) (sym left) (record { object = next; step = own; rest = rest }))
 
   pub leads_end : (path : List (List ℕ)) (k : ℕ) (from : Object) → length path ≤ k → LeadsOn path k from → LeadsTo script plans log bricks call number path root_object from
   leads_end path k from le on = on from (subst (λ (l : List (List ℕ)). LeadsTo script plans log bricks call number l from from) (sym (drop_of_length-le path le)) refl)

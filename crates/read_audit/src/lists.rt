@@ -6,6 +6,7 @@ ghost use Rattle.fop_types.specs.Bounds.{item_cmp};
 ghost use Rattle.fop_types.specs.Names.{is_link as is_link_kind};
 ghost use Rattle.read_audit.specs.Names.{HasName, IsAmong, IsOnASet, AreShown, AreRising};
 
+use crate::cells::is_kind;
 use dht_linkto::is_link;
 use fop_types::{Item, Seq};
 use std::cmp::Ordering;
@@ -57,19 +58,13 @@ fn is_gfid(item: &Item, shown: &Item) -> bool
     item.gfid == shown.gfid
 }
 
-fn is_kind(item: &Item, shown: &Item) -> bool
-    ensures { result ≡ true → item.now.kind ≡ shown.now.kind }
-{
-    item.kind == shown.kind
-}
-
 // Whether an item shows the same object under the same name.
 fn is_same(item: &Item, shown: &Item) -> bool
     ensures name { result ≡ true → item.now.name ≡ shown.now.name }
     ensures gfid { result ≡ true → item.now.gfid ≡ shown.now.gfid }
     ensures kind { result ≡ true → item.now.kind ≡ shown.now.kind }
 {
-    is_name(item, shown.name.as_slice()) && is_gfid(item, shown) && is_kind(item, shown)
+    is_name(item, shown.name.as_slice()) && is_gfid(item, shown) && is_kind(item.kind, shown.kind)
 }
 
 fn is_among(items: &[Item], shown: &Item) -> bool

@@ -9,6 +9,7 @@ ghost use Rattle.read_audit.specs.Names.{LeadsToOne, IsOf, IsNamed};
 ghost use Rattle.read_audit.specs.Read.{asked_by};
 ghost use Rattle.read_audit.specs.Read.Asked.{Attributes, Attribute, Names};
 
+use crate::cells::is_kind;
 use crate::directories::is_listed;
 use crate::found::Found;
 use crate::objects::{are_attributes_read, is_attribute_read};
@@ -24,12 +25,6 @@ use script_lang::Script;
 use std::alloc::{AllocError, Global};
 
 // ---- the object
-
-fn is_kind(kind: Kind, other: Kind) -> bool
-    ensures { result ≡ true → kind ≡ other }
-{
-    kind == other
-}
 
 // The set of an object's metadata.
 fn home(object: Object) -> u8

@@ -1,4 +1,4 @@
-use Rattle.read_audit.proofs.Lacking.{lacking_is}
+use Rattle.read_audit.proofs.NoCopies.{lacking_is}
 use Rattle.read_audit.proofs.lacking.is_lacking.Goals as goal
 
 pub returns : goal.returns

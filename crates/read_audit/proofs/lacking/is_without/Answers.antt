@@ -1,4 +1,4 @@
-use Rattle.read_audit.proofs.Lacking.{without_is}
+use Rattle.read_audit.proofs.NoCopies.{without_is}
 use Rattle.read_audit.proofs.lacking.is_without.Goals as goal
 
 pub returns : goal.returns

@@ -4,8 +4,9 @@ use Rattle.read_audit.proofs.lists.are_rising.Goals as goal
 
 pub loop-k-preserved : goal.loop-k-preserved
 loop-k-preserved c = record {
-  rising = rising_next c.args.items.now c.loop-k.k _ _ c.loop-k.invariant.from_one ? (c.is_below.ensures c.if-not-is_below.false) c.loop-k.invariant.rising;
+  from_one = omega arith;
+  rising = rising_next c.args.items.now c.loop-k.k _ _ c.loop-k.invariant.from_one ? ? c.loop-k.invariant.rising;
 }
 
 pub returns : goal.returns
-returns c = λ _. rising_all c.args.items.now c.loop-k.k (omega (arith, c.loop-k-test.false, c.len-k-end.ensures)) c.loop-k.invariant.rising
+returns c = λ _. rising_all c.args.items.now c.loop-k.k ? c.loop-k.invariant.rising
