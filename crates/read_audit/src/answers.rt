@@ -118,8 +118,8 @@ fn shows_attributes(
                 return Ok(false);
             };
             let yes = are_attributes_read(
-                alloc, script, plans, log, bricks, graphs, found, by, on.set, on.gfid, *kind, *mode,
-                *size,
+                alloc, script, plans, log, bricks, graphs, found, by, on.set, on.gfid, *kind,
+                *mode, *size,
             )?;
             Ok(yes)
         }

@@ -133,9 +133,7 @@ fn are_due(
     ensures { IfOk result (λ yes. yes ≡ true → NamesAreRead script.now plans.now log.now bricks.now) }
 {
     for k in 0..log.replies.len() {
-        if !is_due(
-            alloc, script, plans, log, bricks, calls, graphs, found, k,
-        )? {
+        if !is_due(alloc, script, plans, log, bricks, calls, graphs, found, k)? {
             return Ok(false);
         }
     }

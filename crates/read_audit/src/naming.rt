@@ -194,9 +194,7 @@ fn leads_to_shown(
     requires graph { by.graph ≡ graph_of_call log.now by.call }
     ensures { IfOk result (λ yes. yes ≡ true → LeadsToOne script.now plans.now log.now bricks.now by.call by.number path.now (λ object. IsOf script.now plans.now log.now bricks.now by.call by.number object (asked_by call.now) answer.now)) }
 {
-    let reached = object_at(
-        alloc, script, plans, log, bricks, graphs, found, by, path,
-    )?;
+    let reached = object_at(alloc, script, plans, log, bricks, graphs, found, by, path)?;
     let Some(object) = reached else {
         return Ok(false);
     };
@@ -222,9 +220,7 @@ fn leads_to_one(
     requires graph { by.graph ≡ graph_of_call log.now by.call }
     ensures { IfOk result (λ yes. yes ≡ true → LeadsToOne script.now plans.now log.now bricks.now by.call by.number path.now (λ object. Unit {0})) }
 {
-    let reached = object_at(
-        alloc, script, plans, log, bricks, graphs, found, by, path,
-    )?;
+    let reached = object_at(alloc, script, plans, log, bricks, graphs, found, by, path)?;
     match reached {
         Some(_object) => Ok(true),
         None => Ok(false),
@@ -259,8 +255,6 @@ pub(crate) fn is_named(
         return Ok(false);
     }
     let other = second_path(call);
-    let yes = leads_to_one(
-        alloc, script, plans, log, bricks, graphs, found, by, other,
-    )?;
+    let yes = leads_to_one(alloc, script, plans, log, bricks, graphs, found, by, other)?;
     Ok(yes)
 }

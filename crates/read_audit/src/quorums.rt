@@ -18,7 +18,10 @@ use std::collections::BTreeMap;
 ///
 /// # Errors
 /// Out of memory.
-pub(crate) fn bricks_of(alloc: Global, grants: &BTreeMap<u8, Grant>) -> Result<Vec<u8>, AllocError> {
+pub(crate) fn bricks_of(
+    alloc: Global,
+    grants: &BTreeMap<u8, Grant>,
+) -> Result<Vec<u8>, AllocError> {
     let mut bricks = Vec::new(alloc);
     for (brick, _) in grants {
         bricks.push(*brick)?;
