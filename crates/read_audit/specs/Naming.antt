@@ -5,6 +5,7 @@ use Rattle.fop_types.specs.Calls.{Submission, call_numbered}
 use Rattle.fop_types.specs.Names.{item_named, is_link}
 use Rattle.fop_types.specs.Replies.{is_ok}
 use Rattle.fop_types.specs.declared.cells.Cell.{Cell}
+use Rattle.fop_types.specs.declared.cells.Gfid.{Gfid}
 use Rattle.fop_types.specs.declared.contents.Content.{Content as Held}
 use Rattle.fop_types.specs.declared.contents.Content.TheVariants.{Names}
 use Rattle.fop_types.specs.declared.contents.Item.{Item}
@@ -17,7 +18,7 @@ use Rattle.brick_machine.specs.Journal.{Journal}
 use Rattle.mount_log.specs.Submissions.{submissions_of}
 use Rattle.mount_log.specs.declared.logs.Log.{Log}
 use Rattle.mount_log.specs.declared.logs.ReplyLine.{ReplyLine}
-use Rattle.read_audit.specs.Names.{object_of, IsWithout, IsNamed}
+use Rattle.read_audit.specs.Names.{object_of, IsWithout, HaveNames, IsNamed}
 
 -- ---- one name
 
@@ -52,6 +53,13 @@ pub record HaveNoCopy (log : Log) (bricks : List Journal) (plan : SetPlan) (call
   pub differ : IsDistinct ◌==◌ holders
   pub quorum : plan.q ≤ length holders
   pub each : AllByRecursion (IsWithout log bricks plan call graph cell number) holders
+
+-- ---- directories
+
+-- the first sets, so many, have these names of a directory
+pub record HaveFirst (script : Script) (plans : List Plan) (log : Log) (bricks : List Journal) (call number : ℕ) (dir : Gfid) (sets : ℕ) (lists : List (List Item)) : Type 0 where
+  pub long : length lists ≡ sets
+  pub have : HaveNames script plans log bricks call number dir 0 lists
 
 -- ---- replies
 

@@ -3,7 +3,8 @@ ghost use Rattle.std.specs.Prelude.{◌≡◌, true, false, length, IfOk, IfSome
 ghost use Rattle.fop_types.specs.declared.contents.Content.TheVariants.{Names};
 ghost use Rattle.mount_log.specs.Connections.{graph_of_call};
 ghost use Rattle.change_audit.specs.CallGraphs.{AreGraphsOf};
-ghost use Rattle.read_audit.specs.Names.{HasNames, HaveNames, IsListed};
+ghost use Rattle.read_audit.specs.Names.{HasNames, IsListed};
+ghost use Rattle.read_audit.specs.Naming.{HaveFirst};
 
 use crate::cells::names_cell;
 use crate::found::{FetchAt, Found};
@@ -167,23 +168,22 @@ fn names_over(
     by: Replied,
     dir: Gfid,
     sets: u8,
-) -> Result<Option<Vec<Seq<Item>>>, AllocError>
+) -> Result<Option<Seq<Seq<Item>>>, AllocError>
     requires graphs { AreGraphsOf script.now log.now graphs.now }
     requires graph { by.graph ≡ graph_of_call log.now by.call }
-    ensures have { IfOk result (λ found. IfSome found (λ lists. HaveNames script.now plans.now log.now bricks.now by.call by.number dir 0 lists.items)) }
-    ensures many { IfOk result (λ found. IfSome found (λ lists. length lists.items ≡ sets)) }
+    ensures { IfOk result (λ found. IfSome found (λ lists. HaveFirst script.now plans.now log.now bricks.now by.call by.number dir sets lists)) }
 {
     let mut lists = Vec::new(alloc);
     for set in 0..sets {
         let names = names_on(
             alloc, script, plans, log, bricks, graphs, found, by, dir, set,
         )?;
-        match names {
-            Some(items) => lists.push(items)?,
-            None => return Ok(None),
-        }
+        let Some(items) = names else {
+            return Ok(None);
+        };
+        lists.push(items)?;
     }
-    Ok(Some(lists))
+    Ok(Some(Seq::from_vec(lists)))
 }
 
 // How many sets a graph has.

@@ -1,5 +1,5 @@
 //! Whether a set had no copy of a cell when a call locked it.
-ghost use Rattle.std.specs.Prelude.{◌≡◌, true, IfOk};
+ghost use Rattle.std.specs.Prelude.{◌≡◌, ◌<◌, true, IfOk};
 ghost use Rattle.std.specs.List.{AllByRecursion};
 ghost use Rattle.mount_log.specs.Connections.{graph_of_call};
 ghost use Rattle.change_audit.specs.CallGraphs.{AreGraphsOf};
@@ -77,11 +77,12 @@ fn bricks_without(
     let mut list = Vec::new(alloc);
     for brick in holders {
         let grant = grant_of(grants, *brick);
-        if is_without(
+        if !is_without(
             alloc, log, bricks, plan, call, graph, cell, number, grant, *brick,
         )? {
-            list.push(*brick)?;
+            continue;
         }
+        list.push(*brick)?;
     }
     Ok(list)
 }
@@ -119,6 +120,13 @@ fn have_no_copy(
     Ok(are_apart(holders) && are_enough(plan, holders))
 }
 
+// Whether a set is not the first one.
+fn is_behind(set: u8) -> bool
+    ensures { result ≡ true → 0 < set }
+{
+    0 < set
+}
+
 /// Whether a set of the call's graph, which is not the first one, had no copy of a cell when the call locked it before its reply.
 ///
 /// # Errors
@@ -139,7 +147,7 @@ pub(crate) fn is_lacking(
     requires graph { by.graph ≡ graph_of_call log.now by.call }
     ensures { IfOk result (λ yes. yes ≡ true → IsLacking script.now plans.now log.now bricks.now by.call by.number set cell.now) }
 {
-    if set == 0 {
+    if !is_behind(set) {
         return Ok(false);
     }
     let Some(plan) = set_in(plans, graphs, by.graph, set) else {
