@@ -1,4 +1,5 @@
 pub mod Fetching
+pub mod Leading
 pub mod Listing
 pub mod NameReplies
 pub mod NoCopies
