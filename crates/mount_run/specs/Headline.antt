@@ -1,5 +1,5 @@
 -- The headline: for every script, the replies written are those of one plain file system at the written places of one
--- written history that holds each acknowledged change once; what a read, a stat or a getattr shows was read from bricks; an I/O
+-- written history that holds each acknowledged change once; what a read, a stat, a getattr or a list shows was read from bricks; an I/O
 -- error is written only with its cause, a copy only where it was made; and every wind is ended once.
 use Rattle.std.specs.Prelude.{◌≡◌, ℕ, List, Ok, length}
 use Rattle.fop_types.specs.declared.flat.FlatOp.{FlatOp}
@@ -18,6 +18,7 @@ use Rattle.mount_log.specs.Causes.{AreCaused}
 use Rattle.mount_log.specs.Connects.{ConnectsAreCaused}
 use Rattle.mount_log.specs.Follows.{FollowsScript, IsFinished}
 use Rattle.mount_run.specs.Plans.{accepted}
+use Rattle.read_audit.specs.Names.{NamesAreRead}
 use Rattle.read_audit.specs.Read.{AnswersAreRead}
 use Rattle.run_report.specs.Reports.{report_of}
 use Rattle.mount_log.specs.Ties.{AreTied}
@@ -51,6 +52,8 @@ pub record IsLawfulRun (script : Script) (plans : List Plan) (rack : Rack) : Typ
   pub causes : AreCaused script plans rack.log
   -- what each stat, getattr, and read of a graph without an io-cache shows a brick had answered, after a quorum had granted locks
   pub reads : AnswersAreRead script plans rack.log rack.bricks
+  -- and so the names on the paths of calls that were answered well, and those that lists show
+  pub names : NamesAreRead script plans rack.log rack.bricks
   -- each copy by a replacement of its own, which the sink confirmed, by what the source had answered; each skip of a cell that
   -- a brick had listed
   pub copies : CopiesAreMade script plans rack.log rack.bricks

@@ -13,6 +13,7 @@ ghost use Rattle.change_audit.specs.Copied.{CopiesAreMade};
 ghost use Rattle.change_audit.specs.Listed.{SkipsAreListed};
 ghost use Rattle.mount_run.specs.Headline.{AreBricksOf, HasFiles, IsLawfulRun};
 ghost use Rattle.mount_run.specs.Outcomes.{IsStopped};
+ghost use Rattle.read_audit.specs.Names.{NamesAreRead};
 ghost use Rattle.read_audit.specs.Read.{AnswersAreRead};
 
 use change_audit::{changes_are_borne, copies_are_made, skips_are_listed};
@@ -26,7 +27,7 @@ use log_audit::{
 };
 use log_replay::one_file_system;
 use mount_log::Log;
-use read_audit::answers_are_read;
+use read_audit::{answers_are_read, names_are_read};
 use run_audit::follows_script;
 use run_report::opened_in;
 use script_lang::Script;
@@ -137,6 +138,25 @@ fn is_sound(
     has_causes(alloc, script, plans, log, heads)
 }
 
+// Whether what answers show was read from bricks, and the names on paths were.
+fn are_read(
+    alloc: Global,
+    script: &Script,
+    plans: &[Plan],
+    left: &Rack,
+    heads: &[Head],
+) -> Result<bool, AllocError>
+    requires { IsAccepted script.now }
+    ensures reads { IfOk result (λ yes. yes ≡ true → AnswersAreRead script.now plans.now left.now.log left.now.bricks) }
+    ensures names { IfOk result (λ yes. yes ≡ true → NamesAreRead script.now plans.now left.now.log left.now.bricks) }
+{
+    let bricks = left.bricks.as_slice();
+    if !answers_are_read(alloc, script, plans, &left.log, bricks, heads)? {
+        return Ok(false);
+    }
+    names_are_read(alloc, script, plans, &left.log, bricks, heads)
+}
+
 // Whether what arrived from the bricks is what they make of what was sent, and what answers show was read from them.
 fn is_from_bricks(
     alloc: Global,
@@ -151,12 +171,13 @@ fn is_from_bricks(
     requires arrived { ArrivedFrom left.now.bricks left.now.log.events }
     ensures honest { IfOk result (λ yes. yes ≡ true → HasHonestArrivals left.now.log) }
     ensures reads { IfOk result (λ yes. yes ≡ true → AnswersAreRead script.now plans.now left.now.log left.now.bricks) }
+    ensures names { IfOk result (λ yes. yes ≡ true → NamesAreRead script.now plans.now left.now.log left.now.bricks) }
 {
     let bricks = left.bricks.as_slice();
     if !arrivals_are_honest(&left.log, heads, bricks) {
         return Ok(false);
     }
-    answers_are_read(alloc, script, plans, &left.log, bricks, heads)
+    are_read(alloc, script, plans, left, heads)
 }
 
 // Whether all but the files is as a run promises. How each output begins that arrived is read once for all of it.
@@ -172,6 +193,7 @@ fn has_course(
     ensures honest { IfOk result (λ yes. yes ≡ true → HasHonestArrivals left.now.log) }
     ensures bricks { IfOk result (λ yes. yes ≡ true → AreBricksOf script.now left.now.log left.now.bricks) }
     ensures reads { IfOk result (λ yes. yes ≡ true → AnswersAreRead script.now plans.now left.now.log left.now.bricks) }
+    ensures names { IfOk result (λ yes. yes ≡ true → NamesAreRead script.now plans.now left.now.log left.now.bricks) }
     ensures ties { IfOk result (λ yes. yes ≡ true → AreTied left.now.log) }
     ensures winds { IfOk result (λ yes. yes ≡ true → WindsAreBalanced left.now.log.winds) }
     ensures connections { IfOk result (λ yes. yes ≡ true → ConnectsAreCaused script.now plans.now left.now.log) }
@@ -190,10 +212,10 @@ fn has_course(
 }
 
 /// Whether the log of a run, with its bricks, is as a run promises: sessions submit their lines in order, each control is
-/// carried out, each call has its reply, what arrived is what the bricks make of what was sent, what reads, stats and getattrs
-/// show was read from bricks, replies, winds and requests are of their calls, events and graphs, connections and I/O errors have
-/// their causes, the winds are balanced, copies were made, skips were listed, the replies are those of one plain file system, and
-/// each acknowledged change is on a quorum of bricks.
+/// carried out, each call has its reply, what arrived is what the bricks make of what was sent, what reads, stats, getattrs and
+/// lists show was read from bricks, and the names on paths were, replies, winds and requests are of their calls, events and graphs,
+/// connections and I/O errors have their causes, the winds are balanced, copies were made, skips were listed, the replies are those
+/// of one plain file system, and each acknowledged change is on a quorum of bricks.
 ///
 /// # Errors
 /// Out of memory.

@@ -37,7 +37,7 @@ holders_are log bricks plan call graph cells cell until source holders has diffe
 
 module _ (script : Script) (log : Log) (tables : CallGraphs) (are : AreGraphsOf script log tables) where
   -- a set of the graph of a call, by its volfile in the table
-  set_is : (plans : List Plan) (call graph set : ℕ) (plan : SetPlan) → graph ≡ graph_of_call log call → set_of_plan (plan_of_volfile plans (slice_get tables.volfiles (graph - 1))) set ≡ Some plan
+  pub set_is : (plans : List Plan) (call graph set : ℕ) (plan : SetPlan) → graph ≡ graph_of_call log call → set_of_plan (plan_of_volfile plans (slice_get tables.volfiles (graph - 1))) set ≡ Some plan
       → set_of_call script plans log call set ≡ Some plan
   set_is plans call graph set plan same is =
       ap (λ (vs : List ℕ). set_of_plan (plan_of_volfile plans (slice_get vs (graph_of_call log call - 1))) set) (sym are.volfiles)

@@ -1,4 +1,9 @@
 pub mod Fetching
+pub mod Leading
+pub mod Listing
+pub mod NameReplies
+pub mod NoCopies
 pub mod Pages
 pub mod Reading
 pub mod Replying
+pub mod Walking

@@ -13,7 +13,7 @@ use Rattle.read_audit.specs.Read.{IsFetched, IsPartRead, IsFileRead, IsDirectory
 use Rattle.read_audit.specs.Showing.{HasPart, HasSize, HasMode, HasAttribute, IsSizeRead, IsModeRead}
 
 module _ (script : Script) (plans : List Plan) (log : Log) (bricks : List Journal) (call number set : ℕ) where
-  shown : (cell own : Cell) (content held : Held) → cell ≡ own → content ≡ held → IsFetched script plans log bricks call number set cell content → IsFetched script plans log bricks call number set own held
+  pub shown : (cell own : Cell) (content held : Held) → cell ≡ own → content ≡ held → IsFetched script plans log bricks call number set cell content → IsFetched script plans log bricks call number set own held
   shown cell own content held same is fetched =
       subst (λ (c : Cell). IsFetched script plans log bricks call number set c held) same
       (subst (λ (h : Held). IsFetched script plans log bricks call number set cell h) is fetched)
@@ -46,10 +46,8 @@ module _ (script : Script) (plans : List Plan) (log : Log) (bricks : List Journa
   }
 
   pub attribute_is : (cell : Cell) (gfid : Gfid) (content : Held) (name value : List ℕ) → cell ≡ meta_cell gfid → IsFetched script plans log bricks call number set cell content → HasAttribute name value content
-      → IsAttributeRead script plans log bricks call number name value
+      → IsAttributeRead script plans log bricks call number set gfid name value
   attribute_is cell gfid content name value same fetched has = record {
-    set = set;
-    gfid = gfid;
     mode = has.mode;
     attrs = has.attrs;
     span = has.span;
@@ -59,10 +57,8 @@ module _ (script : Script) (plans : List Plan) (log : Log) (bricks : List Journa
     value_is = has.has.value_is;
   }
 
-  pub file_is : (gfid : Gfid) (mode size : ℕ) → IsSizeRead script plans log bricks call number set gfid size → IsModeRead script plans log bricks call number set gfid mode → IsFileRead script plans log bricks call number mode size
+  pub file_is : (gfid : Gfid) (mode size : ℕ) → IsSizeRead script plans log bricks call number set gfid size → IsModeRead script plans log bricks call number set gfid mode → IsFileRead script plans log bricks call number set gfid mode size
   file_is gfid mode size sized moded = record {
-    set = set;
-    gfid = gfid;
     whole = sized.whole;
     attrs = moded.attrs;
     span = moded.span;
@@ -71,5 +67,5 @@ module _ (script : Script) (plans : List Plan) (log : Log) (bricks : List Journa
     size_is = sized.size_is;
   }
 
-  pub directory_is : (gfid : Gfid) (mode : ℕ) → IsModeRead script plans log bricks call number set gfid mode → IsDirectoryRead script plans log bricks call number mode
-  directory_is gfid mode moded = record { set = set; gfid = gfid; attrs = moded.attrs; span = moded.span; meta = moded.fetched }
+  pub directory_is : (gfid : Gfid) (mode : ℕ) → IsModeRead script plans log bricks call number set gfid mode → IsDirectoryRead script plans log bricks call number set gfid mode
+  directory_is gfid mode moded = record { attrs = moded.attrs; span = moded.span; meta = moded.fetched }

@@ -43,11 +43,10 @@ pub record WasLocked (bricks : List Journal) (brick place wind graph call : ℕ)
   pub shared : Bool
   pub sent : IsInputAt bricks brick place (input_text (Request wind graph (Lock call shared cells)))
 
--- a brick has granted a call a lock of these cells, in a graph, which arrived in the event at a place, from 0
-pub record IsGrantIn (log : Log) (bricks : List Journal) (call graph : ℕ) (cells : List Cell) (event brick : ℕ) : Type 0 where
+-- a brick has granted a call a lock of these cells, in a graph, by these rows, which arrived in the event at a place, from 0
+pub record IsGrantIn (log : Log) (bricks : List Journal) (call graph : ℕ) (cells : List Cell) (event brick : ℕ) (rows : List Row) : Type 0 where
   pub wind : ℕ
   pub shared : Bool
-  pub rows : List Row
   pub granted : IsGrantedIn log bricks brick wind graph event (Lock call shared cells) rows
 
 -- a quorum of the set's bricks, the source among them, had granted a call locks of the same cells before the event at a place, of

@@ -89,11 +89,13 @@ pub record IsFetched (script : Script) (plans : List Plan) (log : Log) (bricks :
 
 -- ---- what an answer shows
 
--- what a call asks to be shown of an object: a part of a file of at most so many bytes, what a stat shows, or an attribute
+-- what a call asks to be shown of an object: a part of a file of at most so many bytes, what a stat shows, an attribute, or the
+-- names of a directory
 pub data Asked : Type 0 where
   Part : ℕ → Asked
   Attributes : Asked
   Attribute : List ℕ → Asked
+  Names : Asked
   Other : Asked
 
 abbrev pub asked_by : Call → Asked
@@ -106,7 +108,7 @@ asked_by (call.Create fd path mode) = Asked.Other
 asked_by (call.Unlink path) = Asked.Other
 asked_by (call.Rename path target) = Asked.Other
 asked_by (call.Open fd path) = Asked.Other
-asked_by (call.List path) = Asked.Other
+asked_by (call.List path) = Asked.Names
 asked_by (call.Chmod path mode) = Asked.Other
 asked_by (call.Truncate path size) = Asked.Other
 asked_by (call.SetAttr path attr) = Asked.Other
@@ -125,9 +127,7 @@ pub record IsPartRead (script : Script) (plans : List Plan) (log : Log) (bricks 
   pub part : bytes ≡ read_from whole offset count
 
 -- the mode and the size are a file's
-pub record IsFileRead (script : Script) (plans : List Plan) (log : Log) (bricks : List Journal) (call number mode size : ℕ) : Type 0 where
-  pub set : ℕ
-  pub gfid : Gfid
+pub record IsFileRead (script : Script) (plans : List Plan) (log : Log) (bricks : List Journal) (call number set : ℕ) (gfid : Gfid) (mode size : ℕ) : Type 0 where
   pub whole : List ℕ
   pub attrs : List Attr
   pub span : Option Span
@@ -136,17 +136,13 @@ pub record IsFileRead (script : Script) (plans : List Plan) (log : Log) (bricks 
   pub size_is : size ≡ length whole
 
 -- the mode is a directory's
-pub record IsDirectoryRead (script : Script) (plans : List Plan) (log : Log) (bricks : List Journal) (call number mode : ℕ) : Type 0 where
-  pub set : ℕ
-  pub gfid : Gfid
+pub record IsDirectoryRead (script : Script) (plans : List Plan) (log : Log) (bricks : List Journal) (call number set : ℕ) (gfid : Gfid) (mode : ℕ) : Type 0 where
   pub attrs : List Attr
   pub span : Option Span
   pub meta : IsFetched script plans log bricks call number set (meta_cell gfid) (Meta mode attrs span)
 
 -- the bytes are the value of an object's attribute
-pub record IsAttributeRead (script : Script) (plans : List Plan) (log : Log) (bricks : List Journal) (call number : ℕ) (name value : List ℕ) : Type 0 where
-  pub set : ℕ
-  pub gfid : Gfid
+pub record IsAttributeRead (script : Script) (plans : List Plan) (log : Log) (bricks : List Journal) (call number set : ℕ) (gfid : Gfid) (name value : List ℕ) : Type 0 where
   pub mode : ℕ
   pub attrs : List Attr
   pub span : Option Span
@@ -155,10 +151,16 @@ pub record IsAttributeRead (script : Script) (plans : List Plan) (log : Log) (br
   pub named : attr_named attrs name ≡ Some attr
   pub value_is : value ≡ attr.value
 
-abbrev pub AreAttributesRead : Script → List Plan → Log → List Journal → ℕ → ℕ → Kind → ℕ → ℕ → Type 0
-AreAttributesRead script plans log bricks call number kind.File mode size = IsFileRead script plans log bricks call number mode size
-AreAttributesRead script plans log bricks call number kind.Dir mode size = IsDirectoryRead script plans log bricks call number mode
-AreAttributesRead script plans log bricks call number kind.Link mode size = ⊥
+abbrev pub AreAttributesRead : Script → List Plan → Log → List Journal → ℕ → ℕ → ℕ → Gfid → Kind → ℕ → ℕ → Type 0
+AreAttributesRead script plans log bricks call number set gfid kind.File mode size = IsFileRead script plans log bricks call number set gfid mode size
+AreAttributesRead script plans log bricks call number set gfid kind.Dir mode size = IsDirectoryRead script plans log bricks call number set gfid mode
+AreAttributesRead script plans log bricks call number set gfid kind.Link mode size = ⊥
+
+-- of some object on a set this holds
+pub record OfAnObject (P : ℕ → Gfid → Type 0) : Type 0 where
+  pub set : ℕ
+  pub gfid : Gfid
+  pub is : P set gfid
 
 -- ---- graphs whose reads may be answered from pages that are kept
 
@@ -188,10 +190,11 @@ may_keep script plans log call = keeps_pages (plan_of_volfile plans (slice_get (
 abbrev pub IsRead : Script → List Plan → Log → List Journal → ℕ → ℕ → Asked → Answer → Type 0
 IsRead script plans log bricks call number (Asked.Part count) (answer.Bytes bytes) = may_keep script plans log call ≡ false → IsPartRead script plans log bricks call number count bytes
 IsRead script plans log bricks call number (Asked.Part count) other = Unit {0}
-IsRead script plans log bricks call number Asked.Attributes (answer.Stat kind mode size) = AreAttributesRead script plans log bricks call number kind mode size
+IsRead script plans log bricks call number Asked.Attributes (answer.Stat kind mode size) = OfAnObject (λ set gfid. AreAttributesRead script plans log bricks call number set gfid kind mode size)
 IsRead script plans log bricks call number Asked.Attributes other = Unit {0}
-IsRead script plans log bricks call number (Asked.Attribute name) (answer.Bytes value) = IsAttributeRead script plans log bricks call number name value
+IsRead script plans log bricks call number (Asked.Attribute name) (answer.Bytes value) = OfAnObject (λ set gfid. IsAttributeRead script plans log bricks call number set gfid name value)
 IsRead script plans log bricks call number (Asked.Attribute name) other = Unit {0}
+IsRead script plans log bricks call number Asked.Names other = Unit {0}
 IsRead script plans log bricks call number Asked.Other other = Unit {0}
 
 -- each reply to a call of the script that shows something was read from bricks

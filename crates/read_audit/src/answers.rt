@@ -2,20 +2,27 @@
 ghost use Rattle.std.specs.Prelude.{◌≡◌, true, false, IfOk};
 ghost use Rattle.mount_log.specs.Connections.{graph_of_call};
 ghost use Rattle.change_audit.specs.CallGraphs.{AreGraphsOf};
-ghost use Rattle.read_audit.specs.Read.{IsPartRead, AreAttributesRead, may_keep, asked_by, IsRead};
+ghost use Rattle.read_audit.specs.Read.{IsPartRead, may_keep, asked_by, IsRead};
 ghost use Rattle.read_audit.specs.Read.Asked.{Part, Attributes, Attribute};
 
 use crate::found::Found;
 use crate::keeping::keeps_pages;
-use crate::objects::{is_attribute_read, is_directory_read, is_file_read, is_part_read};
+use crate::objects::{are_attributes_read, is_attribute_read, is_part_read};
 use crate::readings::Replied;
 use brick_machine::Brick;
-use change_audit::call_graphs::CallGraphs;
-use fop_types::{Answer, Call, Kind};
+use change_audit::call_graphs::{CallGraphs, set_with};
+use fop_types::{Answer, Aspect, Call, Gfid};
 use graph_build::Plan;
 use mount_log::Log;
 use script_lang::Script;
 use std::alloc::{AllocError, Global};
+
+// An object on a set.
+#[derive(Clone, Copy)]
+struct On {
+    set: u8,
+    gfid: Gfid,
+}
 
 // Whether the bytes are a part of a file that was read, if the graph keeps no pages.
 fn is_part_due(
@@ -82,39 +89,12 @@ fn shows_part(
     }
 }
 
-// Whether the mode and the size are those of an object of a kind that were read.
-fn are_attributes_read(
-    alloc: Global,
-    script: &Script,
-    plans: &[Plan],
-    log: &Log,
-    bricks: &[Brick],
-    graphs: &CallGraphs,
-    found: &Found,
-    by: Replied,
-    kind: Kind,
-    mode: u16,
-    size: u32,
-) -> Result<bool, AllocError>
-    requires graphs { AreGraphsOf script.now log.now graphs.now }
-    requires graph { by.graph ≡ graph_of_call log.now by.call }
-    ensures { IfOk result (λ yes. yes ≡ true → AreAttributesRead script.now plans.now log.now bricks.now by.call by.number kind mode size) }
-{
-    match kind {
-        Kind::File => {
-            let yes = is_file_read(
-                alloc, script, plans, log, bricks, graphs, found, by, mode, size,
-            )?;
-            Ok(yes)
-        }
-        Kind::Dir => {
-            let yes = is_directory_read(
-                alloc, script, plans, log, bricks, graphs, found, by, mode,
-            )?;
-            Ok(yes)
-        }
-        Kind::Link => Ok(false),
-    }
+// The object of the last metadata that a call had fetched by its reply.
+fn last_object(plans: &[Plan], graphs: &CallGraphs, found: &Found, by: Replied) -> Option<On> {
+    let at = found.last_of_aspect(by.call, by.number, Aspect::Meta)?;
+    let set = set_with(plans, graphs, by.graph, at.source)?;
+    let gfid = at.cell.gfid;
+    Some(On { set, gfid })
 }
 
 fn shows_attributes(
@@ -134,8 +114,12 @@ fn shows_attributes(
 {
     match answer {
         Answer::Stat { kind, mode, size } => {
+            let Some(on) = last_object(plans, graphs, found, by) else {
+                return Ok(false);
+            };
             let yes = are_attributes_read(
-                alloc, script, plans, log, bricks, graphs, found, by, *kind, *mode, *size,
+                alloc, script, plans, log, bricks, graphs, found, by, on.set, on.gfid, *kind,
+                *mode, *size,
             )?;
             Ok(yes)
         }
@@ -161,6 +145,9 @@ fn shows_attribute(
 {
     match answer {
         Answer::Bytes(value) => {
+            let Some(on) = last_object(plans, graphs, found, by) else {
+                return Ok(false);
+            };
             let yes = is_attribute_read(
                 alloc,
                 script,
@@ -170,6 +157,8 @@ fn shows_attribute(
                 graphs,
                 found,
                 by,
+                on.set,
+                on.gfid,
                 name,
                 value.as_slice(),
             )?;

@@ -4,7 +4,7 @@ use crate::found::{FetchAt, Found, Grant, LockAt};
 use brick_machine::Brick;
 use change_audit::finding::{Opening, openings_of};
 use change_audit::journals::{input_at, whole_input};
-use fop_types::{Aspect, BrickReq, Cell, Input, Proc, Seq};
+use fop_types::{BrickReq, Cell, Input, Proc, Seq};
 use log_audit::heads::{Head, Said, head_at};
 use log_audit::requests::is_request_of;
 use mount_log::{HubEvent, Log};
@@ -140,13 +140,6 @@ fn done_in(event: usize, at: &HubEvent, head: Head) -> Option<Arrival> {
 
 // ---- what is noted
 
-fn is_names(cell: Cell) -> bool {
-    match cell.aspect {
-        Aspect::Entry => true,
-        _ => false,
-    }
-}
-
 // The lock that an answer grants: the one of its wind that had no answer.
 fn take_granted(tables: &mut Tables, at: Arrival) -> Option<Locked> {
     let locks = tables.locks.get_mut(at.brick as usize)?;
@@ -172,7 +165,7 @@ fn note_lock(
     found.add_lock(alloc, call, lock)
 }
 
-// Notes the fetch that was answered, on a wind that was opened so. Those of a directory's names are not noted.
+// Notes the fetch that was answered, on a wind that was opened so.
 fn note_fetch(
     alloc: Global,
     found: &mut Found,
@@ -183,9 +176,6 @@ fn note_fetch(
     let Some(cell) = fetched_in(alloc, input)? else {
         return Ok(());
     };
-    if is_names(cell) {
-        return Ok(());
-    }
     let fetch = FetchAt {
         event: at.event,
         source: at.brick,
@@ -229,7 +219,7 @@ fn note(
     }
 }
 
-/// The locks that bricks have granted, and the fetches of data and metadata that they have answered.
+/// The locks that bricks have granted, and the fetches that they have answered.
 ///
 /// # Errors
 /// Out of memory.

@@ -29,7 +29,7 @@ pub struct LockAt {
     pub cells: Seq<Cell>,
 }
 
-/// The fetches of data and metadata and the locks of each call, each in the order of events.
+/// The fetches and the locks of each call, each in the order of events.
 #[derive(Drop)]
 pub struct Found {
     fetches: BTreeMap<u32, Vec<FetchAt>>,
@@ -42,6 +42,19 @@ fn later_of(last: Option<FetchAt>, fetch: FetchAt) -> Option<FetchAt> {
         Some(before) if before.opening > fetch.opening => last,
         _ => Some(fetch),
     }
+}
+
+// The fetches by the places of their openings, from the last one on.
+fn from_last(
+    alloc: Global,
+    fetches: &BTreeMap<usize, FetchAt>,
+) -> Result<Vec<FetchAt>, AllocError> {
+    let mut all = Vec::new(alloc);
+    for (_, fetch) in fetches {
+        all.push(*fetch)?;
+    }
+    all.reverse();
+    Ok(all)
 }
 
 impl Found {
@@ -112,6 +125,29 @@ impl Found {
             }
         }
         last
+    }
+
+    /// The fetches of a call of this cell whose answers arrived by the event of a number, from the one that was opened last on.
+    ///
+    /// # Errors
+    /// Out of memory.
+    pub(crate) fn fetches_of(
+        &self,
+        alloc: Global,
+        call: u32,
+        number: u64,
+        cell: Cell,
+    ) -> Result<Vec<FetchAt>, AllocError> {
+        let mut fetches = BTreeMap::new(alloc);
+        let Some(list) = self.fetches.get(&call) else {
+            return Ok(Vec::new(alloc));
+        };
+        for fetch in list.as_slice() {
+            if (fetch.event as u64) < number && fetch.cell == cell {
+                fetches.insert(fetch.opening, *fetch)?;
+            }
+        }
+        from_last(alloc, &fetches)
     }
 
     /// The cells of the last lock that the source of a fetch had granted the call before, of which the fetch's cell is one.

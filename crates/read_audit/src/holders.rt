@@ -153,8 +153,12 @@ fn was_locked(
 
 // ---- one holder
 
-// Whether a brick has granted the lock of these cells at a place in its journal by what arrived in the event at another.
-fn is_granted(
+/// The rows by which a brick has granted the lock of these cells at a place in its journal, by what arrived in the event at
+/// another.
+///
+/// # Errors
+/// Out of memory.
+pub(crate) fn granted_rows(
     alloc: Global,
     log: &Log,
     bricks: &[Brick],
@@ -163,27 +167,27 @@ fn is_granted(
     cells: &[Cell],
     grant: Grant,
     brick: u8,
-) -> Result<bool, AllocError>
-    ensures { IfOk result (λ yes. yes ≡ true → IsGrantIn log.now bricks.now call graph cells.now grant.event brick) }
+) -> Result<Option<Seq<Row>>, AllocError>
+    ensures { IfOk result (λ found. IfSome found (λ rows. IsGrantIn log.now bricks.now call graph cells.now grant.event brick rows)) }
 {
     let Some(bytes) = arrived(log, grant.event, brick) else {
-        return Ok(false);
+        return Ok(None);
     };
     let Some(output) = written_output(alloc, bytes)? else {
-        return Ok(false);
+        return Ok(None);
     };
     let Output { taken, kind } = output;
     let Some(found) = rows_answered(kind) else {
-        return Ok(false);
+        return Ok(None);
     };
     if grant.place as u64 >= taken {
-        return Ok(false);
+        return Ok(None);
     }
-    let wind = found.wind;
+    let Granted { wind, rows } = found;
     if !was_locked(alloc, bricks, brick, grant.place, wind, graph, call, cells)? {
-        return Ok(false);
+        return Ok(None);
     }
-    Ok(true)
+    Ok(Some(rows))
 }
 
 /// Whether a brick of the set has granted the lock of these cells that is said to be where, by what arrived before the event at a
@@ -211,6 +215,8 @@ pub(crate) fn is_holder(
     if !has_member(plan, brick) {
         return Ok(false);
     }
-    let yes = is_granted(alloc, log, bricks, call, graph, cells, grant, brick)?;
-    Ok(yes)
+    match granted_rows(alloc, log, bricks, call, graph, cells, grant, brick)? {
+        Some(_rows) => Ok(true),
+        None => Ok(false),
+    }
 }

@@ -1,39 +1,21 @@
 //! What a call has read of an object: a part of a file, what a stat shows, or the value of an attribute.
 ghost use Rattle.std.specs.Prelude.{◌≡◌, true, IfOk};
-ghost use Rattle.fop_types.specs.Cells.{data_cell as data_of, meta_cell as meta_of};
 ghost use Rattle.mount_log.specs.Connections.{graph_of_call};
 ghost use Rattle.change_audit.specs.CallGraphs.{AreGraphsOf};
-ghost use Rattle.read_audit.specs.Read.{IsPartRead, IsFileRead, IsDirectoryRead, IsAttributeRead};
+ghost use Rattle.read_audit.specs.Read.{IsPartRead, IsFileRead, IsDirectoryRead, AreAttributesRead, IsAttributeRead};
 ghost use Rattle.read_audit.specs.Showing.{IsSizeRead, IsModeRead};
 
+use crate::cells::{data_cell, meta_cell};
 use crate::found::{FetchAt, Found};
 use crate::readings::{Replied, content_read};
 use crate::showing::{has_attribute, has_mode, has_part, has_size};
 use brick_machine::Brick;
 use change_audit::call_graphs::{CallGraphs, set_with};
-use fop_types::{Aspect, Cell, Gfid};
+use fop_types::{Aspect, Gfid, Kind};
 use graph_build::Plan;
 use mount_log::Log;
 use script_lang::Script;
 use std::alloc::{AllocError, Global};
-
-fn data_cell(gfid: Gfid) -> Cell
-    ensures { result ≡ data_of gfid }
-{
-    Cell {
-        gfid,
-        aspect: Aspect::Data,
-    }
-}
-
-fn meta_cell(gfid: Gfid) -> Cell
-    ensures { result ≡ meta_of gfid }
-{
-    Cell {
-        gfid,
-        aspect: Aspect::Meta,
-    }
-}
 
 /// Whether the last data that a call had fetched by its reply was that of a file of which the bytes are those from an offset on, at
 /// most so many.
@@ -73,7 +55,7 @@ pub(crate) fn is_part_read(
     Ok(has_part(&content, offset, count as usize, bytes))
 }
 
-/// Whether the last metadata that a call had fetched by its reply has an attribute of this name and value.
+/// Whether the last metadata of an object that a call had fetched by its reply has an attribute of this name and value.
 ///
 /// # Errors
 /// Out of memory.
@@ -86,20 +68,19 @@ pub(crate) fn is_attribute_read(
     graphs: &CallGraphs,
     found: &Found,
     by: Replied,
+    set: u8,
+    gfid: Gfid,
     name: &[u8],
     value: &[u8],
 ) -> Result<bool, AllocError>
     requires graphs { AreGraphsOf script.now log.now graphs.now }
     requires graph { by.graph ≡ graph_of_call log.now by.call }
-    ensures { IfOk result (λ yes. yes ≡ true → IsAttributeRead script.now plans.now log.now bricks.now by.call by.number name.now value.now) }
+    ensures { IfOk result (λ yes. yes ≡ true → IsAttributeRead script.now plans.now log.now bricks.now by.call by.number set gfid name.now value.now) }
 {
-    let Some(at) = found.last_of_aspect(by.call, by.number, Aspect::Meta) else {
+    let cell = meta_cell(gfid);
+    let Some(at) = found.last_of_cell(by.call, by.number, cell) else {
         return Ok(false);
     };
-    let Some(set) = set_with(plans, graphs, by.graph, at.source) else {
-        return Ok(false);
-    };
-    let cell = meta_cell(at.cell.gfid);
     let read = content_read(
         alloc, script, plans, log, bricks, graphs, found, by, set, &cell, at,
     )?;
@@ -169,11 +150,8 @@ fn is_mode_read(
     Ok(has_mode(&content, mode))
 }
 
-/// Whether the last metadata that a call had fetched by its reply has this mode, and the last data of the same file this size.
-///
-/// # Errors
-/// Out of memory.
-pub(crate) fn is_file_read(
+// Whether the last metadata of a file that a call had fetched by its reply has this mode, and its last data this size.
+fn is_file_read(
     alloc: Global,
     script: &Script,
     plans: &[Plan],
@@ -182,21 +160,19 @@ pub(crate) fn is_file_read(
     graphs: &CallGraphs,
     found: &Found,
     by: Replied,
+    set: u8,
+    gfid: Gfid,
     mode: u16,
     size: u32,
 ) -> Result<bool, AllocError>
     requires graphs { AreGraphsOf script.now log.now graphs.now }
     requires graph { by.graph ≡ graph_of_call log.now by.call }
-    ensures { IfOk result (λ yes. yes ≡ true → IsFileRead script.now plans.now log.now bricks.now by.call by.number mode size) }
+    ensures { IfOk result (λ yes. yes ≡ true → IsFileRead script.now plans.now log.now bricks.now by.call by.number set gfid mode size) }
 {
-    let Some(meta_at) = found.last_of_aspect(by.call, by.number, Aspect::Meta) else {
+    let Some(meta_at) = found.last_of_cell(by.call, by.number, meta_cell(gfid)) else {
         return Ok(false);
     };
-    let gfid = meta_at.cell.gfid;
     let Some(data_at) = found.last_of_cell(by.call, by.number, data_cell(gfid)) else {
-        return Ok(false);
-    };
-    let Some(set) = set_with(plans, graphs, by.graph, data_at.source) else {
         return Ok(false);
     };
     if !is_size_read(
@@ -210,11 +186,8 @@ pub(crate) fn is_file_read(
     Ok(yes)
 }
 
-/// Whether the last metadata that a call had fetched by its reply has this mode.
-///
-/// # Errors
-/// Out of memory.
-pub(crate) fn is_directory_read(
+// Whether the last metadata of a directory that a call had fetched by its reply has this mode.
+fn is_directory_read(
     alloc: Global,
     script: &Script,
     plans: &[Plan],
@@ -223,21 +196,59 @@ pub(crate) fn is_directory_read(
     graphs: &CallGraphs,
     found: &Found,
     by: Replied,
+    set: u8,
+    gfid: Gfid,
     mode: u16,
 ) -> Result<bool, AllocError>
     requires graphs { AreGraphsOf script.now log.now graphs.now }
     requires graph { by.graph ≡ graph_of_call log.now by.call }
-    ensures { IfOk result (λ yes. yes ≡ true → IsDirectoryRead script.now plans.now log.now bricks.now by.call by.number mode) }
+    ensures { IfOk result (λ yes. yes ≡ true → IsDirectoryRead script.now plans.now log.now bricks.now by.call by.number set gfid mode) }
 {
-    let Some(at) = found.last_of_aspect(by.call, by.number, Aspect::Meta) else {
+    let Some(at) = found.last_of_cell(by.call, by.number, meta_cell(gfid)) else {
         return Ok(false);
     };
-    let Some(set) = set_with(plans, graphs, by.graph, at.source) else {
-        return Ok(false);
-    };
-    let gfid = at.cell.gfid;
     let yes = is_mode_read(
         alloc, script, plans, log, bricks, graphs, found, by, set, gfid, at, mode,
     )?;
     Ok(yes)
+}
+
+/// Whether mode and size are what the last contents of an object of a kind that a call had fetched by its reply show.
+///
+/// # Errors
+/// Out of memory.
+pub(crate) fn are_attributes_read(
+    alloc: Global,
+    script: &Script,
+    plans: &[Plan],
+    log: &Log,
+    bricks: &[Brick],
+    graphs: &CallGraphs,
+    found: &Found,
+    by: Replied,
+    set: u8,
+    gfid: Gfid,
+    kind: Kind,
+    mode: u16,
+    size: u32,
+) -> Result<bool, AllocError>
+    requires graphs { AreGraphsOf script.now log.now graphs.now }
+    requires graph { by.graph ≡ graph_of_call log.now by.call }
+    ensures { IfOk result (λ yes. yes ≡ true → AreAttributesRead script.now plans.now log.now bricks.now by.call by.number set gfid kind mode size) }
+{
+    match kind {
+        Kind::File => {
+            let yes = is_file_read(
+                alloc, script, plans, log, bricks, graphs, found, by, set, gfid, mode, size,
+            )?;
+            Ok(yes)
+        }
+        Kind::Dir => {
+            let yes = is_directory_read(
+                alloc, script, plans, log, bricks, graphs, found, by, set, gfid, mode,
+            )?;
+            Ok(yes)
+        }
+        Kind::Link => Ok(false),
+    }
 }

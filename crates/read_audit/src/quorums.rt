@@ -14,8 +14,14 @@ use mount_log::Log;
 use std::alloc::{AllocError, Global};
 use std::collections::BTreeMap;
 
-// The bricks that have granted, by rising numbers.
-fn bricks_of(alloc: Global, grants: &BTreeMap<u8, Grant>) -> Result<Vec<u8>, AllocError> {
+/// The bricks that have granted, by rising numbers.
+///
+/// # Errors
+/// Out of memory.
+pub(crate) fn bricks_of(
+    alloc: Global,
+    grants: &BTreeMap<u8, Grant>,
+) -> Result<Vec<u8>, AllocError> {
     let mut bricks = Vec::new(alloc);
     for (brick, _) in grants {
         bricks.push(*brick)?;
@@ -23,7 +29,8 @@ fn bricks_of(alloc: Global, grants: &BTreeMap<u8, Grant>) -> Result<Vec<u8>, All
     Ok(bricks)
 }
 
-fn grant_of(grants: &BTreeMap<u8, Grant>, brick: u8) -> Grant {
+/// The grant of a brick; one that is nowhere, where there is none.
+pub(crate) fn grant_of(grants: &BTreeMap<u8, Grant>, brick: u8) -> Grant {
     match grants.get(&brick) {
         Some(grant) => *grant,
         None => Grant {
@@ -72,13 +79,15 @@ fn are_rising(holders: &[u8]) -> bool
     true
 }
 
-fn are_apart(holders: &[u8]) -> bool
+/// Whether no brick is named twice, where the numbers rise.
+pub(crate) fn are_apart(holders: &[u8]) -> bool
     ensures { result ≡ true → IsDistinct ◌==◌ holders.now }
 {
     are_rising(holders)
 }
 
-fn are_enough(plan: &SetPlan, holders: &[u8]) -> bool
+/// Whether so many bricks are a quorum of the set.
+pub(crate) fn are_enough(plan: &SetPlan, holders: &[u8]) -> bool
     ensures { result ≡ true → plan.now.q ≤ length holders.now }
 {
     plan.q as usize <= holders.len()

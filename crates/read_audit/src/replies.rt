@@ -54,7 +54,8 @@ fn is_reply_read(
     Ok(yes)
 }
 
-fn reply_at(log: &Log, k: usize) -> Option<&ReplyLine>
+/// The reply at a place.
+pub(crate) fn reply_at(log: &Log, k: usize) -> Option<&ReplyLine>
     ensures { option_copied result ≡ slice_get log.now.replies k }
 {
     log.replies.as_slice().get(k)

@@ -1,0 +1,8 @@
+use Rattle.std.proofs.Common.{ℕ, ◌<◌, ◌≡◌}
+use Rattle.std.specs.Prelude.{Some, slice_get}
+use Rattle.mount_log.specs.declared.logs.ReplyLine.{ReplyLine}
+use Rattle.read_audit.specs.Naming.{IsNameDue}
+use Rattle.read_audit.proofs.names.are_due.Given as goal
+
+abbrev pub invariant-loop-k : goal.invariant-loop-k
+invariant-loop-k l = (j : ℕ) (reply : ReplyLine) → j < l.k → slice_get l.log.replies j ≡ Some reply → IsNameDue l.script l.plans l.log l.bricks reply

@@ -1,0 +1,232 @@
+//! The names that each set has of a directory, by what a call has read, and whether a list shows just these.
+ghost use Rattle.std.specs.Prelude.{◌≡◌, true, false, length, IfOk, IfSome};
+ghost use Rattle.fop_types.specs.declared.contents.Content.TheVariants.{Names};
+ghost use Rattle.mount_log.specs.Connections.{graph_of_call};
+ghost use Rattle.change_audit.specs.CallGraphs.{AreGraphsOf};
+ghost use Rattle.read_audit.specs.Names.{HasNames, IsListed};
+ghost use Rattle.read_audit.specs.Naming.{HaveFirst};
+
+use crate::cells::names_cell;
+use crate::found::{FetchAt, Found};
+use crate::lacking::is_lacking;
+use crate::lists::are_union;
+use crate::readings::{Replied, content_read};
+use brick_machine::Brick;
+use change_audit::bearers::has_member;
+use change_audit::call_graphs::{CallGraphs, plan_in, set_in};
+use fop_types::{Content, Gfid, Item, Seq};
+use graph_build::Plan;
+use mount_log::Log;
+use script_lang::Script;
+use std::alloc::{AllocError, Global};
+
+// ---- one set
+
+// The names of a directory, by a content that is that of one which was not removed.
+fn items_in(content: Content) -> Option<Seq<Item>>
+    ensures { IfSome result (λ items. content ≡ Names false items) }
+{
+    match content {
+        Content::Names { removed, items } => {
+            if removed {
+                return None;
+            }
+            Some(items)
+        }
+        _ => None,
+    }
+}
+
+// The names that a set has of a directory, by the answer to a fetch of them.
+fn names_by(
+    alloc: Global,
+    script: &Script,
+    plans: &[Plan],
+    log: &Log,
+    bricks: &[Brick],
+    graphs: &CallGraphs,
+    found: &Found,
+    by: Replied,
+    dir: Gfid,
+    set: u8,
+    at: FetchAt,
+) -> Result<Option<Seq<Item>>, AllocError>
+    requires graphs { AreGraphsOf script.now log.now graphs.now }
+    requires graph { by.graph ≡ graph_of_call log.now by.call }
+    ensures { IfOk result (λ found. IfSome found (λ items. HasNames script.now plans.now log.now bricks.now by.call by.number set dir items)) }
+{
+    let cell = names_cell(dir);
+    let read = content_read(
+        alloc, script, plans, log, bricks, graphs, found, by, set, &cell, at,
+    )?;
+    let Some(content) = read else {
+        return Ok(None);
+    };
+    Ok(items_in(content))
+}
+
+// The names that a set has of a directory, by the last fetch of them from the set.
+fn names_shown(
+    alloc: Global,
+    script: &Script,
+    plans: &[Plan],
+    log: &Log,
+    bricks: &[Brick],
+    graphs: &CallGraphs,
+    found: &Found,
+    by: Replied,
+    dir: Gfid,
+    set: u8,
+) -> Result<Option<Seq<Item>>, AllocError>
+    requires graphs { AreGraphsOf script.now log.now graphs.now }
+    requires graph { by.graph ≡ graph_of_call log.now by.call }
+    ensures { IfOk result (λ found. IfSome found (λ items. HasNames script.now plans.now log.now bricks.now by.call by.number set dir items)) }
+{
+    let Some(plan) = set_in(plans, graphs, by.graph, set) else {
+        return Ok(None);
+    };
+    let fetches = found.fetches_of(alloc, by.call, by.number, names_cell(dir))?;
+    for at in &fetches {
+        if has_member(plan, at.source) {
+            let names = names_by(
+                alloc, script, plans, log, bricks, graphs, found, by, dir, set, *at,
+            )?;
+            match names {
+                Some(items) => return Ok(Some(items)),
+                None => {}
+            }
+        }
+    }
+    Ok(None)
+}
+
+// No names, where a set has no copy of a directory.
+fn no_names(
+    alloc: Global,
+    script: &Script,
+    plans: &[Plan],
+    log: &Log,
+    bricks: &[Brick],
+    graphs: &CallGraphs,
+    found: &Found,
+    by: Replied,
+    dir: Gfid,
+    set: u8,
+) -> Result<Option<Seq<Item>>, AllocError>
+    requires graphs { AreGraphsOf script.now log.now graphs.now }
+    requires graph { by.graph ≡ graph_of_call log.now by.call }
+    ensures { IfOk result (λ found. IfSome found (λ items. HasNames script.now plans.now log.now bricks.now by.call by.number set dir items)) }
+{
+    let cell = names_cell(dir);
+    if !is_lacking(
+        alloc, script, plans, log, bricks, graphs, found, by, set, &cell,
+    )? {
+        return Ok(None);
+    }
+    Ok(Some(Seq::new(alloc)))
+}
+
+// The names that a set has of a directory.
+fn names_on(
+    alloc: Global,
+    script: &Script,
+    plans: &[Plan],
+    log: &Log,
+    bricks: &[Brick],
+    graphs: &CallGraphs,
+    found: &Found,
+    by: Replied,
+    dir: Gfid,
+    set: u8,
+) -> Result<Option<Seq<Item>>, AllocError>
+    requires graphs { AreGraphsOf script.now log.now graphs.now }
+    requires graph { by.graph ≡ graph_of_call log.now by.call }
+    ensures { IfOk result (λ found. IfSome found (λ items. HasNames script.now plans.now log.now bricks.now by.call by.number set dir items)) }
+{
+    let shown = names_shown(
+        alloc, script, plans, log, bricks, graphs, found, by, dir, set,
+    )?;
+    match shown {
+        Some(items) => Ok(Some(items)),
+        None => no_names(
+            alloc, script, plans, log, bricks, graphs, found, by, dir, set,
+        ),
+    }
+}
+
+// ---- all sets
+
+// The names that the first sets, so many, have of a directory.
+fn names_over(
+    alloc: Global,
+    script: &Script,
+    plans: &[Plan],
+    log: &Log,
+    bricks: &[Brick],
+    graphs: &CallGraphs,
+    found: &Found,
+    by: Replied,
+    dir: Gfid,
+    sets: u8,
+) -> Result<Option<Seq<Seq<Item>>>, AllocError>
+    requires graphs { AreGraphsOf script.now log.now graphs.now }
+    requires graph { by.graph ≡ graph_of_call log.now by.call }
+    ensures { IfOk result (λ found. IfSome found (λ lists. HaveFirst script.now plans.now log.now bricks.now by.call by.number dir sets lists)) }
+{
+    let mut lists = Vec::new(alloc);
+    for set in 0..sets {
+        let names = names_on(
+            alloc, script, plans, log, bricks, graphs, found, by, dir, set,
+        )?;
+        let Some(items) = names else {
+            return Ok(None);
+        };
+        lists.push(items)?;
+    }
+    Ok(Some(Seq::from_vec(lists)))
+}
+
+// How many sets a graph has.
+fn sets_of(plan: &Plan) -> Option<u8>
+    ensures { IfSome result (λ sets. sets ≡ length plan.now.sets) }
+{
+    match u8::try_from(plan.sets.len()) {
+        Ok(sets) => Some(sets),
+        Err(_) => None,
+    }
+}
+
+/// Whether what is shown of a directory is what the sets of the call's graph have of it, by what the call has read.
+///
+/// # Errors
+/// Out of memory.
+pub(crate) fn is_listed(
+    alloc: Global,
+    script: &Script,
+    plans: &[Plan],
+    log: &Log,
+    bricks: &[Brick],
+    graphs: &CallGraphs,
+    found: &Found,
+    by: Replied,
+    dir: Gfid,
+    shown: &[Item],
+) -> Result<bool, AllocError>
+    requires graphs { AreGraphsOf script.now log.now graphs.now }
+    requires graph { by.graph ≡ graph_of_call log.now by.call }
+    ensures { IfOk result (λ yes. yes ≡ true → IsListed script.now plans.now log.now bricks.now by.call by.number dir shown.now) }
+{
+    let Some(plan) = plan_in(plans, graphs, by.graph) else {
+        return Ok(false);
+    };
+    let Some(sets) = sets_of(plan) else {
+        return Ok(false);
+    };
+    let names = names_over(
+        alloc, script, plans, log, bricks, graphs, found, by, dir, sets,
+    )?;
+    let Some(lists) = names else {
+        return Ok(false);
+    };
+    Ok(are_union(lists.as_slice(), shown))
+}
