@@ -7,7 +7,7 @@ use crate::journals::input_at;
 use brick_machine::Brick;
 use fop_types::{BrickRep, Cell, CopyRecord, DoneArm, OutKind, Output, Proc};
 use log_audit::by_place::event_at;
-use log_audit::requests::is_request_of;
+use mount_log::requests::is_request_of;
 use mount_log::{HubEvent, Log};
 use std::alloc::{AllocError, Global};
 use std::collections::BTreeMap;

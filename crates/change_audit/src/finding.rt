@@ -7,7 +7,7 @@ use crate::candidates::{BearerOf, Candidates, candidates_of};
 use crate::journals::input_at;
 use brick_machine::Brick;
 use fop_types::Proc;
-use log_audit::requests::request_proc;
+use mount_log::requests::request_proc;
 use mount_log::{HubEvent, Log, WindLine};
 use std::alloc::{AllocError, Global};
 use std::collections::BTreeMap;

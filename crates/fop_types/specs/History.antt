@@ -140,8 +140,9 @@ pub record IsLegalEntry (calls : List Submission) (replies : List Reply) (since 
   pub not_later : seen ≤ index
   pub possible : IsChange (flat (fs_after ops seen) last)
 
--- Each entry has its operation, none is repeated, each is legal where it stands, and a rename's move stands after the unlink that is its part 1. `since` gives the length of the history
--- at a call's submission; the places of an answered call are those of its reply.
+-- Each entry has its operation, none is repeated, each is legal where it stands, and a rename's move stands after the unlink
+-- that is its part 1. `since` gives the length of the history at a call's submission; the places of an answered call are those
+-- of its reply.
 pub record IsLegalHistory (calls : List Submission) (replies : List Reply) (since : ℕ → ℕ) (places : ℕ → List ℕ) (ops : List FlatOp) (history : List Entry) : Type 0 where
   pub as_many : length ops ≡ length history
   pub distinct : (i j : ℕ) (entry : Entry) → slice_get history i ≡ Some entry → slice_get history j ≡ Some entry → i ≡ j

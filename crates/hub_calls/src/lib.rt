@@ -45,6 +45,7 @@ mod sends;
 mod turns;
 
 pub use hub::Hub;
-pub use hub_tables::{Due, SmallSet, Turned, named_brick, request_proc};
+pub use hub_tables::{Due, SmallSet, Turned, named_brick};
+pub use mount_log::requests::request_proc;
 pub use mount_log::{HubEvent, Log, ReplyLine, SentLine, WindLine};
 pub use racks::Rack;

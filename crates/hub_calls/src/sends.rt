@@ -4,8 +4,9 @@ ghost use Rattle.wire_xdr.specs.WireText.{IsInput};
 use crate::parts::Parts;
 use bytes::Bytes;
 use fop_types::{Input, Proc, Seq};
-use hub_tables::{may_be_armed, proc_in};
+use hub_tables::may_be_armed;
 use mount_log::SentLine;
+use mount_log::requests::rank_of;
 use script_lang::Action;
 use std::alloc::{AllocError, Global};
 use wire_xdr::encode_req;
@@ -104,7 +105,7 @@ impl Parts {
 
     // A request goes out, behind what is armed for it; the controls that wait for it have come.
     fn send_request(&mut self, alloc: Global, brick: u8, bytes: Bytes) -> Result<(), AllocError> {
-        let Some(proc) = proc_in(bytes.as_slice()) else {
+        let Some(proc) = rank_of(bytes.as_slice()) else {
             return Ok(());
         };
         let request = self.controls.count(brick, proc)?;

@@ -35,6 +35,6 @@ pub use fop_checks::is_fop;
 pub use fops::{changes_bytes_next, fd_number};
 pub use plan_bricks::bricks_of;
 pub use progress::Progress;
-pub use requests::{Nth, proc_in, request_proc};
+pub use requests::Nth;
 pub use script_lines::{creations, makes};
 pub use small_set::SmallSet;

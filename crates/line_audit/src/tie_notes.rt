@@ -3,7 +3,7 @@
 use crate::tied_ends::EndedAt;
 use crate::tied_requests::SentFor;
 use fop_types::Input;
-use log_audit::requests::request_proc;
+use mount_log::requests::request_proc;
 use mount_log::{Log, SentLine, WindLine};
 use std::alloc::{AllocError, Global};
 use std::collections::BTreeMap;

@@ -4,9 +4,9 @@ ghost use Rattle.mount_log.specs.declared.logs.SentLine.{SentLine as Line};
 ghost use Rattle.mount_log.specs.Arms.{AreArmable, CanBeArmed, IsArmedLine};
 ghost use Rattle.log_audit.specs.Armed.{IsArmable, AreArmedFrom, AreAllArmed};
 
-use crate::requests::is_request;
 use fop_types::Input;
 use mount_log::SentLine;
+use mount_log::requests::is_request;
 use std::alloc::{AllocError, Global};
 use wire_messages::{Message, input_of};
 

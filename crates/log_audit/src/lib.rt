@@ -34,7 +34,6 @@ mod finished;
 mod first_units;
 pub mod heads;
 mod honest;
-pub mod requests;
 mod slots;
 mod submits;
 pub mod switches;

@@ -11,11 +11,13 @@
 //!
 //! The hub writes an event's lines whole, or, where it was cut, its winds alone. `specs/` has what may be said of a log: which
 //! calls were submitted, whether it follows its script and is finished, whether its winds are balanced, which connections were
-//! open and for what they were made, and what an I/O error rests on. The audits find out whether it is so.
+//! open and for what they were made, and what an I/O error rests on. The audits find out whether it is so. `requests` reads
+//! the procedure of a request from its bytes.
 #![tactic(auto)]
 
 mod logs;
 mod places;
+pub mod requests;
 mod session_lines;
 
 pub use logs::{HubEvent, Log, ReplyLine, SentLine, WindLine};

@@ -6,7 +6,7 @@ use change_audit::finding::{Opening, openings_of};
 use change_audit::journals::{input_at, whole_input};
 use fop_types::{BrickReq, Cell, Input, Proc, Seq};
 use log_audit::heads::{Head, Said, head_at};
-use log_audit::requests::is_request_of;
+use mount_log::requests::is_request_of;
 use mount_log::{HubEvent, Log};
 use std::alloc::{AllocError, Global};
 use std::collections::BTreeMap;

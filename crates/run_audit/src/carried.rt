@@ -13,7 +13,7 @@ use fop_types::{Input, Proc};
 use log_audit::armed_lines::ArmedLines;
 use log_audit::by_number::event_at;
 use log_audit::by_place::line_at;
-use log_audit::requests::is_request_of;
+use mount_log::requests::is_request_of;
 use mount_log::{HubEvent, Log, SentLine};
 use script_lang::{Action, ControlLine, Script, When};
 use std::alloc::{AllocError, Global};

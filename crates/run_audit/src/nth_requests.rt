@@ -4,8 +4,8 @@ ghost use Rattle.run_audit.specs.Noted.{AreRising};
 ghost use Rattle.run_audit.specs.Numbered.{held, cell_of, AreZero, IsCounted as IsLineCounted, AreNth};
 
 use crate::phase_ends::{begun_of, phase_from};
-use log_audit::requests::rank_of;
 use mount_log::SentLine;
+use mount_log::requests::rank_of;
 use std::alloc::{AllocError, Global};
 
 /// How many requests of one procedure were sent to one brick in a phase.

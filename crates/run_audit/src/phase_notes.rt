@@ -2,8 +2,8 @@
 
 use crate::run_notes::{Carried, ControlAt};
 use fop_types::Proc;
-use log_audit::requests::request_proc;
 use mount_log::SentLine;
+use mount_log::requests::request_proc;
 use script_lang::{ControlLine, Script, When};
 use std::alloc::{AllocError, Global};
 use std::collections::{BTreeMap, BTreeSet};

@@ -1,6 +1,6 @@
 -- A run of a job: it begins, and then answers and finished copies are handed in to it, one after another, each with the ledger and
 -- the connections of its moment, whatever others did to them since. An answer is of a replica that is asked, a copy is one that was
--- asked for, and nothing is handed in to a job that has replied. Then the laws of a turn hold of each, with no other premise.
+-- asked for, and nothing is handed in to a job that has replied. Then the laws of a turn hold of each.
 use Rattle.std.specs.Prelude.{◌≡◌, ℕ, ◌<◌, ◌⊎◌, Bool, true, false, ◌&&◌, ◌||◌, ◌==◌, if◌then◌else◌, List, [], ◌∷◌, Some, None, slice_index_or}
 use Rattle.fop_types.specs.declared.answers.IoError.{IoError}
 use Rattle.fop_types.specs.declared.answers.IoError.TheVariants as io

@@ -1,4 +1,4 @@
-//! The procedure of a request, by its encoding.
+//! The procedure of a request, by the place that it has in an encoding.
 ghost use Rattle.std.specs.Prelude.{◌≡◌, ◌↔◌, Some, IsTrue, is_some, true};
 ghost use Rattle.mount_log.specs.Procedures.{rank_in, proc_in};
 
