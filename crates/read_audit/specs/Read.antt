@@ -43,7 +43,7 @@ use Rattle.mount_log.specs.declared.logs.Log.{Log}
 use Rattle.mount_log.specs.declared.logs.ReplyLine.{ReplyLine}
 use Rattle.change_audit.specs.Answered.{IsDoneIn, IsWindFor}
 
--- ---- a content that was read under locks
+-- ---- a content that was fetched after locks had been granted
 
 -- A request of a graph on a wind is in a brick's journal, and its answer by rows arrived in the event at this place, from 0. A lock
 -- that had to wait is answered with a later input than its own.
