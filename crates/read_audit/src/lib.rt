@@ -1,6 +1,6 @@
-//! The audit of answers: whether what a stat, a getattr, a list, or a read without an io-cache showed, and the names on the paths of
-//! a call that was answered well, were in what bricks answered to fetches of the call, after a quorum of a set had granted it locks.
-//! Whether the locks still stood then is not asked.
+//! The audit of answers: whether what a stat, a getattr, a list, or a read without an io-cache showed, and the names that a call
+//! which was answered well has looked up, were in what bricks answered to fetches of the call, after a quorum of a set had granted
+//! it locks. Whether the locks still stood then is not asked.
 //!
 //! ```text
 //!   replies    call 7 was answered Bytes        its call, by log_replay::calls_in; its graph, by change_audit::call_graphs
