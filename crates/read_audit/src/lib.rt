@@ -21,7 +21,7 @@
 //! what was found are handed on as one `Run` (`runs`), with the call that has its reply (`readings`). No content is copied, and
 //! each audit decodes one once for a reply, but for names: a step of a path decodes those that the call has read of its directory,
 //! from the last on, until its name is there. With n events, winds, replies, locks and fetches an audit takes time of the order
-//! n log n, and of the bytes that are decoded: a reply goes through the locks and the fetches of its own call alone.
+//! n log n, and of the bytes that are decoded: a step goes through the locks and the fetches of its directory in its own call alone.
 #![tactic(auto)]
 
 mod answers;
