@@ -21,8 +21,8 @@ use Rattle.mount_log.specs.declared.logs.Log.{Log}
 use Rattle.change_audit.proofs.Items.{all_next}
 use Rattle.change_audit.specs.CallGraphs.{AreGraphsOf}
 use Rattle.change_audit.specs.declared.call_graphs.CallGraphs.{CallGraphs}
-use Rattle.read_audit.specs.Names.{HasNames, HaveNames, IsAmong, IsOnASet, AreShown, AreRising, IsListed, IsLacking}
-use Rattle.read_audit.specs.Names.HasNames.{NoCopy}
+use Rattle.read_audit.specs.Names.{ShowsNames, HaveNames, IsAmong, IsOnASet, AreShown, AreRising, ListsAll, IsLacking}
+use Rattle.read_audit.specs.Names.ShowsNames.{NoCopy}
 use Rattle.read_audit.specs.Naming.{HaveFirst}
 
 -- ---- names that rise
@@ -49,22 +49,22 @@ rising_all items n le before k item next here there = let lt = slice_get_within 
 -- ---- the lists of sets
 
 module _ (script : Script) (plans : List Plan) (log : Log) (bricks : List Journal) (call number : ℕ) where
-  have_from : (dir : Gfid) (set : ℕ) (lists : List (List Item)) (items : List Item) → HaveNames script plans log bricks call number dir set lists → HasNames script plans log bricks call number (set + length lists) dir items
+  have_from : (dir : Gfid) (set : ℕ) (lists : List (List Item)) (items : List Item) → HaveNames script plans log bricks call number dir set lists → ShowsNames script plans log bricks call number (set + length lists) dir items
       → HaveNames script plans log bricks call number dir set (lists ++ items ∷ [])
   have_from dir set [] items have has =
       let same : set + 0 ≡ set = omega arith in
-      (subst (λ (s : ℕ). HasNames script plans log bricks call number s dir items) same has, tt)
+      (subst (λ (s : ℕ). ShowsNames script plans log bricks call number s dir items) same has, tt)
   have_from dir set (first ∷ lists) items have has =
       let same : set + length (first ∷ lists) ≡ set + 1 + length lists = omega arith in
-      (have.0, have_from dir (set + 1) lists items have.1 (subst (λ (s : ℕ). HasNames script plans log bricks call number s dir items) same has))
+      (have.0, have_from dir (set + 1) lists items have.1 (subst (λ (s : ℕ). ShowsNames script plans log bricks call number s dir items) same has))
 
   pub have_next : (dir : Gfid) (set : ℕ) (lists more : List (List Item)) (items : List Item) (found : Option (List Item)) → more ≡ lists ++ items ∷ [] → found ≡ Some items
-      → IfSome found (λ names. HasNames script plans log bricks call number set dir names) → HaveFirst script plans log bricks call number dir set lists → HaveFirst script plans log bricks call number dir (set + 1) more
+      → IfSome found (λ names. ShowsNames script plans log bricks call number set dir names) → HaveFirst script plans log bricks call number dir set lists → HaveFirst script plans log bricks call number dir (set + 1) more
   have_next dir set lists more items found is there has so_far = record {
     long = ap length is ∙ length_push lists items ∙ ap (λ (n : ℕ). n + 1) so_far.long;
     have =
         subst (λ (l : List (List Item)). HaveNames script plans log bricks call number dir 0 l) (sym is)
-        (have_from dir 0 lists items so_far.have (subst (λ (s : ℕ). HasNames script plans log bricks call number s dir items) at own));
+        (have_from dir 0 lists items so_far.have (subst (λ (s : ℕ). ShowsNames script plans log bricks call number s dir items) at own));
   } where
     long : length lists ≡ set
     long = so_far.long
@@ -72,21 +72,21 @@ module _ (script : Script) (plans : List Plan) (log : Log) (bricks : List Journa
     at : set ≡ 0 + length lists
     at = omega (arith, long)
 
-    own : HasNames script plans log bricks call number set dir items
-    own = subst (λ (f : Option (List Item)). IfSome f (λ names. HasNames script plans log bricks call number set dir names)) there has
+    own : ShowsNames script plans log bricks call number set dir items
+    own = subst (λ (f : Option (List Item)). IfSome f (λ names. ShowsNames script plans log bricks call number set dir names)) there has
 
   pub have_all : (dir : Gfid) (set sets : ℕ) (lists all : List (List Item)) → set ≡ sets → all ≡ lists → HaveFirst script plans log bricks call number dir set lists → HaveFirst script plans log bricks call number dir sets all
   have_all dir set sets lists all at is have =
       subst (λ (l : List (List Item)). HaveFirst script plans log bricks call number dir sets l) (sym is)
       (subst (λ (n : ℕ). HaveFirst script plans log bricks call number dir n lists) at have)
 
-  pub none_are : (set : ℕ) (dir : Gfid) (cell : Cell) (items : List Item) → cell ≡ names_cell dir → items ≡ [] → IsLacking script plans log bricks call number set cell → HasNames script plans log bricks call number set dir items
+  pub none_are : (set : ℕ) (dir : Gfid) (cell : Cell) (items : List Item) → cell ≡ names_cell dir → items ≡ [] → IsLacking script plans log bricks call number set cell → ShowsNames script plans log bricks call number set dir items
   none_are set dir cell items same none lacking = NoCopy none (subst (λ (c : Cell). IsLacking script plans log bricks call number set c) same lacking)
 
 module _ (script : Script) (log : Log) (tables : CallGraphs) (are : AreGraphsOf script log tables) where
   -- the plan of the graph of a call, by its volfile in the table
   pub listed : (plans : List Plan) (bricks : List Journal) (call graph number : ℕ) (dir : Gfid) (plan : Plan) (sets : ℕ) (lists slice : List (List Item)) (shown : List Item) → graph ≡ graph_of_call log call
-      → plan_of_volfile plans (slice_get tables.volfiles (graph - 1)) ≡ Some plan → sets ≡ length plan.sets → HaveFirst script plans log bricks call number dir sets lists → slice ≡ lists → AllByRecursion (AreShown shown) slice → AllByRecursion (IsOnASet slice) shown → AreRising shown → IsListed script plans log bricks call number dir shown
+      → plan_of_volfile plans (slice_get tables.volfiles (graph - 1)) ≡ Some plan → sets ≡ length plan.sets → HaveFirst script plans log bricks call number dir sets lists → slice ≡ lists → AllByRecursion (AreShown shown) slice → AllByRecursion (IsOnASet slice) shown → AreRising shown → ListsAll script plans log bricks call number dir shown
   listed plans bricks call graph number dir plan sets lists slice shown same is many have read all only rising = record {
     plan = plan;
     plan_is =

@@ -92,15 +92,15 @@ pub record IsLacking (script : Script) (plans : List Plan) (log : Log) (bricks :
   pub each : AllByRecursion (IsWithout log bricks plan call (graph_of_call log call) cell number) holders
 
 -- a set has these names of a directory: they were fetched, or the set has no copy and so no names
-pub data HasNames (script : Script) (plans : List Plan) (log : Log) (bricks : List Journal) (call number set : ℕ) (dir : Gfid) (items : List Item) : Type 0 where
-  Shown : IsFetched script plans log bricks call number set (names_cell dir) (Names false items) → HasNames script plans log bricks call number set dir items
-  NoCopy : items ≡ [] → IsLacking script plans log bricks call number set (names_cell dir) → HasNames script plans log bricks call number set dir items
+pub data ShowsNames (script : Script) (plans : List Plan) (log : Log) (bricks : List Journal) (call number set : ℕ) (dir : Gfid) (items : List Item) : Type 0 where
+  Shown : IsFetched script plans log bricks call number set (names_cell dir) (Names false items) → ShowsNames script plans log bricks call number set dir items
+  NoCopy : items ≡ [] → IsLacking script plans log bricks call number set (names_cell dir) → ShowsNames script plans log bricks call number set dir items
 
 -- the sets have these names of a directory, one list for each set from this one on
 abbrev pub HaveNames : Script → List Plan → Log → List Journal → ℕ → ℕ → Gfid → ℕ → List (List Item) → Type 0
 HaveNames script plans log bricks call number dir set [] = Unit {0}
 HaveNames script plans log bricks call number dir set (items ∷ lists) =
-    HasNames script plans log bricks call number set dir items × HaveNames script plans log bricks call number dir (set + 1) lists
+    ShowsNames script plans log bricks call number set dir items × HaveNames script plans log bricks call number dir (set + 1) lists
 
 -- ---- lists
 
@@ -138,7 +138,7 @@ AreRising items = (k : ℕ) (item next : Item) → slice_get items k ≡ Some it
 
 -- What is shown of a directory is what the sets of the call's graph have of it: each of their names is shown, but for links; what is
 -- shown is one of them; and, as the names rise, none is shown twice.
-pub record IsListed (script : Script) (plans : List Plan) (log : Log) (bricks : List Journal) (call number : ℕ) (dir : Gfid) (shown : List Item) : Type 0 where
+pub record ListsAll (script : Script) (plans : List Plan) (log : Log) (bricks : List Journal) (call number : ℕ) (dir : Gfid) (shown : List Item) : Type 0 where
   pub plan : Plan
   pub plan_is : plan_of_volfile plans (slice_get (volfiles_of script log) (graph_of_call log call - 1)) ≡ Some plan
   pub lists : List (List Item)
@@ -157,7 +157,7 @@ IsOf script plans log bricks call number object Asked.Attributes (answer.Stat ki
 IsOf script plans log bricks call number object Asked.Attributes other = Unit {0}
 IsOf script plans log bricks call number object (Asked.Attribute name) (answer.Bytes value) = IsAttributeRead script plans log bricks call number (home object) object.gfid name value
 IsOf script plans log bricks call number object (Asked.Attribute name) other = Unit {0}
-IsOf script plans log bricks call number object Asked.Names (answer.List items) = IsListed script plans log bricks call number object.gfid items
+IsOf script plans log bricks call number object Asked.Names (answer.List items) = ListsAll script plans log bricks call number object.gfid items
 IsOf script plans log bricks call number object Asked.Names other = Unit {0}
 IsOf script plans log bricks call number object (Asked.Part count) other = Unit {0}
 IsOf script plans log bricks call number object Asked.Other other = Unit {0}

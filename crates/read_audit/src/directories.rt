@@ -2,7 +2,7 @@
 ghost use Rattle.std.specs.Prelude.{◌≡◌, true, false, length, IfOk, IfSome};
 ghost use Rattle.fop_types.specs.declared.contents.Content.TheVariants.{Names};
 ghost use Rattle.mount_log.specs.Connections.{graph_of_call};
-ghost use Rattle.read_audit.specs.Names.{HasNames, IsListed};
+ghost use Rattle.read_audit.specs.Names.{ShowsNames, ListsAll};
 ghost use Rattle.read_audit.specs.Naming.{HaveFirst};
 
 use crate::cells::names_cell;
@@ -44,7 +44,7 @@ fn names_by(
     at: FetchAt,
 ) -> Result<Option<Seq<Item>>, AllocError>
     requires { by.graph ≡ graph_of_call run.now.log.now by.call }
-    ensures { IfOk result (λ found. IfSome found (λ items. HasNames run.now.script.now run.now.plans.now run.now.log.now run.now.bricks.now by.call by.number set dir items)) }
+    ensures { IfOk result (λ found. IfSome found (λ items. ShowsNames run.now.script.now run.now.plans.now run.now.log.now run.now.bricks.now by.call by.number set dir items)) }
 {
     let cell = names_cell(dir);
     let read = content_read(alloc, run, by, set, &cell, at)?;
@@ -63,7 +63,7 @@ fn names_shown(
     set: u8,
 ) -> Result<Option<Seq<Item>>, AllocError>
     requires { by.graph ≡ graph_of_call run.now.log.now by.call }
-    ensures { IfOk result (λ found. IfSome found (λ items. HasNames run.now.script.now run.now.plans.now run.now.log.now run.now.bricks.now by.call by.number set dir items)) }
+    ensures { IfOk result (λ found. IfSome found (λ items. ShowsNames run.now.script.now run.now.plans.now run.now.log.now run.now.bricks.now by.call by.number set dir items)) }
 {
     let Some(plan) = set_in(run.plans, run.graphs, by.graph, set) else {
         return Ok(None);
@@ -90,7 +90,7 @@ fn no_names(
     set: u8,
 ) -> Result<Option<Seq<Item>>, AllocError>
     requires { by.graph ≡ graph_of_call run.now.log.now by.call }
-    ensures { IfOk result (λ found. IfSome found (λ items. HasNames run.now.script.now run.now.plans.now run.now.log.now run.now.bricks.now by.call by.number set dir items)) }
+    ensures { IfOk result (λ found. IfSome found (λ items. ShowsNames run.now.script.now run.now.plans.now run.now.log.now run.now.bricks.now by.call by.number set dir items)) }
 {
     let cell = names_cell(dir);
     if !is_lacking(alloc, run, by, set, &cell)? {
@@ -108,7 +108,7 @@ fn names_on(
     set: u8,
 ) -> Result<Option<Seq<Item>>, AllocError>
     requires { by.graph ≡ graph_of_call run.now.log.now by.call }
-    ensures { IfOk result (λ found. IfSome found (λ items. HasNames run.now.script.now run.now.plans.now run.now.log.now run.now.bricks.now by.call by.number set dir items)) }
+    ensures { IfOk result (λ found. IfSome found (λ items. ShowsNames run.now.script.now run.now.plans.now run.now.log.now run.now.bricks.now by.call by.number set dir items)) }
 {
     let shown = names_shown(alloc, run, by, dir, set)?;
     match shown {
@@ -163,7 +163,7 @@ pub(crate) fn is_listed(
     shown: &[Item],
 ) -> Result<bool, AllocError>
     requires { by.graph ≡ graph_of_call run.now.log.now by.call }
-    ensures { IfOk result (λ yes. yes ≡ true → IsListed run.now.script.now run.now.plans.now run.now.log.now run.now.bricks.now by.call by.number dir shown.now) }
+    ensures { IfOk result (λ yes. yes ≡ true → ListsAll run.now.script.now run.now.plans.now run.now.log.now run.now.bricks.now by.call by.number dir shown.now) }
 {
     let Some(plan) = plan_in(run.plans, run.graphs, by.graph) else {
         return Ok(false);
