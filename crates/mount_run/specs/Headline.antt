@@ -1,6 +1,6 @@
 -- The headline: for every script, the replies written are those of one plain file system at the written places of one
--- written history that holds each acknowledged change once; what a read, a stat, a getattr or a list shows was read from bricks; an I/O
--- error is written only with its cause, a copy only where it was made; and every wind is ended once.
+-- written history that holds each acknowledged change once; what a stat, a getattr, a list, or a read without an io-cache shows was
+-- read from bricks; an I/O error is written only with its cause, a copy only where it was made; and every wind is ended once.
 use Rattle.std.specs.Prelude.{◌≡◌, ℕ, List, Ok, length}
 use Rattle.fop_types.specs.declared.flat.FlatOp.{FlatOp}
 use Rattle.graph_build.specs.declared.plans.Plan.{Plan}
@@ -52,7 +52,7 @@ pub record IsLawfulRun (script : Script) (plans : List Plan) (rack : Rack) : Typ
   pub causes : AreCaused script plans rack.log
   -- what each stat, getattr, and read of a graph without an io-cache shows a brick had answered, after a quorum had granted locks
   pub reads : AnswersAreRead script plans rack.log rack.bricks
-  -- and so the names on the paths of calls that were answered well, and those that lists show
+  -- and so the names that calls which were answered well have looked up, and those that lists show
   pub names : NamesAreRead script plans rack.log rack.bricks
   -- each copy by a replacement of its own, which the sink confirmed, by what the source had answered; each skip of a cell that
   -- a brick had listed

@@ -138,7 +138,7 @@ fn is_sound(
     has_causes(alloc, script, plans, log, heads)
 }
 
-// Whether what answers show was read from bricks, and the names on paths were.
+// Whether what answers show was read from bricks, and so were the names that calls which were answered well have looked up.
 fn are_read(
     alloc: Global,
     script: &Script,
@@ -213,9 +213,10 @@ fn has_course(
 
 /// Whether the log of a run, with its bricks, is as a run promises: sessions submit their lines in order, each control is
 /// carried out, each call has its reply, what arrived is what the bricks make of what was sent, what reads, stats, getattrs and
-/// lists show was read from bricks, and the names on paths were, replies, winds and requests are of their calls, events and graphs,
-/// connections and I/O errors have their causes, the winds are balanced, copies were made, skips were listed, the replies are those
-/// of one plain file system, and each acknowledged change is on a quorum of bricks.
+/// lists show was read from bricks, and so were the names that calls which were answered well have looked up, replies, winds and
+/// requests are of their calls, events and graphs, connections and I/O errors have their causes, the winds are balanced, copies
+/// were made, skips were listed, the replies are those of one plain file system, and each acknowledged change is on a quorum of
+/// bricks.
 ///
 /// # Errors
 /// Out of memory.

@@ -1,4 +1,4 @@
--- A content that was read under locks.
+-- A content that was fetched after a quorum had granted locks.
 use Rattle.std.proofs.Common.{◌≡◌, sym, ap, subst, ◌∙◌}
 use Rattle.std.specs.Prelude.{ℕ, ◌<◌, ◌≤◌, ◌-◌, ◌==◌, List, Some, Contains, length, slice_get}
 use Rattle.std.specs.List.{AllByRecursion, IsDistinct}
@@ -43,7 +43,7 @@ module _ (script : Script) (log : Log) (tables : CallGraphs) (are : AreGraphsOf 
       ap (λ (vs : List ℕ). set_of_plan (plan_of_volfile plans (slice_get vs (graph_of_call log call - 1))) set) (sym are.volfiles)
       ∙ ap (λ (n : ℕ). set_of_plan (plan_of_volfile plans (slice_get tables.volfiles (n - 1))) set) (sym same) ∙ is
 
-  -- a content that arrived for a call by the event of a number, under locks of a quorum of the set
+  -- a content that arrived for a call by the event of a number, after a quorum of the set had granted locks
   pub fetched : (plans : List Plan) (bricks : List Journal) (call graph number set source event : ℕ) (cell : Cell) (content : Held) (plan : SetPlan) → graph ≡ graph_of_call log call
       → set_of_plan (plan_of_volfile plans (slice_get tables.volfiles (graph - 1))) set ≡ Some plan → event < number → HasHolders log bricks plan call graph cell event source
       → IsShown log bricks call graph source event cell content → IsFetched script plans log bricks call number set cell content

@@ -16,8 +16,8 @@ use Rattle.script_lang.specs.declared.scripts.Script.{Script}
 use Rattle.brick_machine.specs.Journal.{Journal}
 use Rattle.mount_log.specs.declared.logs.Log.{Log}
 use Rattle.read_audit.proofs.Reading.{shown}
-use Rattle.read_audit.specs.Names.{IsStep, LeadsTo, HasNames}
-use Rattle.read_audit.specs.Names.HasNames.{Shown}
+use Rattle.read_audit.specs.Names.{IsStep, LeadsTo, ShowsNames}
+use Rattle.read_audit.specs.Names.ShowsNames.{Shown}
 use Rattle.read_audit.specs.Naming.{HasObject}
 use Rattle.read_audit.specs.Read.{IsFetched}
 
@@ -37,7 +37,7 @@ module _ (script : Script) (plans : List Plan) (log : Log) (bricks : List Journa
   }
 
   pub names_are : (set : ℕ) (dir : Gfid) (cell : Cell) (content : Held) (items : List Item) → cell ≡ names_cell dir → IsFetched script plans log bricks call number set cell content → content ≡ Names false items
-      → HasNames script plans log bricks call number set dir items
+      → ShowsNames script plans log bricks call number set dir items
   names_are set dir cell content items same fetched is = Shown (shown script plans log bricks call number set cell (names_cell dir) content (Names false items) same is fetched)
 
   -- ---- paths

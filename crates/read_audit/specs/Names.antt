@@ -1,12 +1,11 @@
 -- Names were read from bricks: where a call was answered well, its path leads from the root to one object by names that the call has
 -- read, one directory after the other; a stat and a getattr show that object; and a list shows the names that each set has of that
 -- directory, links left out.
-use Rattle.std.specs.Prelude.{◌≡◌, ℕ, ◌+◌, ◌-◌, ◌<◌, ◌≤◌, ◌==◌, Bool, true, false, List, [], ◌∷◌, Some, Contains, length, slice_get}
+use Rattle.std.specs.Prelude.{◌≡◌, ℕ, ◌-◌, ◌<◌, ◌≤◌, ◌==◌, Bool, true, false, List, [], ◌∷◌, Some, Contains, length, slice_get}
 use Rattle.std.specs.List.{AllByRecursion, IsDistinct}
-use Rattle.std.specs.declared.cmp.Ordering.TheVariants.{Less}
 use Rattle.call_fops.specs.Walks.{first_path, second_path, root_object}
 use Rattle.dht_fops.specs.Objects.{home}
-use Rattle.fop_types.specs.Bounds.{item_cmp}
+use Rattle.fop_types.specs.Bounds.{item_cmp, Rises}
 use Rattle.fop_types.specs.Calls.{Submission, call_numbered, looked_up}
 use Rattle.fop_types.specs.Cells.{names_cell}
 use Rattle.fop_types.specs.Names.{item_named, is_link}
@@ -92,15 +91,9 @@ pub record IsLacking (script : Script) (plans : List Plan) (log : Log) (bricks :
   pub each : AllByRecursion (IsWithout log bricks plan call (graph_of_call log call) cell number) holders
 
 -- a set has these names of a directory: they were fetched, or the set has no copy and so no names
-pub data HasNames (script : Script) (plans : List Plan) (log : Log) (bricks : List Journal) (call number set : ℕ) (dir : Gfid) (items : List Item) : Type 0 where
-  Shown : IsFetched script plans log bricks call number set (names_cell dir) (Names false items) → HasNames script plans log bricks call number set dir items
-  NoCopy : items ≡ [] → IsLacking script plans log bricks call number set (names_cell dir) → HasNames script plans log bricks call number set dir items
-
--- the sets have these names of a directory, one list for each set from this one on
-abbrev pub HaveNames : Script → List Plan → Log → List Journal → ℕ → ℕ → Gfid → ℕ → List (List Item) → Type 0
-HaveNames script plans log bricks call number dir set [] = Unit {0}
-HaveNames script plans log bricks call number dir set (items ∷ lists) =
-    HasNames script plans log bricks call number set dir items × HaveNames script plans log bricks call number dir (set + 1) lists
+pub data ShowsNames (script : Script) (plans : List Plan) (log : Log) (bricks : List Journal) (call number set : ℕ) (dir : Gfid) (items : List Item) : Type 0 where
+  Shown : IsFetched script plans log bricks call number set (names_cell dir) (Names false items) → ShowsNames script plans log bricks call number set dir items
+  NoCopy : items ≡ [] → IsLacking script plans log bricks call number set (names_cell dir) → ShowsNames script plans log bricks call number set dir items
 
 -- ---- lists
 
@@ -132,21 +125,17 @@ pub record IsOnASet (lists : List (List Item)) (shown : Item) : Type 0 where
 abbrev pub AreShown : List Item → List Item → Type 0
 AreShown shown items = AllByRecursion (λ item. is_link item.kind ≡ false → HasName shown item.name) items
 
--- each name is below the next one, byte by byte
-abbrev pub AreRising : List Item → Type 0
-AreRising items = (k : ℕ) (item next : Item) → slice_get items k ≡ Some item → slice_get items (k + 1) ≡ Some next → item_cmp item next ≡ Less
-
--- What is shown of a directory is what the sets of the call's graph have of it: each of their names is shown, but for links; what is
--- shown is one of them; and, as the names rise, none is shown twice.
-pub record IsListed (script : Script) (plans : List Plan) (log : Log) (bricks : List Journal) (call number : ℕ) (dir : Gfid) (shown : List Item) : Type 0 where
+-- What is shown of a directory is what the sets of the call's graph have of it, one list for each: each of their names is shown, but
+-- for links; what is shown is one of them; and, as the names rise byte by byte, none is shown twice.
+pub record ListsAll (script : Script) (plans : List Plan) (log : Log) (bricks : List Journal) (call number : ℕ) (dir : Gfid) (shown : List Item) : Type 0 where
   pub plan : Plan
   pub plan_is : plan_of_volfile plans (slice_get (volfiles_of script log) (graph_of_call log call - 1)) ≡ Some plan
   pub lists : List (List Item)
   pub many : length lists ≡ length plan.sets
-  pub have : HaveNames script plans log bricks call number dir 0 lists
+  pub have : (set : ℕ) (items : List Item) → slice_get lists set ≡ Some items → ShowsNames script plans log bricks call number set dir items
   pub all : AllByRecursion (AreShown shown) lists
   pub only : AllByRecursion (IsOnASet lists) shown
-  pub rising : AreRising shown
+  pub rising : Rises item_cmp true shown
 
 -- ---- replies
 
@@ -157,7 +146,7 @@ IsOf script plans log bricks call number object Asked.Attributes (answer.Stat ki
 IsOf script plans log bricks call number object Asked.Attributes other = Unit {0}
 IsOf script plans log bricks call number object (Asked.Attribute name) (answer.Bytes value) = IsAttributeRead script plans log bricks call number (home object) object.gfid name value
 IsOf script plans log bricks call number object (Asked.Attribute name) other = Unit {0}
-IsOf script plans log bricks call number object Asked.Names (answer.List items) = IsListed script plans log bricks call number object.gfid items
+IsOf script plans log bricks call number object Asked.Names (answer.List items) = ListsAll script plans log bricks call number object.gfid items
 IsOf script plans log bricks call number object Asked.Names other = Unit {0}
 IsOf script plans log bricks call number object (Asked.Part count) other = Unit {0}
 IsOf script plans log bricks call number object Asked.Other other = Unit {0}

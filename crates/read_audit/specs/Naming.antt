@@ -18,7 +18,7 @@ use Rattle.brick_machine.specs.Journal.{Journal}
 use Rattle.mount_log.specs.Submissions.{submissions_of}
 use Rattle.mount_log.specs.declared.logs.Log.{Log}
 use Rattle.mount_log.specs.declared.logs.ReplyLine.{ReplyLine}
-use Rattle.read_audit.specs.Names.{object_of, IsWithout, HaveNames, IsNamed}
+use Rattle.read_audit.specs.Names.{object_of, IsWithout, ShowsNames, IsNamed}
 
 -- ---- one name
 
@@ -59,7 +59,7 @@ pub record HaveNoCopy (log : Log) (bricks : List Journal) (plan : SetPlan) (call
 -- the first sets, so many, have these names of a directory
 pub record HaveFirst (script : Script) (plans : List Plan) (log : Log) (bricks : List Journal) (call number : ℕ) (dir : Gfid) (sets : ℕ) (lists : List (List Item)) : Type 0 where
   pub long : length lists ≡ sets
-  pub have : HaveNames script plans log bricks call number dir 0 lists
+  pub have : (set : ℕ) (items : List Item) → slice_get lists set ≡ Some items → ShowsNames script plans log bricks call number set dir items
 
 -- ---- replies
 

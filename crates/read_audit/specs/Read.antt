@@ -1,6 +1,6 @@
--- Answers were read from bricks: where a read, a stat or a getattr was answered well, a brick had answered a fetch of the call, by the
--- event of the reply, by the content that the answer shows; and before that a quorum of the brick's set, the brick among them, had
--- granted the call locks of the same cells, of which the cell that was fetched is one.
+-- Answers were read from bricks: where a stat, a getattr, or a read without an io-cache was answered well, a brick had answered a
+-- fetch of the call, by the event of the reply, by the content that the answer shows; and before that a quorum of the brick's set,
+-- the brick among them, had granted the call locks of the same cells, of which the cell that was fetched is one.
 use Rattle.std.specs.Prelude.{◌≡◌, ℕ, ◌-◌, ◌<◌, ◌≤◌, ◌==◌, ◌||◌, Bool, true, false, List, [], ◌∷◌, Option, None, Some, Contains, length, slice_get}
 use Rattle.std.specs.List.{AllByRecursion, IsDistinct}
 use Rattle.fop_types.specs.Calls.{Submission, call_numbered}
@@ -43,7 +43,7 @@ use Rattle.mount_log.specs.declared.logs.Log.{Log}
 use Rattle.mount_log.specs.declared.logs.ReplyLine.{ReplyLine}
 use Rattle.change_audit.specs.Answered.{IsDoneIn, IsWindFor}
 
--- ---- a content that was read under locks
+-- ---- a content that was fetched after locks had been granted
 
 -- A request of a graph on a wind is in a brick's journal, and its answer by rows arrived in the event at this place, from 0. A lock
 -- that had to wait is answered with a later input than its own.

@@ -2,22 +2,19 @@
 ghost use Rattle.std.specs.Prelude.{◌≡◌, true, false, length, IfOk, IfSome};
 ghost use Rattle.fop_types.specs.declared.contents.Content.TheVariants.{Names};
 ghost use Rattle.mount_log.specs.Connections.{graph_of_call};
-ghost use Rattle.change_audit.specs.CallGraphs.{AreGraphsOf};
-ghost use Rattle.read_audit.specs.Names.{HasNames, IsListed};
+ghost use Rattle.read_audit.specs.Names.{ShowsNames, ListsAll};
 ghost use Rattle.read_audit.specs.Naming.{HaveFirst};
 
 use crate::cells::names_cell;
-use crate::found::{FetchAt, Found};
+use crate::found::FetchAt;
 use crate::lacking::is_lacking;
 use crate::lists::are_union;
 use crate::readings::{Replied, content_read};
-use brick_machine::Brick;
+use crate::runs::Run;
 use change_audit::bearers::has_member;
-use change_audit::call_graphs::{CallGraphs, plan_in, set_in};
+use change_audit::call_graphs::{plan_in, set_in};
 use fop_types::{Content, Gfid, Item, Seq};
 use graph_build::Plan;
-use mount_log::Log;
-use script_lang::Script;
 use std::alloc::{AllocError, Global};
 
 // ---- one set
@@ -40,25 +37,17 @@ fn items_in(content: Content) -> Option<Seq<Item>>
 // The names that a set has of a directory, by the answer to a fetch of them.
 fn names_by(
     alloc: Global,
-    script: &Script,
-    plans: &[Plan],
-    log: &Log,
-    bricks: &[Brick],
-    graphs: &CallGraphs,
-    found: &Found,
+    run: &Run,
     by: Replied,
     dir: Gfid,
     set: u8,
     at: FetchAt,
 ) -> Result<Option<Seq<Item>>, AllocError>
-    requires graphs { AreGraphsOf script.now log.now graphs.now }
-    requires graph { by.graph ≡ graph_of_call log.now by.call }
-    ensures { IfOk result (λ found. IfSome found (λ items. HasNames script.now plans.now log.now bricks.now by.call by.number set dir items)) }
+    requires { by.graph ≡ graph_of_call run.now.log.now by.call }
+    ensures { IfOk result (λ found. IfSome found (λ items. ShowsNames run.now.script.now run.now.plans.now run.now.log.now run.now.bricks.now by.call by.number set dir items)) }
 {
     let cell = names_cell(dir);
-    let read = content_read(
-        alloc, script, plans, log, bricks, graphs, found, by, set, &cell, at,
-    )?;
+    let read = content_read(alloc, run, by, set, &cell, at)?;
     let Some(content) = read else {
         return Ok(None);
     };
@@ -68,29 +57,21 @@ fn names_by(
 // The names that a set has of a directory, by the last fetch of them from the set.
 fn names_shown(
     alloc: Global,
-    script: &Script,
-    plans: &[Plan],
-    log: &Log,
-    bricks: &[Brick],
-    graphs: &CallGraphs,
-    found: &Found,
+    run: &Run,
     by: Replied,
     dir: Gfid,
     set: u8,
 ) -> Result<Option<Seq<Item>>, AllocError>
-    requires graphs { AreGraphsOf script.now log.now graphs.now }
-    requires graph { by.graph ≡ graph_of_call log.now by.call }
-    ensures { IfOk result (λ found. IfSome found (λ items. HasNames script.now plans.now log.now bricks.now by.call by.number set dir items)) }
+    requires { by.graph ≡ graph_of_call run.now.log.now by.call }
+    ensures { IfOk result (λ found. IfSome found (λ items. ShowsNames run.now.script.now run.now.plans.now run.now.log.now run.now.bricks.now by.call by.number set dir items)) }
 {
-    let Some(plan) = set_in(plans, graphs, by.graph, set) else {
+    let Some(plan) = set_in(run.plans, run.graphs, by.graph, set) else {
         return Ok(None);
     };
-    let fetches = found.fetches_of(alloc, by.call, by.number, names_cell(dir))?;
+    let fetches = run.found.fetches_of(alloc, by.call, by.number, names_cell(dir))?;
     for at in &fetches {
         if has_member(plan, at.source) {
-            let names = names_by(
-                alloc, script, plans, log, bricks, graphs, found, by, dir, set, *at,
-            )?;
+            let names = names_by(alloc, run, by, dir, set, *at)?;
             match names {
                 Some(items) => return Ok(Some(items)),
                 None => {}
@@ -103,24 +84,16 @@ fn names_shown(
 // No names, where a set has no copy of a directory.
 fn no_names(
     alloc: Global,
-    script: &Script,
-    plans: &[Plan],
-    log: &Log,
-    bricks: &[Brick],
-    graphs: &CallGraphs,
-    found: &Found,
+    run: &Run,
     by: Replied,
     dir: Gfid,
     set: u8,
 ) -> Result<Option<Seq<Item>>, AllocError>
-    requires graphs { AreGraphsOf script.now log.now graphs.now }
-    requires graph { by.graph ≡ graph_of_call log.now by.call }
-    ensures { IfOk result (λ found. IfSome found (λ items. HasNames script.now plans.now log.now bricks.now by.call by.number set dir items)) }
+    requires { by.graph ≡ graph_of_call run.now.log.now by.call }
+    ensures { IfOk result (λ found. IfSome found (λ items. ShowsNames run.now.script.now run.now.plans.now run.now.log.now run.now.bricks.now by.call by.number set dir items)) }
 {
     let cell = names_cell(dir);
-    if !is_lacking(
-        alloc, script, plans, log, bricks, graphs, found, by, set, &cell,
-    )? {
+    if !is_lacking(alloc, run, by, set, &cell)? {
         return Ok(None);
     }
     Ok(Some(Seq::new(alloc)))
@@ -129,28 +102,18 @@ fn no_names(
 // The names that a set has of a directory.
 fn names_on(
     alloc: Global,
-    script: &Script,
-    plans: &[Plan],
-    log: &Log,
-    bricks: &[Brick],
-    graphs: &CallGraphs,
-    found: &Found,
+    run: &Run,
     by: Replied,
     dir: Gfid,
     set: u8,
 ) -> Result<Option<Seq<Item>>, AllocError>
-    requires graphs { AreGraphsOf script.now log.now graphs.now }
-    requires graph { by.graph ≡ graph_of_call log.now by.call }
-    ensures { IfOk result (λ found. IfSome found (λ items. HasNames script.now plans.now log.now bricks.now by.call by.number set dir items)) }
+    requires { by.graph ≡ graph_of_call run.now.log.now by.call }
+    ensures { IfOk result (λ found. IfSome found (λ items. ShowsNames run.now.script.now run.now.plans.now run.now.log.now run.now.bricks.now by.call by.number set dir items)) }
 {
-    let shown = names_shown(
-        alloc, script, plans, log, bricks, graphs, found, by, dir, set,
-    )?;
+    let shown = names_shown(alloc, run, by, dir, set)?;
     match shown {
         Some(items) => Ok(Some(items)),
-        None => no_names(
-            alloc, script, plans, log, bricks, graphs, found, by, dir, set,
-        ),
+        None => no_names(alloc, run, by, dir, set),
     }
 }
 
@@ -159,25 +122,17 @@ fn names_on(
 // The names that the first sets, so many, have of a directory.
 fn names_over(
     alloc: Global,
-    script: &Script,
-    plans: &[Plan],
-    log: &Log,
-    bricks: &[Brick],
-    graphs: &CallGraphs,
-    found: &Found,
+    run: &Run,
     by: Replied,
     dir: Gfid,
     sets: u8,
 ) -> Result<Option<Seq<Seq<Item>>>, AllocError>
-    requires graphs { AreGraphsOf script.now log.now graphs.now }
-    requires graph { by.graph ≡ graph_of_call log.now by.call }
-    ensures { IfOk result (λ found. IfSome found (λ lists. HaveFirst script.now plans.now log.now bricks.now by.call by.number dir sets lists)) }
+    requires { by.graph ≡ graph_of_call run.now.log.now by.call }
+    ensures { IfOk result (λ found. IfSome found (λ lists. HaveFirst run.now.script.now run.now.plans.now run.now.log.now run.now.bricks.now by.call by.number dir sets lists)) }
 {
     let mut lists = Vec::new(alloc);
     for set in 0..sets {
-        let names = names_on(
-            alloc, script, plans, log, bricks, graphs, found, by, dir, set,
-        )?;
+        let names = names_on(alloc, run, by, dir, set)?;
         let Some(items) = names else {
             return Ok(None);
         };
@@ -202,29 +157,21 @@ fn sets_of(plan: &Plan) -> Option<u8>
 /// Out of memory.
 pub(crate) fn is_listed(
     alloc: Global,
-    script: &Script,
-    plans: &[Plan],
-    log: &Log,
-    bricks: &[Brick],
-    graphs: &CallGraphs,
-    found: &Found,
+    run: &Run,
     by: Replied,
     dir: Gfid,
     shown: &[Item],
 ) -> Result<bool, AllocError>
-    requires graphs { AreGraphsOf script.now log.now graphs.now }
-    requires graph { by.graph ≡ graph_of_call log.now by.call }
-    ensures { IfOk result (λ yes. yes ≡ true → IsListed script.now plans.now log.now bricks.now by.call by.number dir shown.now) }
+    requires { by.graph ≡ graph_of_call run.now.log.now by.call }
+    ensures { IfOk result (λ yes. yes ≡ true → ListsAll run.now.script.now run.now.plans.now run.now.log.now run.now.bricks.now by.call by.number dir shown.now) }
 {
-    let Some(plan) = plan_in(plans, graphs, by.graph) else {
+    let Some(plan) = plan_in(run.plans, run.graphs, by.graph) else {
         return Ok(false);
     };
     let Some(sets) = sets_of(plan) else {
         return Ok(false);
     };
-    let names = names_over(
-        alloc, script, plans, log, bricks, graphs, found, by, dir, sets,
-    )?;
+    let names = names_over(alloc, run, by, dir, sets)?;
     let Some(lists) = names else {
         return Ok(false);
     };

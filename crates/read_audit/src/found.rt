@@ -29,11 +29,37 @@ pub struct LockAt {
     pub cells: Seq<Cell>,
 }
 
-/// The fetches and the locks of each call, each in the order of events.
+// A cell in a call.
+#[derive(Clone, Copy, PartialEq, Eq, PartialOrd, Ord)]
+struct CellOf {
+    call: u32,
+    cell: Cell,
+}
+
+/// The fetches and the locks of all calls, in the order of events: the fetches by calls, and by cells, too; and by each of their
+/// cells the places of the locks.
 #[derive(Drop)]
 pub struct Found {
     fetches: BTreeMap<u32, Vec<FetchAt>>,
-    locks: BTreeMap<u32, Vec<LockAt>>,
+    fetches_by_cell: BTreeMap<CellOf, Vec<FetchAt>>,
+    locks: Vec<LockAt>,
+    locks_by_cell: BTreeMap<CellOf, Vec<usize>>,
+}
+
+// Adds an item to those of a cell.
+fn add<T>(
+    alloc: Global,
+    lists: &mut BTreeMap<CellOf, Vec<T>>,
+    at: CellOf,
+    item: T,
+) -> Result<(), AllocError> {
+    let mut list = match lists.remove(&at) {
+        Some(list) => list,
+        None => Vec::new(alloc),
+    };
+    list.push(item)?;
+    lists.insert(at, list)?;
+    Ok(())
 }
 
 // Of two fetches the one that was opened later.
@@ -57,12 +83,21 @@ fn from_last(
     Ok(all)
 }
 
+// Whether a lock of just these cells was granted by a brick of the set before the event at a place.
+fn is_grant_of(lock: &LockAt, plan: &SetPlan, until: usize, cells: &[Cell]) -> bool {
+    lock.grant.event < until
+        && has_member(plan, lock.brick)
+        && lock.cells.as_slice() == cells
+}
+
 impl Found {
     /// Nothing was found. It allocates nothing.
     pub(crate) fn new(alloc: Global) -> Found {
         Found {
             fetches: BTreeMap::new(alloc),
-            locks: BTreeMap::new(alloc),
+            fetches_by_cell: BTreeMap::new(alloc),
+            locks: Vec::new(alloc),
+            locks_by_cell: BTreeMap::new(alloc),
         }
     }
 
@@ -76,12 +111,12 @@ impl Found {
         call: u32,
         lock: LockAt,
     ) -> Result<(), AllocError> {
-        let mut list = match self.locks.remove(&call) {
-            Some(list) => list,
-            None => Vec::new(alloc),
-        };
-        list.push(lock)?;
-        self.locks.insert(call, list)?;
+        let place = self.locks.len();
+        for cell in lock.cells.as_slice() {
+            let at = CellOf { call, cell: *cell };
+            add(alloc, &mut self.locks_by_cell, at, place)?;
+        }
+        self.locks.push(lock)?;
         Ok(())
     }
 
@@ -101,7 +136,11 @@ impl Found {
         };
         list.push(fetch)?;
         self.fetches.insert(call, list)?;
-        Ok(())
+        let at = CellOf {
+            call,
+            cell: fetch.cell,
+        };
+        add(alloc, &mut self.fetches_by_cell, at, fetch)
     }
 
     /// The fetch of a call that was opened last, of those of a cell of this aspect whose answers arrived by the event of a number.
@@ -118,9 +157,10 @@ impl Found {
 
     /// The fetch of a call that was opened last, of those of this cell whose answers arrived by the event of a number.
     pub(crate) fn last_of_cell(&self, call: u32, number: u64, cell: Cell) -> Option<FetchAt> {
+        let at = CellOf { call, cell };
         let mut last = None;
-        for fetch in self.fetches.get(&call)?.as_slice() {
-            if (fetch.event as u64) < number && fetch.cell == cell {
+        for fetch in self.fetches_by_cell.get(&at)?.as_slice() {
+            if (fetch.event as u64) < number {
                 last = later_of(last, *fetch);
             }
         }
@@ -138,12 +178,13 @@ impl Found {
         number: u64,
         cell: Cell,
     ) -> Result<Vec<FetchAt>, AllocError> {
+        let at = CellOf { call, cell };
         let mut fetches = BTreeMap::new(alloc);
-        let Some(list) = self.fetches.get(&call) else {
+        let Some(list) = self.fetches_by_cell.get(&at) else {
             return Ok(Vec::new(alloc));
         };
         for fetch in list.as_slice() {
-            if (fetch.event as u64) < number && fetch.cell == cell {
+            if (fetch.event as u64) < number {
                 fetches.insert(fetch.opening, *fetch)?;
             }
         }
@@ -152,15 +193,15 @@ impl Found {
 
     /// The cells of the last lock that the source of a fetch had granted the call before, of which the fetch's cell is one.
     pub(crate) fn cells_for(&self, call: u32, fetch: FetchAt) -> Option<&[Cell]> {
-        let list = self.locks.get(&call)?.as_slice();
-        for back in 0..list.len() {
-            let lock = &list[list.len() - 1 - back];
-            let cells = lock.cells.as_slice();
-            if lock.grant.event < fetch.event
-                && lock.brick == fetch.source
-                && cells.contains(&fetch.cell)
-            {
-                return Some(cells);
+        let at = CellOf {
+            call,
+            cell: fetch.cell,
+        };
+        let places = self.locks_by_cell.get(&at)?.as_slice();
+        for back in 0..places.len() {
+            let lock = self.locks.get(places[places.len() - 1 - back])?;
+            if lock.grant.event < fetch.event && lock.brick == fetch.source {
+                return Some(lock.cells.as_slice());
             }
         }
         None
@@ -179,17 +220,25 @@ impl Found {
         cells: &[Cell],
     ) -> Result<BTreeMap<u8, Grant>, AllocError> {
         let mut grants = BTreeMap::new(alloc);
-        let Some(list) = self.locks.get(&call) else {
-            return Ok(grants);
-        };
-        for lock in list.as_slice() {
-            if lock.grant.event < until
-                && has_member(plan, lock.brick)
-                && lock.cells.as_slice() == cells
-            {
-                grants.insert(lock.brick, lock.grant)?;
+        for place in self.places_of(call, cells) {
+            if let Some(lock) = self.locks.get(*place) {
+                if is_grant_of(lock, plan, until, cells) {
+                    grants.insert(lock.brick, lock.grant)?;
+                }
             }
         }
         Ok(grants)
+    }
+
+    // The places of a call's locks of the first of these cells.
+    fn places_of(&self, call: u32, cells: &[Cell]) -> &[usize] {
+        let Some(cell) = cells.first() else {
+            return &[];
+        };
+        let at = CellOf { call, cell: *cell };
+        match self.locks_by_cell.get(&at) {
+            Some(places) => places.as_slice(),
+            None => &[],
+        }
     }
 }

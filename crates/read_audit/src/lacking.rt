@@ -2,7 +2,6 @@
 ghost use Rattle.std.specs.Prelude.{◌≡◌, ◌<◌, true, IfOk};
 ghost use Rattle.std.specs.List.{AllByRecursion};
 ghost use Rattle.mount_log.specs.Connections.{graph_of_call};
-ghost use Rattle.change_audit.specs.CallGraphs.{AreGraphsOf};
 ghost use Rattle.read_audit.specs.Names.{IsWithout, IsLacking};
 ghost use Rattle.read_audit.specs.Naming.{IsAbsent, HaveNoCopy};
 
@@ -10,13 +9,12 @@ use crate::found::{Found, Grant};
 use crate::holders::granted_rows;
 use crate::quorums::{are_apart, are_enough, bricks_of, grant_of};
 use crate::readings::Replied;
+use crate::runs::Run;
 use brick_machine::Brick;
 use change_audit::bearers::has_member;
-use change_audit::call_graphs::{CallGraphs, set_in};
+use change_audit::call_graphs::set_in;
 use fop_types::{Cell, Row, Seq, SetPlan};
-use graph_build::Plan;
 use mount_log::Log;
-use script_lang::Script;
 use std::alloc::{AllocError, Global};
 use std::collections::BTreeMap;
 
@@ -77,9 +75,7 @@ fn bricks_without(
     let mut list = Vec::new(alloc);
     for brick in holders {
         let grant = grant_of(grants, *brick);
-        if !is_without(
-            alloc, log, bricks, plan, call, graph, cell, number, grant, *brick,
-        )? {
+        if !is_without(alloc, log, bricks, plan, call, graph, cell, number, grant, *brick)? {
             continue;
         }
         list.push(*brick)?;
@@ -133,28 +129,22 @@ fn is_behind(set: u8) -> bool
 /// Out of memory.
 pub(crate) fn is_lacking(
     alloc: Global,
-    script: &Script,
-    plans: &[Plan],
-    log: &Log,
-    bricks: &[Brick],
-    graphs: &CallGraphs,
-    found: &Found,
+    run: &Run,
     by: Replied,
     set: u8,
     cell: &Cell,
 ) -> Result<bool, AllocError>
-    requires graphs { AreGraphsOf script.now log.now graphs.now }
-    requires graph { by.graph ≡ graph_of_call log.now by.call }
-    ensures { IfOk result (λ yes. yes ≡ true → IsLacking script.now plans.now log.now bricks.now by.call by.number set cell.now) }
+    requires { by.graph ≡ graph_of_call run.now.log.now by.call }
+    ensures { IfOk result (λ yes. yes ≡ true → IsLacking run.now.script.now run.now.plans.now run.now.log.now run.now.bricks.now by.call by.number set cell.now) }
 {
     if !is_behind(set) {
         return Ok(false);
     }
-    let Some(plan) = set_in(plans, graphs, by.graph, set) else {
+    let Some(plan) = set_in(run.plans, run.graphs, by.graph, set) else {
         return Ok(false);
     };
     let yes = have_no_copy(
-        alloc, log, bricks, plan, found, by.call, by.graph, cell, by.number,
+        alloc, run.log, run.bricks, plan, run.found, by.call, by.graph, cell, by.number,
     )?;
     Ok(yes)
 }

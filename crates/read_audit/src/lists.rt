@@ -2,9 +2,9 @@
 ghost use Rattle.std.specs.Prelude.{◌≡◌, ◌<◌, ◌≤◌, true, false};
 ghost use Rattle.std.specs.List.{AllByRecursion};
 ghost use Rattle.std.specs.declared.cmp.Ordering.TheVariants.{Less};
-ghost use Rattle.fop_types.specs.Bounds.{item_cmp};
+ghost use Rattle.fop_types.specs.Bounds.{item_cmp, Rises};
 ghost use Rattle.fop_types.specs.Names.{is_link as is_link_kind};
-ghost use Rattle.read_audit.specs.Names.{HasName, IsAmong, IsOnASet, AreShown, AreRising};
+ghost use Rattle.read_audit.specs.Names.{HasName, IsAmong, IsOnASet, AreShown};
 
 use crate::cells::is_kind;
 use dht_linkto::is_link;
@@ -145,7 +145,7 @@ fn is_below(item: &Item, next: &Item) -> bool
 }
 
 fn are_rising(items: &[Item]) -> bool
-    ensures { result ≡ true → AreRising items.now }
+    ensures { result ≡ true → Rises item_cmp true items.now }
 {
     for k in 1..items.len() {
         if !is_below(&items[k - 1], &items[k]) {
@@ -159,7 +159,7 @@ fn are_rising(items: &[Item]) -> bool
 pub(crate) fn are_union(lists: &[Seq<Item>], shown: &[Item]) -> bool
     ensures all { result ≡ true → AllByRecursion (AreShown shown.now) lists.now }
     ensures only { result ≡ true → AllByRecursion (IsOnASet lists.now) shown.now }
-    ensures rising { result ≡ true → AreRising shown.now }
+    ensures rising { result ≡ true → Rises item_cmp true shown.now }
 {
     are_all_shown(shown, lists) && are_on_sets(lists, shown) && are_rising(shown)
 }

@@ -4,18 +4,17 @@ ghost use Rattle.fop_types.specs.Replies.{is_ok as is_well};
 ghost use Rattle.script_lang.specs.Accepted.{IsAccepted};
 ghost use Rattle.mount_log.specs.Submissions.{submissions_of};
 ghost use Rattle.mount_log.specs.declared.logs.ReplyLine.{ReplyLine as Line};
-ghost use Rattle.change_audit.specs.CallGraphs.{AreGraphsOf};
 ghost use Rattle.read_audit.specs.Names.{IsNamed, NamesAreRead};
 ghost use Rattle.read_audit.specs.Naming.{IsNameDue};
 
 use crate::finding::find;
-use crate::found::Found;
 use crate::naming::is_named;
 use crate::readings::{Replied, call_graph};
 use crate::replies::reply_at;
+use crate::runs::Run;
 use crate::submissions::made_at;
 use brick_machine::Brick;
-use change_audit::call_graphs::{CallGraphs, call_graphs};
+use change_audit::call_graphs::call_graphs;
 use fop_types::Answer;
 use graph_build::Plan;
 use history_replay::Submitted;
@@ -39,19 +38,13 @@ fn is_ok(answer: &Answer) -> bool
 // Whether a call with its reply has read the names on its paths, and those that it shows.
 fn is_reply_named(
     alloc: Global,
-    script: &Script,
-    plans: &[Plan],
-    log: &Log,
-    bricks: &[Brick],
-    graphs: &CallGraphs,
-    found: &Found,
+    run: &Run,
     made: &Submitted,
     reply: &ReplyLine,
 ) -> Result<bool, AllocError>
-    requires { AreGraphsOf script.now log.now graphs.now }
-    ensures { IfOk result (λ yes. yes ≡ true → IsNamed script.now plans.now log.now bricks.now reply.now.call reply.now.event made.now.call reply.now.answer) }
+    ensures { IfOk result (λ yes. yes ≡ true → IsNamed run.now.script.now run.now.plans.now run.now.log.now run.now.bricks.now reply.now.call reply.now.event made.now.call reply.now.answer) }
 {
-    let Some(graph) = call_graph(script, log, graphs, reply.call) else {
+    let Some(graph) = call_graph(run, reply.call) else {
         return Ok(false);
     };
     let by = Replied {
@@ -60,89 +53,58 @@ fn is_reply_named(
         number: reply.event,
     };
     let answer = &reply.answer;
-    let yes = is_named(
-        alloc, script, plans, log, bricks, graphs, found, by, made.call, answer,
-    )?;
+    let yes = is_named(alloc, run, by, made.call, answer)?;
     Ok(yes)
 }
 
 // The same, if the answer is no error.
 fn is_well_named(
     alloc: Global,
-    script: &Script,
-    plans: &[Plan],
-    log: &Log,
-    bricks: &[Brick],
-    graphs: &CallGraphs,
-    found: &Found,
+    run: &Run,
     made: &Submitted,
     reply: &ReplyLine,
 ) -> Result<bool, AllocError>
-    requires { AreGraphsOf script.now log.now graphs.now }
-    ensures { IfOk result (λ yes. yes ≡ true → is_well reply.now.answer ≡ true → IsNamed script.now plans.now log.now bricks.now reply.now.call reply.now.event made.now.call reply.now.answer) }
+    ensures { IfOk result (λ yes. yes ≡ true → is_well reply.now.answer ≡ true → IsNamed run.now.script.now run.now.plans.now run.now.log.now run.now.bricks.now reply.now.call reply.now.event made.now.call reply.now.answer) }
 {
     if !is_ok(&reply.answer) {
         return Ok(true);
     }
-    let yes = is_reply_named(
-        alloc, script, plans, log, bricks, graphs, found, made, reply,
-    )?;
+    let yes = is_reply_named(alloc, run, made, reply)?;
     Ok(yes)
 }
 
 // Whether the reply at a place is named.
-fn is_due(
-    alloc: Global,
-    script: &Script,
-    plans: &[Plan],
-    log: &Log,
-    bricks: &[Brick],
-    calls: &[Submitted],
-    graphs: &CallGraphs,
-    found: &Found,
-    k: usize,
-) -> Result<bool, AllocError>
-    requires calls { calls.now ≡ submissions_of script.now log.now }
-    requires graphs { AreGraphsOf script.now log.now graphs.now }
-    ensures { IfOk result (λ yes. yes ≡ true → (reply : Line) → slice_get log.now.replies k ≡ Some reply → IsNameDue script.now plans.now log.now bricks.now reply) }
+fn is_due(alloc: Global, run: &Run, calls: &[Submitted], k: usize) -> Result<bool, AllocError>
+    requires { calls.now ≡ submissions_of run.now.script.now run.now.log.now }
+    ensures { IfOk result (λ yes. yes ≡ true → (reply : Line) → slice_get run.now.log.now.replies k ≡ Some reply → IsNameDue run.now.script.now run.now.plans.now run.now.log.now run.now.bricks.now reply) }
 {
-    let Some(reply) = reply_at(log, k) else {
+    let Some(reply) = reply_at(run.log, k) else {
         return Ok(false);
     };
     let Some(made) = made_at(calls, reply.call) else {
         return Ok(false);
     };
-    let yes = is_well_named(
-        alloc, script, plans, log, bricks, graphs, found, made, reply,
-    )?;
+    let yes = is_well_named(alloc, run, made, reply)?;
     Ok(yes)
 }
 
-fn are_due(
-    alloc: Global,
-    script: &Script,
-    plans: &[Plan],
-    log: &Log,
-    bricks: &[Brick],
-    calls: &[Submitted],
-    graphs: &CallGraphs,
-    found: &Found,
-) -> Result<bool, AllocError>
-    requires calls { calls.now ≡ submissions_of script.now log.now }
-    requires graphs { AreGraphsOf script.now log.now graphs.now }
-    ensures { IfOk result (λ yes. yes ≡ true → NamesAreRead script.now plans.now log.now bricks.now) }
+fn are_due(alloc: Global, run: &Run, calls: &[Submitted]) -> Result<bool, AllocError>
+    requires { calls.now ≡ submissions_of run.now.script.now run.now.log.now }
+    ensures { IfOk result (λ yes. yes ≡ true → NamesAreRead run.now.script.now run.now.plans.now run.now.log.now run.now.bricks.now) }
 {
+    let log = run.log;
     for k in 0..log.replies.len() {
-        if !is_due(alloc, script, plans, log, bricks, calls, graphs, found, k)? {
+        if !is_due(alloc, run, calls, k)? {
             return Ok(false);
         }
     }
     Ok(true)
 }
 
-/// Whether each call that was answered well has read names by its reply, each from a brick of a set of its graph under locks of a
-/// quorum: those on its paths, which lead from the root to one object; the names that a list shows, of each set of the graph; and
-/// what a stat or a getattr shows is that object's. `heads` are those of the log's events: they guide the search alone.
+/// Whether each call that was answered well has fetched names by its reply, each from a brick of a set of its graph after a quorum
+/// of the set had granted it locks: those on its paths, which lead from the root to one object; and those that a list shows, of each
+/// set of the graph but for one where a quorum had no copy; and whether what a stat or a getattr shows is that object's. `heads` are
+/// those of the log's events: they guide the search alone.
 ///
 /// # Errors
 /// Out of memory.
@@ -162,15 +124,14 @@ pub fn names_are_read(
     };
     let graphs = call_graphs(alloc, script, log)?;
     let found = find(alloc, log, bricks, heads)?;
-    let yes = are_due(
-        alloc,
+    let run = Run {
         script,
         plans,
         log,
         bricks,
-        calls.calls.as_slice(),
-        &graphs,
-        &found,
-    )?;
+        graphs: &graphs,
+        found: &found,
+    };
+    let yes = are_due(alloc, &run, calls.calls.as_slice())?;
     Ok(yes)
 }

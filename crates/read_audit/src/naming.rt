@@ -4,24 +4,18 @@ ghost use Rattle.call_fops.specs.Walks.{first_path as first_of, second_path as s
 ghost use Rattle.dht_fops.specs.Objects.{home as home_of};
 ghost use Rattle.fop_types.specs.Calls.{looked_up};
 ghost use Rattle.mount_log.specs.Connections.{graph_of_call};
-ghost use Rattle.change_audit.specs.CallGraphs.{AreGraphsOf};
 ghost use Rattle.read_audit.specs.Names.{LeadsToOne, IsOf, IsNamed};
 ghost use Rattle.read_audit.specs.Read.{asked_by};
 ghost use Rattle.read_audit.specs.Read.Asked.{Attributes, Attribute, Names};
 
 use crate::cells::is_kind;
 use crate::directories::is_listed;
-use crate::found::Found;
 use crate::objects::{are_attributes_read, is_attribute_read};
 use crate::paths::object_at;
 use crate::readings::Replied;
-use brick_machine::Brick;
+use crate::runs::Run;
 use call_fops::{first_path, second_path};
-use change_audit::call_graphs::CallGraphs;
 use fop_types::{Answer, Call, Kind, Object, Seq};
-use graph_build::Plan;
-use mount_log::Log;
-use script_lang::Script;
 use std::alloc::{AllocError, Global};
 
 // ---- the object
@@ -39,19 +33,13 @@ fn home(object: Object) -> u8
 // Whether a stat shows the object.
 fn is_stat_of(
     alloc: Global,
-    script: &Script,
-    plans: &[Plan],
-    log: &Log,
-    bricks: &[Brick],
-    graphs: &CallGraphs,
-    found: &Found,
+    run: &Run,
     by: Replied,
     object: Object,
     answer: &Answer,
 ) -> Result<bool, AllocError>
-    requires graphs { AreGraphsOf script.now log.now graphs.now }
-    requires graph { by.graph ≡ graph_of_call log.now by.call }
-    ensures { IfOk result (λ yes. yes ≡ true → IsOf script.now plans.now log.now bricks.now by.call by.number object Attributes answer.now) }
+    requires { by.graph ≡ graph_of_call run.now.log.now by.call }
+    ensures { IfOk result (λ yes. yes ≡ true → IsOf run.now.script.now run.now.plans.now run.now.log.now run.now.bricks.now by.call by.number object Attributes answer.now) }
 {
     match answer {
         Answer::Stat { kind, mode, size } => {
@@ -60,10 +48,7 @@ fn is_stat_of(
             }
             let set = home(object);
             let gfid = object.gfid;
-            let yes = are_attributes_read(
-                alloc, script, plans, log, bricks, graphs, found, by, set, gfid, *kind, *mode,
-                *size,
-            )?;
+            let yes = are_attributes_read(alloc, run, by, set, gfid, *kind, *mode, *size)?;
             Ok(yes)
         }
         _ => Ok(true),
@@ -73,29 +58,21 @@ fn is_stat_of(
 // Whether the bytes are those of the object's attribute.
 fn is_attribute_of(
     alloc: Global,
-    script: &Script,
-    plans: &[Plan],
-    log: &Log,
-    bricks: &[Brick],
-    graphs: &CallGraphs,
-    found: &Found,
+    run: &Run,
     by: Replied,
     object: Object,
     name: &[u8],
     answer: &Answer,
 ) -> Result<bool, AllocError>
-    requires graphs { AreGraphsOf script.now log.now graphs.now }
-    requires graph { by.graph ≡ graph_of_call log.now by.call }
-    ensures { IfOk result (λ yes. yes ≡ true → IsOf script.now plans.now log.now bricks.now by.call by.number object (Attribute name.now) answer.now) }
+    requires { by.graph ≡ graph_of_call run.now.log.now by.call }
+    ensures { IfOk result (λ yes. yes ≡ true → IsOf run.now.script.now run.now.plans.now run.now.log.now run.now.bricks.now by.call by.number object (Attribute name.now) answer.now) }
 {
     match answer {
         Answer::Bytes(value) => {
             let set = home(object);
             let gfid = object.gfid;
             let value = value.as_slice();
-            let yes = is_attribute_read(
-                alloc, script, plans, log, bricks, graphs, found, by, set, gfid, name, value,
-            )?;
+            let yes = is_attribute_read(alloc, run, by, set, gfid, name, value)?;
             Ok(yes)
         }
         _ => Ok(true),
@@ -105,27 +82,19 @@ fn is_attribute_of(
 // Whether the list shows the names of the directory.
 fn is_list_of(
     alloc: Global,
-    script: &Script,
-    plans: &[Plan],
-    log: &Log,
-    bricks: &[Brick],
-    graphs: &CallGraphs,
-    found: &Found,
+    run: &Run,
     by: Replied,
     object: Object,
     answer: &Answer,
 ) -> Result<bool, AllocError>
-    requires graphs { AreGraphsOf script.now log.now graphs.now }
-    requires graph { by.graph ≡ graph_of_call log.now by.call }
-    ensures { IfOk result (λ yes. yes ≡ true → IsOf script.now plans.now log.now bricks.now by.call by.number object Names answer.now) }
+    requires { by.graph ≡ graph_of_call run.now.log.now by.call }
+    ensures { IfOk result (λ yes. yes ≡ true → IsOf run.now.script.now run.now.plans.now run.now.log.now run.now.bricks.now by.call by.number object Names answer.now) }
 {
     match answer {
         Answer::List(items) => {
             let dir = object.gfid;
             let shown = items.as_slice();
-            let yes = is_listed(
-                alloc, script, plans, log, bricks, graphs, found, by, dir, shown,
-            )?;
+            let yes = is_listed(alloc, run, by, dir, shown)?;
             Ok(yes)
         }
         _ => Ok(true),
@@ -135,39 +104,27 @@ fn is_list_of(
 // Whether what the answer to a call shows is the object's.
 fn is_of(
     alloc: Global,
-    script: &Script,
-    plans: &[Plan],
-    log: &Log,
-    bricks: &[Brick],
-    graphs: &CallGraphs,
-    found: &Found,
+    run: &Run,
     by: Replied,
     object: Object,
     call: &Call,
     answer: &Answer,
 ) -> Result<bool, AllocError>
-    requires graphs { AreGraphsOf script.now log.now graphs.now }
-    requires graph { by.graph ≡ graph_of_call log.now by.call }
-    ensures { IfOk result (λ yes. yes ≡ true → IsOf script.now plans.now log.now bricks.now by.call by.number object (asked_by call.now) answer.now) }
+    requires { by.graph ≡ graph_of_call run.now.log.now by.call }
+    ensures { IfOk result (λ yes. yes ≡ true → IsOf run.now.script.now run.now.plans.now run.now.log.now run.now.bricks.now by.call by.number object (asked_by call.now) answer.now) }
 {
     match call {
         Call::Stat { path: _ } => {
-            let yes = is_stat_of(
-                alloc, script, plans, log, bricks, graphs, found, by, object, answer,
-            )?;
+            let yes = is_stat_of(alloc, run, by, object, answer)?;
             Ok(yes)
         }
         Call::GetAttr { path: _, name } => {
             let name = name.as_slice();
-            let yes = is_attribute_of(
-                alloc, script, plans, log, bricks, graphs, found, by, object, name, answer,
-            )?;
+            let yes = is_attribute_of(alloc, run, by, object, name, answer)?;
             Ok(yes)
         }
         Call::List { path: _ } => {
-            let yes = is_list_of(
-                alloc, script, plans, log, bricks, graphs, found, by, object, answer,
-            )?;
+            let yes = is_list_of(alloc, run, by, object, answer)?;
             Ok(yes)
         }
         _ => Ok(true),
@@ -179,48 +136,29 @@ fn is_of(
 // Whether a path leads to an object of which the answer shows what it shows.
 fn leads_to_shown(
     alloc: Global,
-    script: &Script,
-    plans: &[Plan],
-    log: &Log,
-    bricks: &[Brick],
-    graphs: &CallGraphs,
-    found: &Found,
+    run: &Run,
     by: Replied,
     path: &[Seq<u8>],
     call: &Call,
     answer: &Answer,
 ) -> Result<bool, AllocError>
-    requires graphs { AreGraphsOf script.now log.now graphs.now }
-    requires graph { by.graph ≡ graph_of_call log.now by.call }
-    ensures { IfOk result (λ yes. yes ≡ true → LeadsToOne script.now plans.now log.now bricks.now by.call by.number path.now (λ object. IsOf script.now plans.now log.now bricks.now by.call by.number object (asked_by call.now) answer.now)) }
+    requires { by.graph ≡ graph_of_call run.now.log.now by.call }
+    ensures { IfOk result (λ yes. yes ≡ true → LeadsToOne run.now.script.now run.now.plans.now run.now.log.now run.now.bricks.now by.call by.number path.now (λ object. IsOf run.now.script.now run.now.plans.now run.now.log.now run.now.bricks.now by.call by.number object (asked_by call.now) answer.now)) }
 {
-    let reached = object_at(alloc, script, plans, log, bricks, graphs, found, by, path)?;
+    let reached = object_at(alloc, run, by, path)?;
     let Some(object) = reached else {
         return Ok(false);
     };
-    let yes = is_of(
-        alloc, script, plans, log, bricks, graphs, found, by, object, call, answer,
-    )?;
+    let yes = is_of(alloc, run, by, object, call, answer)?;
     Ok(yes)
 }
 
 // Whether a path leads to an object.
-fn leads_to_one(
-    alloc: Global,
-    script: &Script,
-    plans: &[Plan],
-    log: &Log,
-    bricks: &[Brick],
-    graphs: &CallGraphs,
-    found: &Found,
-    by: Replied,
-    path: &[Seq<u8>],
-) -> Result<bool, AllocError>
-    requires graphs { AreGraphsOf script.now log.now graphs.now }
-    requires graph { by.graph ≡ graph_of_call log.now by.call }
-    ensures { IfOk result (λ yes. yes ≡ true → LeadsToOne script.now plans.now log.now bricks.now by.call by.number path.now (λ object. Unit {0})) }
+fn leads_to_one(alloc: Global, run: &Run, by: Replied, path: &[Seq<u8>]) -> Result<bool, AllocError>
+    requires { by.graph ≡ graph_of_call run.now.log.now by.call }
+    ensures { IfOk result (λ yes. yes ≡ true → LeadsToOne run.now.script.now run.now.plans.now run.now.log.now run.now.bricks.now by.call by.number path.now (λ object. Unit {0})) }
 {
-    let reached = object_at(alloc, script, plans, log, bricks, graphs, found, by, path)?;
+    let reached = object_at(alloc, run, by, path)?;
     match reached {
         Some(_object) => Ok(true),
         None => Ok(false),
@@ -234,27 +172,19 @@ fn leads_to_one(
 /// Out of memory.
 pub(crate) fn is_named(
     alloc: Global,
-    script: &Script,
-    plans: &[Plan],
-    log: &Log,
-    bricks: &[Brick],
-    graphs: &CallGraphs,
-    found: &Found,
+    run: &Run,
     by: Replied,
     call: &Call,
     answer: &Answer,
 ) -> Result<bool, AllocError>
-    requires graphs { AreGraphsOf script.now log.now graphs.now }
-    requires graph { by.graph ≡ graph_of_call log.now by.call }
-    ensures { IfOk result (λ yes. yes ≡ true → IsNamed script.now plans.now log.now bricks.now by.call by.number call.now answer.now) }
+    requires { by.graph ≡ graph_of_call run.now.log.now by.call }
+    ensures { IfOk result (λ yes. yes ≡ true → IsNamed run.now.script.now run.now.plans.now run.now.log.now run.now.bricks.now by.call by.number call.now answer.now) }
 {
     let path = first_path(call);
-    if !leads_to_shown(
-        alloc, script, plans, log, bricks, graphs, found, by, path, call, answer,
-    )? {
+    if !leads_to_shown(alloc, run, by, path, call, answer)? {
         return Ok(false);
     }
     let other = second_path(call);
-    let yes = leads_to_one(alloc, script, plans, log, bricks, graphs, found, by, other)?;
+    let yes = leads_to_one(alloc, run, by, other)?;
     Ok(yes)
 }

@@ -2,20 +2,16 @@
 ghost use Rattle.std.specs.Prelude.{◌≡◌, IfOk, IfSome};
 ghost use Rattle.call_fops.specs.Walks.{root_object};
 ghost use Rattle.mount_log.specs.Connections.{graph_of_call};
-ghost use Rattle.change_audit.specs.CallGraphs.{AreGraphsOf};
 ghost use Rattle.read_audit.specs.Names.{object_of as object_by, IsStep, LeadsTo};
 ghost use Rattle.read_audit.specs.Naming.{IsRealItem, IsObjectIn, HasObject};
 
 use crate::cells::names_cell;
-use crate::found::{FetchAt, Found};
+use crate::found::FetchAt;
 use crate::readings::{Replied, content_read};
-use brick_machine::Brick;
-use change_audit::call_graphs::{CallGraphs, set_with};
+use crate::runs::Run;
+use change_audit::call_graphs::set_with;
 use dht_linkto::is_link;
 use fop_types::{Content, Gfid, Item, Kind, Object, Seq, find_item};
-use graph_build::Plan;
-use mount_log::Log;
-use script_lang::Script;
 use std::alloc::{AllocError, Global};
 
 // ---- what names show
@@ -70,28 +66,20 @@ fn object_shown(content: &Content, name: &Seq<u8>, set: u8) -> Option<Object>
 // The object that a name of a directory means, by the answer to a fetch of its names.
 fn step_by(
     alloc: Global,
-    script: &Script,
-    plans: &[Plan],
-    log: &Log,
-    bricks: &[Brick],
-    graphs: &CallGraphs,
-    found: &Found,
+    run: &Run,
     by: Replied,
     dir: Gfid,
     name: &Seq<u8>,
     at: FetchAt,
 ) -> Result<Option<Object>, AllocError>
-    requires graphs { AreGraphsOf script.now log.now graphs.now }
-    requires graph { by.graph ≡ graph_of_call log.now by.call }
-    ensures { IfOk result (λ found. IfSome found (λ to. IsStep script.now plans.now log.now bricks.now by.call by.number dir name.now to)) }
+    requires { by.graph ≡ graph_of_call run.now.log.now by.call }
+    ensures { IfOk result (λ found. IfSome found (λ to. IsStep run.now.script.now run.now.plans.now run.now.log.now run.now.bricks.now by.call by.number dir name.now to)) }
 {
-    let Some(set) = set_with(plans, graphs, by.graph, at.source) else {
+    let Some(set) = set_with(run.plans, run.graphs, by.graph, at.source) else {
         return Ok(None);
     };
     let cell = names_cell(dir);
-    let read = content_read(
-        alloc, script, plans, log, bricks, graphs, found, by, set, &cell, at,
-    )?;
+    let read = content_read(alloc, run, by, set, &cell, at)?;
     let Some(content) = read else {
         return Ok(None);
     };
@@ -101,25 +89,17 @@ fn step_by(
 // The object that a name of a directory means, by what the call has read of its names.
 fn step(
     alloc: Global,
-    script: &Script,
-    plans: &[Plan],
-    log: &Log,
-    bricks: &[Brick],
-    graphs: &CallGraphs,
-    found: &Found,
+    run: &Run,
     by: Replied,
     dir: Gfid,
     name: &Seq<u8>,
 ) -> Result<Option<Object>, AllocError>
-    requires graphs { AreGraphsOf script.now log.now graphs.now }
-    requires graph { by.graph ≡ graph_of_call log.now by.call }
-    ensures { IfOk result (λ found. IfSome found (λ to. IsStep script.now plans.now log.now bricks.now by.call by.number dir name.now to)) }
+    requires { by.graph ≡ graph_of_call run.now.log.now by.call }
+    ensures { IfOk result (λ found. IfSome found (λ to. IsStep run.now.script.now run.now.plans.now run.now.log.now run.now.bricks.now by.call by.number dir name.now to)) }
 {
-    let fetches = found.fetches_of(alloc, by.call, by.number, names_cell(dir))?;
+    let fetches = run.found.fetches_of(alloc, by.call, by.number, names_cell(dir))?;
     for at in &fetches {
-        let to = step_by(
-            alloc, script, plans, log, bricks, graphs, found, by, dir, name, *at,
-        )?;
+        let to = step_by(alloc, run, by, dir, name, *at)?;
         match to {
             Some(object) => return Ok(Some(object)),
             None => {}
@@ -147,33 +127,16 @@ fn root() -> Object
 /// Out of memory.
 pub(crate) fn object_at(
     alloc: Global,
-    script: &Script,
-    plans: &[Plan],
-    log: &Log,
-    bricks: &[Brick],
-    graphs: &CallGraphs,
-    found: &Found,
+    run: &Run,
     by: Replied,
     path: &[Seq<u8>],
 ) -> Result<Option<Object>, AllocError>
-    requires graphs { AreGraphsOf script.now log.now graphs.now }
-    requires graph { by.graph ≡ graph_of_call log.now by.call }
-    ensures { IfOk result (λ found. IfSome found (λ object. LeadsTo script.now plans.now log.now bricks.now by.call by.number path.now root_object object)) }
+    requires { by.graph ≡ graph_of_call run.now.log.now by.call }
+    ensures { IfOk result (λ found. IfSome found (λ object. LeadsTo run.now.script.now run.now.plans.now run.now.log.now run.now.bricks.now by.call by.number path.now root_object object)) }
 {
     let mut object = root();
     for name in path {
-        let to = step(
-            alloc,
-            script,
-            plans,
-            log,
-            bricks,
-            graphs,
-            found,
-            by,
-            object.gfid,
-            name,
-        )?;
+        let to = step(alloc, run, by, object.gfid, name)?;
         let Some(next) = to else {
             return Ok(None);
         };

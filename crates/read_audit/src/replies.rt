@@ -3,18 +3,17 @@ ghost use Rattle.std.specs.Prelude.{◌≡◌, true, Some, option_copied, slice_
 ghost use Rattle.script_lang.specs.Accepted.{IsAccepted};
 ghost use Rattle.mount_log.specs.Submissions.{submissions_of};
 ghost use Rattle.mount_log.specs.declared.logs.ReplyLine.{ReplyLine as Line};
-ghost use Rattle.change_audit.specs.CallGraphs.{AreGraphsOf};
 ghost use Rattle.read_audit.specs.Read.{asked_by, IsRead, AnswersAreRead};
 ghost use Rattle.read_audit.specs.Replying.{IsReplyDue};
 
 use crate::answers::is_read;
 use crate::finding::find;
-use crate::found::Found;
 use crate::offsets::offsets_of;
 use crate::readings::{Replied, call_graph};
+use crate::runs::Run;
 use crate::submissions::made_at;
 use brick_machine::Brick;
-use change_audit::call_graphs::{CallGraphs, call_graphs};
+use change_audit::call_graphs::call_graphs;
 use graph_build::Plan;
 use history_replay::Submitted;
 use log_audit::heads::Head;
@@ -26,20 +25,14 @@ use std::alloc::{AllocError, Global};
 // Whether the answer of a reply to a call was read from bricks.
 fn is_reply_read(
     alloc: Global,
-    script: &Script,
-    plans: &[Plan],
-    log: &Log,
-    bricks: &[Brick],
-    graphs: &CallGraphs,
-    found: &Found,
+    run: &Run,
     offset: usize,
     made: &Submitted,
     reply: &ReplyLine,
 ) -> Result<bool, AllocError>
-    requires { AreGraphsOf script.now log.now graphs.now }
-    ensures { IfOk result (λ yes. yes ≡ true → IsRead script.now plans.now log.now bricks.now reply.now.call reply.now.event (asked_by made.now.call) reply.now.answer) }
+    ensures { IfOk result (λ yes. yes ≡ true → IsRead run.now.script.now run.now.plans.now run.now.log.now run.now.bricks.now reply.now.call reply.now.event (asked_by made.now.call) reply.now.answer) }
 {
-    let Some(graph) = call_graph(script, log, graphs, reply.call) else {
+    let Some(graph) = call_graph(run, reply.call) else {
         return Ok(false);
     };
     let by = Replied {
@@ -48,9 +41,7 @@ fn is_reply_read(
         number: reply.event,
     };
     let answer = &reply.answer;
-    let yes = is_read(
-        alloc, script, plans, log, bricks, graphs, found, by, offset, made.call, answer,
-    )?;
+    let yes = is_read(alloc, run, by, offset, made.call, answer)?;
     Ok(yes)
 }
 
@@ -71,52 +62,37 @@ fn offset_at(offsets: &[usize], k: usize) -> usize {
 // Whether the reply at a place was read from bricks.
 fn is_due(
     alloc: Global,
-    script: &Script,
-    plans: &[Plan],
-    log: &Log,
-    bricks: &[Brick],
+    run: &Run,
     calls: &[Submitted],
-    graphs: &CallGraphs,
-    found: &Found,
     offsets: &[usize],
     k: usize,
 ) -> Result<bool, AllocError>
-    requires calls { calls.now ≡ submissions_of script.now log.now }
-    requires graphs { AreGraphsOf script.now log.now graphs.now }
-    ensures { IfOk result (λ yes. yes ≡ true → (reply : Line) → slice_get log.now.replies k ≡ Some reply → IsReplyDue script.now plans.now log.now bricks.now reply) }
+    requires { calls.now ≡ submissions_of run.now.script.now run.now.log.now }
+    ensures { IfOk result (λ yes. yes ≡ true → (reply : Line) → slice_get run.now.log.now.replies k ≡ Some reply → IsReplyDue run.now.script.now run.now.plans.now run.now.log.now run.now.bricks.now reply) }
 {
-    let Some(reply) = reply_at(log, k) else {
+    let Some(reply) = reply_at(run.log, k) else {
         return Ok(false);
     };
     let Some(made) = made_at(calls, reply.call) else {
         return Ok(false);
     };
     let offset = offset_at(offsets, k);
-    let yes = is_reply_read(
-        alloc, script, plans, log, bricks, graphs, found, offset, made, reply,
-    )?;
+    let yes = is_reply_read(alloc, run, offset, made, reply)?;
     Ok(yes)
 }
 
 fn are_due(
     alloc: Global,
-    script: &Script,
-    plans: &[Plan],
-    log: &Log,
-    bricks: &[Brick],
+    run: &Run,
     calls: &[Submitted],
-    graphs: &CallGraphs,
-    found: &Found,
     offsets: &[usize],
 ) -> Result<bool, AllocError>
-    requires calls { calls.now ≡ submissions_of script.now log.now }
-    requires graphs { AreGraphsOf script.now log.now graphs.now }
-    ensures { IfOk result (λ yes. yes ≡ true → AnswersAreRead script.now plans.now log.now bricks.now) }
+    requires { calls.now ≡ submissions_of run.now.script.now run.now.log.now }
+    ensures { IfOk result (λ yes. yes ≡ true → AnswersAreRead run.now.script.now run.now.plans.now run.now.log.now run.now.bricks.now) }
 {
+    let log = run.log;
     for k in 0..log.replies.len() {
-        if !is_due(
-            alloc, script, plans, log, bricks, calls, graphs, found, offsets, k,
-        )? {
+        if !is_due(alloc, run, calls, offsets, k)? {
             return Ok(false);
         }
     }
@@ -148,16 +124,14 @@ pub fn answers_are_read(
     let found = find(alloc, log, bricks, heads)?;
     let made = calls.calls.as_slice();
     let offsets = offsets_of(alloc, made, log.replies.as_slice())?;
-    let yes = are_due(
-        alloc,
+    let run = Run {
         script,
         plans,
         log,
         bricks,
-        made,
-        &graphs,
-        &found,
-        offsets.as_slice(),
-    )?;
+        graphs: &graphs,
+        found: &found,
+    };
+    let yes = are_due(alloc, &run, made, offsets.as_slice())?;
     Ok(yes)
 }

@@ -4,8 +4,8 @@ use Rattle.read_audit.proofs.names.are_due.Goals as goal
 
 pub loop-k-preserved : goal.loop-k-preserved
 loop-k-preserved c =
-    names_next c.args.script.now c.args.plans.now c.args.log.now c.args.bricks.now c.loop-k.k (c.in_ok-is_due.ensures c.if-not-branch.false) c.loop-k.invariant
+    names_next c.args.run.now.script.now c.args.run.now.plans.now c.args.run.now.log.now c.args.run.now.bricks.now c.loop-k.k (c.in_ok-is_due.ensures c.if-not-branch.false) c.loop-k.invariant
 
 pub returns : goal.returns
 returns c = λ _.
-    all_named c.args.script.now c.args.plans.now c.args.log.now c.args.bricks.now c.loop-k.k (omega (arith, c.loop-k-test.false, c.len-k-end.ensures)) c.loop-k.invariant
+    all_named c.args.run.now.script.now c.args.run.now.plans.now c.args.run.now.log.now c.args.run.now.bricks.now c.loop-k.k (omega (arith, c.loop-k-test.false, c.len-k-end.ensures)) c.loop-k.invariant

@@ -3,4 +3,4 @@ use Rattle.read_audit.proofs.Leading.{leads_to_one}
 use Rattle.read_audit.proofs.naming.leads_to_one.Goals as goal
 
 pub returns-in-Some : goal.returns-in-Some
-returns-in-Some c = λ _. leads_to_one c.args.script.now c.args.plans.now c.args.log.now c.args.bricks.now c.args.by.call c.args.by.number c.args.path.now (λ (o : Object). Unit {0}) c.in_ok-reached.reached _ c.in-Some.is c.in_ok-reached.ensures tt
+returns-in-Some c = λ _. leads_to_one c.args.run.now.script.now c.args.run.now.plans.now c.args.run.now.log.now c.args.run.now.bricks.now c.args.by.call c.args.by.number c.args.path.now (λ (o : Object). Unit {0}) c.in_ok-reached.reached _ c.in-Some.is c.in_ok-reached.ensures tt

@@ -3,4 +3,4 @@ use Rattle.read_audit.proofs.objects.is_directory_read.Goals as goal
 
 pub returns : goal.returns
 returns c = λ yes.
-    directory_is c.args.script.now c.args.plans.now c.args.log.now c.args.bricks.now c.args.by.call c.args.by.number c.args.set c.args.gfid c.args.mode (c.in_ok-yes.ensures yes)
+    directory_is c.args.run.now.script.now c.args.run.now.plans.now c.args.run.now.log.now c.args.run.now.bricks.now c.args.by.call c.args.by.number c.args.set c.args.gfid c.args.mode (c.in_ok-yes.ensures yes)

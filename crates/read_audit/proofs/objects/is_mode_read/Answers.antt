@@ -7,7 +7,7 @@ use Rattle.read_audit.proofs.objects.is_mode_read.Goals as goal
 
 pub returns : goal.returns
 returns c = λ yes.
-    let fetched : IsFetched c.args.script.now c.args.plans.now c.args.log.now c.args.bricks.now c.args.by.call c.args.by.number c.args.set c.meta_cell-cell.result c.in-Some.content =
-    subst (λ (f : Option Content). IfSome f (λ x. IsFetched c.args.script.now c.args.plans.now c.args.log.now c.args.bricks.now c.args.by.call c.args.by.number c.args.set c.meta_cell-cell.result x)) c.in-Some.is c.in_ok-read.ensures in
-    mode_is c.args.script.now c.args.plans.now c.args.log.now c.args.bricks.now c.args.by.call c.args.by.number c.args.set c.meta_cell-cell.result c.args.gfid c.in-Some.content c.args.mode
+    let fetched : IsFetched c.args.run.now.script.now c.args.run.now.plans.now c.args.run.now.log.now c.args.run.now.bricks.now c.args.by.call c.args.by.number c.args.set c.meta_cell-cell.result c.in-Some.content =
+    subst (λ (f : Option Content). IfSome f (λ x. IsFetched c.args.run.now.script.now c.args.run.now.plans.now c.args.run.now.log.now c.args.run.now.bricks.now c.args.by.call c.args.by.number c.args.set c.meta_cell-cell.result x)) c.in-Some.is c.in_ok-read.ensures in
+    mode_is c.args.run.now.script.now c.args.run.now.plans.now c.args.run.now.log.now c.args.run.now.bricks.now c.args.by.call c.args.by.number c.args.set c.meta_cell-cell.result c.args.gfid c.in-Some.content c.args.mode
     c.meta_cell-cell.ensures fetched (c.has_mode.ensures yes)

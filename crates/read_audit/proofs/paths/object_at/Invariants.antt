@@ -6,4 +6,4 @@ use Rattle.read_audit.proofs.paths.object_at.Given as goal
 
 abbrev pub invariant-loop-name : goal.invariant-loop-name
 invariant-loop-name l =
-    (to : Object) → LeadsTo l.script l.plans l.log l.bricks l.by.call l.by.number (drop l.name-index l.path) l.object to → LeadsTo l.script l.plans l.log l.bricks l.by.call l.by.number l.path root_object to
+    (to : Object) → LeadsTo l.run.script.now l.run.plans.now l.run.log.now l.run.bricks.now l.by.call l.by.number (drop l.name-index l.path) l.object to → LeadsTo l.run.script.now l.run.plans.now l.run.log.now l.run.bricks.now l.by.call l.by.number l.path root_object to

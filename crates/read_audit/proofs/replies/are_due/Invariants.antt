@@ -5,4 +5,4 @@ use Rattle.read_audit.specs.Replying.{IsReplyDue}
 use Rattle.read_audit.proofs.replies.are_due.Given as goal
 
 abbrev pub invariant-loop-k : goal.invariant-loop-k
-invariant-loop-k l = (j : ℕ) (reply : ReplyLine) → j < l.k → slice_get l.log.replies j ≡ Some reply → IsReplyDue l.script l.plans l.log l.bricks reply
+invariant-loop-k l = (j : ℕ) (reply : ReplyLine) → j < l.k → slice_get l.run.log.now.replies j ≡ Some reply → IsReplyDue l.run.script.now l.run.plans.now l.run.log.now l.run.bricks.now reply

@@ -3,5 +3,5 @@ use Rattle.read_audit.proofs.replies.is_due.Goals as goal
 
 pub returns : goal.returns
 returns c = λ yes.
-    reply_due c.args.script.now c.args.plans.now c.args.log.now c.args.bricks.now c.args.calls.now c.args.k c.in-Some.reply.now c.in-Some-made_at.made.now c.requires.calls c.in-Some.ensures c.in-Some-made_at.ensures
+    reply_due c.args.run.now.script.now c.args.run.now.plans.now c.args.run.now.log.now c.args.run.now.bricks.now c.args.calls.now c.args.k c.in-Some.reply.now c.in-Some-made_at.made.now c.requires c.in-Some.ensures c.in-Some-made_at.ensures
     (c.in_ok-yes.ensures yes)
