@@ -1,7 +1,7 @@
 ghost use Rattle.std.specs.Prelude.{◌≡◌, ◌<◌, ◌≤◌, ◌-◌, ◌^◌, ◌↔◌, ◌⊎◌, Some, None, map};
 ghost use Rattle.std.specs.String.{string_bytes};
-ghost use Rattle.script_commands.specs.Commands.{command_of, command_for, without_threads, mount_command};
-ghost use Rattle.mount_run.specs.Outcomes.{empty_rack, Succeeded, IsUnlawful, RefusedBy, RefusedLine, Unwritten, JudgedUnwritten, RefusedLineUnwritten, Judged, RanOutOfWinds};
+ghost use Rattle.script_commands.specs.Commands.{command_of, without_threads, mount_command};
+ghost use Rattle.mount_run.specs.Outcomes.{empty_rack, Succeeded, IsUnlawful, IsHeldBack, RefusedBy, Refused, RefusedUnwritten, RefusedLine, RefusedLineUnwritten, Unwritten, Checked, CheckedUnwritten, Ran, RanUnwritten, Judged, JudgedUnwritten, RanOutOfWinds, WindsRanOut};
 
 use crate::generating::generate;
 use crate::mounting::mount_read;
@@ -52,14 +52,14 @@ pub fn top<S: Source, K: Sink>(
         None => 2,
         Some(Command::Mount(_)) => 2,
         Some(Command::Generate(number)) => generate(alloc, number, sink, rack),
-        Some(Command::Replay) => replay_read(alloc, source, sink),
-        Some(Command::Check) => carry_out(alloc, None, source, sink, rack),
-        Some(Command::Run(seed)) => carry_out(alloc, Some(seed), source, sink, rack),
+        Some(Command::Replay) => replay(alloc, source, sink),
+        Some(Command::Check) => check(alloc, source, sink),
+        Some(Command::Run(seed)) => run(alloc, seed, source, sink, rack),
     }
 }
 
 // Reads a script with its report, and writes what comes of it. No rack is needed.
-fn replay_read<S: Source, K: Sink>(alloc: Global, source: &mut S, sink: &mut K) -> u8
+fn replay<S: Source, K: Sink>(alloc: Global, source: &mut S, sink: &mut K) -> u8
     requires source { S.faults source.old < 2 ^ 64 - 1 }
     requires sink { K.faults sink.old < 2 ^ 64 - 1 }
     ensures statuses { (result ≡ 0) ⊎ ((result ≡ 1) ⊎ ((result ≡ 3) ⊎ ((result ≡ 4) ⊎ ((result ≡ 5) ⊎ (result ≡ 6))))) }
@@ -73,9 +73,32 @@ fn replay_read<S: Source, K: Sink>(alloc: Global, source: &mut S, sink: &mut K) 
     write_verdict(alloc, source, sink)
 }
 
-fn carry_out<S: Source, K: Sink>(
+// Reads a script, and writes the line of what it has. No rack is needed.
+fn check<S: Source, K: Sink>(alloc: Global, source: &mut S, sink: &mut K) -> u8
+    requires source { S.faults source.old < 2 ^ 64 - 1 }
+    requires sink { K.faults sink.old < 2 ^ 64 - 1 }
+    ensures statuses { (result ≡ 0) ⊎ ((result ≡ 1) ⊎ ((result ≡ 3) ⊎ ((result ≡ 4) ⊎ (result ≡ 5)))) }
+    ensures checked { result ≡ 0 → Checked (S.left source.old) (K.taken sink.old) (K.taken sink.new) empty_rack }
+    ensures refused { result ≡ 1 → Refused (S.left source.old) (K.taken sink.old) (K.taken sink.new) empty_rack }
+    ensures read_fault { result ≡ 3 → (S.faults source.old < S.faults source.new) × (sink.new ≡ sink.old) }
+    ensures write_fault { result ≡ 4 → K.faults sink.old < K.faults sink.new }
+    ensures short { result ≡ 4 → CheckedUnwritten (S.left source.old) (K.taken sink.old) (K.taken sink.new) empty_rack ⊎ RefusedUnwritten (S.left source.old) (K.taken sink.old) (K.taken sink.new) empty_rack }
+    ensures memory { result ≡ 5 → sink.new ≡ sink.old }
+{
+    match read_script(alloc, source) {
+        Ok(read) => {
+            let status = check_read(alloc, &read.script, sink);
+            drop(read);
+            status
+        }
+        Err(not_read) => refuse_all(alloc, not_read, sink),
+    }
+}
+
+// Reads a script, runs it by a seed's schedule, and writes its report.
+fn run<S: Source, K: Sink>(
     alloc: Global,
-    seed: Option<u64>,
+    seed: u64,
     source: &mut S,
     sink: &mut K,
     rack: &mut Rack,
@@ -83,22 +106,19 @@ fn carry_out<S: Source, K: Sink>(
     requires source { S.faults source.old < 2 ^ 64 - 1 }
     requires sink { K.faults sink.old < 2 ^ 64 - 1 }
     requires rack { rack.old ≡ empty_rack }
-
     ensures statuses { result ≤ 7 }
     ensures no_usage { result ≡ 2 → ⊥ }
-    ensures succeeded { result ≡ 0 → Succeeded (Some (command_for seed)) (S.left source.old) (K.taken sink.old) (K.taken sink.new) rack.new }
-    ensures refused { result ≡ 1 → RefusedBy (Some (command_for seed)) (S.left source.old) (K.taken sink.old) (K.taken sink.new) rack.new }
+    ensures ran { result ≡ 0 → Ran (S.left source.old) (K.taken sink.old) (K.taken sink.new) rack.new }
+    ensures refused { result ≡ 1 → Refused (S.left source.old) (K.taken sink.old) (K.taken sink.new) rack.new }
     ensures read_fault { result ≡ 3 → (S.faults source.old < S.faults source.new) × (sink.new ≡ sink.old) × (rack.new ≡ empty_rack) }
-    ensures write_fault { result ≡ 4 → (K.faults sink.old < K.faults sink.new) × Unwritten (Some (command_for seed)) (S.left source.old) (K.taken sink.old) (K.taken sink.new) rack.new }
+    ensures write_fault { result ≡ 4 → K.faults sink.old < K.faults sink.new }
+    ensures short { result ≡ 4 → RanUnwritten (S.left source.old) (K.taken sink.old) (K.taken sink.new) rack.new ⊎ RefusedUnwritten (S.left source.old) (K.taken sink.old) (K.taken sink.new) rack.new }
     ensures memory { result ≡ 5 → (sink.new ≡ sink.old) × (rack.new ≡ empty_rack) }
-    ensures unlawful { result ≡ 6 → IsUnlawful (Some (command_for seed)) (S.left source.old) (K.taken sink.old) (K.taken sink.new) rack.new }
-    ensures winds { result ≡ 7 → (sink.new ≡ sink.old) × RanOutOfWinds (Some (command_for seed)) (S.left source.old) rack.new }
+    ensures unlawful { result ≡ 6 → IsHeldBack (K.taken sink.old) (K.taken sink.new) rack.new }
+    ensures winds { result ≡ 7 → (sink.new ≡ sink.old) × WindsRanOut (S.left source.old) rack.new }
 {
     match read_script(alloc, source) {
-        Ok(read) => match seed {
-            None => check_read(alloc, &read.script, sink),
-            Some(seed) => run_read(alloc, read, seed, sink, rack),
-        },
+        Ok(read) => run_read(alloc, read, seed, sink, rack),
         Err(not_read) => refuse_all(alloc, not_read, sink),
     }
 }

@@ -45,8 +45,3 @@ mount_command (Some (Run seed)) = None
 mount_command (Some (Mount workers)) = Some (Mount workers)
 mount_command (Some (Generate number)) = None
 mount_command (Some Replay) = None
-
--- the command that reads a script: with a seed it is run, and without one it is checked
-abbrev pub command_for : Option ℕ → Command
-command_for None = Check
-command_for (Some seed) = Run seed

@@ -1,4 +1,5 @@
-ghost use Rattle.std.specs.Prelude.{◌≡◌, ◌≤◌, IfOk};
+ghost use Rattle.std.specs.Prelude.{◌≡◌, ◌≤◌, ◌++◌, IfOk, OnOk};
+ghost use Rattle.std.specs.Fmt.{decimal};
 ghost use Rattle.script_commands.specs.Checks.{calls_in, check_text};
 
 use script_lang::{Phase, Script};
@@ -16,6 +17,37 @@ fn count_calls(phases: &[Phase]) -> usize
     count
 }
 
+// Some words, and a number.
+fn put_count(
+    alloc: Global,
+    text: &mut Vec<u8>,
+    words: &[u8],
+    count: usize,
+) -> Result<(), AllocError>
+    ensures { OnOk result (text.new.items ≡ text.old.items ++ words.now ++ decimal count) }
+{
+    text.extend_from_slice(words)?;
+    text.extend_from_slice(count.to_string(alloc)?.as_bytes())?;
+    Ok(())
+}
+
+fn put_counts(
+    alloc: Global,
+    text: &mut Vec<u8>,
+    script: &Script,
+    calls: usize,
+) -> Result<(), AllocError>
+    requires { calls ≡ calls_in script.now.phases }
+    ensures { OnOk result (text.new.items ≡ text.old.items ++ check_text script.now) }
+{
+    put_count(alloc, text, b"ok bricks ", script.bricks.len())?;
+    put_count(alloc, text, b" volfiles ", script.volfiles.len())?;
+    put_count(alloc, text, b" phases ", script.phases.len())?;
+    put_count(alloc, text, b" calls ", calls)?;
+    text.extend_from_slice(b"\n")?;
+    Ok(())
+}
+
 /// The line that `check` writes for an accepted script.
 ///
 /// # Errors
@@ -26,14 +58,6 @@ pub fn check_line(alloc: Global, script: &Script) -> Result<Vec<u8>, AllocError>
 {
     let calls = count_calls(script.phases.as_slice());
     let mut text = Vec::new(alloc);
-    text.extend_from_slice(b"ok bricks ")?;
-    text.extend_from_slice(script.bricks.len().to_string(alloc)?.as_bytes())?;
-    text.extend_from_slice(b" volfiles ")?;
-    text.extend_from_slice(script.volfiles.len().to_string(alloc)?.as_bytes())?;
-    text.extend_from_slice(b" phases ")?;
-    text.extend_from_slice(script.phases.len().to_string(alloc)?.as_bytes())?;
-    text.extend_from_slice(b" calls ")?;
-    text.extend_from_slice(calls.to_string(alloc)?.as_bytes())?;
-    text.extend_from_slice(b"\n")?;
-    Ok(text)
+    let done = put_counts(alloc, &mut text, script, calls);
+    done.and(Ok(text))
 }

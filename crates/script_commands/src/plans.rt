@@ -1,4 +1,4 @@
-ghost use Rattle.std.specs.Prelude.{◌≡◌, ◌≤◌, [], Ok, Err, length, IfOk, IsErrOf};
+ghost use Rattle.std.specs.Prelude.{◌≡◌, ◌≤◌, [], Ok, Err, length, IfOk, OnOk, IsErrOf};
 ghost use Rattle.std.specs.List.{All};
 ghost use Rattle.script_lang.specs.Accepted.{IsAccepted as KeepsLimits};
 ghost use Rattle.graph_build.specs.Scripts.{IsScript};
@@ -34,19 +34,19 @@ fn volume_line(volfile: &Volfile, number: u16) -> u32
     }
 }
 
-// The plans of a script's volfiles.
-fn plans(
+// Puts the plans of these volfiles behind those that are done.
+fn put_plans(
     alloc: Global,
+    plans: &mut Seq<Plan>,
     volfiles: &[NamedVolfile],
     bricks: &[BrickLine],
-) -> Result<Seq<Plan>, NotRead>
+) -> Result<(), NotRead>
     requires small { All IsSmall volfiles.now }
     requires few { length bricks.now ≤ 60 }
-    ensures planned { IfOk result (λ plans. plans_of [] volfiles.now bricks.now ≡ Ok plans) }
-    ensures refused { (refusal : Refusal) → IsErrOf result (not_read.Refused refusal) → plans_of [] volfiles.now bricks.now ≡ Err refusal }
+    ensures planned { OnOk result (plans_of plans.old volfiles.now bricks.now ≡ Ok plans.new) }
+    ensures refused { (refusal : Refusal) → IsErrOf result (not_read.Refused refusal) → plans_of plans.old volfiles.now bricks.now ≡ Err refusal }
     ensures no_fault { IsErrOf result not_read.Fault → ⊥ }
 {
-    let mut plans = Seq::new(alloc);
     for named in volfiles {
         match build(alloc, &named.volfile, bricks) {
             Ok(plan) => {
@@ -63,7 +63,24 @@ fn plans(
             Err(PlanError::Mem) => return Err(NotRead::Mem),
         }
     }
-    Ok(plans)
+    Ok(())
+}
+
+// The plans of a script's volfiles.
+fn plans(
+    alloc: Global,
+    volfiles: &[NamedVolfile],
+    bricks: &[BrickLine],
+) -> Result<Seq<Plan>, NotRead>
+    requires small { All IsSmall volfiles.now }
+    requires few { length bricks.now ≤ 60 }
+    ensures planned { IfOk result (λ plans. plans_of [] volfiles.now bricks.now ≡ Ok plans) }
+    ensures refused { (refusal : Refusal) → IsErrOf result (not_read.Refused refusal) → plans_of [] volfiles.now bricks.now ≡ Err refusal }
+    ensures no_fault { IsErrOf result not_read.Fault → ⊥ }
+{
+    let mut plans = Seq::new(alloc);
+    let done = put_plans(alloc, &mut plans, volfiles, bricks);
+    done.and(Ok(plans))
 }
 
 // A switch to a volfile: the number of the newest plan, or the line where it does not follow.

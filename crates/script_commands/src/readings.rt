@@ -1,5 +1,6 @@
-ghost use Rattle.std.specs.Prelude.{◌≡◌, ◌<◌, ◌≤◌, ◌-◌, ◌^◌, length, IfOk, IsErrOf};
+ghost use Rattle.std.specs.Prelude.{◌≡◌, ◌<◌, ◌≤◌, ◌-◌, ◌^◌, Ok, Err, length, IfOk, IfErr, IsErrOf};
 ghost use Rattle.graph_build.specs.Scripts.{IsScript};
+ghost use Rattle.script_commands.specs.Plans.{accepted};
 ghost use Rattle.script_commands.specs.Readings.{IsRead, IsAccepted, IsRefused};
 ghost use Rattle.script_commands.specs.declared.readings.NotRead.TheVariants as not_read;
 ghost use Rattle.script_commands.specs.declared.refusals.Refusal.{Refusal};
@@ -86,8 +87,33 @@ pub fn read_twice<S: Source>(
     ensures fault { IsErrOf result not_read.Fault → S.faults source.old < S.faults source.new }
 {
     let text = read_text(alloc, source)?;
-    let read = accept(alloc, text.as_slice())?;
-    match accept(alloc, text.as_slice()) {
+    accept_twice(alloc, text.as_slice())
+}
+
+fn accept_twice(alloc: Global, text: &[u8]) -> Result<(Accepted, Accepted), NotRead>
+    requires { length text.now ≤ 2097152 }
+    ensures accepted { IfOk result (λ two. accepted text.now ≡ Ok two.1) }
+    ensures first { IfOk result (λ two. IsScript two.0.script two.0.plans) }
+    ensures script { IfOk result (λ two. IsScript two.1.script two.1.plans) }
+    ensures refused { (refusal : Refusal) → IsErrOf result (not_read.Refused refusal) → accepted text.now ≡ Err refusal }
+    ensures no_fault { IsErrOf result not_read.Fault → ⊥ }
+{
+    match accept(alloc, text) {
+        Ok(read) => with_first(read, accept(alloc, text)),
+        Err(not_read) => Err(not_read),
+    }
+}
+
+// Both, where there is a second.
+fn with_first(
+    read: Accepted,
+    again: Result<Accepted, NotRead>,
+) -> Result<(Accepted, Accepted), NotRead>
+    ensures first { IfOk result (λ two. two.0 ≡ read) }
+    ensures again { IfOk result (λ two. again ≡ Ok two.1) }
+    ensures failed { IfErr result (λ not_read. again ≡ Err not_read) }
+{
+    match again {
         Ok(again) => Ok((read, again)),
         Err(not_read) => {
             drop(read);

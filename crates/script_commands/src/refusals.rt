@@ -1,4 +1,4 @@
-ghost use Rattle.std.specs.Prelude.{◌≡◌, IfOk};
+ghost use Rattle.std.specs.Prelude.{◌≡◌, ◌++◌, IfOk, OnOk};
 ghost use Rattle.script_commands.specs.Refusals.{fault_of, fault_text, plan_text, script_text, vol_text};
 
 use graph_build::PlanKind;
@@ -78,16 +78,28 @@ fn plan_name(kind: PlanKind) -> &'static [u8]
 }
 
 // fault line L KIND
-fn fault(alloc: Global, line: u32, name: &[u8]) -> Result<Vec<u8>, AllocError>
-    ensures { IfOk result (λ text. text.items ≡ fault_of line name.now) }
+fn put_fault(
+    alloc: Global,
+    text: &mut Vec<u8>,
+    line: u32,
+    name: &[u8],
+) -> Result<(), AllocError>
+    ensures { OnOk result (text.new.items ≡ text.old.items ++ fault_of line name.now) }
 {
-    let mut text = Vec::new(alloc);
     text.extend_from_slice(b"fault line ")?;
     text.extend_from_slice(line.to_string(alloc)?.as_bytes())?;
     text.extend_from_slice(b" ")?;
     text.extend_from_slice(name)?;
     text.extend_from_slice(b"\n")?;
-    Ok(text)
+    Ok(())
+}
+
+fn fault(alloc: Global, line: u32, name: &[u8]) -> Result<Vec<u8>, AllocError>
+    ensures { IfOk result (λ text. text.items ≡ fault_of line name.now) }
+{
+    let mut text = Vec::new(alloc);
+    let done = put_fault(alloc, &mut text, line, name);
+    done.and(Ok(text))
 }
 
 /// The line that is written where a text has no report, or a line that is in none.

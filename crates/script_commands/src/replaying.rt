@@ -1,5 +1,6 @@
 //! A script with the report of a run behind it, which is judged.
-ghost use Rattle.std.specs.Prelude.{◌≡◌, ◌≤◌, ℕ, Ok, Err, length, take, IfOk, IfErr, IsErrOf};
+ghost use Rattle.std.specs.Prelude.{◌≡◌, ◌≤◌, ℕ, ◌++◌, Ok, Err, codes, length, take, IfOk, OnOk, IfErr, IsErrOf};
+ghost use Rattle.std.specs.Fmt.{decimal};
 ghost use Rattle.report_reader.specs.Readings.{IsRefusedAt};
 ghost use Rattle.report_reader.specs.declared.bad.ReportError.TheVariants.{At};
 ghost use Rattle.script_commands.specs.Plans.{accepted};
@@ -72,23 +73,38 @@ fn accept_before(alloc: Global, bytes: &[u8]) -> Result<Accepted, NotRead>
     accept(alloc, bytes)
 }
 
-fn verdict_line(alloc: Global, verdict: Verdict) -> Result<Vec<u8>, AllocError>
-    ensures { IfOk result (λ text. text.items ≡ verdict_text verdict) }
+// unlawful WORD N
+fn put_unlawful(
+    alloc: Global,
+    text: &mut Vec<u8>,
+    word: &[u8],
+    number: u32,
+) -> Result<(), AllocError>
+    ensures { OnOk result (text.new.items ≡ text.old.items ++ codes "unlawful " ++ word.now ++ decimal number ++ codes "\n") }
 {
-    let mut text = Vec::new(alloc);
-    let (word, number) = match verdict {
-        Verdict::Lawful => {
-            text.extend_from_slice(b"lawful\n")?;
-            return Ok(text);
-        }
-        Verdict::Entry(number) => (b"entry ".as_slice(), number),
-        Verdict::Call(number) => (b"call ".as_slice(), number),
-    };
     text.extend_from_slice(b"unlawful ")?;
     text.extend_from_slice(word)?;
     text.extend_from_slice(number.to_string(alloc)?.as_bytes())?;
     text.extend_from_slice(b"\n")?;
-    Ok(text)
+    Ok(())
+}
+
+fn put_verdict(alloc: Global, text: &mut Vec<u8>, verdict: Verdict) -> Result<(), AllocError>
+    ensures { OnOk result (text.new.items ≡ text.old.items ++ verdict_text verdict) }
+{
+    match verdict {
+        Verdict::Lawful => text.extend_from_slice(b"lawful\n"),
+        Verdict::Entry(number) => put_unlawful(alloc, text, b"entry ", number),
+        Verdict::Call(number) => put_unlawful(alloc, text, b"call ", number),
+    }
+}
+
+fn verdict_line(alloc: Global, verdict: Verdict) -> Result<Vec<u8>, AllocError>
+    ensures { IfOk result (λ text. text.items ≡ verdict_text verdict) }
+{
+    let mut text = Vec::new(alloc);
+    let done = put_verdict(alloc, &mut text, verdict);
+    done.and(Ok(text))
 }
 
 fn status_of(verdict: Verdict) -> u8
@@ -115,10 +131,14 @@ fn judged_text(alloc: Global, script: &Script, bytes: &[u8]) -> Result<(Vec<u8>,
     ensures refused { (line : ℕ) → IsErrOf result (At line) → IsRefusedAt line bytes.now }
 {
     match read(alloc, bytes) {
-        Ok(report) => match judged(alloc, script, &report) {
-            Ok(said) => Ok(said),
-            Err(_) => Err(ReportError::Mem),
-        },
+        Ok(report) => {
+            let said = judged(alloc, script, &report);
+            drop(report);
+            match said {
+                Ok(said) => Ok(said),
+                Err(_) => Err(ReportError::Mem),
+            }
+        }
         Err(error) => Err(error),
     }
 }
@@ -148,7 +168,11 @@ pub fn replay(alloc: Global, text: &[u8]) -> Replayed
         Err(lines) => return Replayed::NoReport(lines),
     };
     match accept_before(alloc, &text[..found.at]) {
-        Ok(read) => said_of(alloc, &read, text, found),
+        Ok(read) => {
+            let said = said_of(alloc, &read, text, found);
+            drop(read);
+            said
+        }
         Err(NotRead::Refused(refusal)) => Replayed::Refused(refusal),
         Err(_) => Replayed::Mem,
     }

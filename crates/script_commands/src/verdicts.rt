@@ -30,7 +30,9 @@ pub fn write_verdict<S: Source, K: Sink>(alloc: Global, source: &mut S, sink: &m
     match read_all(alloc, source, LIMIT) {
         Ok(text) => {
             let said = replay(alloc, text.as_slice());
-            write_replayed(alloc, text.as_slice(), said, sink)
+            let status = write_replayed(alloc, text.as_slice(), said, sink);
+            drop(text);
+            status
         }
         Err(ReadError::ReadFault) => 3,
         Err(ReadError::TooLong) => refuse(
