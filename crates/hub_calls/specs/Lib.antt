@@ -1,3 +1,3 @@
--- In reading order: the scripts that a hub runs; what is seen of a hub.
+-- In reading order: the script that a hub runs; what is seen of a hub.
 pub mod Plans
 pub mod Hubs

@@ -17,13 +17,13 @@ use Rattle.change_audit.specs.Listed.{SkipsAreListed}
 use Rattle.mount_log.specs.Causes.{AreCaused}
 use Rattle.mount_log.specs.Connects.{ConnectsAreCaused}
 use Rattle.mount_log.specs.Follows.{FollowsScript, IsFinished}
-use Rattle.mount_run.specs.Plans.{accepted}
 use Rattle.read_audit.specs.Names.{NamesAreRead}
 use Rattle.read_audit.specs.Read.{AnswersAreRead}
 use Rattle.run_report.specs.Reports.{report_of}
 use Rattle.mount_log.specs.Ties.{AreTied}
 use Rattle.mount_log.specs.Winds.{WindsAreBalanced}
-use Rattle.mount_run.specs.declared.plans.Accepted.{Accepted}
+use Rattle.script_commands.specs.Plans.{accepted}
+use Rattle.script_commands.specs.declared.plans.Accepted.{Accepted}
 
 -- there is a brick for each of the script's, with a journal of what the log sent to it, and what arrived is its outputs
 pub record AreBricksOf (script : Script) (log : Log) (bricks : List Journal) : Type 0 where

@@ -1,11 +1,3 @@
--- In reading order: commands, limits, plans and refusals of a text; what `check` writes; the headline; the
--- lines of judged runs; the statuses; the head of a stream.
-pub mod Commands
-pub mod Limits
-pub mod Plans
-pub mod Refusals
-pub mod Checks
+-- In reading order: the headline; the statuses.
 pub mod Headline
-pub mod Replays
 pub mod Outcomes
-pub mod Heads

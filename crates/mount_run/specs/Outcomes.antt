@@ -1,50 +1,31 @@
 -- When each status of the top calls comes, and what was written. Where the source and the sink show their bytes, the text is
 -- what was read and the bytes written are named.
-use Rattle.std.specs.Prelude.{◌≡◌, ◌⊎◌, ℕ, List, [], Option, Some, None, Ok, Err, IfSome}
+use Rattle.std.specs.Prelude.{◌≡◌, ◌⊎◌, ℕ, List, [], Option, Some, None, Ok}
 use Rattle.std.specs.Io.KnownBytes.{Appends}
 use Rattle.xl_base.specs.Writes.{WrotePrefix}
 use Rattle.graph_build.specs.declared.plans.Plan.{Plan}
 use Rattle.script_lang.specs.declared.scripts.Script.{Script}
 use Rattle.mount_log.specs.Logs.{empty_log}
+use Rattle.mount_log.specs.Winds.{WindsAreOnce, NoWindIsLeft}
+use Rattle.log_audit.specs.Honest.{HasHonestArrivals}
 use Rattle.hub_calls.specs.declared.racks.Rack.{Rack}
-use Rattle.mount_run.specs.Checks.{check_text}
-use Rattle.mount_run.specs.Headline.{Headline, IsLawfulRun, AreBricksOf}
 use Rattle.report_text.specs.ReportText.{report_text}
 use Rattle.run_report.specs.Reports.{report_of}
-use Rattle.mount_run.specs.Plans.{accepted}
-use Rattle.mount_run.specs.Refusals.{fault_text}
-use Rattle.mount_run.specs.Replays.{HasNoReport, IsVerdictOf, IsScriptRefused, IsReportRefused, IsReplayFault}
 use Rattle.run_report.specs.Summaries.{summary_text}
-use Rattle.log_audit.specs.Honest.{HasHonestArrivals}
-use Rattle.mount_log.specs.Winds.{WindsAreOnce, NoWindIsLeft}
-use Rattle.mount_run.specs.declared.commands.Command.{Command}
-use Rattle.mount_run.specs.declared.commands.Command.TheVariants.{Check, Run, Mount, Generate, Replay}
-use Rattle.mount_run.specs.declared.plans.Accepted.{Accepted}
-use Rattle.mount_run.specs.declared.readings.NotRead.{NotRead}
-use Rattle.mount_run.specs.declared.readings.NotRead.TheVariants as not_read
-use Rattle.mount_run.specs.declared.refusals.Refusal.{Refusal}
-use Rattle.mount_run.specs.declared.replaying.Replayed.{Replayed}
-use Rattle.mount_run.specs.declared.replaying.Replayed.TheVariants as replayed
+use Rattle.script_commands.specs.Checks.{check_text}
+use Rattle.script_commands.specs.Plans.{accepted}
+use Rattle.script_commands.specs.Readings.{IsRead, IsRefused}
+use Rattle.script_commands.specs.Refusals.{fault_text}
+use Rattle.script_commands.specs.Verdicts.{VerdictIsWritten, VerdictIsCutShort, FaultIsWritten, FaultIsCutShort}
+use Rattle.script_commands.specs.declared.commands.Command.{Command}
+use Rattle.script_commands.specs.declared.commands.Command.TheVariants.{Check, Run, Mount, Generate, Replay}
+use Rattle.script_commands.specs.declared.plans.Accepted.{Accepted}
+use Rattle.script_commands.specs.declared.refusals.Refusal.{Refusal}
+use Rattle.mount_run.specs.Headline.{Headline, IsLawfulRun, AreBricksOf}
 
 -- a rack before a run: no bricks, and an empty log
 abbrev pub empty_rack : Rack
 empty_rack = record { bricks = []; log = empty_log }
-
--- ---- what was read
-
--- the text that was read, where the source shows its bytes
-abbrev pub IsRead : Option (List ℕ) → List ℕ → Type 0
-IsRead known text = IfSome known (λ bytes. text ≡ bytes)
-
--- a text was read that is accepted as this
-pub record IsAccepted (known : Option (List ℕ)) (read : Accepted) : Type 0 where
-  pub text : List ℕ
-  pub is_text : IsRead known text
-  pub accepted_as : accepted text ≡ Ok read
-
--- the text that was read is refused, for this as the first
-abbrev pub IsRefused : Option (List ℕ) → Refusal → Type 0
-IsRefused known refusal = IfSome known (λ text. accepted text ≡ Err refusal)
 
 -- ---- a run
 
@@ -112,11 +93,7 @@ pub record Generated (number : ℕ) (taken taken_after : Option (List ℕ)) (rac
 
 -- a script with its report was judged, and the line of the verdict was written
 pub record Judged (status : ℕ) (known taken taken_after : Option (List ℕ)) (rack : Rack) : Type 0 where
-  pub text : List ℕ
-  pub line : List ℕ
-  pub is_text : IsRead known text
-  pub judged : IsVerdictOf text line status
-  pub wrote : Appends taken taken_after line
+  pub verdict : VerdictIsWritten status known taken taken_after
   pub empty : rack ≡ empty_rack
 
 -- what each command did, where it ended well
@@ -148,26 +125,8 @@ pub record Refused (known taken taken_after : Option (List ℕ)) (rack : Rack) :
 
 -- a text with its report was not judged, and its one fault line was written
 pub record RefusedLine (known taken taken_after : Option (List ℕ)) (rack : Rack) : Type 0 where
-  pub text : List ℕ
-  pub fault : List ℕ
-  pub is_text : IsRead known text
-  pub is_fault : IsReplayFault text fault
-  pub wrote : Appends taken taken_after fault
+  pub line : FaultIsWritten known taken taken_after
   pub empty : rack ≡ empty_rack
-
--- what was written of a text that is refused
-abbrev pub IsRefusal : NotRead → (List ℕ → Type 0) → Type 0
-IsRefusal (not_read.Refused refusal) Wrote = Wrote (fault_text refusal)
-IsRefusal not_read.Fault Wrote = ⊥
-IsRefusal not_read.Mem Wrote = ⊥
-
--- what a replay says of a text: a verdict with its line and status, or why there is none
-abbrev pub IsSaying : List ℕ → Replayed → Type 0
-IsSaying text (replayed.Says line status) = IsVerdictOf text line.items status
-IsSaying text (replayed.NoReport lines) = HasNoReport text lines
-IsSaying text (replayed.Refused refusal) = IsScriptRefused text refusal
-IsSaying text (replayed.BadReport line) = IsReportRefused text line
-IsSaying text replayed.Mem = Unit {0}
 
 -- no generated script is refused
 abbrev pub RefusedBy : Option Command → Option (List ℕ) → Option (List ℕ) → Option (List ℕ) → Rack → Type 0
@@ -221,20 +180,11 @@ pub record GeneratedUnwritten (number : ℕ) (taken taken_after : Option (List �
   pub summed : IsSummedUpShort read.script read.plans number taken taken_after rack
 
 pub record JudgedUnwritten (known taken taken_after : Option (List ℕ)) (rack : Rack) : Type 0 where
-  pub text : List ℕ
-  pub line : List ℕ
-  pub status : ℕ
-  pub is_text : IsRead known text
-  pub judged : IsVerdictOf text line status
-  pub wrote : WrotePrefix taken taken_after line
+  pub verdict : VerdictIsCutShort known taken taken_after
   pub empty : rack ≡ empty_rack
 
 pub record RefusedLineUnwritten (known taken taken_after : Option (List ℕ)) (rack : Rack) : Type 0 where
-  pub text : List ℕ
-  pub fault : List ℕ
-  pub is_text : IsRead known text
-  pub is_fault : IsReplayFault text fault
-  pub wrote : WrotePrefix taken taken_after fault
+  pub line : FaultIsCutShort known taken taken_after
   pub empty : rack ≡ empty_rack
 
 pub record RefusedUnwritten (known taken taken_after : Option (List ℕ)) (rack : Rack) : Type 0 where

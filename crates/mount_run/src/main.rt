@@ -14,16 +14,12 @@
 #![tactic(auto)]
 
 mod audits;
-mod checks;
-mod commands;
+mod generating;
 mod generator;
-mod head_sinks;
 mod mains;
-mod meanings;
-mod plans;
-mod readings;
-mod refusals;
-mod replaying;
+mod mounting;
+mod racks;
+mod running;
 mod tops;
 
 use std::process::ExitCode;

@@ -1,11 +1,10 @@
 ghost use Rattle.std.specs.Prelude.{◌≡◌, ◌≤◌, ◌↔◌, None, map};
 ghost use Rattle.std.specs.String.{string_bytes};
-ghost use Rattle.mount_run.specs.Commands.{command_of, mount_command, without_threads};
+ghost use Rattle.script_commands.specs.Commands.{command_of, mount_command, without_threads};
 
-use crate::head_sinks::HeadSink;
-use crate::meanings::{Meaning, meaning_of};
 use crate::tops::{top, top_mount};
 use hub_calls::Rack;
+use script_commands::{HeadSink, Meaning, meaning_of};
 use std::rt::Env;
 use std::sync::Wait;
 use std::thread::Threads;

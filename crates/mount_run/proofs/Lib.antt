@@ -1,4 +1,0 @@
-pub mod Limits
-pub mod Planning
-pub mod Refusing
-pub mod ReportLines

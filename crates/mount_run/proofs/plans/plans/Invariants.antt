@@ -1,6 +1,0 @@
-use Rattle.std.proofs.Common.{◌≡◌, [], drop}
-use Rattle.mount_run.specs.Plans.{plans_of}
-use Rattle.mount_run.proofs.plans.plans.Given as goal
-
-abbrev pub invariant-loop-named : goal.invariant-loop-named
-invariant-loop-named l = plans_of l.plans (drop l.named-index l.volfiles) l.bricks ≡ plans_of [] l.volfiles l.bricks

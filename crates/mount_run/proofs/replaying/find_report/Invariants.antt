@@ -1,9 +1,0 @@
-use Rattle.std.specs.Prelude.{◌+◌, ◌-◌, length}
-use Rattle.mount_run.proofs.ReportLines.{AreSearched}
-use Rattle.mount_run.proofs.replaying.find_report.Given as goal
-
-abbrev pub invariant-loop-at : goal.invariant-loop-at
-invariant-loop-at l = AreSearched l.text l.at l.lines
-
-abbrev pub decreases-loop-at : goal.decreases-loop-at
-decreases-loop-at l = (length l.text + 1) - l.at

@@ -1,0 +1,137 @@
+//! A script that a number generates, which is run and summed up.
+ghost use Rattle.std.specs.Prelude.{◌≡◌, ◌<◌, ◌-◌, ◌^◌, None, IfOk, IfSome, IfNone, IsErrOf};
+ghost use Rattle.graph_build.specs.Scripts.{IsScript};
+ghost use Rattle.run_report.specs.Summaries.{summary_text};
+ghost use Rattle.mount_run.specs.Headline.{IsLawfulRun};
+ghost use Rattle.mount_run.specs.Outcomes.{empty_rack, IsRunStatus, IsStopped, IsSummedUp, IsSummedUpShort, Generated, GeneratedUnwritten, WindsRanOut};
+
+use crate::audits::is_lawful;
+use crate::generator::generated;
+use crate::racks::{put_left, stopped};
+use crate::running::world_of;
+use fop_types::Seq;
+use graph_build::Plan;
+use hub_calls::Rack;
+use run_report::summary_line;
+use script_commands::{Accepted, NotRead, accept, write};
+use script_lang::Script;
+use std::alloc::{AllocError, Global};
+use xl_base::Sink;
+use xlator_law::Stop;
+
+// The bytes of a script, at most.
+const SCRIPT_LIMIT: usize = 2097152;
+
+/// Runs the script that a number generates, with the number as its seed.
+pub fn generate<K: Sink>(alloc: Global, number: u64, sink: &mut K, rack: &mut Rack) -> u8
+    requires sink { K.faults sink.old < 2 ^ 64 - 1 }
+    requires rack { rack.old ≡ empty_rack }
+    ensures statuses { IsRunStatus result }
+    ensures generated { result ≡ 0 → Generated number (K.taken sink.old) (K.taken sink.new) rack.new }
+    ensures write_fault { result ≡ 4 → (K.faults sink.old < K.faults sink.new) × GeneratedUnwritten number (K.taken sink.old) (K.taken sink.new) rack.new }
+    ensures memory { result ≡ 5 → (sink.new ≡ sink.old) × (rack.new ≡ empty_rack) }
+    ensures unlawful { result ≡ 6 → (sink.new ≡ sink.old) × (rack.new ≡ empty_rack) }
+    ensures winds { result ≡ 7 → (sink.new ≡ sink.old) × WindsRanOut None rack.new }
+{
+    let Ok(text) = generated(alloc, number) else {
+        return 5;
+    };
+    if text.len() > SCRIPT_LIMIT {
+        return 6;
+    }
+    match accept(alloc, text.as_slice()) {
+        Ok(read) => generate_read(alloc, read, number, sink, rack),
+        Err(NotRead::Mem) => 5,
+        Err(_) => 6,
+    }
+}
+
+fn generate_read<K: Sink>(
+    alloc: Global,
+    read: Accepted,
+    number: u64,
+    sink: &mut K,
+    rack: &mut Rack,
+) -> u8
+    requires sink { K.faults sink.old < 2 ^ 64 - 1 }
+    requires script { IsScript read.script read.plans }
+    ensures statuses { IsRunStatus result }
+    ensures ran { result ≡ 0 → IsSummedUp read.script read.plans number (K.taken sink.old) (K.taken sink.new) rack.new }
+    ensures write_fault { result ≡ 4 → (K.faults sink.old < K.faults sink.new) × IsSummedUpShort read.script read.plans number (K.taken sink.old) (K.taken sink.new) rack.new }
+    ensures memory { result ≡ 5 → (sink.new ≡ sink.old) × (rack.new ≡ rack.old) }
+    ensures unlawful { result ≡ 6 → (sink.new ≡ sink.old) × (rack.new ≡ rack.old) }
+    ensures winds { result ≡ 7 → (sink.new ≡ sink.old) × IsStopped read.script rack.new }
+{
+    let Accepted { script, plans } = read;
+    match run_generated(alloc, script, plans, number, rack) {
+        Ok(Some(line)) => write(sink, line.as_slice(), 0),
+        Ok(None) => 6,
+        Err(Stop::Mem) => 5,
+        Err(Stop::Winds) => 7,
+    }
+}
+
+fn run_generated(
+    alloc: Global,
+    script: Script,
+    plans: Seq<Plan>,
+    number: u64,
+    rack: &mut Rack,
+) -> Result<Option<Vec<u8>>, Stop>
+    requires { IsScript script plans }
+    ensures ran { IfOk result (λ o. IfSome o (λ line. IsLawfulRun script plans rack.new)) }
+    ensures line { IfOk result (λ o. IfSome o (λ line. line.items ≡ summary_text number rack.new.log)) }
+    ensures unlawful { IfOk result (λ o. IfNone o (rack.new ≡ rack.old)) }
+    ensures winds { IsErrOf result Stop.Winds → IsStopped script rack.new }
+    ensures memory { IsErrOf result Stop.Mem → rack.new ≡ rack.old }
+{
+    let mut world = world_of(alloc, script, plans)?;
+    let ran = world.run(alloc, number);
+    let (script, plans, left) = world.into_parts();
+    line_left(alloc, number, &script, plans.as_slice(), ran, left, rack)
+}
+
+// What a run left goes into the rack, and the line that sums it up is given, where it passes the audits.
+fn line_left(
+    alloc: Global,
+    number: u64,
+    script: &Script,
+    plans: &[Plan],
+    ran: Result<(), Stop>,
+    left: Rack,
+    rack: &mut Rack,
+) -> Result<Option<Vec<u8>>, Stop>
+    requires { IsScript script.now plans.now }
+    ensures ran { IfOk result (λ o. IfSome o (λ line. IsLawfulRun script.now plans.now rack.new)) }
+    ensures line { IfOk result (λ o. IfSome o (λ line. line.items ≡ summary_text number rack.new.log)) }
+    ensures unlawful { IfOk result (λ o. IfNone o (rack.new ≡ rack.old)) }
+    ensures winds { IsErrOf result Stop.Winds → IsStopped script.now rack.new }
+    ensures memory { IsErrOf result Stop.Mem → rack.new ≡ rack.old }
+{
+    match ran {
+        Ok(()) => {
+            let made = summed_up(alloc, number, script, plans, &left);
+            put_left(made, left, rack)
+        }
+        Err(stop) => stopped(alloc, script, left, stop, rack),
+    }
+}
+
+// The line that sums up what a run left; `None` where it fails an audit.
+fn summed_up(
+    alloc: Global,
+    number: u64,
+    script: &Script,
+    plans: &[Plan],
+    left: &Rack,
+) -> Result<Option<Vec<u8>>, AllocError>
+    requires { IsScript script.now plans.now }
+    ensures ran { IfOk result (λ o. IfSome o (λ line. IsLawfulRun script.now plans.now left.now)) }
+    ensures line { IfOk result (λ o. IfSome o (λ line. line.items ≡ summary_text number left.now.log)) }
+{
+    if !is_lawful(alloc, script, plans, left)? {
+        return Ok(None);
+    }
+    let line = summary_line(alloc, number, &left.log)?;
+    Ok(Some(line))
+}

@@ -1,0 +1,129 @@
+//! A script that is run in one thread, and the report of what a run left.
+ghost use Rattle.std.specs.Prelude.{◌≡◌, ◌<◌, ◌≤◌, ◌-◌, ◌^◌, length, IfOk, IfSome, IfNone, IsErrOf};
+ghost use Rattle.graph_build.specs.Scripts.{IsScript};
+ghost use Rattle.mount_log.specs.Graphs.{volfiles_of as volfiles_in};
+ghost use Rattle.report_text.specs.ReportText.{report_text};
+ghost use Rattle.run_report.specs.Reports.{AreFewWinds, report_of as report_of_log};
+ghost use Rattle.mount_run.specs.Headline.{IsLawfulRun};
+ghost use Rattle.mount_run.specs.Outcomes.{text_of, IsRunStatus, IsWritten, IsCutShort, IsStopped};
+
+use crate::audits::is_lawful;
+use crate::racks::{put_left, stopped};
+use fop_types::Seq;
+use graph_build::Plan;
+use hub_calls::Rack;
+use mount_log::Log;
+use report_text::print;
+use run_report::{has_report, report_of};
+use script_commands::{Accepted, write};
+use script_lang::Script;
+use std::alloc::{AllocError, Global};
+use world_bricks::World;
+use xl_base::Sink;
+use xlator_law::Stop;
+
+/// Runs a script by a seed's schedule and writes its report.
+pub fn run_read<K: Sink>(alloc: Global, read: Accepted, seed: u64, sink: &mut K, rack: &mut Rack) -> u8
+    requires sink { K.faults sink.old < 2 ^ 64 - 1 }
+    requires script { IsScript read.script read.plans }
+    ensures statuses { IsRunStatus result }
+    ensures ran { result ≡ 0 → IsWritten read.script read.plans (K.taken sink.old) (K.taken sink.new) rack.new }
+    ensures write_fault { result ≡ 4 → (K.faults sink.old < K.faults sink.new) × IsCutShort read.script read.plans (K.taken sink.old) (K.taken sink.new) rack.new }
+    ensures memory { result ≡ 5 → (sink.new ≡ sink.old) × (rack.new ≡ rack.old) }
+    ensures unlawful { result ≡ 6 → (sink.new ≡ sink.old) × (rack.new ≡ rack.old) }
+    ensures winds { result ≡ 7 → (sink.new ≡ sink.old) × IsStopped read.script rack.new }
+{
+    let Accepted { script, plans } = read;
+    match run_script(alloc, script, plans, seed, rack) {
+        Ok(Some(report)) => write(sink, report.as_slice(), 0),
+        Ok(None) => 6,
+        Err(Stop::Mem) => 5,
+        Err(Stop::Winds) => 7,
+    }
+}
+
+// Runs a script by a seed's schedule, leaves its bricks and its log in the rack, and gives the report's text; `None` where
+// what the run left fails an audit.
+fn run_script(
+    alloc: Global,
+    script: Script,
+    plans: Seq<Plan>,
+    seed: u64,
+    rack: &mut Rack,
+) -> Result<Option<Vec<u8>>, Stop>
+    requires { IsScript script plans }
+    ensures ran { IfOk result (λ o. IfSome o (λ report. IsLawfulRun script plans rack.new)) }
+    ensures report { IfOk result (λ o. IfSome o (λ report. report.items ≡ text_of script plans rack.new)) }
+    ensures unlawful { IfOk result (λ o. IfNone o (rack.new ≡ rack.old)) }
+    ensures winds { IsErrOf result Stop.Winds → IsStopped script rack.new }
+    ensures memory { IsErrOf result Stop.Mem → rack.new ≡ rack.old }
+{
+    let mut world = world_of(alloc, script, plans)?;
+    let ran = world.run(alloc, seed);
+    let (script, plans, left) = world.into_parts();
+    report_left(alloc, &script, plans.as_slice(), ran, left, rack)
+}
+
+/// The world at the start of a script. Nothing winds there.
+pub fn world_of(alloc: Global, script: Script, plans: Seq<Plan>) -> Result<World, AllocError>
+    requires { IsScript script plans }
+    ensures script { IfOk result (λ w. w.script ≡ script) }
+    ensures plans { IfOk result (λ w. w.plans ≡ plans) }
+{
+    match World::new(alloc, script, plans) {
+        Ok(world) => Ok(world),
+        Err(_) => Err(AllocError),
+    }
+}
+
+/// What a run left goes into the rack, and its report is given, where it passes the audits.
+pub fn report_left(
+    alloc: Global,
+    script: &Script,
+    plans: &[Plan],
+    ran: Result<(), Stop>,
+    left: Rack,
+    rack: &mut Rack,
+) -> Result<Option<Vec<u8>>, Stop>
+    requires { IsScript script.now plans.now }
+    ensures ran { IfOk result (λ o. IfSome o (λ report. IsLawfulRun script.now plans.now rack.new)) }
+    ensures report { IfOk result (λ o. IfSome o (λ report. report.items ≡ text_of script.now plans.now rack.new)) }
+    ensures unlawful { IfOk result (λ o. IfNone o (rack.new ≡ rack.old)) }
+    ensures winds { IsErrOf result Stop.Winds → IsStopped script.now rack.new }
+    ensures memory { IsErrOf result Stop.Mem → rack.new ≡ rack.old }
+{
+    match ran {
+        Ok(()) => {
+            let made = judged(alloc, script, plans, &left);
+            put_left(made, left, rack)
+        }
+        Err(stop) => stopped(alloc, script, left, stop, rack),
+    }
+}
+
+// The report of what a run left; `None` where it fails an audit.
+fn judged(
+    alloc: Global,
+    script: &Script,
+    plans: &[Plan],
+    left: &Rack,
+) -> Result<Option<Vec<u8>>, AllocError>
+    requires { IsScript script.now plans.now }
+    ensures ran { IfOk result (λ o. IfSome o (λ report. IsLawfulRun script.now plans.now left.now)) }
+    ensures report { IfOk result (λ o. IfSome o (λ report. report.items ≡ text_of script.now plans.now left.now)) }
+{
+    if !has_report(&left.log) || !is_lawful(alloc, script, plans, left)? {
+        return Ok(None);
+    }
+    let text = report(alloc, script, plans, &left.log)?;
+    Ok(Some(text))
+}
+
+fn report(alloc: Global, script: &Script, plans: &[Plan], log: &Log) -> Result<Vec<u8>, AllocError>
+    requires winds { AreFewWinds log.now.winds }
+    requires graphs { length (volfiles_in script.now log.now) ≤ 4294967294 }
+    ensures { IfOk result (λ text. text.items ≡ report_text (report_of_log script.now plans.now log.now)) }
+{
+    let report = report_of(alloc, script, plans, log)?;
+    print(alloc, &report)
+}

@@ -1,0 +1,4 @@
+pub mod Limits
+pub mod Planning
+pub mod ReportLines
+pub mod VerdictLemmas
