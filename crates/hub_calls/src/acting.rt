@@ -3,7 +3,7 @@
 use crate::parts::Parts;
 use crate::planned::Planned;
 use fop_types::{Fop, OpenFd, Proc, Seq};
-use graph_switch::reopen_list;
+use graph_switch::{Reopen, reopen_list};
 use hub_tables::fd_number;
 use mount_log::HubEvent;
 use script_lang::Action;
@@ -143,14 +143,21 @@ impl Parts {
 
     // The open descriptors, as a new graph opens them again.
     fn open_fds(&self, alloc: Global) -> Result<Seq<OpenFd>, AllocError> {
+        let list = reopen_list(alloc, &self.fds)?;
         let mut fds = Seq::new(alloc);
-        for open in &reopen_list(alloc, &self.fds)? {
-            fds.push(OpenFd {
-                fd: fd_number(open.session, open.fd),
-                gfid: open.gfid,
-                set: open.set,
-            })?;
-        }
-        Ok(fds)
+        let added = add_fds(&mut fds, list.as_slice());
+        drop(list);
+        added.and(Ok(fds))
     }
+}
+
+fn add_fds(fds: &mut Seq<OpenFd>, list: &[Reopen]) -> Result<(), AllocError> {
+    for open in list {
+        fds.push(OpenFd {
+            fd: fd_number(open.session, open.fd),
+            gfid: open.gfid,
+            set: open.set,
+        })?;
+    }
+    Ok(())
 }

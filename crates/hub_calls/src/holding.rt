@@ -1,17 +1,16 @@
 //! Moves of a call that is under way: it is parked, asks for its next fop's hold, begins the fop, or has its hold extended
 //! or released.
-ghost use Rattle.std.specs.Prelude.{◌≡◌, ◌≤◌, Some};
-ghost use Rattle.inode_table.specs.Inodes.{inode_at};
+ghost use Rattle.std.specs.Prelude.{◌≤◌};
 
+use crate::inodes::all_agree;
 use crate::parts::{Parts, Todo};
 use crate::planned::Planned;
 use call_fops::{Hold, next_fop, next_hold};
-use fop_types::{Gfid, Object};
+use fop_types::Gfid;
 use graph_nodes::HoldAsk;
 use hub_tables::{Stage, changes_bytes_next};
-use inode_table::{Inode, InodeTable};
 use mount_locks::Held;
-use std::alloc::{AllocError, Global};
+use std::alloc::Global;
 use xlator_law::Stop;
 
 // The gfids of a hold, each once.
@@ -34,24 +33,6 @@ fn gfids_of(hold: Hold) -> Gfids
             all: [first, second.gfid],
             count: if second.gfid == first { 1 } else { 2 },
         },
-    }
-}
-
-// Whether an object has the kind that the inode table has for its gfid.
-fn agrees(inodes: &InodeTable, object: Object) -> bool {
-    match inodes.get(object.gfid) {
-        Some(inode) => inode.kind == object.kind,
-        None => true,
-    }
-}
-
-fn all_agree(inodes: &InodeTable, hold: Hold) -> bool {
-    match hold.second {
-        None => agrees(inodes, hold.first),
-        Some(second) => {
-            let apart = second.gfid != hold.first.gfid || second.kind == hold.first.kind;
-            apart && agrees(inodes, hold.first) && agrees(inodes, second)
-        }
     }
 }
 
@@ -191,49 +172,6 @@ impl Parts {
         }
     }
 
-    // An inode is in use once more, where its entry, if it has one, is of this kind. So many references that their number
-    // has no next one would not fit into any memory.
-    pub(crate) fn link(&mut self, alloc: Global, object: Object) -> Result<(), AllocError> {
-        match self.graphs.nodes.inodes().get(object.gfid) {
-            Some(inode) => self.link_again(alloc, object, inode),
-            None => self
-                .graphs
-                .nodes
-                .link(alloc, object.gfid, object.kind, object.set),
-        }
-    }
-
-    fn link_again(&mut self, alloc: Global, object: Object, inode: Inode) -> Result<(), AllocError>
-        requires { inode_at self.old.graphs.nodes.inodes object.gfid ≡ Some inode }
-    {
-        if inode.kind != object.kind {
-            return Ok(());
-        }
-        if inode.held == u32::MAX {
-            return Err(AllocError);
-        }
-        self.graphs
-            .nodes
-            .link(alloc, object.gfid, object.kind, object.set)
-    }
-
-    // The inodes that a fop names, which are those of its hold, are in use.
-    fn link_all(&mut self, alloc: Global, hold: Hold) -> Result<(), AllocError> {
-        self.link(alloc, hold.first)?;
-        match hold.second {
-            Some(second) => self.link(alloc, second),
-            None => Ok(()),
-        }
-    }
-
-    /// The inodes that a fop named are not in use by it any more.
-    pub(crate) fn unlink_all(&mut self, hold: Hold) {
-        self.graphs.nodes.release(hold.first.gfid);
-        if let Some(second) = hold.second {
-            self.graphs.nodes.release(second.gfid);
-        }
-    }
-
     // A call that has waited for a hold has it.
     fn go_on(&mut self, alloc: Global, on: &Planned, call: u32) -> Result<(), Stop> {
         let Some(state) = self.calls.get(call) else {
@@ -264,7 +202,9 @@ impl Parts {
             return Ok(());
         }
         let granted = self.holds.release(alloc, call)?;
-        self.go_on_all(alloc, on, granted.as_slice())
+        let went = self.go_on_all(alloc, on, granted.as_slice());
+        drop(granted);
+        went
     }
 
     // Calls that have waited for a hold have it.

@@ -9,8 +9,8 @@ use crate::planned::Planned;
 use bytes::Bytes;
 use fop_types::{Proc, Seq};
 use graph_build::Plan;
-use hub_tables::{Due, SmallSet, Turned, may_be_armed};
-use mount_log::{Log, ReplyLine};
+use hub_tables::{Turned, may_be_armed};
+use mount_log::Log;
 use script_lang::{Action, Script};
 use std::alloc::Global;
 use std::collections::VecDeque;
@@ -24,8 +24,8 @@ use xlator_law::Stop;
 /// ends with the last whole event; after `Winds` it also has the winds of the event that was cut.
 #[derive(Drop)]
 pub struct Hub {
-    planned: Planned,
-    parts: Parts,
+    pub(crate) planned: Planned,
+    pub(crate) parts: Parts,
     stop: Option<Stop>,
 }
 
@@ -42,13 +42,8 @@ fn begun(alloc: Global, on: &Planned) -> Result<Parts, Stop>
     requires { IsAccepted on.now.script }
 {
     let mut parts = Parts::new(alloc, on)?;
-    match parts.begin_script(alloc, on) {
-        Ok(()) => Ok(parts),
-        Err(stop) => {
-            drop(parts);
-            Err(stop)
-        }
-    }
+    let began = parts.begin_script(alloc, on);
+    began.and(Ok(parts))
 }
 
 impl Hub {
@@ -63,12 +58,17 @@ impl Hub {
         ensures { IfOk result (λ h. h ≡ record { script = script; plans = plans; log = h.log; stop = None }) }
     {
         let planned = Planned::new(script, plans);
-        let parts = begun(alloc, &planned)?;
-        Ok(Hub {
-            planned,
-            parts,
-            stop: None,
-        })
+        match begun(alloc, &planned) {
+            Ok(parts) => Ok(Hub {
+                planned,
+                parts,
+                stop: None,
+            }),
+            Err(stop) => {
+                drop(planned);
+                Err(stop)
+            }
+        }
     }
 
     fn check(&self) -> Result<(), Stop>
@@ -78,6 +78,22 @@ impl Hub {
         match self.stop {
             Some(stop) => Err(stop),
             None => Ok(()),
+        }
+    }
+
+    // Closes an event of a hub that has not stopped. An event that was not done stops it.
+    fn close(&mut self, alloc: Global, done: Result<(), Stop>) -> Result<(), Stop>
+        requires { self.old.stop ≡ None }
+        ensures same { (self.new.script ≡ self.old.script) × (self.new.plans ≡ self.old.plans) }
+        ensures goes { OnOk result (self.new.stop ≡ None) }
+        ensures stops { IfErr result (λ s. self.new.stop ≡ Some s) }
+    {
+        match self.parts.close(alloc, &self.planned, done) {
+            Ok(()) => Ok(()),
+            Err(stop) => {
+                self.stop = Some(stop);
+                Err(stop)
+            }
         }
     }
 
@@ -99,13 +115,8 @@ impl Hub {
         }
         self.parts.open_event();
         let done = self.parts.submitted(alloc, &self.planned, session);
-        match self.parts.close(alloc, &self.planned, done) {
-            Ok(()) => Ok(true),
-            Err(stop) => {
-                self.stop = Some(stop);
-                Err(stop)
-            }
-        }
+        self.close(alloc, done)?;
+        Ok(true)
     }
 
     /// Takes the bytes of an output of a brick, which the script has.
@@ -118,16 +129,25 @@ impl Hub {
         ensures goes { OnOk result (self.new.stop ≡ None) }
         ensures stops { IfErr result (λ s. self.new.stop ≡ Some s) }
     {
-        self.check()?;
-        self.parts.open_event();
-        let done = self.parts.arrived(alloc, &self.planned, brick, output);
-        match self.parts.close(alloc, &self.planned, done) {
-            Ok(()) => Ok(()),
+        match self.check() {
+            Ok(()) => self.take_output(alloc, brick, output),
             Err(stop) => {
-                self.stop = Some(stop);
+                drop(output);
                 Err(stop)
             }
         }
+    }
+
+    // Takes an output where nothing has stopped.
+    fn take_output(&mut self, alloc: Global, brick: u8, output: Bytes) -> Result<(), Stop>
+        requires { self.old.stop ≡ None }
+        ensures same { (self.new.script ≡ self.old.script) × (self.new.plans ≡ self.old.plans) }
+        ensures goes { OnOk result (self.new.stop ≡ None) }
+        ensures stops { IfErr result (λ s. self.new.stop ≡ Some s) }
+    {
+        self.parts.open_event();
+        let done = self.parts.arrived(alloc, &self.planned, brick, output);
+        self.close(alloc, done)
     }
 
     /// Runs a ready task of a graph: the frame of the io-threads node with this number whose turn it is goes on. It is
@@ -148,13 +168,8 @@ impl Hub {
         }
         self.parts.open_event();
         let done = self.parts.run_task(alloc, graph, task);
-        match self.parts.close(alloc, &self.planned, done) {
-            Ok(()) => Ok(true),
-            Err(stop) => {
-                self.stop = Some(stop);
-                Err(stop)
-            }
-        }
+        self.close(alloc, done)?;
+        Ok(true)
     }
 
     /// Takes the first output that has arrived, else the first ready task. `Quiet` comes exactly where there is neither.
@@ -210,13 +225,8 @@ impl Hub {
         }
         self.parts.open_event();
         let done = self.parts.acted(alloc, &self.planned, action);
-        match self.parts.close(alloc, &self.planned, done) {
-            Ok(()) => Ok(true),
-            Err(stop) => {
-                self.stop = Some(stop);
-                Err(stop)
-            }
-        }
+        self.close(alloc, done)?;
+        Ok(true)
     }
 
     /// Arms an action for a request that is sent to a brick in this phase: it is carried out directly before. It is
@@ -245,95 +255,8 @@ impl Hub {
         }
         self.parts.open_event();
         let done = self.parts.armed(brick, before, count, action);
-        match self.parts.close(alloc, &self.planned, done) {
-            Ok(()) => Ok(true),
-            Err(stop) => {
-                self.stop = Some(stop);
-                Err(stop)
-            }
-        }
-    }
-
-    /// The sessions that may submit a call.
-    pub fn submits(&self) -> SmallSet {
-        self.parts.progress.ready()
-    }
-
-    /// The next control without a condition, where the one before it is finished.
-    pub fn plain(&self) -> Option<Action> {
-        if self.parts.may_go_on() {
-            self.parts.controls.plain()
-        } else {
-            None
-        }
-    }
-
-    /// What goes before everything else: the first control of the phase that is to be armed, or else the first one whose
-    /// request was sent.
-    pub fn first(&self) -> Option<Due> {
-        self.parts.controls.first()
-    }
-
-    /// How many tasks are ready.
-    pub fn ready_len(&self) -> u32 {
-        self.parts.graphs.ready_len()
-    }
-
-    /// The ready task of this place, from 0, by graph and then by task.
-    pub fn ready_at(&self, at: u32) -> Option<(u32, u32)> {
-        self.parts.graphs.ready_at(at)
-    }
-
-    /// The item of this number, from 0, among the sessions that may submit, the ready tasks, and then the next control
-    /// without a condition.
-    pub fn due(&self, k: u32) -> Option<Due> {
-        let submits = self.submits();
-        match submits.nth(k) {
-            Some(session) => Some(Due::Submit(session)),
-            None => self.task_due(k.saturating_sub(submits.len())),
-        }
-    }
-
-    fn task_due(&self, k: u32) -> Option<Due> {
-        match self.ready_at(k) {
-            Some((graph, task)) => Some(Due::Run(graph, task)),
-            None => {
-                if k == self.ready_len() {
-                    self.plain_due()
-                } else {
-                    None
-                }
-            }
-        }
-    }
-
-    fn plain_due(&self) -> Option<Due> {
-        match self.plain() {
-            Some(action) => Some(Due::Act(action)),
-            None => None,
-        }
-    }
-
-    /// The first control that is left, where the phase has nothing else left.
-    pub fn rest(&self) -> Option<Due> {
-        if !self.parts.has_nothing_else() {
-            return None;
-        }
-        match self.parts.controls.rest() {
-            Some(action) => Some(Due::Act(action)),
-            None => None,
-        }
-    }
-
-    /// Whether each call has its reply, each control was carried out, and nothing else is left.
-    pub fn is_finished(&self) -> bool {
-        self.parts.is_through(&self.planned)
-    }
-
-    /// The reply of a call, by its number from 1.
-    pub fn reply_of(&self, call: u32) -> Option<&ReplyLine> {
-        let at = self.parts.calls.reply_at(call)?;
-        self.parts.log.replies.as_slice().get(at)
+        self.close(alloc, done)?;
+        Ok(true)
     }
 
     /// The log of the events so far.
@@ -363,6 +286,6 @@ impl Hub {
     {
         let Hub { planned, parts, .. } = self;
         let (script, plans) = planned.into_parts();
-        (script, plans, parts.log)
+        (script, plans, parts.into_log())
     }
 }

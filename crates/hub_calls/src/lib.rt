@@ -33,9 +33,11 @@
 mod acting;
 mod arriving;
 mod connecting;
+mod due;
 mod graphs;
 mod holding;
 mod hub;
+mod inodes;
 mod parts;
 mod planned;
 mod racks;

@@ -1,4 +1,5 @@
 //! What a hub keeps.
+ghost use Rattle.std.specs.Prelude.{◌≡◌};
 ghost use Rattle.script_lang.specs.Accepted.{IsAccepted};
 
 use crate::graphs::Graphs;
@@ -77,5 +78,32 @@ impl Parts {
             bricks: Bricks::new(),
             todo: Queue::new(alloc),
         })
+    }
+
+    /// The log of the whole events.
+    pub(crate) fn into_log(self) -> Log
+        ensures { result ≡ self.log }
+    {
+        let Parts {
+            log,
+            turn,
+            progress,
+            controls,
+            calls,
+            holds,
+            fds,
+            graphs,
+            todo,
+            ..
+        } = self;
+        drop(turn);
+        drop(progress);
+        drop(controls);
+        drop(calls);
+        drop(holds);
+        drop(fds);
+        drop(graphs);
+        drop(todo);
+        log
     }
 }

@@ -6,6 +6,7 @@ use call_fops::{After, CallReply, FdMove, after_answer, has_place, move_fd};
 use fop_types::{Answer, AppError, FopAnswer, Gfid, Kind, Object};
 use hub_tables::{CallState, changes_bytes_next};
 use mount_log::ReplyLine;
+use script_lang::CallLine;
 use std::alloc::{AllocError, Global};
 use xlator_law::Stop;
 
@@ -82,11 +83,29 @@ impl Parts {
         answer: FopAnswer,
         place: u32,
     ) -> Result<(), Stop> {
+        match self.fop_placed(alloc, on, call, has_place(&answer), place) {
+            Ok(()) => self.after_fop(alloc, on, call, answer),
+            Err(stop) => {
+                drop(answer);
+                Err(stop)
+            }
+        }
+    }
+
+    // A fop ends, and its place is written down, where its answer has one.
+    fn fop_placed(
+        &mut self,
+        alloc: Global,
+        on: &Planned,
+        call: u32,
+        has_place: bool,
+        place: u32,
+    ) -> Result<(), Stop> {
         self.fop_ended(alloc, on, call)?;
-        if has_place(&answer) {
+        if has_place {
             self.calls.add_place(call, place)?;
         }
-        self.after_fop(alloc, on, call, answer)
+        Ok(())
     }
 
     // The pages, the inodes and the holds of a fop are let go.
@@ -100,14 +119,10 @@ impl Parts {
 
     // Where the fop of a call may have changed the bytes of a file, the pages of that go.
     fn pages_ended(&mut self, on: &Planned, call: u32, gfid: Gfid) {
-        let Some(state) = self.calls.get(call) else {
-            return;
-        };
-        let Some(line) = on.line(state.at) else {
-            return;
-        };
-        if changes_bytes_next(&line.call, &state.walk) {
-            self.graphs.drop_pages(gfid);
+        if let Some((line, state)) = self.under_way(on, call) {
+            if changes_bytes_next(&line.call, &state.walk) {
+                self.graphs.drop_pages(gfid);
+            }
         }
     }
 
@@ -118,16 +133,29 @@ impl Parts {
         call: u32,
         answer: FopAnswer,
     ) -> Result<(), Stop> {
-        let Some(state) = self.calls.get(call) else {
-            return Ok(());
-        };
-        let Some(line) = on.line(state.at) else {
-            return Ok(());
-        };
-        match after_answer(&line.call, &state.walk, answer) {
-            After::GoesOn(object) => self.go_on_from(alloc, on, call, object),
-            After::Replies(reply) => self.reply(alloc, on, call, reply),
+        match self.after(on, call, answer) {
+            Some(After::GoesOn(object)) => self.go_on_from(alloc, on, call, object),
+            Some(After::Replies(reply)) => self.reply(alloc, on, call, reply),
+            None => Ok(()),
         }
+    }
+
+    // What a call does at the answer of its fop.
+    fn after(&self, on: &Planned, call: u32, answer: FopAnswer) -> Option<After> {
+        match self.under_way(on, call) {
+            Some((line, state)) => Some(after_answer(&line.call, &state.walk, answer)),
+            None => {
+                drop(answer);
+                None
+            }
+        }
+    }
+
+    // A call without a reply, with its line.
+    fn under_way<'a>(&'a self, on: &'a Planned, call: u32) -> Option<(&'a CallLine, &'a CallState)> {
+        let state = self.calls.get(call)?;
+        let line = on.line(state.at)?;
+        Some((line, state))
     }
 
     // A lookup of a call has found this object: the call asks for its next fop's hold.
@@ -138,13 +166,10 @@ impl Parts {
         call: u32,
         object: Object,
     ) -> Result<(), Stop> {
-        let Some(state) = self.calls.get(call) else {
+        let Some((line, state)) = self.under_way(on, call) else {
             return Ok(());
         };
         let mut walk = state.walk;
-        let Some(line) = on.line(state.at) else {
-            return Ok(());
-        };
         walk.step(&line.call, object);
         self.calls.go_on(call, walk);
         self.ask(alloc, on, call)
@@ -189,18 +214,35 @@ impl Parts {
 
     // A call has its reply. It says whether it was the last of its graph.
     fn finish(&mut self, alloc: Global, call: u32, reply: CallReply) -> Result<bool, Stop> {
-        let Some(state) = self.calls.take(call) else {
-            return Ok(false);
-        };
+        match self.calls.take(call) {
+            Some(state) => self.finish_call(alloc, call, state, reply),
+            None => {
+                drop(reply);
+                Ok(false)
+            }
+        }
+    }
+
+    fn finish_call(
+        &mut self,
+        alloc: Global,
+        call: u32,
+        state: CallState,
+        reply: CallReply,
+    ) -> Result<bool, Stop> {
         let graph = state.graph;
-        let at = self
-            .log
-            .replies
-            .len()
-            .saturating_add(self.turn.replies.len());
+        let at = self.next_reply();
         self.replied_with(alloc, call, state, reply)?;
         let last = self.calls.replied(call, graph, at)?;
         Ok(last)
+    }
+
+    // Where the next reply will be in the log.
+    fn next_reply(&self) -> usize {
+        self.log
+            .replies
+            .len()
+            .saturating_add(self.turn.replies.len())
     }
 
     // The reply of a call that was taken out is written down, and its session may go on.
@@ -211,19 +253,27 @@ impl Parts {
         state: CallState,
         reply: CallReply,
     ) -> Result<(), AllocError> {
-        let CallReply { answer, fd } = reply;
         let session = state.session;
-        self.fd_moved(alloc, session, fd)?;
+        let moved = self.fd_moved(alloc, session, reply.fd);
+        let added = self.add_reply(call, state, reply);
+        self.progress.replied(session);
+        moved.and(added)
+    }
+
+    fn add_reply(
+        &mut self,
+        call: u32,
+        state: CallState,
+        reply: CallReply,
+    ) -> Result<(), AllocError> {
         self.turn.add_reply(ReplyLine {
             event: self.event,
             call,
-            session,
+            session: state.session,
             line: state.line,
             places: state.places,
-            answer,
-        })?;
-        self.progress.replied(session);
-        Ok(())
+            answer: reply.answer,
+        })
     }
 
     /// The internal call is answered.

@@ -28,9 +28,14 @@ impl Parts {
 
     fn note_copies(&mut self, copies: Seq<CopyRecord>) -> Result<(), AllocError> {
         for copy in copies.into_vec() {
-            self.turn.copies.push(copy)?;
-            self.turn.copied.push(self.event)?;
+            self.note_copy(copy)?;
         }
+        Ok(())
+    }
+
+    fn note_copy(&mut self, copy: CopyRecord) -> Result<(), AllocError> {
+        self.turn.copies.push(copy)?;
+        self.turn.copied.push(self.event)?;
         Ok(())
     }
 
@@ -52,24 +57,35 @@ impl Parts {
             skips,
             winds,
         } = moved;
-        self.note_winds(graph, winds.as_slice())?;
-        self.note_copies(copies)?;
-        self.note_skips(skips.as_slice())?;
-        self.todo.push(Todo::Take(Given {
+        let wound = self.note_winds(graph, winds.as_slice());
+        let copied = self.note_copies(copies);
+        let skipped = self.note_skips(skips.as_slice());
+        let given = self.note_given(Given {
             graph,
             sends,
             holds,
-        }))?;
-        self.note_answers(answers)
+        });
+        let answered = self.note_answers(answers);
+        drop(winds);
+        drop(skips);
+        wound.and(copied).and(skipped).and(given).and(answered)
+    }
+
+    fn note_given(&mut self, given: Given) -> Result<(), AllocError> {
+        self.todo.push(Todo::Take(given))
     }
 
     // The answers of fops are left to be taken in order, behind what the graph gave with them.
     fn note_answers(&mut self, answers: Seq<(u32, FopAnswer, u32)>) -> Result<(), AllocError> {
         for answered in answers.into_vec() {
-            let (call, answer, place) = answered;
-            self.todo.push(Todo::Answer(call, answer, place))?;
+            self.note_answer(answered)?;
         }
         Ok(())
+    }
+
+    fn note_answer(&mut self, answered: (u32, FopAnswer, u32)) -> Result<(), AllocError> {
+        let (call, answer, place) = answered;
+        self.todo.push(Todo::Answer(call, answer, place))
     }
 
     // A graph that needed a wind too many has left the lines of the winds before it.
@@ -86,7 +102,9 @@ impl Parts {
     fn note_last_winds(&mut self, alloc: Global, graph: u32) -> Result<(), AllocError> {
         if self.graphs.nodes.is_spent() {
             let lines = self.graphs.nodes.last_lines(alloc);
-            self.note_winds(graph, lines.as_slice())?;
+            let noted = self.note_winds(graph, lines.as_slice());
+            drop(lines);
+            return noted;
         }
         Ok(())
     }
@@ -125,11 +143,11 @@ impl Parts {
         fop: Fop,
     ) -> Result<(), Stop> {
         if !is_fop(&fop) {
+            drop(fop);
             return Ok(());
         }
         let moved = self.graphs.nodes.submit(alloc, graph, call, fop);
-        self.ran(alloc, graph, moved)?;
-        Ok(())
+        self.ran(alloc, graph, moved)
     }
 
     /// A task of a graph is run.
@@ -139,8 +157,7 @@ impl Parts {
     pub(crate) fn run_task(&mut self, alloc: Global, graph: u32, task: u32) -> Result<(), Stop> {
         self.turn.add_event(HubEvent::Run { graph, task })?;
         let moved = self.graphs.nodes.run_task(alloc, graph, task);
-        self.ran(alloc, graph, moved)?;
-        Ok(())
+        self.ran(alloc, graph, moved)
     }
 
     /// The hold of a call that waits in its graph was extended.
@@ -149,8 +166,7 @@ impl Parts {
     /// As for `Hub::submit`.
     pub(crate) fn extended(&mut self, alloc: Global, graph: u32, call: u32) -> Result<(), Stop> {
         let moved = self.graphs.nodes.held(alloc, graph, call);
-        self.ran(alloc, graph, moved)?;
-        Ok(())
+        self.ran(alloc, graph, moved)
     }
 
     /// A reply is taken by the graph of its wind. It says whether the wind was pending.

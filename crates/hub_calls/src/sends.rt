@@ -4,7 +4,7 @@ ghost use Rattle.wire_xdr.specs.WireText.{IsInput};
 use crate::parts::Parts;
 use bytes::Bytes;
 use fop_types::{Input, Proc, Seq};
-use hub_tables::may_be_armed;
+use hub_tables::{Nth, may_be_armed};
 use mount_log::SentLine;
 use mount_log::requests::rank_of;
 use script_lang::Action;
@@ -105,17 +105,50 @@ impl Parts {
 
     // A request goes out, behind what is armed for it; the controls that wait for it have come.
     fn send_request(&mut self, alloc: Global, brick: u8, bytes: Bytes) -> Result<(), AllocError> {
-        let Some(proc) = rank_of(bytes.as_slice()) else {
-            return Ok(());
-        };
+        match rank_of(bytes.as_slice()) {
+            Some(proc) => self.send_proc(alloc, brick, proc, bytes),
+            None => {
+                drop(bytes);
+                Ok(())
+            }
+        }
+    }
+
+    fn send_proc(
+        &mut self,
+        alloc: Global,
+        brick: u8,
+        proc: u8,
+        bytes: Bytes,
+    ) -> Result<(), AllocError> {
+        match self.go_before(alloc, brick, proc) {
+            Ok(request) => self.send_nth(brick, bytes, request),
+            Err(error) => {
+                drop(bytes);
+                Err(error)
+            }
+        }
+    }
+
+    // What is armed for the next request of a procedure goes out, and an output is owed for that request.
+    fn go_before(&mut self, alloc: Global, brick: u8, proc: u8) -> Result<Nth, AllocError> {
         let request = self.controls.count(brick, proc)?;
+        self.send_armed(alloc, request)?;
+        self.bricks.owe()?;
+        Ok(request)
+    }
+
+    fn send_armed(&mut self, alloc: Global, request: Nth) -> Result<(), AllocError> {
         for _ in 0..self.controls.armed_len() {
             let Some(action) = self.controls.take_armed(request) else {
-                break;
+                return Ok(());
             };
             self.carry_out_armed(alloc, action)?;
         }
-        self.bricks.owe()?;
+        Ok(())
+    }
+
+    fn send_nth(&mut self, brick: u8, bytes: Bytes, request: Nth) -> Result<(), AllocError> {
         self.send(brick, bytes)?;
         self.controls.sent(request)
     }
@@ -131,9 +164,18 @@ impl Parts {
     ) -> Result<(), AllocError> {
         for next in sends.into_vec() {
             let (brick, message) = next;
-            let bytes = Bytes::from_vec(message.into_vec())?;
-            self.send_request(alloc, brick, bytes)?;
+            self.send_message(alloc, brick, message)?;
         }
         Ok(())
+    }
+
+    fn send_message(
+        &mut self,
+        alloc: Global,
+        brick: u8,
+        message: Seq<u8>,
+    ) -> Result<(), AllocError> {
+        let bytes = Bytes::from_vec(message.into_vec())?;
+        self.send_request(alloc, brick, bytes)
     }
 }

@@ -9,6 +9,7 @@ use hub_tables::{CallState, Controls, Stage, makes};
 use mount_log::{HubEvent, LineAt};
 use script_lang::CallLine;
 use std::alloc::{AllocError, Global};
+use std::mem;
 use xlator_law::Stop;
 
 const NOTHING_DRAWN: Gfid = Gfid { hi: 0, lo: 0 };
@@ -61,9 +62,8 @@ impl Parts {
         let Some(line) = on.line(at) else {
             return Ok(());
         };
-        let once = at_once(&line.call, session, &self.fds);
         let call = self.opened_call(alloc, line, session, at)?;
-        match once {
+        match at_once(&line.call, session, &self.fds) {
             Some(reply) => self.reply(alloc, on, call, reply),
             None => self.start(alloc, on, call, self.graphs.newest),
         }
@@ -126,8 +126,17 @@ impl Parts {
 
     // Takes what a graph has given: what it sends, then the holds that it asks for.
     fn take(&mut self, alloc: Global, on: &Planned, given: Given) -> Result<(), Stop> {
-        self.send_all(alloc, given.sends)?;
-        self.take_holds(alloc, on, given.graph, given.holds)
+        let Given {
+            graph,
+            sends,
+            holds,
+        } = given;
+        let taken = match self.send_all(alloc, sends) {
+            Ok(()) => self.take_holds(alloc, on, graph, holds.as_slice()),
+            Err(_) => Err(Stop::Mem),
+        };
+        drop(holds);
+        taken
     }
 
     fn take_holds(
@@ -135,9 +144,9 @@ impl Parts {
         alloc: Global,
         on: &Planned,
         graph: u32,
-        holds: Seq<(u32, HoldAsk)>,
+        holds: &[(u32, HoldAsk)],
     ) -> Result<(), Stop> {
-        for asked in holds.as_slice() {
+        for asked in holds {
             let (call, ask) = *asked;
             self.hold_asked(alloc, on, graph, call, ask)?;
         }
@@ -153,6 +162,7 @@ impl Parts {
         place: u32,
     ) -> Result<(), Stop> {
         if call == 0 {
+            drop(answer);
             self.internal_answered()?;
             return Ok(());
         }
@@ -235,11 +245,16 @@ impl Parts {
         match on.phase(self.progress.phase()) {
             Some(phase) => {
                 self.progress.begin(phase);
-                self.controls = Controls::of(alloc, phase)?;
+                let controls = Controls::of(alloc, phase)?;
+                self.set_controls(controls);
             }
-            None => self.controls = Controls::new(alloc),
+            None => self.set_controls(Controls::new(alloc)),
         }
         Ok(())
+    }
+
+    fn set_controls(&mut self, controls: Controls) {
+        drop(mem::replace(&mut self.controls, controls));
     }
 
     /// Ends the phases that have nothing left.

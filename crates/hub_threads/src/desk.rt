@@ -1,6 +1,6 @@
 use brick_link::HubEnd;
 use bytes::Bytes;
-use hub_calls::{Due, Hub, Turned};
+use hub_calls::{Due, Hub, SentLine, Turned};
 use script_lang::Action;
 use std::alloc::{AllocError, Global};
 use std::collections::VecDeque;
@@ -23,20 +23,26 @@ const MOST_MOVED: u32 = 64;
 /// More bricks than a script has.
 pub(crate) const MOST_BRICKS: usize = 64;
 
+// Puts what was sent to a brick into the end of its link.
+fn queue_line(alloc: Global, ends: &mut Vec<HubEnd>, line: &SentLine) -> Result<(), AllocError> {
+    match ends.get_mut(line.brick as usize) {
+        Some(end) => {
+            let bytes = line.bytes.clone()?;
+            end.queue(alloc, bytes)
+        }
+        None => Ok(()),
+    }
+}
+
 impl Desk {
     /// A hub that has just been made, with the ends of its bricks' links.
     ///
     /// # Errors
     /// Out of memory.
-    pub fn new(alloc: Global, hub: Hub, ends: Vec<HubEnd>) -> Result<Desk, AllocError> {
+    pub fn new(alloc: Global, hub: Hub, ends: Vec<HubEnd>) -> Result<Desk, Stop> {
         let mut desk = Desk::of(alloc, hub, ends);
-        match desk.send_first(alloc) {
-            Ok(()) => Ok(desk),
-            Err(error) => {
-                drop(desk);
-                Err(error)
-            }
-        }
+        let sent = desk.send_first(alloc);
+        sent.and(Ok(desk))
     }
 
     fn of(alloc: Global, hub: Hub, ends: Vec<HubEnd>) -> Desk {
@@ -50,7 +56,7 @@ impl Desk {
     }
 
     // Sends what the hub has sent at the start.
-    fn send_first(&mut self, alloc: Global) -> Result<(), AllocError> {
+    fn send_first(&mut self, alloc: Global) -> Result<(), Stop> {
         self.queue_sent(alloc)?;
         self.send();
         Ok(())
@@ -60,11 +66,7 @@ impl Desk {
     fn queue_sent(&mut self, alloc: Global) -> Result<(), AllocError> {
         let sent = self.hub.log().sent.as_slice();
         for at in self.queued..sent.len() {
-            let line = &sent[at];
-            let bytes = line.bytes.clone()?;
-            if let Some(end) = self.ends.get_mut(line.brick as usize) {
-                end.queue(alloc, bytes)?;
-            }
+            queue_line(alloc, &mut self.ends, &sent[at])?;
         }
         self.queued = sent.len();
         Ok(())
@@ -159,6 +161,15 @@ impl Desk {
 
     /// The hub, and why it stopped if it did.
     pub fn into_hub(self) -> (Hub, Option<Stop>) {
-        (self.hub, self.stop)
+        let Desk {
+            hub,
+            ends,
+            inbox,
+            stop,
+            ..
+        } = self;
+        drop(ends);
+        drop(inbox);
+        (hub, stop)
     }
 }

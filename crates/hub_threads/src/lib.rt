@@ -17,6 +17,7 @@
 mod desk;
 mod gate;
 mod mounted;
+mod places;
 mod side;
 
 pub use gate::{Gate, OpenGate};

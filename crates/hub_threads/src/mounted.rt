@@ -1,85 +1,22 @@
 ghost use Rattle.graph_build.specs.Scripts.{IsScript};
 
-use crate::desk::{Desk, MOST_BRICKS};
+use crate::desk::Desk;
 use crate::gate::Gate;
+use crate::places::{Places, Post, bricks_of, places_of};
 use crate::side::BrickSide;
-use brick_link::{HubEnd, pair};
+use brick_link::HubEnd;
 use brick_machine::Brick;
 use fop_types::Seq;
 use graph_build::Plan;
-use hub_calls::{Hub, Rack, named_brick};
+use hub_calls::{Hub, Rack};
 use script_lang::Script;
-use std::alloc::{AllocError, Global};
+use std::alloc::Global;
+use std::mem;
 use std::sync::atomic::{AtomicBool, Ordering};
 use std::sync::{Mutex, Wait};
 use std::thread;
 use std::thread::{Threads, yield_now};
 use xlator_law::Stop;
-
-// The messages for which a ring has room.
-const ROOM: usize = 64;
-
-// What a thread does: it takes the hub's turns, or it owns a brick.
-#[derive(Drop)]
-enum Post {
-    Worker,
-    Owner(BrickSide),
-}
-
-// The hub's ends of the links, and what the threads do.
-#[derive(Drop)]
-struct Places {
-    ends: Vec<HubEnd>,
-    posts: Vec<Post>,
-}
-
-impl Places {
-    // A brick has an owner, and a link to it.
-    fn add_owner(&mut self, alloc: Global, number: u8, brick: Brick) -> Result<(), AllocError> {
-        let (hub_end, brick_end) = pair(alloc, ROOM)?;
-        let side = BrickSide::new(number, brick, brick_end);
-        self.ends.push(hub_end)?;
-        self.posts.push(Post::Owner(side))?;
-        Ok(())
-    }
-
-    fn add_owners(
-        &mut self,
-        alloc: Global,
-        script: &Script,
-        plans: &[Plan],
-    ) -> Result<(), AllocError> {
-        let many = script.bricks.len().min(MOST_BRICKS) as u8;
-        for number in 0..many {
-            let brick = named_brick(alloc, script, plans, number)?;
-            self.add_owner(alloc, number, brick)?;
-        }
-        Ok(())
-    }
-
-    fn add_workers(&mut self, workers: u8) -> Result<(), AllocError> {
-        for _ in 0..workers {
-            self.posts.push(Post::Worker)?;
-        }
-        Ok(())
-    }
-}
-
-// The places of a script's bricks and of so many workers.
-fn places_of(
-    alloc: Global,
-    script: &Script,
-    plans: &[Plan],
-    workers: u8,
-) -> Result<Places, AllocError> {
-    let mut places = Places {
-        ends: Vec::new(alloc),
-        posts: Vec::new(alloc),
-    };
-    places.add_owners(alloc, script, plans)?;
-    places.add_workers(workers)?;
-    Ok(places)
-}
 
 // Takes the hub's turns until the log is finished, or somebody stopped.
 fn work<R: Wait>(rt: &R, alloc: Global, desk: &Mutex<Desk>, ended: &AtomicBool) {
@@ -159,23 +96,17 @@ pub struct Ran {
     pub plans: Seq<Plan>,
 }
 
-fn bricks_of(alloc: Global, posts: Vec<Post>) -> Result<Seq<Brick>, AllocError> {
-    let mut bricks = Vec::with_capacity(alloc, posts.len())?;
-    for post in posts {
-        if let Post::Owner(side) = post {
-            bricks.push(side.into_brick())?;
-        }
-    }
-    Ok(Seq::from_vec(bricks))
-}
-
 // The hub of a script, with its ends of the links.
 fn desk_of(alloc: Global, script: Script, plans: Seq<Plan>, ends: Vec<HubEnd>) -> Result<Desk, Stop>
     requires { IsScript script plans }
 {
-    let hub = Hub::new(alloc, script, plans)?;
-    let desk = Desk::new(alloc, hub, ends)?;
-    Ok(desk)
+    match Hub::new(alloc, script, plans) {
+        Ok(hub) => Desk::new(alloc, hub, ends),
+        Err(stop) => {
+            drop(ends);
+            Err(stop)
+        }
+    }
 }
 
 // A thread does what its post is.
@@ -229,12 +160,58 @@ fn leave(
     whole: bool,
     rack: &mut Rack,
 ) -> Result<Ran, Stop> {
+    match bricks_of(alloc, posts) {
+        Ok(bricks) => leave_all(desk, bricks, whole, rack),
+        Err(_) => {
+            drop(desk);
+            Err(Stop::Mem)
+        }
+    }
+}
+
+fn leave_all(desk: Desk, bricks: Seq<Brick>, whole: bool, rack: &mut Rack) -> Result<Ran, Stop> {
     let (hub, stop) = desk.into_hub();
-    let bricks = bricks_of(alloc, posts)?;
     let (script, plans, log) = hub.into_log();
-    *rack = Rack { bricks, log };
-    came_to_end(stop, whole)?;
-    Ok(Ran { script, plans })
+    drop(mem::replace(rack, Rack { bricks, log }));
+    let ended = came_to_end(stop, whole);
+    ended.and(Ok(Ran { script, plans }))
+}
+
+// Runs until nothing is left, first in threads.
+fn run_desk<R: Threads + Wait + Sync, G: Gate + Sync>(
+    rt: &R,
+    alloc: Global,
+    desk: Desk,
+    posts: Vec<Post>,
+    gate: &G,
+    rack: &mut Rack,
+) -> Result<Ran, Stop> {
+    let mut posts = posts;
+    let mut desk = run_threads(rt, alloc, desk, posts.as_mut_slice(), gate);
+    let whole = go_on_alone(rt, alloc, &mut desk, posts.as_mut_slice(), gate);
+    leave(alloc, desk, posts, whole, rack)
+}
+
+// Runs a script at these places.
+fn run_places<R: Threads + Wait + Sync, G: Gate + Sync>(
+    rt: &R,
+    alloc: Global,
+    script: Script,
+    plans: Seq<Plan>,
+    places: Places,
+    gate: &G,
+    rack: &mut Rack,
+) -> Result<Ran, Stop>
+    requires { IsScript script plans }
+{
+    let Places { ends, posts } = places;
+    match desk_of(alloc, script, plans, ends) {
+        Ok(desk) => run_desk(rt, alloc, desk, posts, gate, rack),
+        Err(stop) => {
+            drop(posts);
+            Err(stop)
+        }
+    }
 }
 
 /// Runs a script, which is one that `script_lang::parse` gives, with the plans of its volfiles, by one thread for each
@@ -254,10 +231,12 @@ pub fn mount<R: Threads + Wait + Sync, G: Gate + Sync>(
 ) -> Result<Ran, Stop>
     requires { IsScript script plans }
 {
-    let Places { ends, posts } = places_of(alloc, &script, plans.as_slice(), workers)?;
-    let mut posts = posts;
-    let desk = desk_of(alloc, script, plans, ends)?;
-    let mut desk = run_threads(rt, alloc, desk, posts.as_mut_slice(), gate);
-    let whole = go_on_alone(rt, alloc, &mut desk, posts.as_mut_slice(), gate);
-    leave(alloc, desk, posts, whole, rack)
+    match places_of(alloc, &script, plans.as_slice(), workers) {
+        Ok(places) => run_places(rt, alloc, script, plans, places, gate, rack),
+        Err(_) => {
+            drop(script);
+            drop(plans);
+            Err(Stop::Mem)
+        }
+    }
 }

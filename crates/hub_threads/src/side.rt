@@ -72,6 +72,8 @@ impl BrickSide {
     }
 
     pub fn into_brick(self) -> Brick {
-        self.brick
+        let BrickSide { brick, end, .. } = self;
+        drop(end);
+        brick
     }
 }

@@ -32,30 +32,45 @@ impl Lines {
     /// # Errors
     /// Out of memory.
     pub(crate) fn new(alloc: Global, script: &Script, plans: &[Plan]) -> Result<Lines, AllocError> {
-        let mut bricks = Vec::new(alloc);
-        let mut queues = Vec::new(alloc);
-        let many = script.bricks.len().min(64) as u8;
-        for brick in 0..many {
-            bricks.push(named_brick(alloc, script, plans, brick)?)?;
-            queues.push(Line {
-                inputs: VecDeque::new(alloc),
-                arrived: 0,
-            })?;
-        }
-        Ok(Lines {
-            bricks,
-            queues,
+        let mut lines = Lines {
+            bricks: Vec::new(alloc),
+            queues: Vec::new(alloc),
             delivered: 0,
             serving: SmallSet::new(),
             arriving: SmallSet::new(),
-        })
+        };
+        let added = lines.add_all(alloc, script, plans);
+        added.and(Ok(lines))
+    }
+
+    fn add_all(
+        &mut self,
+        alloc: Global,
+        script: &Script,
+        plans: &[Plan],
+    ) -> Result<(), AllocError> {
+        let many = script.bricks.len().min(64) as u8;
+        for number in 0..many {
+            let brick = named_brick(alloc, script, plans, number)?;
+            self.add(alloc, brick)?;
+        }
+        Ok(())
+    }
+
+    // A brick with empty lines is put to the others.
+    fn add(&mut self, alloc: Global, brick: Brick) -> Result<(), AllocError> {
+        self.bricks.push(brick)?;
+        self.queues.push(Line {
+            inputs: VecDeque::new(alloc),
+            arrived: 0,
+        })?;
+        Ok(())
     }
 
     // An input was sent to a brick.
     fn put(&mut self, line: &SentLine) -> Result<(), AllocError> {
-        let bytes = line.bytes.clone()?;
         if let Some(queue) = self.queues.get_mut(line.brick as usize) {
-            queue.inputs.push_back(bytes)?;
+            queue.inputs.push_back(line.bytes.clone()?)?;
             self.serving = self.serving.with(line.brick);
         }
         Ok(())
@@ -152,15 +167,25 @@ impl Lines {
         let Some(input) = self.pop(brick) else {
             return Ok(false);
         };
-        if let Some(at) = self.bricks.get_mut(brick as usize) {
-            at.serve(alloc, input)?;
-        }
+        self.serve_input(alloc, brick, input)?;
         self.note(brick);
         Ok(true)
     }
 
+    fn serve_input(&mut self, alloc: Global, brick: u8, input: Bytes) -> Result<(), AllocError> {
+        match self.bricks.get_mut(brick as usize) {
+            Some(at) => at.serve(alloc, input),
+            None => {
+                drop(input);
+                Ok(())
+            }
+        }
+    }
+
     /// The bricks, with nothing copied.
     pub(crate) fn into_bricks(self) -> Seq<Brick> {
-        Seq::from_vec(self.bricks)
+        let Lines { bricks, queues, .. } = self;
+        drop(queues);
+        Seq::from_vec(bricks)
     }
 }

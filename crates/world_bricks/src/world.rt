@@ -45,8 +45,14 @@ impl World {
         requires { IsScript script plans }
         ensures { IfOk result (λ w. w ≡ record { script = script; plans = plans; stop = None }) }
     {
-        let lines = Lines::new(alloc, &script, plans.as_slice())?;
-        World::of_lines(alloc, script, plans, lines)
+        match Lines::new(alloc, &script, plans.as_slice()) {
+            Ok(lines) => World::of_lines(alloc, script, plans, lines),
+            Err(_) => {
+                drop(script);
+                drop(plans);
+                Err(Stop::Mem)
+            }
+        }
     }
 
     fn of_lines(
@@ -58,8 +64,13 @@ impl World {
         requires { IsScript script plans }
         ensures { IfOk result (λ w. w ≡ record { script = script; plans = plans; stop = None }) }
     {
-        let hub = Hub::new(alloc, script, plans)?;
-        World::of_hub(hub, lines)
+        match Hub::new(alloc, script, plans) {
+            Ok(hub) => World::of_hub(hub, lines),
+            Err(stop) => {
+                drop(lines);
+                Err(stop)
+            }
+        }
     }
 
     fn of_hub(hub: Hub, lines: Lines) -> Result<World, Stop>
@@ -70,8 +81,8 @@ impl World {
             lines,
             stop: None,
         };
-        world.deliver()?;
-        Ok(world)
+        let delivered = world.deliver();
+        delivered.and(Ok(world))
     }
 
     // Puts what the hub has sent into the bricks' lines.
@@ -82,12 +93,20 @@ impl World {
         Ok(())
     }
 
+    // Puts what the hub has sent into the bricks' lines, where it did not stop.
+    fn delivered(&mut self, did: Result<bool, Stop>) -> Result<bool, Stop>
+        ensures { self.new ≡ self.old }
+    {
+        let did = did?;
+        self.deliver()?;
+        Ok(did)
+    }
+
     fn submit(&mut self, alloc: Global, session: u8) -> Result<bool, Stop>
         ensures { (self.new.script ≡ self.old.script) × (self.new.plans ≡ self.old.plans) }
     {
-        let did = self.hub.submit(alloc, session)?;
-        self.deliver()?;
-        Ok(did)
+        let did = self.hub.submit(alloc, session);
+        self.delivered(did)
     }
 
     // The next output of a brick arrives.
@@ -113,17 +132,15 @@ impl World {
     fn run_task(&mut self, alloc: Global, graph: u32, task: u32) -> Result<bool, Stop>
         ensures { (self.new.script ≡ self.old.script) × (self.new.plans ≡ self.old.plans) }
     {
-        let did = self.hub.run(alloc, graph, task)?;
-        self.deliver()?;
-        Ok(did)
+        let did = self.hub.run(alloc, graph, task);
+        self.delivered(did)
     }
 
     fn act(&mut self, alloc: Global, action: Action) -> Result<bool, Stop>
         ensures { (self.new.script ≡ self.old.script) × (self.new.plans ≡ self.old.plans) }
     {
-        let did = self.hub.act(alloc, action)?;
-        self.deliver()?;
-        Ok(did)
+        let did = self.hub.act(alloc, action);
+        self.delivered(did)
     }
 
     fn arm(
@@ -136,9 +153,8 @@ impl World {
     ) -> Result<bool, Stop>
         ensures { (self.new.script ≡ self.old.script) × (self.new.plans ≡ self.old.plans) }
     {
-        let did = self.hub.arm(alloc, brick, proc, count, action)?;
-        self.deliver()?;
-        Ok(did)
+        let did = self.hub.arm(alloc, brick, proc, count, action);
+        self.delivered(did)
     }
 
     fn happen(&mut self, alloc: Global, happening: Event) -> Result<bool, Stop>
