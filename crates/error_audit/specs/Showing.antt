@@ -10,15 +10,23 @@ use Rattle.fop_types.specs.declared.messages.Input.{Input}
 use Rattle.fop_types.specs.declared.messages.Input.TheVariants as input
 use Rattle.fop_types.specs.declared.messages.OutKind.{OutKind}
 use Rattle.fop_types.specs.declared.messages.OutKind.TheVariants as out
+use Rattle.fop_types.specs.declared.messages.Output.{Output}
 use Rattle.wire_messages.specs.declared.messages.Message.{Message}
 use Rattle.wire_messages.specs.declared.messages.Message.TheVariants.{Whole, Wrong}
 use Rattle.mount_log.specs.Causes.{IsWindOf, IsSoundAt}
 use Rattle.mount_log.specs.declared.logs.Log.{Log}
+use Rattle.error_audit.specs.Evidence.{IsArrived}
 
 -- an output is a brick's rows for the call's request under this wind
 pub record AreRowsOf (log : Log) (call wind : ℕ) (rows : List Row) (kind : OutKind) : Type 0 where
   pub is : kind ≡ out.Reply wind (rep.Done (done.Rows rows))
   pub of_call : IsWindOf log call wind
+
+-- by the event of this number the brick answered the call's request under this wind by these rows
+pub record HaveRows (log : Log) (call until brick wind : ℕ) (rows : List Row) : Type 0 where
+  pub output : Output
+  pub came : IsArrived log until brick output
+  pub rows_are : AreRowsOf log call wind rows output.kind
 
 -- a list has one item more at its end
 pub record IsOneMore {X : Type 0} (P : X → Type 0) (old new : List X) : Type 0 where

@@ -136,10 +136,12 @@ fn is_fault_of(log: &Log, kind: &OutKind, call: u32, place: usize) -> bool
     }
 }
 
-fn is_at(output: &Output, place: u64) -> bool
-    ensures { result ≡ true → output.now.taken ≡ place }
+// Whether an output is a fault at this place of the brick's journal, which answers a request of the call.
+fn is_fault_at(log: &Log, output: &Output, place: u64, call: u32, wind: usize) -> bool
+    ensures taken { result ≡ true → output.now.taken ≡ place }
+    ensures fault { result ≡ true → IsFaultOf log.now call output.now.kind }
 {
-    output.taken == place
+    output.taken == place && is_fault_of(log, &output.kind, call, wind)
 }
 
 /// Whether a brick of a set answered a request of a call by a fault, at this place of its journal.
@@ -163,8 +165,7 @@ pub fn is_faulted(
     let Some(output) = found else {
         return Ok(false);
     };
-    if !is_at(&output, pair.1) {
-        return Ok(false);
-    }
-    Ok(is_fault_of(log, &output.kind, reply.call, at.wind))
+    let yes = is_fault_at(log, &output, pair.1, reply.call, at.wind);
+    drop(output);
+    Ok(yes)
 }

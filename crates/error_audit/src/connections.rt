@@ -43,7 +43,9 @@ fn push_line(alloc: Global, openings: &mut Vec<Opening>, line: &SentLine) -> Res
 {
     match input_of(alloc, line.bytes.as_slice())? {
         Message::Whole(sent) => {
-            push_input(openings, line, &sent)?;
+            let done = push_input(openings, line, &sent);
+            drop(sent);
+            done?;
             Ok(())
         }
         Message::Wrong { place: _ } => Ok(()),

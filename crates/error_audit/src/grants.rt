@@ -7,7 +7,7 @@ ghost use Rattle.mount_log.specs.Causes.{IsGranted, IsOut, HasShown};
 ghost use Rattle.mount_log.specs.Connections.{graph_of_call};
 ghost use Rattle.mount_log.specs.Submissions.{submitted_at};
 ghost use Rattle.error_audit.specs.Evidence.{HaveNumbers};
-ghost use Rattle.error_audit.specs.Showing.{AreRowsOf, IsOneMore};
+ghost use Rattle.error_audit.specs.Showing.{AreRowsOf, HaveRows, IsOneMore};
 
 use crate::brick_replies::{ReplyAt, arrived, is_faulted, is_wind_of};
 use crate::connections::{count_openings, openings_at};
@@ -34,7 +34,10 @@ fn rows_in(arm: DoneArm) -> Option<Seq<Row>>
 {
     match arm {
         DoneArm::Rows(rows) => Some(rows),
-        _ => None,
+        other => {
+            drop(other);
+            None
+        }
     }
 }
 
@@ -43,7 +46,10 @@ fn rows_of(answer: BrickRep) -> Option<Seq<Row>>
 {
     match answer {
         BrickRep::Done(arm) => rows_in(arm),
-        _ => None,
+        other => {
+            drop(other);
+            None
+        }
     }
 }
 
@@ -54,6 +60,7 @@ fn rows_under(log: &Log, kind: OutKind, call: u32, place: usize, wind: u64) -> O
     match kind {
         OutKind::Reply { wind: number, rep } => {
             if number != wind || !is_wind_of(log, place, call, wind) {
+                drop(rep);
                 return None;
             }
             rows_of(rep)
@@ -62,25 +69,22 @@ fn rows_under(log: &Log, kind: OutKind, call: u32, place: usize, wind: u64) -> O
     }
 }
 
-fn is_cell(cell: &Cell, other: &Cell) -> bool
-    ensures { result ≡ true → cell.now ≡ other.now }
+// The rows by which a brick answered the call's request under this wind.
+fn rows_arrived(
+    alloc: Global,
+    log: &Log,
+    reply: &ReplyLine,
+    brick: u8,
+    at: ReplyAt,
+    wind: u64,
+) -> Result<Option<Seq<Row>>, AllocError>
+    ensures { IfOk result (λ found. IfSome found (λ rows. HaveRows log.now reply.now.call reply.now.event brick wind rows)) }
 {
-    *cell == *other
-}
-
-/// Whether two lists of cells are the same.
-pub fn are_cells(cells: &[Cell], others: &[Cell]) -> bool
-    ensures { result ≡ true → cells.now ≡ others.now }
-{
-    if cells.len() != others.len() {
-        return false;
+    let came = arrived(alloc, log, at.event, brick, reply.event)?;
+    match came {
+        Some(output) => Ok(rows_under(log, output.kind, reply.call, at.wind, wind)),
+        None => Ok(None),
     }
-    for k in 0..cells.len() {
-        if !is_cell(&cells[k], &others[k]) {
-            return false;
-        }
-    }
-    true
 }
 
 // The rows by which a brick answered the call's lock of these cells, which is at a place among what was sent.
@@ -98,18 +102,12 @@ fn granted(
     if lock < phase.from {
         return Ok(None);
     }
-    let asked = lock_at(alloc, log, lock, reply.call, brick)?;
-    let Some(asked) = asked else {
+    let asked = lock_at(alloc, log, lock, reply.call, brick, phase.cells.as_slice())?;
+    let Some(wind) = asked else {
         return Ok(None);
     };
-    if !are_cells(asked.cells.as_slice(), phase.cells.as_slice()) {
-        return Ok(None);
-    }
-    let came = arrived(alloc, log, at.event, brick, reply.event)?;
-    let Some(output) = came else {
-        return Ok(None);
-    };
-    Ok(rows_under(log, output.kind, reply.call, at.wind, asked.wind))
+    let rows = rows_arrived(alloc, log, reply, brick, at, wind)?;
+    Ok(rows)
 }
 
 fn find_granted(

@@ -9,9 +9,10 @@ ghost use Rattle.error_audit.specs.IoCauses.{AreTables, IsPlain};
 ghost use Rattle.error_audit.specs.LockTable.{HaveLocks};
 
 use crate::brick_replies::is_faulted;
+use crate::clue_notes::clues_of;
 use crate::connections::{Opening, by_brick, openings_at, openings_of};
 use crate::enough::{are_enough, push_failed, push_lost};
-use crate::evidence::{Clues, Found, clues_of, find_loss};
+use crate::evidence::{Clues, Found, find_loss};
 use crate::locks::{LockAt, locks_of};
 use crate::losses::{Span, is_lost};
 use crate::splits::is_split;

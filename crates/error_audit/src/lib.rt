@@ -8,12 +8,15 @@
 //!   split    in the call's last lock phase a quorum of bricks showed rows by which there is no source
 //! ```
 //!
-//! Evidence is searched for without a contract (`evidence`, `split_clues`). What was found is then checked where it is, and
-//! the audit's `true` rests on that alone. It goes through the log a fixed number of times. As each audit of `log_audit`, it
-//! knows nothing of how the log came about: true says that its definition holds of the log; false alone says nothing.
+//! Evidence is searched for without a contract (`clue_notes`, `evidence`, `split_clues`). What was found is then checked where
+//! it is, and the audit's `true` rests on that alone. It goes through the log a fixed number of times. As each audit of
+//! `log_audit`, it knows nothing of how the log came about: true says that its definition holds of the log; false alone says
+//! nothing.
 #![tactic(auto)]
 
 mod brick_replies;
+mod cells;
+mod clue_notes;
 mod connections;
 mod enough;
 mod evidence;
@@ -26,5 +29,6 @@ mod sources;
 mod split_clues;
 mod split_rows;
 mod splits;
+mod wanted_winds;
 
 pub use io_causes::io_errors_are_caused;

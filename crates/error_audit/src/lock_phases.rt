@@ -6,33 +6,40 @@ ghost use Rattle.wire_messages.specs.Messages.{input_in};
 ghost use Rattle.mount_log.specs.Locks.{IsLock, IsLastPhase};
 ghost use Rattle.error_audit.specs.LockTable.{HaveLocks, AreBehind, IsBehind, IsLockOf, IsLockOn, IsFollowed};
 
+use crate::cells::are_cells;
 use crate::locks::{LockAt, locks_at};
-use fop_types::{BrickReq, Cell, Input, Seq, SetPlan};
+use fop_types::{BrickReq, Cell, Input, SetPlan};
 use log_audit::by_place::line_at;
 use mount_log::{Log, SentLine};
 use std::alloc::{AllocError, Global};
 use wire_messages::{Message, input_of};
 
-/// A lock request: the number of its wind, and its cells.
-#[derive(Drop)]
-pub struct Lock {
-    pub wind: u64,
-    pub cells: Seq<Cell>,
-}
-
 // ---- a lock
 
-fn lock_in(wind: u64, req: BrickReq, call: u32) -> Option<Lock>
-    ensures { (graph : ℕ) → IfSome result (λ lock. IsLockOf call lock.wind lock.cells (input.Request wind graph req)) }
+fn is_lock(req: &BrickReq, call: u32, of: &[Cell]) -> bool
+    ensures { (wind graph : ℕ) → result ≡ true → IsLockOf call wind of.now (input.Request wind graph req.now) }
 {
     match req {
         BrickReq::Lock {
             call: named,
             shared: _,
             cells,
+        } => *named == call && are_cells(cells.as_slice(), of),
+        _ => false,
+    }
+}
+
+fn lock_of(sent: &Input, call: u32, of: &[Cell]) -> Option<u64>
+    ensures { IfSome result (λ wind. IsLockOf call wind of.now sent.now) }
+{
+    match sent {
+        Input::Request {
+            wind,
+            graph: _,
+            req,
         } => {
-            if named == call {
-                Some(Lock { wind, cells })
+            if is_lock(req, call, of) {
+                Some(*wind)
             } else {
                 None
             }
@@ -41,33 +48,30 @@ fn lock_in(wind: u64, req: BrickReq, call: u32) -> Option<Lock>
     }
 }
 
-fn lock_of(sent: Input, call: u32) -> Option<Lock>
-    ensures { IfSome result (λ lock. IsLockOf call lock.wind lock.cells sent) }
-{
-    match sent {
-        Input::Request {
-            wind,
-            graph: _,
-            req,
-        } => lock_in(wind, req, call),
-        _ => None,
-    }
-}
-
-fn lock_on(alloc: Global, line: &SentLine, call: u32, brick: u8) -> Result<Option<Lock>, AllocError>
-    ensures brick { IfOk result (λ found. IfSome found (λ lock. line.now.brick ≡ brick)) }
-    ensures lock { IfOk result (λ found. IfSome found (λ lock. IsLockOn call lock.wind lock.cells (input_in line.now.bytes))) }
+fn lock_on(
+    alloc: Global,
+    line: &SentLine,
+    call: u32,
+    brick: u8,
+    of: &[Cell],
+) -> Result<Option<u64>, AllocError>
+    ensures brick { IfOk result (λ found. IfSome found (λ wind. line.now.brick ≡ brick)) }
+    ensures lock { IfOk result (λ found. IfSome found (λ wind. IsLockOn call wind of.now (input_in line.now.bytes))) }
 {
     if line.brick != brick {
         return Ok(None);
     }
     match input_of(alloc, line.bytes.as_slice())? {
-        Message::Whole(sent) => Ok(lock_of(sent, call)),
+        Message::Whole(sent) => {
+            let found = lock_of(&sent, call, of);
+            drop(sent);
+            Ok(found)
+        }
         Message::Wrong { place: _ } => Ok(None),
     }
 }
 
-/// The call's lock request to a brick at this place among what was sent, if there is one.
+/// The wind of the call's lock request of these cells to a brick, if that is at this place among what was sent.
 ///
 /// # Errors
 /// Out of memory.
@@ -77,12 +81,13 @@ pub fn lock_at(
     at: usize,
     call: u32,
     brick: u8,
-) -> Result<Option<Lock>, AllocError>
-    ensures { IfOk result (λ found. IfSome found (λ lock. IsLock log.now call at brick lock.wind lock.cells)) }
+    of: &[Cell],
+) -> Result<Option<u64>, AllocError>
+    ensures { IfOk result (λ found. IfSome found (λ wind. IsLock log.now call at brick wind of.now)) }
 {
     match line_at(log, at) {
         Some(line) => {
-            let found = lock_on(alloc, line, call, brick)?;
+            let found = lock_on(alloc, line, call, brick, of)?;
             Ok(found)
         }
         None => Ok(None),

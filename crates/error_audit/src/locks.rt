@@ -82,7 +82,9 @@ fn note_line(
     };
     match input_of(alloc, line.bytes.as_slice())? {
         Message::Whole(sent) => {
-            note_input(lists, lock, &sent)?;
+            let done = note_input(lists, lock, &sent);
+            drop(sent);
+            done?;
             Ok(())
         }
         Message::Wrong { place: _ } => Ok(()),

@@ -61,7 +61,11 @@ fn says_closed(alloc: Global, bytes: &[u8]) -> Result<bool, AllocError>
     ensures { IfOk result (λ yes. yes ≡ says_closed (output_in bytes.now)) }
 {
     match output_of(alloc, bytes)? {
-        Message::Whole(output) => Ok(is_closed(&output.kind)),
+        Message::Whole(output) => {
+            let yes = is_closed(&output.kind);
+            drop(output);
+            Ok(yes)
+        }
         Message::Wrong { place: _ } => Ok(false),
     }
 }
@@ -110,7 +114,11 @@ fn is_disconnect_text(alloc: Global, bytes: &[u8], graph: u32) -> Result<bool, A
     ensures { IfOk result (λ yes. yes ≡ true → bytes.now ≡ input_text (input.Disconnect graph)) }
 {
     match input_of(alloc, bytes)? {
-        Message::Whole(sent) => Ok(is_disconnect(&sent, graph)),
+        Message::Whole(sent) => {
+            let yes = is_disconnect(&sent, graph);
+            drop(sent);
+            Ok(yes)
+        }
         Message::Wrong { place: _ } => Ok(false),
     }
 }

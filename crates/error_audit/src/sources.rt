@@ -7,7 +7,8 @@ ghost use Rattle.mount_log.specs.Causes.{IsMarked, IsSoundAt, HasNoSource};
 ghost use Rattle.wire_messages.specs.Messages.{input_in};
 ghost use Rattle.error_audit.specs.Showing.{IsMarkOf, IsMarkOn, IsSized, HasUnsoundCell};
 
-use crate::grants::{LockPhase, are_cells};
+use crate::cells::are_cells;
+use crate::grants::LockPhase;
 use crate::losses::has_brick;
 use crate::split_rows::rows_of;
 use afr_changelog::{common_source, sound};
@@ -151,7 +152,11 @@ fn is_mark_line(alloc: Global, line: &SentLine, cells: &[Cell]) -> Result<bool, 
     ensures { IfOk result (λ yes. yes ≡ true → IsMarkOn cells.now (input_in line.now.bytes)) }
 {
     match input_of(alloc, line.bytes.as_slice())? {
-        Message::Whole(sent) => Ok(is_mark_input(&sent, cells)),
+        Message::Whole(sent) => {
+            let yes = is_mark_input(&sent, cells);
+            drop(sent);
+            Ok(yes)
+        }
         Message::Wrong { place: _ } => Ok(false),
     }
 }

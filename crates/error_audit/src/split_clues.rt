@@ -1,11 +1,13 @@
 //! Finds where the evidence of a split may be. Nothing is promised of it: what it finds is tested elsewhere.
 
 use crate::grants::LockPhase;
-use crate::lock_phases::lock_at;
 use crate::locks::LockAt;
-use fop_types::{Cell, SplitRow};
-use mount_log::Log;
+use fop_types::{BrickReq, Cell, Input, Seq, SplitRow};
+use log_audit::by_place::line_at;
+use mount_log::{Log, SentLine};
 use std::alloc::{AllocError, Global};
+use std::mem;
+use wire_messages::{Message, input_of};
 
 /// Where the last lock of a call is that asked this brick.
 pub fn last_lock(locks: &[Vec<LockAt>], call: u32, brick: u8) -> usize {
@@ -43,12 +45,65 @@ pub fn find_phase(
     let Some(lock) = first else {
         return Ok(None);
     };
-    match lock_at(alloc, log, lock.at, call, lock.brick)? {
-        Some(asked) => Ok(Some(LockPhase {
+    match line_at(log, lock.at) {
+        Some(line) => phase_from(alloc, lock, line, call),
+        None => Ok(None),
+    }
+}
+
+// The lock phase that begins with this line, if that is the call's lock of the brick.
+fn phase_from(
+    alloc: Global,
+    lock: LockAt,
+    line: &SentLine,
+    call: u32,
+) -> Result<Option<LockPhase>, AllocError> {
+    if line.brick != lock.brick {
+        return Ok(None);
+    }
+    match cells_on(alloc, line, call)? {
+        Some(cells) => Ok(Some(LockPhase {
             from: lock.at,
-            cells: asked.cells,
+            cells,
         })),
         None => Ok(None),
+    }
+}
+
+// The cells of the call's lock request that a line is.
+fn cells_on(alloc: Global, line: &SentLine, call: u32) -> Result<Option<Seq<Cell>>, AllocError> {
+    match input_of(alloc, line.bytes.as_slice())? {
+        Message::Whole(sent) => {
+            let mut sent = sent;
+            let cells = take_cells(alloc, &mut sent, call);
+            drop(sent);
+            Ok(cells)
+        }
+        Message::Wrong { place: _ } => Ok(None),
+    }
+}
+
+fn take_cells(alloc: Global, sent: &mut Input, call: u32) -> Option<Seq<Cell>> {
+    match sent {
+        Input::Request { req, .. } => take_locked(alloc, req, call),
+        _ => None,
+    }
+}
+
+fn take_locked(alloc: Global, req: &mut BrickReq, call: u32) -> Option<Seq<Cell>> {
+    match req {
+        BrickReq::Lock {
+            call: named,
+            cells,
+            ..
+        } => {
+            if *named == call {
+                Some(mem::replace(cells, Seq::new(alloc)))
+            } else {
+                None
+            }
+        }
+        _ => None,
     }
 }
 

@@ -8,4 +8,4 @@ use Rattle.error_audit.proofs.brick_replies.is_faulted.Goals as goal
 pub returns : goal.returns
 returns c = λ yes.
     faulted c.args.log.now c.args.plan.now c.args.reply.now.call c.args.reply.now.event c.args.pair.now c.in-Some.output (c.has_brick.ensures c.if-not-has_brick.false)
-    (subst (λ (o : Option Output). IfSome o (IsArrived c.args.log.now c.args.reply.now.event c.args.pair.now.0)) c.in-Some.is c.in_ok-found.ensures) (c.is_at.ensures c.if-not-is_at.false) (c.is_fault_of.ensures yes)
+    (subst (λ (o : Option Output). IfSome o (IsArrived c.args.log.now c.args.reply.now.event c.args.pair.now.0)) c.in-Some.is c.in_ok-found.ensures) (c.is_fault_at-yes.ensures.taken yes) (c.is_fault_at-yes.ensures.fault yes)

@@ -1,5 +1,5 @@
 use Rattle.std.proofs.Common.{◌≡◌, take}
-use Rattle.error_audit.proofs.grants.are_cells.Given as goal
+use Rattle.error_audit.proofs.cells.are_cells.Given as goal
 
 abbrev pub invariant-loop-k : goal.invariant-loop-k
 invariant-loop-k l = take l.k l.cells ≡ take l.k l.others
