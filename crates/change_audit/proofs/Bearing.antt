@@ -63,17 +63,19 @@ module _ (log : Log) (bricks : List Journal) (plan : SetPlan) (call graph change
 
   pub have_bearers : (operation : FlatOp) (behind : List ℕ) (bearers : List Bearer) → IsDistinct ◌==◌ (map brick_of bearers) → plan.q ≤ length (map brick_of bearers) → IsMaking graph change operation behind
       → text ≡ behind → AllByRecursion (IsSaidBearer log bricks plan call graph change number text) bearers → HasBearers log bricks plan call graph change number operation
-  have_bearers operation behind bearers differ quorum making same all =
+  have_bearers operation behind bearers differ enough making same all =
       let has : IsOpText graph change making.op text = subst (IsOpText graph change making.op) (sym same) making.has_text in
       record {
         op = making.op;
         op_is = making.op_is;
         bearers = map brick_of bearers;
-        differ = differ;
-        quorum = quorum;
-        each =
-            all_mapped brick_of (IsSaidBearer log bricks plan call graph change number text) (IsBearer log bricks plan call graph change number making.op)
-            (λ b said. said making.op has) bearers all;
+        quorum = record {
+          differ = differ;
+          enough = enough;
+          each =
+              all_mapped brick_of (IsSaidBearer log bricks plan call graph change number text) (IsBearer log bricks plan call graph change number making.op)
+              (λ b said. said making.op has) bearers all;
+        };
       }
 
 -- ---- by a later event

@@ -24,7 +24,7 @@ module _ (script : Script) (plans : List Plan) (log : Log) (bricks : List Journa
   -- what is borne by an event is so by each later one
   borne_later : (call change number later : ℕ) (operation : FlatOp) → number ≤ later → IsBorne script plans log bricks ops call change number operation
       → IsBorne script plans log bricks ops call change later operation
-  borne_later call change number later operation le is = record {
+  borne_later call change number later operation le is = let by = is.quorum in record {
     set = is.set;
     plan = is.plan;
     plan_is = is.plan_is;
@@ -32,9 +32,11 @@ module _ (script : Script) (plans : List Plan) (log : Log) (bricks : List Journa
     op = is.op;
     op_is = is.op_is;
     bearers = is.bearers;
-    differ = is.differ;
-    quorum = is.quorum;
-    each = bearers_later log bricks is.plan call (graph_of_call log call) change number later le is.op is.bearers is.each;
+    quorum = record {
+      differ = by.differ;
+      enough = by.enough;
+      each = bearers_later log bricks is.plan call (graph_of_call log call) change number later le is.op is.bearers by.each;
+    };
   }
 
   pub not_due : (marks : List (Option ℕ)) (claims : List (ℕ × ℕ)) (k call : ℕ) (operation : FlatOp) → AreMarked log.replies marks → mark_of marks call ≡ None

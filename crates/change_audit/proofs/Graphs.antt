@@ -1,7 +1,6 @@
 -- The graph of a call is that of the table; the sets of new names.
 use Rattle.std.proofs.Common.{◌≡◌, sym, ap, subst, ◌∙◌, arith}
 use Rattle.std.specs.Prelude.{ℕ, zero, suc, ◌≤◌, ◌+◌, ◌-◌, List, [], ◌∷◌, Some, length, take, slice_get}
-use Rattle.std.specs.List.{AllByRecursion}
 use Rattle.fop_types.specs.declared.cells.Gfid.{Gfid}
 use Rattle.fop_types.specs.declared.flat.FlatOp.{FlatOp}
 use Rattle.fop_types.specs.declared.flat.FlatOp.TheVariants as flat
@@ -19,6 +18,7 @@ use Rattle.mount_log.specs.Submissions.{submit_event}
 use Rattle.mount_log.specs.declared.logs.HubEvent.{HubEvent}
 use Rattle.mount_log.specs.declared.logs.HubEvent.TheVariants as logged
 use Rattle.mount_log.specs.declared.logs.Log.{Log}
+use Rattle.change_audit.specs.Answered.{IsQuorum}
 use Rattle.change_audit.specs.Borne.{IsBorne, IsBearer}
 use Rattle.change_audit.specs.Bearing.{HasBearers}
 use Rattle.change_audit.specs.CallGraphs.{graphs_from, AreGraphsOf, HasGraph}
@@ -155,7 +155,5 @@ module _ (script : Script) (log : Log) (tables : CallGraphs) (are : AreGraphsOf 
         op = have.op;
         op_is = have.op_is;
         bearers = have.bearers;
-        differ = have.differ;
-        quorum = have.quorum;
-        each = subst (λ (n : ℕ). AllByRecursion (IsBearer log bricks plan call n change number have.op) have.bearers) same have.each;
+        quorum = subst (λ (n : ℕ). IsQuorum plan have.bearers (IsBearer log bricks plan call n change number have.op)) same have.quorum;
       }

@@ -1,5 +1,7 @@
 -- Requests that a brick has answered Done by what arrived, and the winds that they were sent for.
-use Rattle.std.specs.Prelude.{◌≡◌, ℕ, ◌+◌, ◌<◌, true, List, Some, slice_get}
+use Rattle.std.specs.Prelude.{◌≡◌, ℕ, ◌+◌, ◌<◌, ◌≤◌, ◌==◌, true, List, Some, length, slice_get}
+use Rattle.std.specs.List.{AllByRecursion, IsDistinct}
+use Rattle.fop_types.specs.declared.jobs.SetPlan.{SetPlan}
 use Rattle.fop_types.specs.declared.messages.BrickRep.TheVariants.{Done}
 use Rattle.fop_types.specs.declared.messages.BrickReq.{BrickReq}
 use Rattle.fop_types.specs.declared.messages.DoneArm.{DoneArm}
@@ -11,6 +13,12 @@ use Rattle.mount_log.specs.declared.logs.HubEvent.TheVariants.{Arrive}
 use Rattle.mount_log.specs.declared.logs.Log.{Log}
 use Rattle.mount_log.specs.declared.logs.WindLine.{WindLine}
 use Rattle.xlator_law.specs.Numbers.{wind_number}
+
+-- different bricks, at least as many as the quorum of their set, of each of which something holds
+pub record IsQuorum (plan : SetPlan) (bricks : List ℕ) (Holds : ℕ → Type 0) : Type 0 where
+  pub differ : IsDistinct ◌==◌ bricks
+  pub enough : plan.q ≤ length bricks
+  pub each : AllByRecursion Holds bricks
 
 -- a request of a graph on a wind is in a brick's journal, and its Done arrived in the event at this place, from 0
 pub record IsDoneIn (log : Log) (bricks : List Journal) (brick wind graph event : ℕ) (req : BrickReq) (arm : DoneArm) : Type 0 where

@@ -1,12 +1,12 @@
 -- What the bricks of one set have to show of one change.
-use Rattle.std.specs.Prelude.{◌≡◌, ℕ, ◌+◌, ◌<◌, ◌≤◌, ◌==◌, List, [], ◌∷◌, Some, length}
-use Rattle.std.specs.List.{AllByRecursion, IsDistinct}
+use Rattle.std.specs.Prelude.{◌≡◌, ℕ, ◌+◌, ◌<◌, ◌≤◌, List, [], ◌∷◌, Some}
 use Rattle.dht_fops.specs.Answers.{change_of}
 use Rattle.fop_types.specs.declared.flat.FlatOp.{FlatOp}
 use Rattle.fop_types.specs.declared.jobs.SetPlan.{SetPlan}
 use Rattle.fop_types.specs.declared.store_ops.StoreOp.{StoreOp}
 use Rattle.brick_machine.specs.Journal.{Journal}
 use Rattle.mount_log.specs.declared.logs.Log.{Log}
+use Rattle.change_audit.specs.Answered.{IsQuorum}
 use Rattle.change_audit.specs.declared.answers.Bearer.{Bearer}
 use Rattle.change_audit.specs.Borne.{IsBorneBy, IsBearer}
 use Rattle.change_audit.specs.Served.{IsOpText}
@@ -43,6 +43,4 @@ pub record HasBearers (log : Log) (bricks : List Journal) (plan : SetPlan) (call
   pub op : StoreOp
   pub op_is : change_of op ≡ Some operation
   pub bearers : List ℕ
-  pub differ : IsDistinct ◌==◌ bearers
-  pub quorum : plan.q ≤ length bearers
-  pub each : AllByRecursion (IsBearer log bricks plan call graph change number op) bearers
+  pub quorum : IsQuorum plan bearers (IsBearer log bricks plan call graph change number op)

@@ -2,8 +2,7 @@
 -- the bricks of one set has answered Done to the store op of that change, which makes the entry, and then to its post, each of
 -- the call's graph and for a wind of the call. What they answered arrived by the event of the call's reply. Where the entry makes
 -- an object, the set is that of its name.
-use Rattle.std.specs.Prelude.{◌≡◌, ℕ, ◌<◌, ◌≤◌, ◌==◌, true, List, Some, Contains, length, slice_get}
-use Rattle.std.specs.List.{AllByRecursion, IsDistinct}
+use Rattle.std.specs.Prelude.{◌≡◌, ℕ, ◌<◌, true, List, Some, Contains, slice_get}
 use Rattle.dht_fops.specs.Answers.{change_of}
 use Rattle.fop_types.specs.Replies.{is_ok}
 use Rattle.fop_types.specs.declared.cells.Cell.{Cell}
@@ -21,7 +20,7 @@ use Rattle.mount_log.specs.declared.logs.Log.{Log}
 use Rattle.mount_log.specs.declared.logs.ReplyLine.{ReplyLine}
 use Rattle.mount_log.specs.Causes.{set_of_call}
 use Rattle.mount_log.specs.Connections.{graph_of_call}
-use Rattle.change_audit.specs.Answered.{IsDoneIn, IsWindFor, IsOpenedSince}
+use Rattle.change_audit.specs.Answered.{IsDoneIn, IsWindFor, IsOpenedSince, IsQuorum}
 use Rattle.change_audit.specs.Placed.{IsOnSet}
 
 -- A brick has answered Done to the op of a change for a call, and then to its post, which was sent when the op's answer had
@@ -59,9 +58,7 @@ pub record IsBorne (script : Script) (plans : List Plan) (log : Log) (bricks : L
   pub op : StoreOp
   pub op_is : change_of op ≡ Some operation
   pub bearers : List ℕ
-  pub differ : IsDistinct ◌==◌ bearers
-  pub quorum : plan.q ≤ length bearers
-  pub each : AllByRecursion (IsBearer log bricks plan call (graph_of_call log call) change number op) bearers
+  pub quorum : IsQuorum plan bearers (IsBearer log bricks plan call (graph_of_call log call) change number op)
 
 -- a call was answered well in the event of this number
 pub record IsAcknowledged (log : Log) (call number : ℕ) : Type 0 where

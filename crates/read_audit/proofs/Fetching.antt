@@ -13,7 +13,7 @@ use Rattle.brick_machine.specs.Journal.{Journal}
 use Rattle.mount_log.specs.Causes.{set_of_plan, plan_of_volfile, set_of_call}
 use Rattle.mount_log.specs.Connections.{graph_of_call}
 use Rattle.mount_log.specs.declared.logs.Log.{Log}
-use Rattle.change_audit.specs.Answered.{IsDoneIn}
+use Rattle.change_audit.specs.Answered.{IsDoneIn, IsQuorum}
 use Rattle.change_audit.specs.CallGraphs.{AreGraphsOf}
 use Rattle.change_audit.specs.declared.call_graphs.CallGraphs.{CallGraphs}
 use Rattle.read_audit.specs.Fetching.{IsShown, HasHolders}
@@ -23,13 +23,11 @@ use Rattle.read_audit.specs.Read.{IsHolder, IsFetched}
 
 pub holders_are : (log : Log) (bricks : List Journal) (plan : SetPlan) (call graph : ℕ) (cells : List Cell) (cell : Cell) (until source : ℕ) (holders : List ℕ) → Contains cells cell → IsDistinct ◌==◌ holders
     → plan.q ≤ length holders → Contains holders source → AllByRecursion (IsHolder log bricks plan call graph cells until) holders → HasHolders log bricks plan call graph cell until source
-holders_are log bricks plan call graph cells cell until source holders has differ quorum among each = record {
+holders_are log bricks plan call graph cells cell until source holders has differ enough among each = record {
   cells = cells;
   has = has;
   holders = holders;
-  differ = differ;
-  quorum = quorum;
-  each = each;
+  quorum = record { differ = differ; enough = enough; each = each; };
   among = among;
 }
 
@@ -61,8 +59,6 @@ module _ (script : Script) (log : Log) (tables : CallGraphs) (are : AreGraphsOf 
     cells = have.cells;
     has = have.has;
     holders = have.holders;
-    differ = have.differ;
-    quorum = have.quorum;
-    each = subst (λ (n : ℕ). AllByRecursion (IsHolder log bricks plan call n have.cells event) have.holders) same have.each;
+    quorum = subst (λ (n : ℕ). IsQuorum plan have.holders (IsHolder log bricks plan call n have.cells event)) same have.quorum;
     among = have.among;
   }

@@ -1,6 +1,6 @@
 -- Sets that have no copy of a cell.
 use Rattle.std.proofs.Common.{◌≡◌, subst, sym, ap}
-use Rattle.std.specs.Prelude.{ℕ, ◌<◌, ◌≤◌, ◌-◌, List, [], ◌∷◌, ◌++◌, Some, Contains, slice_get}
+use Rattle.std.specs.Prelude.{ℕ, ◌<◌, ◌-◌, List, [], ◌∷◌, ◌++◌, Some, Contains, slice_get}
 use Rattle.std.specs.List.{AllByRecursion}
 use Rattle.fop_types.specs.declared.cells.Cell.{Cell}
 use Rattle.fop_types.specs.declared.contents.Row.{Row}
@@ -12,6 +12,7 @@ use Rattle.brick_machine.specs.Journal.{Journal}
 use Rattle.mount_log.specs.Causes.{set_of_plan, plan_of_volfile}
 use Rattle.mount_log.specs.Connections.{graph_of_call}
 use Rattle.mount_log.specs.declared.logs.Log.{Log}
+use Rattle.change_audit.specs.Answered.{IsQuorum}
 use Rattle.change_audit.specs.CallGraphs.{AreGraphsOf}
 use Rattle.change_audit.specs.declared.call_graphs.CallGraphs.{CallGraphs}
 use Rattle.read_audit.proofs.Fetching.{set_is}
@@ -54,7 +55,5 @@ module _ (script : Script) (log : Log) (tables : CallGraphs) (are : AreGraphsOf 
     plan = plan;
     plan_is = set_is script log tables are plans call graph set plan same is;
     holders = have.holders;
-    differ = have.differ;
-    quorum = have.quorum;
-    each = subst (λ (n : ℕ). AllByRecursion (IsWithout log bricks plan call n cell number) have.holders) same have.each;
+    quorum = subst (λ (n : ℕ). IsQuorum plan have.holders (IsWithout log bricks plan call n cell number)) same have.quorum;
   }

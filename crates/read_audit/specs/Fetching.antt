@@ -1,6 +1,5 @@
 -- What is found of one content: the fetch that a brick has answered by it, and the bricks that had granted locks before.
-use Rattle.std.specs.Prelude.{◌≡◌, ℕ, ◌≤◌, ◌==◌, Bool, List, Some, Contains, length, slice_get}
-use Rattle.std.specs.List.{AllByRecursion, IsDistinct}
+use Rattle.std.specs.Prelude.{◌≡◌, ℕ, Bool, List, Some, Contains, slice_get}
 use Rattle.fop_types.specs.declared.cells.Cell.{Cell}
 use Rattle.fop_types.specs.declared.contents.Content.{Content as Held}
 use Rattle.fop_types.specs.declared.contents.Row.{Row}
@@ -11,7 +10,7 @@ use Rattle.fop_types.specs.declared.messages.Input.TheVariants.{Request}
 use Rattle.wire_xdr.specs.WireText.{input_text}
 use Rattle.brick_machine.specs.Journal.{Journal}
 use Rattle.mount_log.specs.declared.logs.Log.{Log}
-use Rattle.change_audit.specs.Answered.{IsDoneIn, IsWindFor}
+use Rattle.change_audit.specs.Answered.{IsDoneIn, IsWindFor, IsQuorum}
 use Rattle.change_audit.specs.Copying.{IsSentAs}
 use Rattle.read_audit.specs.Read.{IsGrantedIn, IsHolder}
 
@@ -55,7 +54,5 @@ pub record HasHolders (log : Log) (bricks : List Journal) (plan : SetPlan) (call
   pub cells : List Cell
   pub has : Contains cells cell
   pub holders : List ℕ
-  pub differ : IsDistinct ◌==◌ holders
-  pub quorum : plan.q ≤ length holders
-  pub each : AllByRecursion (IsHolder log bricks plan call graph cells until) holders
+  pub quorum : IsQuorum plan holders (IsHolder log bricks plan call graph cells until)
   pub among : Contains holders source

@@ -1,8 +1,8 @@
 -- Names were read from bricks: where a call was answered well, its path leads from the root to one object by names that the call has
 -- read, one directory after the other; a stat and a getattr show that object; and a list shows the names that each set has of that
 -- directory, links left out.
-use Rattle.std.specs.Prelude.{◌≡◌, ℕ, ◌-◌, ◌<◌, ◌≤◌, ◌==◌, Bool, true, false, List, [], ◌∷◌, Some, Contains, length, slice_get}
-use Rattle.std.specs.List.{AllByRecursion, IsDistinct}
+use Rattle.std.specs.Prelude.{◌≡◌, ℕ, ◌-◌, ◌<◌, Bool, true, false, List, [], ◌∷◌, Some, Contains, length, slice_get}
+use Rattle.std.specs.List.{AllByRecursion}
 use Rattle.call_fops.specs.Walks.{first_path, second_path, root_object}
 use Rattle.dht_fops.specs.Objects.{home}
 use Rattle.fop_types.specs.Bounds.{item_cmp, Rises}
@@ -30,6 +30,7 @@ use Rattle.mount_log.specs.Graphs.{volfiles_of}
 use Rattle.mount_log.specs.Submissions.{submissions_of}
 use Rattle.mount_log.specs.declared.logs.Log.{Log}
 use Rattle.mount_log.specs.declared.logs.ReplyLine.{ReplyLine}
+use Rattle.change_audit.specs.Answered.{IsQuorum}
 use Rattle.read_audit.specs.Read.{Asked, asked_by, IsFetched, IsGrantedIn, AreAttributesRead, IsAttributeRead}
 
 -- ---- paths
@@ -86,9 +87,7 @@ pub record IsLacking (script : Script) (plans : List Plan) (log : Log) (bricks :
   pub plan : SetPlan
   pub plan_is : set_of_call script plans log call set ≡ Some plan
   pub holders : List ℕ
-  pub differ : IsDistinct ◌==◌ holders
-  pub quorum : plan.q ≤ length holders
-  pub each : AllByRecursion (IsWithout log bricks plan call (graph_of_call log call) cell number) holders
+  pub quorum : IsQuorum plan holders (IsWithout log bricks plan call (graph_of_call log call) cell number)
 
 -- a set has these names of a directory: they were fetched, or the set has no copy and so no names
 pub data ShowsNames (script : Script) (plans : List Plan) (log : Log) (bricks : List Journal) (call number set : ℕ) (dir : Gfid) (items : List Item) : Type 0 where

@@ -1,6 +1,5 @@
 -- What is found of one reply by names: an item, an object in a content, the bricks of a set that have no copy, one list.
-use Rattle.std.specs.Prelude.{◌≡◌, ℕ, ◌≤◌, ◌==◌, true, false, List, [], ◌∷◌, Some, length, slice_get}
-use Rattle.std.specs.List.{AllByRecursion, IsDistinct}
+use Rattle.std.specs.Prelude.{◌≡◌, ℕ, true, false, List, [], ◌∷◌, Some, length, slice_get}
 use Rattle.fop_types.specs.Calls.{Submission, call_numbered}
 use Rattle.fop_types.specs.Names.{item_named, is_link}
 use Rattle.fop_types.specs.Replies.{is_ok}
@@ -18,6 +17,7 @@ use Rattle.brick_machine.specs.Journal.{Journal}
 use Rattle.mount_log.specs.Submissions.{submissions_of}
 use Rattle.mount_log.specs.declared.logs.Log.{Log}
 use Rattle.mount_log.specs.declared.logs.ReplyLine.{ReplyLine}
+use Rattle.change_audit.specs.Answered.{IsQuorum}
 use Rattle.read_audit.specs.Names.{object_of, IsWithout, ShowsNames, IsNamed}
 
 -- ---- one name
@@ -50,9 +50,7 @@ pub record IsAbsent (rows : List Row) : Type 0 where
 -- a quorum of the bricks of a set had no copy of the cell
 pub record HaveNoCopy (log : Log) (bricks : List Journal) (plan : SetPlan) (call graph : ℕ) (cell : Cell) (number : ℕ) : Type 0 where
   pub holders : List ℕ
-  pub differ : IsDistinct ◌==◌ holders
-  pub quorum : plan.q ≤ length holders
-  pub each : AllByRecursion (IsWithout log bricks plan call graph cell number) holders
+  pub quorum : IsQuorum plan holders (IsWithout log bricks plan call graph cell number)
 
 -- ---- directories
 

@@ -1,8 +1,7 @@
 -- Answers were read from bricks: where a stat, a getattr, or a read without an io-cache was answered well, a brick had answered a
 -- fetch of the call, by the event of the reply, by the content that the answer shows; and before that a quorum of the brick's set,
 -- the brick among them, had granted the call locks of the same cells, of which the cell that was fetched is one.
-use Rattle.std.specs.Prelude.{◌≡◌, ℕ, ◌-◌, ◌<◌, ◌≤◌, ◌==◌, ◌||◌, Bool, true, false, List, [], ◌∷◌, Option, None, Some, Contains, length, slice_get}
-use Rattle.std.specs.List.{AllByRecursion, IsDistinct}
+use Rattle.std.specs.Prelude.{◌≡◌, ℕ, ◌-◌, ◌<◌, ◌||◌, Bool, true, false, List, [], ◌∷◌, Option, None, Some, Contains, length, slice_get}
 use Rattle.fop_types.specs.Calls.{Submission, call_numbered}
 use Rattle.fop_types.specs.Cells.{data_cell, meta_cell}
 use Rattle.fop_types.specs.FileBytes.{read_from}
@@ -41,7 +40,7 @@ use Rattle.mount_log.specs.Submissions.{submissions_of}
 use Rattle.mount_log.specs.declared.logs.HubEvent.TheVariants.{Arrive}
 use Rattle.mount_log.specs.declared.logs.Log.{Log}
 use Rattle.mount_log.specs.declared.logs.ReplyLine.{ReplyLine}
-use Rattle.change_audit.specs.Answered.{IsDoneIn, IsWindFor}
+use Rattle.change_audit.specs.Answered.{IsDoneIn, IsWindFor, IsQuorum}
 
 -- ---- a content that was fetched after locks had been granted
 
@@ -82,9 +81,7 @@ pub record IsFetched (script : Script) (plans : List Plan) (log : Log) (bricks :
   pub cells : List Cell
   pub has : Contains cells cell
   pub holders : List ℕ
-  pub differ : IsDistinct ◌==◌ holders
-  pub quorum : plan.q ≤ length holders
-  pub each : AllByRecursion (IsHolder log bricks plan call (graph_of_call log call) cells event) holders
+  pub quorum : IsQuorum plan holders (IsHolder log bricks plan call (graph_of_call log call) cells event)
   pub among : Contains holders source
 
 -- ---- what an answer shows
