@@ -47,7 +47,7 @@ pub struct Found {
 }
 
 // Adds an item to those of a cell.
-fn add<T>(
+fn add<T: Copy>(
     alloc: Global,
     lists: &mut BTreeMap<CellOf, Vec<T>>,
     at: CellOf,
