@@ -2,16 +2,14 @@
 use Rattle.std.proofs.Common.{◌≡◌, subst}
 use Rattle.std.specs.Prelude.{ℕ, List}
 use Rattle.fop_types.specs.Cells.{data_cell, meta_cell}
-use Rattle.fop_types.specs.declared.answers.Answer.TheVariants as answer
 use Rattle.fop_types.specs.declared.cells.Cell.{Cell}
 use Rattle.fop_types.specs.declared.cells.Gfid.{Gfid}
-use Rattle.fop_types.specs.declared.cells.Kind.{Kind}
 use Rattle.fop_types.specs.declared.contents.Content.{Content as Held}
 use Rattle.graph_build.specs.declared.plans.Plan.{Plan}
 use Rattle.script_lang.specs.declared.scripts.Script.{Script}
 use Rattle.brick_machine.specs.Journal.{Journal}
 use Rattle.mount_log.specs.declared.logs.Log.{Log}
-use Rattle.read_audit.specs.Read.{IsFetched, IsPartRead, IsFileRead, IsDirectoryRead, AreAttributesRead, IsAttributeRead, Asked, IsRead}
+use Rattle.read_audit.specs.Read.{IsFetched, IsPartRead, IsFileRead, IsDirectoryRead, IsAttributeRead}
 use Rattle.read_audit.specs.Showing.{HasPart, HasSize, HasMode, HasAttribute, IsSizeRead, IsModeRead}
 
 module _ (script : Script) (plans : List Plan) (log : Log) (bricks : List Journal) (call number set : ℕ) where
@@ -71,13 +69,3 @@ module _ (script : Script) (plans : List Plan) (log : Log) (bricks : List Journa
 
   pub directory_is : (gfid : Gfid) (mode : ℕ) → IsModeRead script plans log bricks call number set gfid mode → IsDirectoryRead script plans log bricks call number set gfid mode
   directory_is gfid mode moded = record { attrs = moded.attrs; span = moded.span; meta = moded.fetched }
-
-  -- ---- what an answer shows, of some object
-
-  pub stat_is : (gfid : Gfid) (kind : Kind) (mode size : ℕ) → AreAttributesRead script plans log bricks call number set gfid kind mode size
-      → IsRead script plans log bricks call number Asked.Attributes (answer.Stat kind mode size)
-  stat_is gfid kind mode size read = record { set = set; gfid = gfid; is = read }
-
-  pub value_is : (gfid : Gfid) (name value : List ℕ) → IsAttributeRead script plans log bricks call number set gfid name value
-      → IsRead script plans log bricks call number (Asked.Attribute name) (answer.Bytes value)
-  value_is gfid name value read = record { set = set; gfid = gfid; is = read }

@@ -68,7 +68,9 @@ fn names_shown(
     let Some(plan) = set_in(run.plans, run.graphs, by.graph, set) else {
         return Ok(None);
     };
-    let fetches = run.found.fetches_of(alloc, by.call, by.number, names_cell(dir))?;
+    let fetches = run
+        .found
+        .fetches_of(alloc, by.call, by.number, names_cell(dir))?;
     for at in &fetches {
         if has_member(plan, at.source) {
             let names = names_by(alloc, run, by, dir, set, *at)?;

@@ -47,7 +47,7 @@ pub struct Found {
 }
 
 // Adds an item to those of a cell.
-fn add<T>(
+fn add<T: Copy>(
     alloc: Global,
     lists: &mut BTreeMap<CellOf, Vec<T>>,
     at: CellOf,
@@ -85,9 +85,7 @@ fn from_last(
 
 // Whether a lock of just these cells was granted by a brick of the set before the event at a place.
 fn is_grant_of(lock: &LockAt, plan: &SetPlan, until: usize, cells: &[Cell]) -> bool {
-    lock.grant.event < until
-        && has_member(plan, lock.brick)
-        && lock.cells.as_slice() == cells
+    lock.grant.event < until && has_member(plan, lock.brick) && lock.cells.as_slice() == cells
 }
 
 impl Found {

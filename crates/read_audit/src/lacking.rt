@@ -75,7 +75,9 @@ fn bricks_without(
     let mut list = Vec::new(alloc);
     for brick in holders {
         let grant = grant_of(grants, *brick);
-        if !is_without(alloc, log, bricks, plan, call, graph, cell, number, grant, *brick)? {
+        if !is_without(
+            alloc, log, bricks, plan, call, graph, cell, number, grant, *brick,
+        )? {
             continue;
         }
         list.push(*brick)?;

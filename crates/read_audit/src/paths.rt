@@ -97,7 +97,9 @@ fn step(
     requires { by.graph ≡ graph_of_call run.now.log.now by.call }
     ensures { IfOk result (λ found. IfSome found (λ to. IsStep run.now.script.now run.now.plans.now run.now.log.now run.now.bricks.now by.call by.number dir name.now to)) }
 {
-    let fetches = run.found.fetches_of(alloc, by.call, by.number, names_cell(dir))?;
+    let fetches = run
+        .found
+        .fetches_of(alloc, by.call, by.number, names_cell(dir))?;
     for at in &fetches {
         let to = step_by(alloc, run, by, dir, name, *at)?;
         match to {

@@ -56,7 +56,9 @@ fn are_holders(
 {
     for holder in holders {
         let grant = grant_of(grants, *holder);
-        if !is_holder(alloc, log, bricks, plan, call, graph, cells, until, grant, *holder)? {
+        if !is_holder(
+            alloc, log, bricks, plan, call, graph, cells, until, grant, *holder,
+        )? {
             return Ok(false);
         }
     }
@@ -168,6 +170,8 @@ pub(crate) fn has_holders(
     let Some(cells) = found.cells_for(call, at) else {
         return Ok(false);
     };
-    let yes = have_locked(alloc, log, bricks, plan, found, call, graph, cells, cell, at)?;
+    let yes = have_locked(
+        alloc, log, bricks, plan, found, call, graph, cells, cell, at,
+    )?;
     Ok(yes)
 }

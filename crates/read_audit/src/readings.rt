@@ -49,7 +49,9 @@ pub(crate) fn content_read(
     let Some(plan) = set_in(run.plans, run.graphs, by.graph, set) else {
         return Ok(None);
     };
-    if !has_holders(alloc, run.log, run.bricks, plan, run.found, by.call, by.graph, cell, at)? {
+    if !has_holders(
+        alloc, run.log, run.bricks, plan, run.found, by.call, by.graph, cell, at,
+    )? {
         return Ok(None);
     }
     let content = content_at(alloc, run.log, run.bricks, by.call, by.graph, cell, at)?;

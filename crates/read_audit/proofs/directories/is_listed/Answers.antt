@@ -1,5 +1,5 @@
 use Rattle.std.proofs.Common.{subst}
-use Rattle.std.specs.Prelude.{List, Option, IfSome, ◌≡◌}
+use Rattle.std.specs.Prelude.{List, Option, IfSome}
 use Rattle.fop_types.specs.declared.contents.Item.{Item}
 use Rattle.read_audit.proofs.Listing.{listed}
 use Rattle.read_audit.specs.Naming.{HaveFirst}

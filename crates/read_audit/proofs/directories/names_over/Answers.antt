@@ -3,7 +3,7 @@ use Rattle.read_audit.proofs.Listing.{have_none, have_next, have_all}
 use Rattle.read_audit.proofs.directories.names_over.Goals as goal
 
 pub loop-set-init : goal.loop-set-init
-loop-set-init c = have_none c.args.run.now.script.now c.args.run.now.plans.now c.args.run.now.log.now c.args.run.now.bricks.now c.args.by.call c.args.by.number c.args.dir c.new-lists.result.items c.new-lists.ensures
+loop-set-init c = have_none c.args.run.now.script.now c.args.run.now.plans.now c.args.run.now.log.now c.args.run.now.bricks.now c.args.by.call c.args.by.number c.args.dir c.new-lists.result.items c.new-lists.ensures.items
 
 pub loop-set-preserved : goal.loop-set-preserved
 loop-set-preserved c =
