@@ -79,8 +79,13 @@ fn plans(
     ensures no_fault { IsErrOf result not_read.Fault → ⊥ }
 {
     let mut plans = Seq::new(alloc);
-    let done = put_plans(alloc, &mut plans, volfiles, bricks);
-    done.and(Ok(plans))
+    match put_plans(alloc, &mut plans, volfiles, bricks) {
+        Ok(()) => Ok(plans),
+        Err(not_read) => {
+            drop(plans);
+            Err(not_read)
+        }
+    }
 }
 
 // A switch to a volfile: the number of the newest plan, or the line where it does not follow.

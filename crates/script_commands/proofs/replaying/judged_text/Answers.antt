@@ -1,5 +1,5 @@
 use Rattle.script_commands.proofs.ReportLines.{err_again}
 use Rattle.script_commands.proofs.replaying.judged_text.Goals as goal
 
-pub returns-clause-refused : goal.returns-clause-refused
-returns-clause-refused c = λ line is. c.in-Err.ensures.refused line (err_again _ _ is)
+pub returns-in-Err-clause-refused : goal.returns-in-Err-clause-refused
+returns-in-Err-clause-refused c = λ line is. c.in-Err.ensures.refused line (err_again _ _ is)
