@@ -1,11 +1,11 @@
 //! The names under which bricks show their replicas.
-ghost use Rattle.std.specs.Prelude.{◌≡◌, ◌++◌, ◌∷◌, [], false, slice_get, option_copied, IfOk, OnOk};
-ghost use Rattle.hub_tables.specs.Naming.{clients_of, first_set as first_set_of, has_member as is_member, names_of, named_volfiles, set_of_plan, set_with as set_with_member, switches_among, switches_over};
+ghost use Rattle.std.specs.Prelude.{◌≡◌, ◌++◌, [], false, slice_get, option_copied, IfOk, OnOk};
+ghost use Rattle.hub_tables.specs.Naming.{clients_of, first_set as first_set_of, has_member as is_member, names_of, named_volfiles, set_of_plan, set_with as set_with_member, switches_among};
 
 use brick_machine::Brick;
 use fop_types::{Seq, SetPlan};
 use graph_build::Plan;
-use script_lang::{Action, ControlLine, Phase, Script};
+use script_lang::{Action, ControlLine, Script};
 use std::alloc::{AllocError, Global};
 
 // The volfiles that a phase's controls switch to go behind these.
@@ -21,30 +21,15 @@ fn add_switches(volfiles: &mut Vec<u8>, controls: &[ControlLine]) -> Result<(), 
     Ok(())
 }
 
-// The volfiles that the controls of phases switch to go behind these.
-fn add_phases(volfiles: &mut Vec<u8>, phases: &[Phase]) -> Result<(), AllocError>
-    ensures { OnOk result (volfiles.new.items ≡ volfiles.old.items ++ switches_over phases.now) }
-{
-    for phase in phases {
-        add_switches(volfiles, phase.controls.as_slice())?;
-    }
-    Ok(())
-}
-
-// The volfiles that a script names go behind these.
-fn add_volfiles(volfiles: &mut Vec<u8>, script: &Script) -> Result<(), AllocError>
-    ensures { OnOk result (volfiles.new.items ≡ volfiles.old.items ++ named_volfiles script.now) }
-{
-    volfiles.push(script.start)?;
-    add_phases(volfiles, script.phases.as_slice())
-}
-
 fn volfiles_of(alloc: Global, script: &Script) -> Result<Vec<u8>, AllocError>
     ensures { IfOk result (λ volfiles. volfiles.items ≡ named_volfiles script.now) }
 {
     let mut volfiles = Vec::new(alloc);
-    let added = add_volfiles(&mut volfiles, script);
-    added.and(Ok(volfiles))
+    volfiles.push(script.start)?;
+    for phase in script.phases.as_slice() {
+        add_switches(&mut volfiles, phase.controls.as_slice())?;
+    }
+    Ok(volfiles)
 }
 
 fn has_member(set: &SetPlan, brick: u8) -> bool
@@ -86,33 +71,14 @@ fn first_set<'a>(plans: &'a [Plan], volfiles: &[u8], brick: u8) -> Option<&'a Se
     None
 }
 
-fn add_copy(alloc: Global, copies: &mut Seq<Seq<u8>>, name: &Seq<u8>) -> Result<(), AllocError>
-    ensures { OnOk result (copies.new ≡ copies.old ++ name.now ∷ []) }
-{
-    let copy = name.copy(alloc)?;
-    copies.push(copy)?;
-    Ok(())
-}
-
-fn add_copies(
-    alloc: Global,
-    copies: &mut Seq<Seq<u8>>,
-    names: &[Seq<u8>],
-) -> Result<(), AllocError>
-    ensures { OnOk result (copies.new ≡ copies.old ++ names.now) }
-{
-    for name in names {
-        add_copy(alloc, copies, name)?;
-    }
-    Ok(())
-}
-
 fn copy_names(alloc: Global, names: &[Seq<u8>]) -> Result<Seq<Seq<u8>>, AllocError>
     ensures { IfOk result (λ copies. copies ≡ names.now) }
 {
     let mut copies = Seq::new(alloc);
-    let added = add_copies(alloc, &mut copies, names);
-    added.and(Ok(copies))
+    for name in names {
+        copies.push(name.copy(alloc)?)?;
+    }
+    Ok(copies)
 }
 
 fn client_names(alloc: Global, set: Option<&SetPlan>) -> Result<Seq<Seq<u8>>, AllocError>
@@ -136,36 +102,10 @@ pub fn named_brick(
 ) -> Result<Brick, AllocError>
     ensures { IfOk result (λ brick. brick ≡ record { journal = []; names = names_of script.now plans.now number; spent = false }) }
 {
-    let names = names_for(alloc, script, plans, number)?;
-    match Brick::new(alloc) {
-        Ok(brick) => Ok(with_names(brick, names)),
-        Err(error) => {
-            drop(names);
-            Err(error)
-        }
-    }
-}
-
-fn with_names(brick: Brick, names: Seq<Seq<u8>>) -> Brick
-    requires { brick.journal ≡ [] }
-    ensures { result ≡ record brick { names = names } }
-{
-    let mut brick = brick;
-    brick.bind_names(names);
-    brick
-}
-
-// The names of a brick.
-fn names_for(
-    alloc: Global,
-    script: &Script,
-    plans: &[Plan],
-    number: u8,
-) -> Result<Seq<Seq<u8>>, AllocError>
-    ensures { IfOk result (λ names. names ≡ names_of script.now plans.now number) }
-{
     let volfiles = volfiles_of(alloc, script)?;
-    let names = client_names(alloc, first_set(plans, volfiles.as_slice(), number));
-    drop(volfiles);
-    names
+    let set = first_set(plans, volfiles.as_slice(), number);
+    let names = client_names(alloc, set)?;
+    let mut brick = Brick::new(alloc)?;
+    brick.bind_names(names);
+    Ok(brick)
 }

@@ -109,24 +109,9 @@ impl Calls {
     /// # Errors
     /// Out of memory.
     pub fn open(&mut self, call: u32, state: CallState) -> Result<(), AllocError> {
-        match self.count_call(state.graph) {
-            Ok(()) => self.keep(call, state),
-            Err(error) => {
-                drop(state);
-                Err(error)
-            }
-        }
-    }
-
-    // A graph has one more call.
-    fn count_call(&mut self, graph: u32) -> Result<(), AllocError> {
-        let count = self.count_of(graph).saturating_add(1);
-        self.by_graph.insert(graph, count)?;
-        Ok(())
-    }
-
-    fn keep(&mut self, call: u32, state: CallState) -> Result<(), AllocError> {
-        drop(self.states.insert(call, state)?);
+        let count = self.count_of(state.graph).saturating_add(1);
+        self.by_graph.insert(state.graph, count)?;
+        self.states.insert(call, state)?;
         Ok(())
     }
 
@@ -176,21 +161,11 @@ impl Calls {
     /// # Errors
     /// Out of memory.
     pub fn replied(&mut self, call: u32, graph: u32, at: usize) -> Result<bool, AllocError> {
-        self.note_reply(call, at);
-        self.leave_graph(graph)
-    }
-
-    fn note_reply(&mut self, call: u32, at: usize) {
-        let Some(index) = (call as usize).checked_sub(1) else {
-            return;
-        };
-        if let Some(reply) = self.replies.get_mut(index) {
-            *reply = Some(at);
+        if let Some(index) = (call as usize).checked_sub(1) {
+            if let Some(reply) = self.replies.get_mut(index) {
+                *reply = Some(at);
+            }
         }
-    }
-
-    // A graph has one call less. It says whether that was its last one.
-    fn leave_graph(&mut self, graph: u32) -> Result<bool, AllocError> {
         let count = self.count_of(graph);
         if count <= 1 {
             self.by_graph.remove(&graph);
