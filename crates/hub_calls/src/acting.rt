@@ -38,7 +38,7 @@ impl Parts {
     pub(crate) fn has_nothing_else(&self) -> bool {
         self.progress.is_answered()
             && self.internal.is_none()
-            && self.bricks.owed == 0
+            && self.turn.bricks.owed == 0
             && self.graphs.ready_len() == 0
     }
 
@@ -54,43 +54,26 @@ impl Parts {
     ) -> Result<(), Stop> {
         let plain = self.may_go_on();
         let rest = self.has_nothing_else();
-        if let Some(control) = self.controls.carried_by(action, plain, rest) {
-            self.controls.carried(control);
+        if let Some(control) = self.turn.controls.carried_by(action, plain, rest) {
+            self.turn.controls.carried(control);
         }
-        self.turn.add_event(HubEvent::Act(action))?;
+        self.turn.lines.add_event(HubEvent::Act(action))?;
         self.carry_out(alloc, on, action)
-    }
-
-    /// An action is armed for a request.
-    ///
-    /// # Errors
-    /// As for `Hub::submit`.
-    pub(crate) fn armed(
-        &mut self,
-        brick: u8,
-        before: Proc,
-        count: u32,
-        action: Action,
-    ) -> Result<(), Stop> {
-        self.controls.arm(brick, before, count, action)?;
-        self.turn
-            .add_event(HubEvent::Arm(brick, before, count, action))?;
-        Ok(())
     }
 
     fn carry_out(&mut self, alloc: Global, on: &Planned, action: Action) -> Result<(), Stop> {
         match action {
             Action::Down(brick, serve) => {
-                self.send_down(alloc, brick, serve)?;
+                self.turn.send_down(alloc, brick, serve)?;
                 Ok(())
             }
             Action::Up(brick) => {
-                self.send_up(alloc, brick)?;
+                self.turn.send_up(alloc, brick)?;
                 Ok(())
             }
             Action::Cut(brick) => self.cut(alloc, brick),
             Action::Fault(brick, proc, number) => {
-                self.send_fault(alloc, brick, proc, number)?;
+                self.turn.send_fault(alloc, brick, proc, number)?;
                 Ok(())
             }
             Action::Heal => self.internal_call(

@@ -1,5 +1,5 @@
 //! Moves of an output that arrives.
-ghost use Rattle.std.specs.Prelude.{true, IfOk, IfSome};
+ghost use Rattle.std.specs.Prelude.{true};
 ghost use Rattle.fop_types.specs.Bounds.{IsRep};
 ghost use Rattle.wire_xdr.specs.WireText.{IsOutput};
 
@@ -9,7 +9,7 @@ use bytes::Bytes;
 use fop_types::{BrickRep, OutKind, Output};
 use graph_build::NodeKind;
 use mount_log::HubEvent;
-use std::alloc::{AllocError, Global};
+use std::alloc::Global;
 use wire_messages::{Message, output_of};
 use xlator_law::{Stop, WindNo};
 
@@ -18,16 +18,6 @@ fn request_wind(wind: WindNo) -> WindNo {
     match wind.request() {
         Some(request) => request,
         None => wind,
-    }
-}
-
-// The output that bytes are, if they are one.
-fn output_from(alloc: Global, bytes: &[u8]) -> Result<Option<Output>, AllocError>
-    ensures { IfOk result (λ output. IfSome output (λ o. IsOutput o)) }
-{
-    match output_of(alloc, bytes)? {
-        Message::Whole(output) => Ok(Some(output)),
-        Message::Wrong { place: _ } => Ok(None),
     }
 }
 
@@ -50,47 +40,18 @@ impl Parts {
         brick: u8,
         bytes: Bytes,
     ) -> Result<(), Stop> {
-        match output_from(alloc, bytes.as_slice()) {
-            Ok(output) => self.taken_down(alloc, on, brick, bytes, output),
-            Err(_) => {
-                drop(bytes);
-                Err(Stop::Mem)
-            }
-        }
-    }
-
-    // Bytes that have arrived are written down, and then the output that they are, if they are one, is taken.
-    fn taken_down(
-        &mut self,
-        alloc: Global,
-        on: &Planned,
-        brick: u8,
-        bytes: Bytes,
-        output: Option<Output>,
-    ) -> Result<(), Stop>
-        requires { IfSome output (λ o. IsOutput o) }
-    {
-        match self.turn.add_event(HubEvent::Arrive { brick, bytes }) {
-            Ok(()) => self.put_out_if(alloc, on, brick, output),
-            Err(_) => {
-                drop(output);
-                Err(Stop::Mem)
-            }
-        }
-    }
-
-    fn put_out_if(
-        &mut self,
-        alloc: Global,
-        on: &Planned,
-        brick: u8,
-        output: Option<Output>,
-    ) -> Result<(), Stop>
-        requires { IfSome output (λ o. IsOutput o) }
-    {
-        match output {
-            Some(output) => self.put_out(alloc, on, brick, output),
-            None => Ok(()),
+        let read = output_of(alloc, bytes.as_slice());
+        let noted = self.turn.lines.add_event(HubEvent::Arrive { brick, bytes });
+        match read {
+            Ok(Message::Whole(output)) => match noted {
+                Ok(()) => self.put_out(alloc, on, brick, output),
+                Err(_) => {
+                    drop(output);
+                    Err(Stop::Mem)
+                }
+            },
+            Ok(Message::Wrong { place: _ }) => Ok(noted?),
+            Err(_) => Err(Stop::Mem),
         }
     }
 
@@ -104,7 +65,7 @@ impl Parts {
         requires { IsOutput output }
     {
         let Output { taken, kind } = output;
-        self.bricks.put_out(brick, &kind);
+        self.turn.bricks.put_out(brick, &kind);
         match kind {
             OutKind::Reply { wind, rep } => {
                 self.replied(alloc, on, brick, WindNo::of_number(wind), rep, taken)
@@ -139,26 +100,10 @@ impl Parts {
     ) -> Result<(), Stop>
         requires { IsRep true rep }
     {
-        match self.graph_of(on, wind, brick) {
-            Some(graph) => self.replied_in(alloc, graph, brick, wind, rep, taken),
-            None => {
-                drop(rep);
-                Ok(())
-            }
-        }
-    }
-
-    fn replied_in(
-        &mut self,
-        alloc: Global,
-        graph: u32,
-        brick: u8,
-        wind: WindNo,
-        rep: BrickRep,
-        taken: u64,
-    ) -> Result<(), Stop>
-        requires { IsRep true rep }
-    {
+        let Some(graph) = self.graph_of(on, wind, brick) else {
+            drop(rep);
+            return Ok(());
+        };
         let gone = is_gone(&rep);
         let won = self.take_reply(alloc, graph, wind, rep, taken)?;
         if won && gone {

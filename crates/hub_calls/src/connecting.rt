@@ -12,7 +12,7 @@ impl Parts {
     /// As for `Hub::submit`.
     pub(crate) fn connect(&mut self, alloc: Global, graph: u32, brick: u8) -> Result<(), Stop> {
         if self.graphs.nodes.connect(graph, brick).is_some() {
-            self.send_connect(alloc, brick, graph)?;
+            self.turn.send_connect(alloc, brick, graph)?;
         }
         Ok(())
     }
@@ -24,7 +24,7 @@ impl Parts {
     pub(crate) fn connect_newest(&mut self, alloc: Global, on: &Planned) -> Result<(), Stop> {
         let graph = self.graphs.newest;
         for brick in 0..on.bricks() {
-            if self.uses(graph, brick) && !self.bricks.closed.has(brick) {
+            if self.uses(graph, brick) && !self.turn.bricks.closed.has(brick) {
                 self.connect(alloc, graph, brick)?;
             }
         }
@@ -47,7 +47,7 @@ impl Parts {
             return Ok(());
         }
         self.bail(alloc, graph, brick)?;
-        self.send_disconnect(alloc, brick, graph)?;
+        self.turn.send_disconnect(alloc, brick, graph)?;
         Ok(())
     }
 
@@ -107,7 +107,7 @@ impl Parts {
     fn disconnect_all(&mut self, alloc: Global, on: &Planned, graph: u32) -> Result<(), Stop> {
         for brick in 0..on.bricks() {
             if self.uses(graph, brick) {
-                self.send_disconnect(alloc, brick, graph)?;
+                self.turn.send_disconnect(alloc, brick, graph)?;
             }
         }
         Ok(())

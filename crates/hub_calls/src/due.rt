@@ -5,6 +5,13 @@ use hub_tables::{Due, SmallSet};
 use mount_log::ReplyLine;
 use script_lang::Action;
 
+fn act_due(action: Option<Action>) -> Option<Due> {
+    match action {
+        Some(action) => Some(Due::Act(action)),
+        None => None,
+    }
+}
+
 impl Hub {
     /// The sessions that may submit a call.
     pub fn submits(&self) -> SmallSet {
@@ -14,7 +21,7 @@ impl Hub {
     /// The next control without a condition, where the one before it is finished.
     pub fn plain(&self) -> Option<Action> {
         if self.parts.may_go_on() {
-            self.parts.controls.plain()
+            self.parts.turn.controls.plain()
         } else {
             None
         }
@@ -23,7 +30,7 @@ impl Hub {
     /// What goes before everything else: the first control of the phase that is to be armed, or else the first one whose
     /// request was sent.
     pub fn first(&self) -> Option<Due> {
-        self.parts.controls.first()
+        self.parts.turn.controls.first()
     }
 
     /// How many tasks are ready.
@@ -40,29 +47,17 @@ impl Hub {
     /// without a condition.
     pub fn due(&self, k: u32) -> Option<Due> {
         let submits = self.submits();
-        match submits.nth(k) {
-            Some(session) => Some(Due::Submit(session)),
-            None => self.task_due(k.saturating_sub(submits.len())),
+        if let Some(session) = submits.nth(k) {
+            return Some(Due::Submit(session));
         }
-    }
-
-    fn task_due(&self, k: u32) -> Option<Due> {
-        match self.ready_at(k) {
-            Some((graph, task)) => Some(Due::Run(graph, task)),
-            None => {
-                if k == self.ready_len() {
-                    self.plain_due()
-                } else {
-                    None
-                }
-            }
+        let k = k.saturating_sub(submits.len());
+        if let Some((graph, task)) = self.ready_at(k) {
+            return Some(Due::Run(graph, task));
         }
-    }
-
-    fn plain_due(&self) -> Option<Due> {
-        match self.plain() {
-            Some(action) => Some(Due::Act(action)),
-            None => None,
+        if k == self.ready_len() {
+            act_due(self.plain())
+        } else {
+            None
         }
     }
 
@@ -71,10 +66,7 @@ impl Hub {
         if !self.parts.has_nothing_else() {
             return None;
         }
-        match self.parts.controls.rest() {
-            Some(action) => Some(Due::Act(action)),
-            None => None,
-        }
+        act_due(self.parts.turn.controls.rest())
     }
 
     /// Whether each call has its reply, each control was carried out, and nothing else is left.

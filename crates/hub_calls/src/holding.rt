@@ -3,12 +3,14 @@
 ghost use Rattle.std.specs.Prelude.{◌≤◌};
 
 use crate::inodes::all_agree;
-use crate::parts::{Parts, Todo};
+use crate::parts::Parts;
 use crate::planned::Planned;
+use crate::turn::Todo;
 use call_fops::{Hold, next_fop, next_hold};
+use fd_table::FdTable;
 use fop_types::Gfid;
 use graph_nodes::HoldAsk;
-use hub_tables::{Stage, changes_bytes_next};
+use hub_tables::{Calls, Stage, changes_bytes_next};
 use mount_locks::Held;
 use std::alloc::Global;
 use xlator_law::Stop;
@@ -33,6 +35,21 @@ fn gfids_of(hold: Hold) -> Gfids
             all: [first, second.gfid],
             count: if second.gfid == first { 1 } else { 2 },
         },
+    }
+}
+
+/// The hold of the next fop of a call.
+pub(crate) fn hold_next(calls: &Calls, fds: &FdTable, on: &Planned, call: u32) -> Option<Hold> {
+    let state = calls.get(call)?;
+    let line = on.line(state.at)?;
+    next_hold(&line.call, &state.walk, state.session, fds)
+}
+
+// Whether a call's fop runs and has not extended its hold. A fop extends it once.
+fn may_extend(calls: &Calls, call: u32) -> bool {
+    match calls.get(call) {
+        Some(state) => state.stage == Stage::Runs,
+        None => false,
     }
 }
 
@@ -99,18 +116,11 @@ impl Parts {
     /// # Errors
     /// As for `Hub::submit`.
     pub(crate) fn ask(&mut self, alloc: Global, on: &Planned, call: u32) -> Result<(), Stop> {
-        let Some(hold) = self.hold_next(on, call) else {
+        let Some(hold) = hold_next(&self.calls, &self.fds, on, call) else {
             return Ok(());
         };
         self.calls.set_stage(call, Stage::Asks);
         self.ask_for(alloc, on, call, hold)
-    }
-
-    // The hold of the next fop of a call.
-    pub(crate) fn hold_next(&self, on: &Planned, call: u32) -> Option<Hold> {
-        let state = self.calls.get(call)?;
-        let line = on.line(state.at)?;
-        next_hold(&line.call, &state.walk, state.session, &self.fds)
     }
 
     fn ask_for(&mut self, alloc: Global, on: &Planned, call: u32, hold: Hold) -> Result<(), Stop> {
@@ -129,7 +139,7 @@ impl Parts {
     /// # Errors
     /// As for `Hub::submit`.
     pub(crate) fn begin(&mut self, alloc: Global, on: &Planned, call: u32) -> Result<(), Stop> {
-        let Some(hold) = self.hold_next(on, call) else {
+        let Some(hold) = hold_next(&self.calls, &self.fds, on, call) else {
             return Ok(());
         };
         self.calls.set_stage(call, Stage::Runs);
@@ -139,7 +149,7 @@ impl Parts {
     // The next fop of a call begins under its hold. Where an object has another kind than its inode, the fop is refused.
     fn run_fop(&mut self, alloc: Global, on: &Planned, call: u32, hold: Hold) -> Result<(), Stop> {
         if !all_agree(self.graphs.nodes.inodes(), hold) {
-            self.todo.push(Todo::Refuse(call))?;
+            self.turn.todo.push(Todo::Refuse(call))?;
             return Ok(());
         }
         self.link_all(alloc, hold)?;
@@ -234,17 +244,9 @@ impl Parts {
         }
     }
 
-    // Whether a call's fop runs and has not extended its hold. A fop extends it once.
-    fn may_extend(&self, call: u32) -> bool {
-        match self.calls.get(call) {
-            Some(state) => state.stage == Stage::Runs,
-            None => false,
-        }
-    }
-
     // The hold of a call whose fop runs is extended. A fop that asks again is not heard.
     fn extend(&mut self, alloc: Global, graph: u32, call: u32, gfid: Gfid) -> Result<(), Stop> {
-        if !self.may_extend(call) {
+        if !may_extend(&self.calls, call) {
             return Ok(());
         }
         match self.holds.extend(alloc, call, gfid)? {

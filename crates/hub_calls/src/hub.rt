@@ -130,24 +130,16 @@ impl Hub {
         ensures stops { IfErr result (λ s. self.new.stop ≡ Some s) }
     {
         match self.check() {
-            Ok(()) => self.take_output(alloc, brick, output),
+            Ok(()) => {
+                self.parts.open_event();
+                let done = self.parts.arrived(alloc, &self.planned, brick, output);
+                self.close(alloc, done)
+            }
             Err(stop) => {
                 drop(output);
                 Err(stop)
             }
         }
-    }
-
-    // Takes an output where nothing has stopped.
-    fn take_output(&mut self, alloc: Global, brick: u8, output: Bytes) -> Result<(), Stop>
-        requires { self.old.stop ≡ None }
-        ensures same { (self.new.script ≡ self.old.script) × (self.new.plans ≡ self.old.plans) }
-        ensures goes { OnOk result (self.new.stop ≡ None) }
-        ensures stops { IfErr result (λ s. self.new.stop ≡ Some s) }
-    {
-        self.parts.open_event();
-        let done = self.parts.arrived(alloc, &self.planned, brick, output);
-        self.close(alloc, done)
     }
 
     /// Runs a ready task of a graph: the frame of the io-threads node with this number whose turn it is goes on. It is
@@ -254,7 +246,7 @@ impl Hub {
             return Ok(false);
         }
         self.parts.open_event();
-        let done = self.parts.armed(brick, before, count, action);
+        let done = self.parts.turn.armed(brick, before, count, action);
         self.close(alloc, done)?;
         Ok(true)
     }

@@ -44,6 +44,7 @@ mod racks;
 mod replying;
 mod running;
 mod sends;
+mod turn;
 mod turns;
 
 pub use hub::Hub;

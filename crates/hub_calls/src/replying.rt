@@ -1,48 +1,49 @@
 //! Moves of answers: a fop is answered, and its call goes on or is replied to.
 
+use crate::holding::hold_next;
 use crate::parts::Parts;
 use crate::planned::Planned;
 use call_fops::{After, CallReply, FdMove, after_answer, has_place, move_fd};
+use fd_table::FdTable;
 use fop_types::{Answer, AppError, FopAnswer, Gfid, Kind, Object};
 use hub_tables::{CallState, changes_bytes_next};
 use mount_log::ReplyLine;
-use script_lang::CallLine;
 use std::alloc::{AllocError, Global};
 use xlator_law::Stop;
 
 // The greatest offset of a descriptor, in bytes.
 const FILE_LIMIT: usize = 65536;
 
+fn is_offset_by(fds: &FdTable, session: u8, fd: u8, by: usize) -> bool {
+    match fds.get(session, fd) {
+        Some(found) => {
+            let offset = found.offset as usize;
+            offset <= FILE_LIMIT && by <= FILE_LIMIT - offset
+        }
+        None => true,
+    }
+}
+
+fn is_within(fds: &FdTable, session: u8, to: FdMove) -> bool {
+    match to {
+        FdMove::Stays => true,
+        FdMove::Opens { .. } => true,
+        FdMove::Advances { fd, by } => is_offset_by(fds, session, fd, by),
+        FdMove::Seeks { fd: _, offset } => offset as usize <= FILE_LIMIT,
+        FdMove::Closes { .. } => true,
+    }
+}
+
 impl Parts {
     // A descriptor is opened, moved or closed as its call is answered; while it is open, its file's inode is in use. An
     // offset beyond the greatest length of a file is said to be out of memory: no graph reads or writes so far.
     fn fd_moved(&mut self, alloc: Global, session: u8, to: FdMove) -> Result<(), AllocError> {
-        if !self.is_within(session, to) {
+        if !is_within(&self.fds, session, to) {
             return Err(AllocError);
         }
         self.unlink_closed(session, to);
         move_fd(alloc, &mut self.fds, session, to)?;
         self.link_opened(alloc, to)
-    }
-
-    fn is_within(&self, session: u8, to: FdMove) -> bool {
-        match to {
-            FdMove::Stays => true,
-            FdMove::Opens { .. } => true,
-            FdMove::Advances { fd, by } => self.is_offset_by(session, fd, by),
-            FdMove::Seeks { fd: _, offset } => offset as usize <= FILE_LIMIT,
-            FdMove::Closes { .. } => true,
-        }
-    }
-
-    fn is_offset_by(&self, session: u8, fd: u8, by: usize) -> bool {
-        match self.fds.get(session, fd) {
-            Some(found) => {
-                let offset = found.offset as usize;
-                offset <= FILE_LIMIT && by <= FILE_LIMIT - offset
-            }
-            None => true,
-        }
     }
 
     fn unlink_closed(&mut self, session: u8, to: FdMove) {
@@ -83,7 +84,12 @@ impl Parts {
         answer: FopAnswer,
         place: u32,
     ) -> Result<(), Stop> {
-        match self.fop_placed(alloc, on, call, has_place(&answer), place) {
+        let place = if has_place(&answer) {
+            Some(place)
+        } else {
+            None
+        };
+        match self.fop_ended(alloc, on, call, place) {
             Ok(()) => self.after_fop(alloc, on, call, answer),
             Err(stop) => {
                 drop(answer);
@@ -92,37 +98,35 @@ impl Parts {
         }
     }
 
-    // A fop ends, and its place is written down, where its answer has one.
-    fn fop_placed(
+    // The pages, the inodes and the holds of a fop are let go, and its place, if it has one, is kept.
+    fn fop_ended(
         &mut self,
         alloc: Global,
         on: &Planned,
         call: u32,
-        has_place: bool,
-        place: u32,
+        place: Option<u32>,
     ) -> Result<(), Stop> {
-        self.fop_ended(alloc, on, call)?;
-        if has_place {
+        if let Some(hold) = hold_next(&self.calls, &self.fds, on, call) {
+            self.pages_ended(on, call, hold.first.gfid);
+            self.unlink_all(hold);
+        }
+        self.release(alloc, on, call)?;
+        if let Some(place) = place {
             self.calls.add_place(call, place)?;
         }
         Ok(())
     }
 
-    // The pages, the inodes and the holds of a fop are let go.
-    fn fop_ended(&mut self, alloc: Global, on: &Planned, call: u32) -> Result<(), Stop> {
-        if let Some(hold) = self.hold_next(on, call) {
-            self.pages_ended(on, call, hold.first.gfid);
-            self.unlink_all(hold);
-        }
-        self.release(alloc, on, call)
-    }
-
     // Where the fop of a call may have changed the bytes of a file, the pages of that go.
     fn pages_ended(&mut self, on: &Planned, call: u32, gfid: Gfid) {
-        if let Some((line, state)) = self.under_way(on, call) {
-            if changes_bytes_next(&line.call, &state.walk) {
-                self.graphs.drop_pages(gfid);
-            }
+        let Some(state) = self.calls.get(call) else {
+            return;
+        };
+        let Some(line) = on.line(state.at) else {
+            return;
+        };
+        if changes_bytes_next(&line.call, &state.walk) {
+            self.graphs.drop_pages(gfid);
         }
     }
 
@@ -133,29 +137,18 @@ impl Parts {
         call: u32,
         answer: FopAnswer,
     ) -> Result<(), Stop> {
-        match self.after(on, call, answer) {
-            Some(After::GoesOn(object)) => self.go_on_from(alloc, on, call, object),
-            Some(After::Replies(reply)) => self.reply(alloc, on, call, reply),
-            None => Ok(()),
+        let Some(state) = self.calls.get(call) else {
+            drop(answer);
+            return Ok(());
+        };
+        let Some(line) = on.line(state.at) else {
+            drop(answer);
+            return Ok(());
+        };
+        match after_answer(&line.call, &state.walk, answer) {
+            After::GoesOn(object) => self.go_on_from(alloc, on, call, object),
+            After::Replies(reply) => self.reply(alloc, on, call, reply),
         }
-    }
-
-    // What a call does at the answer of its fop.
-    fn after(&self, on: &Planned, call: u32, answer: FopAnswer) -> Option<After> {
-        match self.under_way(on, call) {
-            Some((line, state)) => Some(after_answer(&line.call, &state.walk, answer)),
-            None => {
-                drop(answer);
-                None
-            }
-        }
-    }
-
-    // A call without a reply, with its line.
-    fn under_way<'a>(&'a self, on: &'a Planned, call: u32) -> Option<(&'a CallLine, &'a CallState)> {
-        let state = self.calls.get(call)?;
-        let line = on.line(state.at)?;
-        Some((line, state))
     }
 
     // A lookup of a call has found this object: the call asks for its next fop's hold.
@@ -166,10 +159,13 @@ impl Parts {
         call: u32,
         object: Object,
     ) -> Result<(), Stop> {
-        let Some((line, state)) = self.under_way(on, call) else {
+        let Some(state) = self.calls.get(call) else {
             return Ok(());
         };
         let mut walk = state.walk;
+        let Some(line) = on.line(state.at) else {
+            return Ok(());
+        };
         walk.step(&line.call, object);
         self.calls.go_on(call, walk);
         self.ask(alloc, on, call)
@@ -214,35 +210,19 @@ impl Parts {
 
     // A call has its reply. It says whether it was the last of its graph.
     fn finish(&mut self, alloc: Global, call: u32, reply: CallReply) -> Result<bool, Stop> {
-        match self.calls.take(call) {
-            Some(state) => self.finish_call(alloc, call, state, reply),
-            None => {
-                drop(reply);
-                Ok(false)
-            }
-        }
-    }
-
-    fn finish_call(
-        &mut self,
-        alloc: Global,
-        call: u32,
-        state: CallState,
-        reply: CallReply,
-    ) -> Result<bool, Stop> {
+        let Some(state) = self.calls.take(call) else {
+            drop(reply);
+            return Ok(false);
+        };
         let graph = state.graph;
-        let at = self.next_reply();
+        let at = self
+            .log
+            .replies
+            .len()
+            .saturating_add(self.turn.lines.replies.len());
         self.replied_with(alloc, call, state, reply)?;
         let last = self.calls.replied(call, graph, at)?;
         Ok(last)
-    }
-
-    // Where the next reply will be in the log.
-    fn next_reply(&self) -> usize {
-        self.log
-            .replies
-            .len()
-            .saturating_add(self.turn.replies.len())
     }
 
     // The reply of a call that was taken out is written down, and its session may go on.
@@ -253,27 +233,26 @@ impl Parts {
         state: CallState,
         reply: CallReply,
     ) -> Result<(), AllocError> {
+        let CallReply { answer, fd } = reply;
         let session = state.session;
-        let moved = self.fd_moved(alloc, session, reply.fd);
-        let added = self.add_reply(call, state, reply);
-        self.progress.replied(session);
-        moved.and(added)
-    }
-
-    fn add_reply(
-        &mut self,
-        call: u32,
-        state: CallState,
-        reply: CallReply,
-    ) -> Result<(), AllocError> {
-        self.turn.add_reply(ReplyLine {
-            event: self.event,
+        let line = ReplyLine {
+            event: self.turn.event,
             call,
-            session: state.session,
+            session,
             line: state.line,
             places: state.places,
-            answer: reply.answer,
-        })
+            answer,
+        };
+        match self.fd_moved(alloc, session, fd) {
+            Ok(()) => {
+                self.progress.replied(session);
+                self.turn.lines.add_reply(line)
+            }
+            Err(error) => {
+                drop(line);
+                Err(error)
+            }
+        }
     }
 
     /// The internal call is answered.
@@ -282,7 +261,7 @@ impl Parts {
     /// Out of memory.
     pub(crate) fn internal_answered(&mut self) -> Result<(), AllocError> {
         self.internal = None;
-        self.turn.answered.push(self.event)?;
+        self.turn.lines.answered.push(self.turn.event)?;
         Ok(())
     }
 }

@@ -3,91 +3,15 @@
 ghost use Rattle.std.specs.Prelude.{true};
 ghost use Rattle.fop_types.specs.Bounds.{IsRep};
 
-use crate::parts::{Given, Parts, Todo};
-use fop_types::{BrickRep, Cell, CopyRecord, Fop, FopAnswer, Seq, SkipCause};
+use crate::parts::Parts;
+use fop_types::{BrickRep, Fop};
 use graph_nodes::Moved;
 use hub_tables::is_fop;
-use mount_log::{HubEvent, WindLine};
+use mount_log::HubEvent;
 use std::alloc::{AllocError, Global};
 use xlator_law::{Settled, Stop, WindNo};
 
 impl Parts {
-    fn note_winds(&mut self, graph: u32, winds: &[(WindNo, u32, bool)]) -> Result<(), AllocError> {
-        for line in winds {
-            let (wind, call, opened) = *line;
-            self.turn.winds.push(WindLine {
-                event: self.event,
-                graph,
-                call,
-                wind,
-                opened,
-            })?;
-        }
-        Ok(())
-    }
-
-    fn note_copies(&mut self, copies: Seq<CopyRecord>) -> Result<(), AllocError> {
-        for copy in copies.into_vec() {
-            self.note_copy(copy)?;
-        }
-        Ok(())
-    }
-
-    fn note_copy(&mut self, copy: CopyRecord) -> Result<(), AllocError> {
-        self.turn.copies.push(copy)?;
-        self.turn.copied.push(self.event)?;
-        Ok(())
-    }
-
-    fn note_skips(&mut self, skips: &[(Cell, SkipCause)]) -> Result<(), AllocError> {
-        for skip in skips {
-            self.turn.skips.push(*skip)?;
-            self.turn.skipped.push(self.event)?;
-        }
-        Ok(())
-    }
-
-    // What a graph has given is written down, and the rest of it left to be taken.
-    fn note(&mut self, graph: u32, moved: Moved) -> Result<(), AllocError> {
-        let Moved {
-            holds,
-            sends,
-            answers,
-            copies,
-            skips,
-            winds,
-        } = moved;
-        let wound = self.note_winds(graph, winds.as_slice());
-        let copied = self.note_copies(copies);
-        let skipped = self.note_skips(skips.as_slice());
-        let given = self.note_given(Given {
-            graph,
-            sends,
-            holds,
-        });
-        let answered = self.note_answers(answers);
-        drop(winds);
-        drop(skips);
-        wound.and(copied).and(skipped).and(given).and(answered)
-    }
-
-    fn note_given(&mut self, given: Given) -> Result<(), AllocError> {
-        self.todo.push(Todo::Take(given))
-    }
-
-    // The answers of fops are left to be taken in order, behind what the graph gave with them.
-    fn note_answers(&mut self, answers: Seq<(u32, FopAnswer, u32)>) -> Result<(), AllocError> {
-        for answered in answers.into_vec() {
-            self.note_answer(answered)?;
-        }
-        Ok(())
-    }
-
-    fn note_answer(&mut self, answered: (u32, FopAnswer, u32)) -> Result<(), AllocError> {
-        let (call, answer, place) = answered;
-        self.todo.push(Todo::Answer(call, answer, place))
-    }
-
     // A graph that needed a wind too many has left the lines of the winds before it.
     fn stopped(&mut self, alloc: Global, graph: u32, stop: Stop) -> Result<(), Stop> {
         match stop {
@@ -102,18 +26,11 @@ impl Parts {
     fn note_last_winds(&mut self, alloc: Global, graph: u32) -> Result<(), AllocError> {
         if self.graphs.nodes.is_spent() {
             let lines = self.graphs.nodes.last_lines(alloc);
-            let noted = self.note_winds(graph, lines.as_slice());
+            let noted = self.turn.note_winds(graph, lines.as_slice());
             drop(lines);
             return noted;
         }
         Ok(())
-    }
-
-    fn note_moved(&mut self, graph: u32, moved: Option<Moved>) -> Result<(), AllocError> {
-        match moved {
-            Some(moved) => self.note(graph, moved),
-            None => Ok(()),
-        }
     }
 
     fn ran(
@@ -124,7 +41,7 @@ impl Parts {
     ) -> Result<(), Stop> {
         match moved {
             Ok(moved) => {
-                self.note_moved(graph, moved)?;
+                self.turn.note_moved(graph, moved)?;
                 Ok(())
             }
             Err(stop) => self.stopped(alloc, graph, stop),
@@ -155,7 +72,7 @@ impl Parts {
     /// # Errors
     /// As for `Hub::submit`.
     pub(crate) fn run_task(&mut self, alloc: Global, graph: u32, task: u32) -> Result<(), Stop> {
-        self.turn.add_event(HubEvent::Run { graph, task })?;
+        self.turn.lines.add_event(HubEvent::Run { graph, task })?;
         let moved = self.graphs.nodes.run_task(alloc, graph, task);
         self.ran(alloc, graph, moved)
     }
@@ -185,7 +102,7 @@ impl Parts {
     {
         match self.graphs.nodes.arrive(alloc, graph, wind, rep, taken) {
             Ok(Some((settled, moved))) => {
-                self.note(graph, moved)?;
+                self.turn.note(graph, moved)?;
                 Ok(settled == Some(Settled::Won))
             }
             Ok(None) => Ok(false),
@@ -203,7 +120,7 @@ impl Parts {
     pub(crate) fn bail(&mut self, alloc: Global, graph: u32, brick: u8) -> Result<(), Stop> {
         match self.graphs.nodes.bail(alloc, graph, brick) {
             Ok(Some((_, moved))) => {
-                self.note(graph, moved)?;
+                self.turn.note(graph, moved)?;
                 Ok(())
             }
             Ok(None) => Ok(()),

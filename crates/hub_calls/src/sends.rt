@@ -1,7 +1,7 @@
 //! Moves of sending: requests, each behind the actions that are armed for it, and controls.
 ghost use Rattle.wire_xdr.specs.WireText.{IsInput};
 
-use crate::parts::Parts;
+use crate::turn::Turn;
 use bytes::Bytes;
 use fop_types::{Input, Proc, Seq};
 use hub_tables::{Nth, may_be_armed};
@@ -11,9 +11,9 @@ use script_lang::Action;
 use std::alloc::{AllocError, Global};
 use wire_xdr::encode_req;
 
-impl Parts {
+impl Turn {
     fn send(&mut self, brick: u8, bytes: Bytes) -> Result<(), AllocError> {
-        self.turn.sent.push(SentLine {
+        self.lines.sent.push(SentLine {
             event: self.event,
             brick,
             bytes,
@@ -21,10 +21,12 @@ impl Parts {
         Ok(())
     }
 
-    fn send_input(&mut self, alloc: Global, brick: u8, input: &Input) -> Result<(), AllocError>
-        requires { IsInput input.now }
+    fn send_input(&mut self, alloc: Global, brick: u8, input: Input) -> Result<(), AllocError>
+        requires { IsInput input }
     {
-        let bytes = Bytes::from_vec(encode_req(alloc, input)?)?;
+        let encoded = encode_req(alloc, &input);
+        drop(input);
+        let bytes = Bytes::from_vec(encoded?)?;
         self.send(brick, bytes)
     }
 
@@ -38,7 +40,7 @@ impl Parts {
         brick: u8,
         graph: u32,
     ) -> Result<(), AllocError> {
-        self.send_input(alloc, brick, &Input::Connect { graph, version: 1 })
+        self.send_input(alloc, brick, Input::Connect { graph, version: 1 })
     }
 
     /// Sends a brick a Disconnect of a graph.
@@ -51,7 +53,7 @@ impl Parts {
         brick: u8,
         graph: u32,
     ) -> Result<(), AllocError> {
-        self.send_input(alloc, brick, &Input::Disconnect { graph })
+        self.send_input(alloc, brick, Input::Disconnect { graph })
     }
 
     /// Sends a brick a Down.
@@ -65,7 +67,7 @@ impl Parts {
         serve: u32,
     ) -> Result<(), AllocError> {
         self.bricks.owe()?;
-        self.send_input(alloc, brick, &Input::Down { serve })
+        self.send_input(alloc, brick, Input::Down { serve })
     }
 
     /// Sends a brick an Up.
@@ -74,7 +76,7 @@ impl Parts {
     /// Out of memory.
     pub(crate) fn send_up(&mut self, alloc: Global, brick: u8) -> Result<(), AllocError> {
         self.bricks.owe()?;
-        self.send_input(alloc, brick, &Input::Up)
+        self.send_input(alloc, brick, Input::Up)
     }
 
     /// Sends a brick the request that it is to fail.
@@ -91,7 +93,7 @@ impl Parts {
         if !may_be_armed(brick, Action::Fault(brick, proc, number)) {
             return Ok(());
         }
-        self.send_input(alloc, brick, &Input::FaultAt { proc, number })
+        self.send_input(alloc, brick, Input::FaultAt { proc, number })
     }
 
     // An armed action is carried out: a Down or a fault.
@@ -105,24 +107,15 @@ impl Parts {
 
     // A request goes out, behind what is armed for it; the controls that wait for it have come.
     fn send_request(&mut self, alloc: Global, brick: u8, bytes: Bytes) -> Result<(), AllocError> {
-        match rank_of(bytes.as_slice()) {
-            Some(proc) => self.send_proc(alloc, brick, proc, bytes),
-            None => {
-                drop(bytes);
-                Ok(())
-            }
-        }
-    }
-
-    fn send_proc(
-        &mut self,
-        alloc: Global,
-        brick: u8,
-        proc: u8,
-        bytes: Bytes,
-    ) -> Result<(), AllocError> {
+        let Some(proc) = rank_of(bytes.as_slice()) else {
+            drop(bytes);
+            return Ok(());
+        };
         match self.go_before(alloc, brick, proc) {
-            Ok(request) => self.send_nth(brick, bytes, request),
+            Ok(request) => {
+                self.send(brick, bytes)?;
+                self.controls.sent(request)
+            }
             Err(error) => {
                 drop(bytes);
                 Err(error)
@@ -133,24 +126,14 @@ impl Parts {
     // What is armed for the next request of a procedure goes out, and an output is owed for that request.
     fn go_before(&mut self, alloc: Global, brick: u8, proc: u8) -> Result<Nth, AllocError> {
         let request = self.controls.count(brick, proc)?;
-        self.send_armed(alloc, request)?;
-        self.bricks.owe()?;
-        Ok(request)
-    }
-
-    fn send_armed(&mut self, alloc: Global, request: Nth) -> Result<(), AllocError> {
         for _ in 0..self.controls.armed_len() {
             let Some(action) = self.controls.take_armed(request) else {
-                return Ok(());
+                break;
             };
             self.carry_out_armed(alloc, action)?;
         }
-        Ok(())
-    }
-
-    fn send_nth(&mut self, brick: u8, bytes: Bytes, request: Nth) -> Result<(), AllocError> {
-        self.send(brick, bytes)?;
-        self.controls.sent(request)
+        self.bricks.owe()?;
+        Ok(request)
     }
 
     /// Requests of a graph go out, in order.
@@ -164,18 +147,9 @@ impl Parts {
     ) -> Result<(), AllocError> {
         for next in sends.into_vec() {
             let (brick, message) = next;
-            self.send_message(alloc, brick, message)?;
+            let bytes = Bytes::from_vec(message.into_vec())?;
+            self.send_request(alloc, brick, bytes)?;
         }
         Ok(())
-    }
-
-    fn send_message(
-        &mut self,
-        alloc: Global,
-        brick: u8,
-        message: Seq<u8>,
-    ) -> Result<(), AllocError> {
-        let bytes = Bytes::from_vec(message.into_vec())?;
-        self.send_request(alloc, brick, bytes)
     }
 }

@@ -1,7 +1,8 @@
 //! The turn of an event: what is to be done until nothing is left, and what closes it.
 
-use crate::parts::{Given, Parts, Todo};
+use crate::parts::Parts;
 use crate::planned::Planned;
+use crate::turn::{Given, Todo};
 use call_fops::{Walk, at_once};
 use fop_types::{Call, FopAnswer, Gfid, Seq};
 use graph_nodes::HoldAsk;
@@ -9,7 +10,6 @@ use hub_tables::{CallState, Controls, Stage, makes};
 use mount_log::{HubEvent, LineAt};
 use script_lang::CallLine;
 use std::alloc::{AllocError, Global};
-use std::mem;
 use xlator_law::Stop;
 
 const NOTHING_DRAWN: Gfid = Gfid { hi: 0, lo: 0 };
@@ -24,7 +24,7 @@ impl Parts {
     /// Out of memory.
     pub(crate) fn begin_script(&mut self, alloc: Global, on: &Planned) -> Result<(), Stop> {
         self.make_graph(alloc, on, on.script().start)?;
-        self.log.add(alloc, &mut self.turn)?;
+        self.log.add(alloc, &mut self.turn.lines)?;
         self.begin_phase(alloc, on)?;
         self.move_on(alloc, on)?;
         Ok(())
@@ -32,7 +32,7 @@ impl Parts {
 
     /// Begins an event.
     pub(crate) fn open_event(&mut self) {
-        self.event = (self.log.events.len() as u64).saturating_add(1);
+        self.turn.event = (self.log.events.len() as u64).saturating_add(1);
     }
 
     /// The next call of a session is submitted.
@@ -81,7 +81,7 @@ impl Parts {
             session,
             line: line.line,
         };
-        self.turn.add_event(event)?;
+        self.turn.lines.add_event(event)?;
         let call = self.calls.number()?;
         let state = CallState {
             session,
@@ -108,7 +108,7 @@ impl Parts {
     // Does what is to be done, in order, until nothing is left. What an item leaves behind is taken after the others.
     fn settle(&mut self, alloc: Global, on: &Planned) -> Result<(), Stop> {
         for _ in 0..ITEMS {
-            let Some(item) = self.todo.pop() else {
+            let Some(item) = self.turn.todo.pop() else {
                 return Ok(());
             };
             self.take_one(alloc, on, item)?;
@@ -131,7 +131,7 @@ impl Parts {
             sends,
             holds,
         } = given;
-        let taken = match self.send_all(alloc, sends) {
+        let taken = match self.turn.send_all(alloc, sends) {
             Ok(()) => self.take_holds(alloc, on, graph, holds.as_slice()),
             Err(_) => Err(Stop::Mem),
         };
@@ -173,8 +173,8 @@ impl Parts {
     fn note_entries(&mut self) -> Result<(), AllocError> {
         let history = self.graphs.nodes.history();
         for at in self.log.history.len()..history.len() {
-            self.turn.history.push(history[at])?;
-            self.turn.entered.push(self.event)?;
+            self.turn.lines.history.push(history[at])?;
+            self.turn.lines.entered.push(self.turn.event)?;
         }
         Ok(())
     }
@@ -188,7 +188,7 @@ impl Parts {
         self.settle(alloc, on)?;
         self.disconnect_drained(alloc, on)?;
         self.note_entries()?;
-        self.log.add(alloc, &mut self.turn)?;
+        self.log.add(alloc, &mut self.turn.lines)?;
         self.move_on(alloc, on)?;
         Ok(())
     }
@@ -216,7 +216,7 @@ impl Parts {
     fn cut_event(&mut self, alloc: Global, stop: Stop) -> Result<(), Stop> {
         match stop {
             Stop::Mem => Err(Stop::Mem),
-            Stop::Winds => match self.log.add_winds(alloc, &mut self.turn) {
+            Stop::Winds => match self.log.add_winds(alloc, &mut self.turn.lines) {
                 Ok(()) => Err(Stop::Winds),
                 Err(_) => Err(Stop::Winds),
             },
@@ -234,7 +234,7 @@ impl Parts {
 
     // Whether the current phase has nothing left.
     fn has_ended(&self, on: &Planned) -> bool {
-        self.has_phase(on) && self.has_nothing_else() && self.controls.is_empty()
+        self.has_phase(on) && self.has_nothing_else() && self.turn.controls.is_empty()
     }
 
     /// Begins the current phase.
@@ -246,15 +246,11 @@ impl Parts {
             Some(phase) => {
                 self.progress.begin(phase);
                 let controls = Controls::of(alloc, phase)?;
-                self.set_controls(controls);
+                self.turn.set_controls(controls);
             }
-            None => self.set_controls(Controls::new(alloc)),
+            None => self.turn.set_controls(Controls::new(alloc)),
         }
         Ok(())
-    }
-
-    fn set_controls(&mut self, controls: Controls) {
-        drop(mem::replace(&mut self.controls, controls));
     }
 
     /// Ends the phases that have nothing left.

@@ -1,0 +1,163 @@
+//! The event under way: its lines, and what is still to be done in it.
+
+use fop_types::{Cell, CopyRecord, FopAnswer, Proc, Seq, SkipCause};
+use frame_driver::Queue;
+use graph_nodes::{HoldAsk, Moved};
+use hub_tables::{Bricks, Controls};
+use mount_log::{HubEvent, Log, WindLine};
+use script_lang::Action;
+use std::alloc::{AllocError, Global};
+use std::mem;
+use xlator_law::{Stop, WindNo};
+
+/// What a graph has given in a turn and the hub has not taken: the messages for bricks, and the calls that ask for a hold.
+#[derive(Drop)]
+pub struct Given {
+    pub graph: u32,
+    pub sends: Seq<(u8, Seq<u8>)>,
+    pub holds: Seq<(u32, HoldAsk)>,
+}
+
+/// What is still to be done in an event: what a graph has given is taken; the answer of a call's fop is taken, with its
+/// place; or a call is answered whose fop was refused.
+#[derive(Drop)]
+pub enum Todo {
+    Take(Given),
+    Answer(u32, FopAnswer, u32),
+    Refuse(u32),
+}
+
+/// The event under way, by its number and its lines so far; what is still to be done in it; the controls of the phase; and
+/// what is known of the bricks.
+#[derive(Drop)]
+pub struct Turn {
+    pub event: u64,
+    pub lines: Log,
+    pub todo: Queue<Todo>,
+    pub controls: Controls,
+    pub bricks: Bricks,
+}
+
+impl Turn {
+    /// The turn before any event. It takes no memory.
+    pub(crate) fn new(alloc: Global) -> Turn {
+        Turn {
+            event: 0,
+            lines: Log::new(alloc),
+            todo: Queue::new(alloc),
+            controls: Controls::new(alloc),
+            bricks: Bricks::new(),
+        }
+    }
+
+    /// The controls of a phase that begins.
+    pub(crate) fn set_controls(&mut self, controls: Controls) {
+        drop(mem::replace(&mut self.controls, controls));
+    }
+
+    /// An action is armed for a request.
+    ///
+    /// # Errors
+    /// As for `Hub::submit`.
+    pub(crate) fn armed(
+        &mut self,
+        brick: u8,
+        before: Proc,
+        count: u32,
+        action: Action,
+    ) -> Result<(), Stop> {
+        self.controls.arm(brick, before, count, action)?;
+        self.lines
+            .add_event(HubEvent::Arm(brick, before, count, action))?;
+        Ok(())
+    }
+
+    /// The winds that a graph has opened and ended are written down.
+    ///
+    /// # Errors
+    /// Out of memory.
+    pub(crate) fn note_winds(
+        &mut self,
+        graph: u32,
+        winds: &[(WindNo, u32, bool)],
+    ) -> Result<(), AllocError> {
+        for line in winds {
+            let (wind, call, opened) = *line;
+            self.lines.winds.push(WindLine {
+                event: self.event,
+                graph,
+                call,
+                wind,
+                opened,
+            })?;
+        }
+        Ok(())
+    }
+
+    fn note_copies(&mut self, copies: Seq<CopyRecord>) -> Result<(), AllocError> {
+        for copy in copies.into_vec() {
+            self.lines.copies.push(copy)?;
+            self.lines.copied.push(self.event)?;
+        }
+        Ok(())
+    }
+
+    fn note_skips(&mut self, skips: &[(Cell, SkipCause)]) -> Result<(), AllocError> {
+        for skip in skips {
+            self.lines.skips.push(*skip)?;
+            self.lines.skipped.push(self.event)?;
+        }
+        Ok(())
+    }
+
+    /// What a graph has given is written down, and the rest of it left to be taken.
+    ///
+    /// # Errors
+    /// Out of memory.
+    pub(crate) fn note(&mut self, graph: u32, moved: Moved) -> Result<(), AllocError> {
+        let Moved {
+            holds,
+            sends,
+            answers,
+            copies,
+            skips,
+            winds,
+        } = moved;
+        let wound = self.note_winds(graph, winds.as_slice());
+        drop(winds);
+        let copied = self.note_copies(copies);
+        let skipped = self.note_skips(skips.as_slice());
+        drop(skips);
+        let given = self.todo.push(Todo::Take(Given {
+            graph,
+            sends,
+            holds,
+        }));
+        let answered = self.note_answers(answers);
+        wound.and(copied).and(skipped).and(given).and(answered)
+    }
+
+    // The answers of fops are left to be taken in order, behind what the graph gave with them.
+    fn note_answers(&mut self, answers: Seq<(u32, FopAnswer, u32)>) -> Result<(), AllocError> {
+        for answered in answers.into_vec() {
+            let (call, answer, place) = answered;
+            self.todo.push(Todo::Answer(call, answer, place))?;
+        }
+        Ok(())
+    }
+
+    /// What a graph has given, if it is there, is written down.
+    ///
+    /// # Errors
+    /// Out of memory.
+    pub(crate) fn note_moved(
+        &mut self,
+        graph: u32,
+        moved: Option<Moved>,
+    ) -> Result<(), AllocError> {
+        match moved {
+            Some(moved) => self.note(graph, moved),
+            None => Ok(()),
+        }
+    }
+}
