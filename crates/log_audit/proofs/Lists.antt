@@ -49,11 +49,11 @@ module _ {X : Type 0} where
       → new ++ rest ≡ all
   grown {Y = Y} f xs i d old new rest all lt added so_far = added ∙ ap (λ (l : List Y). old ++ l) (sym (at_drop_more f xs i d lt)) ∙ so_far
 
-  -- where the other list is read as these items
-  pub grown_in : {Y : Type 0} (f : List X → List Y) (xs items : List X) (i : ℕ) (d : X) (old new rest all : List Y) → items ≡ xs → i < length items → new ++ rest ≡ old ++ f (get_or items i d ∷ drop (i + 1) xs)
+  -- where the other list is read as these items, and this is the one at the place
+  pub grown_by : {Y : Type 0} (f : List X → List Y) (xs items : List X) (i : ℕ) (x : X) (old new rest all : List Y) → items ≡ xs → i < length items → x ≡ get_or items i x → new ++ rest ≡ old ++ f (x ∷ drop (i + 1) xs)
       → old ++ f (drop i xs) ≡ all → new ++ rest ≡ all
-  grown_in {Y = Y} f xs items i d old new rest all same lt added so_far =
-      grown f items i d old new rest all lt (added ∙ ap (λ (l : List X). old ++ f (get_or items i d ∷ drop (i + 1) l)) (sym same)) (ap (λ (l : List X). old ++ f (drop i l)) same ∙ so_far)
+  grown_by {Y = Y} f xs items i x old new rest all same lt is added so_far =
+      grown f items i x old new rest all lt (added ∙ ap (λ (l : List X). old ++ f (x ∷ drop (i + 1) l)) (sym same) ∙ ap (λ (y : X). old ++ f (y ∷ drop (i + 1) items)) is) (ap (λ (l : List X). old ++ f (drop i l)) same ∙ so_far)
 
 -- ---- lists of numbers
 
