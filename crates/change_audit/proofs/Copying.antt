@@ -22,12 +22,13 @@ use Rattle.mount_log.specs.Causes.{plan_of_volfile, set_of_plan}
 use Rattle.mount_log.specs.declared.logs.HubEvent.{HubEvent}
 use Rattle.mount_log.specs.declared.logs.HubEvent.TheVariants.{Arrive}
 use Rattle.mount_log.specs.declared.logs.Log.{Log}
-use Rattle.change_audit.specs.Answered.{IsDoneIn, IsOpenedIn}
+use Rattle.change_audit.specs.Answered.{IsDoneIn}
 use Rattle.change_audit.specs.CallGraphs.{AreGraphsOf}
 use Rattle.change_audit.specs.Claims.{KeepClaims, entry_by, place_or_first}
 use Rattle.change_audit.specs.Copied.{IsWithinSet, IsReplaced, CopiesAreMade}
-use Rattle.change_audit.specs.Copying.{IsSentAs, replace_of, IsConfirmed, IsOfCopy, HasFetch, IsWithinTables, IsCopyClaimed, IsCopyDue}
+use Rattle.change_audit.specs.Copying.{IsSentAs, replace_of, IsConfirmed, IsReplacementOf, IsWithinTables, IsCopyClaimed, IsCopyDue}
 use Rattle.change_audit.specs.Journals.{IsInputOf}
+use Rattle.change_audit.specs.Served.{done_text}
 use Rattle.change_audit.specs.declared.call_graphs.CallGraphs.{CallGraphs}
 use Rattle.change_audit.specs.declared.copy_requests.Replacement.{Replacement}
 use Rattle.change_audit.proofs.Items.{each_more}
@@ -51,27 +52,26 @@ done_in log bricks brick wind graph event taken req arm bytes there text sent = 
 pub output_made : (o : Output) (kind : OutKind) → o.kind ≡ kind → o ≡ record { taken = o.taken; kind = kind }
 output_made o kind is = ap (λ (k : OutKind). record o { kind = k }) is
 
-pub confirmed_is : (log : Log) (bricks : List Journal) (brick event : ℕ) (r : Replacement) (output : Output) (bytes : List ℕ) (wind : ℕ) → slice_get log.events event ≡ Some (Arrive brick bytes)
-    → bytes ≡ output_text output → output.kind ≡ Reply wind (Done Nothing) → IsSentAs bricks brick output.taken r.wind r.graph (replace_of r) → r.wind ≡ wind → IsConfirmed log bricks brick event r
-confirmed_is log bricks brick event r output bytes wind there text kind sent same =
-    done_in log bricks brick r.wind r.graph event output.taken (replace_of r) Nothing bytes there
-    (text ∙ ap output_text (output_made output (Reply r.wind (Done Nothing)) (kind ∙ ap (λ (w : ℕ). Reply w (Done Nothing)) (sym same)))) sent
+pub confirmed_is : (log : Log) (bricks : List Journal) (brick event : ℕ) (r : Replacement) (bytes : List ℕ) (taken wind : ℕ) → slice_get log.events event ≡ Some (Arrive brick bytes)
+    → bytes ≡ done_text taken wind → IsSentAs bricks brick taken r.wind r.graph (replace_of r) → r.wind ≡ wind → IsConfirmed log bricks brick event r
+confirmed_is log bricks brick event r bytes taken wind there text sent same =
+    done_in log bricks brick r.wind r.graph event taken (replace_of r) Nothing bytes there (text ∙ ap (λ (w : ℕ). done_text taken w) (sym same)) sent
 
 pub replaced_is : (log : Log) (bricks : List Journal) (copy : CopyRecord) (number call fetched_at replaced_at : ℕ) (r : Replacement) → replaced_at < number → IsConfirmed log bricks copy.sink replaced_at r
-    → IsOfCopy copy r → HasFetch log bricks copy.source call fetched_at r → IsOpenedIn log.winds call r.wind (fetched_at + 1) → IsReplaced log bricks copy number call r.graph r.wind
-replaced_is log bricks copy number call fetched_at replaced_at r lt done own has opened = record {
+    → IsReplacementOf log bricks copy call fetched_at r → IsReplaced log bricks copy number call r.graph r.wind
+replaced_is log bricks copy number call fetched_at replaced_at r lt done by = record {
   content = r.content;
-  fetch = has.wind;
+  fetch = by.fetch.wind;
   fetched_at = fetched_at;
   replaced_at = replaced_at;
   fetched =
-      subst (λ (l : ℕ). IsDoneIn log bricks copy.source has.wind r.graph fetched_at (Fetch 0 copy.cell) (Content r.content l)) own.last
-      (subst (λ (c : Cell). IsDoneIn log bricks copy.source has.wind r.graph fetched_at (Fetch 0 c) (Content r.content r.last)) own.cell has.fetched);
-  fetch_opened = has.opened;
-  opened = opened;
+      subst (λ (l : ℕ). IsDoneIn log bricks copy.source by.fetch.wind r.graph fetched_at (Fetch 0 copy.cell) (Content r.content l)) by.own.last
+      (subst (λ (c : Cell). IsDoneIn log bricks copy.source by.fetch.wind r.graph fetched_at (Fetch 0 c) (Content r.content r.last)) by.own.cell by.fetch.fetched);
+  fetch_opened = by.fetch.opened;
+  opened = by.opened;
   replaced =
-      subst (λ (l : ℕ). IsDoneIn log bricks copy.sink r.wind r.graph replaced_at (Replace copy.cell l r.content) Nothing) own.last
-      (subst (λ (c : Cell). IsDoneIn log bricks copy.sink r.wind r.graph replaced_at (Replace c r.last r.content) Nothing) own.cell done);
+      subst (λ (l : ℕ). IsDoneIn log bricks copy.sink r.wind r.graph replaced_at (Replace copy.cell l r.content) Nothing) by.own.last
+      (subst (λ (c : Cell). IsDoneIn log bricks copy.sink r.wind r.graph replaced_at (Replace c r.last r.content) Nothing) by.own.cell done);
   in_time = lt;
 }
 

@@ -1,6 +1,6 @@
 -- The graph of a call is that of the table; the sets of new names.
 use Rattle.std.proofs.Common.{◌≡◌, sym, ap, subst, ◌∙◌, arith}
-use Rattle.std.specs.Prelude.{ℕ, zero, suc, ◌≤◌, ◌+◌, ◌-◌, List, [], ◌∷◌, Some, length, take, slice_get}
+use Rattle.std.specs.Prelude.{ℕ, zero, suc, ◌≤◌, ◌+◌, ◌-◌, List, [], ◌∷◌, ◌++◌, Some, length, take, slice_get}
 use Rattle.fop_types.specs.declared.cells.Gfid.{Gfid}
 use Rattle.fop_types.specs.declared.flat.FlatOp.{FlatOp}
 use Rattle.fop_types.specs.declared.flat.FlatOp.TheVariants as flat
@@ -21,7 +21,7 @@ use Rattle.mount_log.specs.declared.logs.Log.{Log}
 use Rattle.change_audit.specs.Answered.{IsQuorum}
 use Rattle.change_audit.specs.Borne.{IsBorne, IsBearer}
 use Rattle.change_audit.specs.Bearing.{HasBearers}
-use Rattle.change_audit.specs.CallGraphs.{graphs_from, AreGraphsOf, HasGraph}
+use Rattle.change_audit.specs.CallGraphs.{submitted_in, graphs_from, AreGraphsOf, HasGraph}
 use Rattle.change_audit.specs.Placed.{HasSets, IsMadeIn, IsSplitIn, IsHashed, IsOnSet}
 use Rattle.change_audit.specs.Placed.IsSplitIn.{Root, Made}
 use Rattle.change_audit.specs.Placing.{HasTableSets, IsMadeByTable, IsSplitByTable, IsHashedByTable, IsOnSetByTable}
@@ -44,6 +44,16 @@ long (logged.Submit session line) rest = omega arith
 long (logged.Arrive brick bytes) rest = omega arith
 long (logged.Run graph task) rest = omega arith
 long (logged.Arm brick p count a) rest = omega arith
+
+-- ---- the table of calls
+
+-- the graphs of the calls so far, with those of one event more
+pub graphs_next : (graphs after : List ℕ) (graph step : ℕ) (e : HubEvent) (es : List HubEvent) (all : List ℕ) → ((rest : List ℕ) → after ++ rest ≡ graphs ++ submitted_in graph e rest)
+    → ((rest : List ℕ) → length (switched_by e rest) ≡ step + length rest) → graphs ++ graphs_from graph (e ∷ es) ≡ all → after ++ graphs_from (graph + step) es ≡ all
+graphs_next graphs after graph step e es all added counted so_far =
+    let one = counted [] in
+    let same : graph + step ≡ graph + length (switched_by e []) = omega (arith, one) in
+    added (graphs_from (graph + step) es) ∙ ap (λ (n : ℕ). graphs ++ submitted_in graph e (graphs_from n es)) same ∙ so_far
 
 -- ---- the graph of each call
 

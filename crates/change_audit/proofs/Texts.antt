@@ -1,6 +1,7 @@
 -- The texts of requests, and requests that were answered.
 use Rattle.std.proofs.Common.{◌≡◌, refl, sym, ap, ◌∙◌, append_assoc, length-append}
 use Rattle.std.specs.Prelude.{ℕ, ◌<◌, ◌+◌, List, ◌++◌, Some, length, drop, slice_get}
+use Rattle.fop_types.specs.declared.flat.FlatOp.{FlatOp}
 use Rattle.fop_types.specs.declared.messages.BrickRep.TheVariants.{Done}
 use Rattle.fop_types.specs.declared.messages.BrickReq.{BrickReq}
 use Rattle.fop_types.specs.declared.messages.BrickReq.TheVariants.{Op}
@@ -20,7 +21,8 @@ use Rattle.mount_log.specs.declared.logs.Log.{Log}
 use Rattle.mount_log.specs.declared.logs.WindLine.{WindLine}
 use Rattle.change_audit.specs.Answered.{IsWindFor, IsOpenedIn, IsOpenedSince}
 use Rattle.change_audit.specs.Journals.{IsInputOf}
-use Rattle.change_audit.specs.Served.{done_text, IsAnswered, IsOnWind, IsOpIn, IsOpText, IsPostIn, IsPostOn, IsPosted, HasText, IsServed, text_of}
+use Rattle.change_audit.specs.Bearing.{IsMaking, IsMakingIn}
+use Rattle.change_audit.specs.Served.{done_text, IsDoneOf, IsAnswered, IsRequestOn, IsOnWind, IsOpIn, IsOpText, IsPostIn, IsPostOn, IsPosted, HasText, IsServed, text_of}
 use Rattle.change_audit.specs.declared.answers.Served.{Served}
 use Rattle.change_audit.proofs.Items.{drop_front}
 
@@ -38,17 +40,23 @@ has_text wind text bytes same on graph req is =
     let behind : text_of on.graph on.req ≡ text_of graph req = sym (text_behind wind on.graph on.req) ∙ sym (ap (drop 12) on.is) ∙ same ∙ is in
     on.is ∙ ap (λ (t : List ℕ). unit 0 ++ (hyper wind ++ t)) behind
 
-pub op_text : (graph change : ℕ) (o : StoreOp) (x : Input) (bytes : List ℕ) → bytes ≡ input_text x → IsOpIn graph change o x → IsOpText graph change o (drop 12 bytes)
+pub on_wind : (wind : ℕ) (x : Input) (bytes : List ℕ) → bytes ≡ input_text x → IsRequestOn wind x → IsOnWind wind bytes
+on_wind wind x bytes is on = record { graph = on.graph; req = on.req; is = is ∙ ap input_text on.is }
+
+op_text : (graph change : ℕ) (o : StoreOp) (x : Input) (bytes : List ℕ) → bytes ≡ input_text x → IsOpIn graph change o x → IsOpText graph change o (drop 12 bytes)
 op_text graph change o x bytes is op = record { fd = op.fd; is = ap (drop 12) (is ∙ ap input_text op.is) ∙ text_behind op.wind graph (Op change op.fd o) }
+
+pub making : (graph change : ℕ) (operation : FlatOp) (x : Input) (bytes : List ℕ) → bytes ≡ input_text x → IsMakingIn graph change operation x → IsMaking graph change operation (drop 12 bytes)
+making graph change operation x bytes is made = record { op = made.op; op_is = made.op_is; has_text = op_text graph change made.op x bytes is made.asked }
 
 pub post_text : (wind graph change : ℕ) (x : Input) (bytes : List ℕ) → bytes ≡ input_text x → IsPostIn wind graph change x → IsPostOn wind graph change bytes
 post_text wind graph change x bytes is post = record { cells = post.cells; mask = post.mask; is = is ∙ ap input_text post.is }
 
 -- ---- what arrived
 
-pub done_said : (output : Output) (bytes : List ℕ) (taken wind : ℕ) → bytes ≡ output_text output → output.taken ≡ taken → output.kind ≡ Reply wind (Done Nothing) → bytes ≡ done_text taken wind
-done_said output bytes taken wind text counted kind =
-    text ∙ ap (λ (n : ℕ). output_text (record output { taken = n })) counted ∙ ap (λ (k : OutKind). output_text (record { taken = taken; kind = k })) kind
+pub done_said : (output : Output) (bytes : List ℕ) (taken wind : ℕ) → bytes ≡ output_text output → IsDoneOf taken wind output → bytes ≡ done_text taken wind
+done_said output bytes taken wind text done =
+    text ∙ ap (λ (n : ℕ). output_text (record output { taken = n })) done.taken_is ∙ ap (λ (k : OutKind). output_text (record { taken = taken; kind = k })) done.kind_is
 
 pub answered_there : (log : Log) (brick : ℕ) (at : Served) (wind : ℕ) (bytes : List ℕ) → slice_get log.events at.event ≡ Some (Arrive brick bytes) → bytes ≡ done_text at.taken wind → IsAnswered log brick at wind
 answered_there log brick at wind bytes there text = there ∙ ap (λ (b : List ℕ). Some (Arrive brick b)) text

@@ -3,13 +3,14 @@ use Rattle.std.specs.Prelude.{◌≡◌, ℕ, ◌+◌, ◌<◌, ◌≤◌, List,
 use Rattle.dht_fops.specs.Answers.{change_of}
 use Rattle.fop_types.specs.declared.flat.FlatOp.{FlatOp}
 use Rattle.fop_types.specs.declared.jobs.SetPlan.{SetPlan}
+use Rattle.fop_types.specs.declared.messages.Input.{Input}
 use Rattle.fop_types.specs.declared.store_ops.StoreOp.{StoreOp}
 use Rattle.brick_machine.specs.Journal.{Journal}
 use Rattle.mount_log.specs.declared.logs.Log.{Log}
 use Rattle.change_audit.specs.Answered.{IsQuorum}
 use Rattle.change_audit.specs.declared.answers.Bearer.{Bearer}
 use Rattle.change_audit.specs.Borne.{IsBorneBy, IsBearer}
-use Rattle.change_audit.specs.Served.{IsOpText}
+use Rattle.change_audit.specs.Served.{IsOpIn, IsOpText}
 
 abbrev pub brick_of : Bearer → ℕ
 brick_of bearer = bearer.brick
@@ -24,6 +25,12 @@ pub record IsMaking (graph change : ℕ) (operation : FlatOp) (text : List ℕ) 
   pub op : StoreOp
   pub op_is : change_of op ≡ Some operation
   pub has_text : IsOpText graph change op text
+
+-- the input is the op of a change in a graph that makes the operation
+pub record IsMakingIn (graph change : ℕ) (operation : FlatOp) (x : Input) : Type 0 where
+  pub op : StoreOp
+  pub op_is : change_of op ≡ Some operation
+  pub asked : IsOpIn graph change op x
 
 -- the op was served before the post, and answered before it, and the post by the event of this number
 pub record IsInOrder (bearer : Bearer) (number : ℕ) : Type 0 where

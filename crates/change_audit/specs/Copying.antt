@@ -12,7 +12,7 @@ use Rattle.wire_xdr.specs.WireText.{input_text}
 use Rattle.brick_machine.specs.Journal.{Journal}
 use Rattle.mount_log.specs.Causes.{plan_of_volfile, set_of_plan}
 use Rattle.mount_log.specs.declared.logs.Log.{Log}
-use Rattle.change_audit.specs.Answered.{IsDoneIn, IsWindFor}
+use Rattle.change_audit.specs.Answered.{IsDoneIn, IsWindFor, IsOpenedIn}
 use Rattle.change_audit.specs.Claims.{claim_of}
 use Rattle.change_audit.specs.Copied.{HasSoundSource, IsMade}
 use Rattle.change_audit.specs.declared.call_graphs.CallGraphs.{CallGraphs}
@@ -48,6 +48,12 @@ pub record HasFetch (log : Log) (bricks : List Journal) (brick call event : ℕ)
   pub wind : ℕ
   pub fetched : IsFetchedFor log bricks brick event r wind
   pub opened : IsWindFor log.winds call wind
+
+-- the replacement is of a copy, and was sent in the event at a place, in which the source answered its fetch in the call
+pub record IsReplacementOf (log : Log) (bricks : List Journal) (copy : CopyRecord) (call event : ℕ) (r : Replacement) : Type 0 where
+  pub own : IsOfCopy copy r
+  pub fetch : HasFetch log bricks copy.source call event r
+  pub opened : IsOpenedIn log.winds call r.wind (event + 1)
 
 -- the source and the sink of a copy are two bricks of one set of a graph, by its volfile in the table, and the source is sound
 pub record IsWithinTables (plans : List Plan) (tables : CallGraphs) (graph : ℕ) (copy : CopyRecord) : Type 0 where

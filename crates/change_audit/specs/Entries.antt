@@ -10,7 +10,7 @@ use Rattle.change_audit.specs.Acknowledged.{AreMarked}
 use Rattle.change_audit.specs.Borne.{IsBorne, IsAcknowledged}
 use Rattle.change_audit.specs.Claims.{claim_of}
 use Rattle.change_audit.specs.CallGraphs.{AreGraphsOf}
-use Rattle.change_audit.specs.declared.changes.Notes.{Notes}
+use Rattle.change_audit.specs.declared.notes.Notes.{Notes}
 
 pub record AreNotesOf (script : Script) (log : Log) (notes : Notes) : Type 0 where
   pub graphs : AreGraphsOf script log notes.graphs

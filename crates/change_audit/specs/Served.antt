@@ -10,6 +10,7 @@ use Rattle.fop_types.specs.declared.messages.DoneArm.TheVariants.{Nothing}
 use Rattle.fop_types.specs.declared.messages.Input.{Input}
 use Rattle.fop_types.specs.declared.messages.Input.TheVariants.{Request}
 use Rattle.fop_types.specs.declared.messages.OutKind.TheVariants.{Reply}
+use Rattle.fop_types.specs.declared.messages.Output.{Output}
 use Rattle.fop_types.specs.declared.store_ops.StoreOp.{StoreOp}
 use Rattle.wire_xdr.specs.MessageText.{req_text}
 use Rattle.wire_xdr.specs.WireText.{input_text, output_text}
@@ -26,6 +27,11 @@ use Rattle.change_audit.specs.declared.answers.Served.{Served}
 abbrev pub done_text : ℕ → ℕ → List ℕ
 done_text taken wind = output_text (record { taken = taken; kind = Reply wind (Done Nothing) })
 
+-- the output is the Done of a wind, which answers the input of this count
+pub record IsDoneOf (taken wind : ℕ) (x : Output) : Type 0 where
+  pub taken_is : x.taken ≡ taken
+  pub kind_is : x.kind ≡ Reply wind (Done Nothing)
+
 -- the Done of a wind arrived from a brick, where and for which input this says
 abbrev pub IsAnswered : Log → ℕ → Served → ℕ → Type 0
 IsAnswered log brick at wind = slice_get log.events at.event ≡ Some (Arrive brick (done_text at.taken wind))
@@ -35,6 +41,12 @@ pub record IsOnWind (wind : ℕ) (bytes : List ℕ) : Type 0 where
   pub graph : ℕ
   pub req : BrickReq
   pub is : bytes ≡ input_text (Request wind graph req)
+
+-- the input is a request on this wind
+pub record IsRequestOn (wind : ℕ) (x : Input) : Type 0 where
+  pub graph : ℕ
+  pub req : BrickReq
+  pub is : x ≡ Request wind graph req
 
 -- the text of a request
 abbrev pub text_of : ℕ → BrickReq → List ℕ

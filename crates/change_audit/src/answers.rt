@@ -3,7 +3,7 @@ ghost use Rattle.std.specs.Prelude.{◌≡◌, true, IfOk, IfSome};
 ghost use Rattle.fop_types.specs.declared.messages.BrickRep.TheVariants.{Done};
 ghost use Rattle.fop_types.specs.declared.messages.DoneArm.TheVariants.{Nothing};
 ghost use Rattle.fop_types.specs.declared.messages.OutKind.TheVariants.{Reply};
-ghost use Rattle.change_audit.specs.Served.{done_text, IsAnswered};
+ghost use Rattle.change_audit.specs.Served.{done_text, IsDoneOf, IsAnswered};
 
 use crate::arrivals::{arrived, written_output};
 use fop_types::{BrickRep, DoneArm, OutKind, Output};
@@ -17,6 +17,13 @@ pub struct Served {
     pub taken: u64,
     pub event: usize,
     pub opening: usize,
+}
+
+/// What an output answers: the count of the brick's inputs up to it, and its wind.
+#[derive(Clone, Copy)]
+pub struct Answering {
+    pub taken: u64,
+    pub wind: u64,
 }
 
 /// A brick that is said to bear a change, with its op and its post.
@@ -45,8 +52,16 @@ fn is_done(rep: &BrickRep) -> bool
     }
 }
 
-/// The wind of an output that is a Done with nothing.
-pub(crate) fn done_wind(kind: &OutKind) -> Option<u64>
+/// The wind of an output that is a reply.
+pub(crate) fn reply_wind(kind: &OutKind) -> Option<u64> {
+    match kind {
+        OutKind::Reply { wind, rep: _ } => Some(*wind),
+        _ => None,
+    }
+}
+
+// The wind of an output that is a Done with nothing.
+fn done_wind(kind: &OutKind) -> Option<u64>
     ensures { IfSome result (λ wind. kind.now ≡ Reply wind (Done Nothing)) }
 {
     match kind {
@@ -55,28 +70,39 @@ pub(crate) fn done_wind(kind: &OutKind) -> Option<u64>
     }
 }
 
-fn says_done(kind: &OutKind, wind: u64) -> bool
-    ensures { result ≡ true → kind.now ≡ Reply wind (Done Nothing) }
+fn done_of(output: &Output) -> Option<Answering>
+    ensures { IfSome result (λ done. IsDoneOf done.taken done.wind output.now) }
 {
-    match done_wind(kind) {
-        Some(found) => found == wind,
-        None => false,
-    }
+    let wind = done_wind(&output.kind)?;
+    Some(Answering {
+        taken: output.taken,
+        wind,
+    })
 }
 
-fn is_done_of(output: &Output, taken: u64, wind: u64) -> bool
-    ensures taken { result ≡ true → output.now.taken ≡ taken }
-    ensures kind { result ≡ true → output.now.kind ≡ Reply wind (Done Nothing) }
+/// What the bytes answer, if they are a Done with nothing.
+///
+/// # Errors
+/// Out of memory.
+pub(crate) fn done_in(alloc: Global, bytes: &[u8]) -> Result<Option<Answering>, AllocError>
+    ensures { IfOk result (λ found. IfSome found (λ done. bytes.now ≡ done_text done.taken done.wind)) }
 {
-    output.taken == taken && says_done(&output.kind, wind)
+    match written_output(alloc, bytes)? {
+        Some(output) => {
+            let found = done_of(&output);
+            drop(output);
+            Ok(found)
+        }
+        None => Ok(None),
+    }
 }
 
 // Whether the bytes are the Done of a wind that answers the input of this count.
 fn is_done_text(alloc: Global, bytes: &[u8], taken: u64, wind: u64) -> Result<bool, AllocError>
     ensures { IfOk result (λ yes. yes ≡ true → bytes.now ≡ done_text taken wind) }
 {
-    match written_output(alloc, bytes)? {
-        Some(output) => Ok(is_done_of(&output, taken, wind)),
+    match done_in(alloc, bytes)? {
+        Some(done) => Ok(done.taken == taken && done.wind == wind),
         None => Ok(false),
     }
 }

@@ -34,6 +34,15 @@ pub fn arrived(log: &Log, event: usize, brick: u8) -> Option<&[u8]>
     }
 }
 
+/// The hyper at a place among bytes.
+pub(crate) fn hyper_at(bytes: &[u8], at: usize) -> Option<u64> {
+    let mut number = 0u64;
+    for byte in bytes.get(at..)?.get(..8)? {
+        number = (number << 8) | *byte as u64;
+    }
+    Some(number)
+}
+
 /// The output that the bytes are the encoding of, if they are that of one.
 ///
 /// # Errors

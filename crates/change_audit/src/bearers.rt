@@ -1,14 +1,14 @@
 //! Whether the bricks of a set bear a change, where they are said to.
 ghost use Rattle.std.specs.Prelude.{◌≡◌, ◌==◌, ◌≤◌, true, length, map, drop, Contains, IfOk};
 ghost use Rattle.std.specs.List.{AllByRecursion, IsDistinct};
-ghost use Rattle.change_audit.specs.Bearing.{brick_of, RisesFrom, IsMaking, IsInOrder, IsSaidBorne, IsSaidBearer, HasBearers};
+ghost use Rattle.change_audit.specs.Bearing.{brick_of, RisesFrom, IsMaking, IsMakingIn, IsInOrder, IsSaidBorne, IsSaidBearer, HasBearers};
 
 use crate::answers::Bearer;
-use crate::journals::input_at;
+use crate::journals::{input_at, whole_input};
 use crate::making::makes;
-use crate::served::{is_posted, is_served, op_in, text_in};
+use crate::served::{is_posted, is_served, op_asked, text_in};
 use brick_machine::Brick;
-use fop_types::{FlatOp, SetPlan};
+use fop_types::{FlatOp, Input, SetPlan};
 use mount_log::Log;
 use std::alloc::{AllocError, Global};
 
@@ -131,6 +131,16 @@ fn first_op<'a>(bricks: &'a [Brick], bearers: &[Bearer]) -> Option<&'a [u8]> {
     input_at(bricks, first.brick, first.op.taken)
 }
 
+// Whether an input is the op of a change in a graph that makes the operation.
+fn is_made_by(input: &Input, graph: usize, change: u64, operation: &FlatOp) -> bool
+    ensures { result ≡ true → IsMakingIn graph change operation.now input.now }
+{
+    match op_asked(input, graph, change) {
+        Some(op) => makes(op, operation),
+        None => false,
+    }
+}
+
 // Whether bytes are the op of a change in a graph that makes the operation.
 fn is_making(
     alloc: Global,
@@ -141,8 +151,12 @@ fn is_making(
 ) -> Result<bool, AllocError>
     ensures { IfOk result (λ yes. yes ≡ true → IsMaking graph change operation.now (drop 12 bytes.now)) }
 {
-    match op_in(alloc, bytes, graph, change)? {
-        Some(op) => Ok(makes(&op, operation)),
+    match whole_input(alloc, bytes)? {
+        Some(input) => {
+            let yes = is_made_by(&input, graph, change, operation);
+            drop(input);
+            Ok(yes)
+        }
         None => Ok(false),
     }
 }

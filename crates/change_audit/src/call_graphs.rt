@@ -1,14 +1,14 @@
 //! The graph of each call, and the set that a number means there.
-ghost use Rattle.std.specs.Prelude.{◌≡◌, ◌-◌, ◌++◌, ℕ, List, Some, option_copied, slice_get, IfOk, IfSome, OnOk};
+ghost use Rattle.std.specs.Prelude.{◌≡◌, ◌-◌, ◌++◌, ℕ, List, Some, slice_get, IfOk, IfSome, OnOk};
 ghost use Rattle.mount_log.specs.Causes.{plan_of_volfile, set_of_plan};
-ghost use Rattle.mount_log.specs.Graphs.{volfiles_of as volfiles_in};
 ghost use Rattle.change_audit.specs.CallGraphs.{submitted_in, graphs_from, AreGraphsOf, HasGraph};
 
 use fop_types::{Seq, SetPlan};
 use graph_build::Plan;
+use log_audit::call_graphs::{graphs_of, plan_of, set_of};
 use log_audit::switches::switch_in;
 use mount_log::{HubEvent, Log};
-use script_lang::{Action, Script};
+use script_lang::Script;
 use std::alloc::{AllocError, Global};
 
 /// The graph of each call, by the calls' numbers, and the volfile of each graph; both are numbered from 1.
@@ -46,20 +46,6 @@ fn graphs_of_calls(alloc: Global, events: &[HubEvent]) -> Result<Vec<usize>, All
     Ok(graphs)
 }
 
-fn volfiles_of(alloc: Global, script: &Script, log: &Log) -> Result<Vec<u8>, AllocError>
-    ensures { IfOk result (λ volfiles. volfiles.items ≡ volfiles_in script.now log.now) }
-{
-    let mut volfiles = Vec::new(alloc);
-    volfiles.push(script.start)?;
-    for event in log.events.as_slice() {
-        match event {
-            HubEvent::Act(Action::Switch(volfile)) => volfiles.push(*volfile)?,
-            _ => {}
-        }
-    }
-    Ok(volfiles)
-}
-
 /// The graphs of a run.
 ///
 /// # Errors
@@ -68,7 +54,7 @@ pub fn call_graphs(alloc: Global, script: &Script, log: &Log) -> Result<CallGrap
     ensures { IfOk result (λ tables. AreGraphsOf script.now log.now tables) }
 {
     let calls = graphs_of_calls(alloc, log.events.as_slice())?;
-    let volfiles = volfiles_of(alloc, script, log)?;
+    let volfiles = graphs_of(alloc, script, log)?;
     Ok(CallGraphs {
         calls: Seq::from_vec(calls),
         volfiles: Seq::from_vec(volfiles),
@@ -111,34 +97,12 @@ fn volfile_of(tables: &CallGraphs, graph: usize) -> Option<u8>
     Some(volfile)
 }
 
-/// The plan of a volfile.
-fn plan_at(plans: &[Plan], volfile: u8) -> Option<&Plan>
-    ensures { option_copied result ≡ slice_get plans.now volfile }
-{
-    plans.get(volfile as usize)
-}
-
-fn set_at(plan: &Plan, set: u8) -> Option<&SetPlan>
-    ensures { option_copied result ≡ slice_get plan.now.sets set }
-{
-    plan.sets.as_slice().get(set as usize)
-}
-
-fn set_of<'a>(plans: &'a [Plan], volfile: u8, set: u8) -> Option<&'a SetPlan>
-    ensures { option_copied result ≡ set_of_plan (slice_get plans.now volfile) set }
-{
-    match plan_at(plans, volfile) {
-        Some(plan) => set_at(plan, set),
-        None => None,
-    }
-}
-
 /// The plan of a graph.
 pub fn plan_in<'a>(plans: &'a [Plan], tables: &CallGraphs, graph: usize) -> Option<&'a Plan>
     ensures { IfSome result (λ plan. plan_of_volfile plans.now (slice_get tables.now.volfiles (graph - 1)) ≡ Some plan.now) }
 {
     let volfile = volfile_of(tables, graph)?;
-    let plan = plan_at(plans, volfile)?;
+    let plan = plan_of(plans, Some(volfile))?;
     Some(plan)
 }
 
@@ -151,8 +115,10 @@ pub fn set_in<'a>(
 ) -> Option<&'a SetPlan>
     ensures { IfSome result (λ plan. set_of_plan (plan_of_volfile plans.now (slice_get tables.now.volfiles (graph - 1))) set ≡ Some plan.now) }
 {
-    let volfile = volfile_of(tables, graph)?;
-    let plan = set_of(plans, volfile, set)?;
+    if graph == 0 {
+        return None;
+    }
+    let plan = set_of(plans, tables.volfiles.as_slice(), graph as u64, set)?;
     Some(plan)
 }
 
@@ -168,7 +134,6 @@ fn set_among(plan: &Plan, brick: u8) -> Option<u8> {
 
 /// The number of the set that has the brick in a graph.
 pub fn set_with(plans: &[Plan], tables: &CallGraphs, graph: usize, brick: u8) -> Option<u8> {
-    let volfile = volfile_of(tables, graph)?;
-    let plan = plan_at(plans, volfile)?;
+    let plan = plan_in(plans, tables, graph)?;
     set_among(plan, brick)
 }

@@ -61,6 +61,17 @@ impl Candidates {
         Ok(())
     }
 
+    fn add_all(
+        &mut self,
+        alloc: Global,
+        bearers: &BTreeMap<BearerOf, Bearer>,
+    ) -> Result<(), AllocError> {
+        for (key, bearer) in bearers.iter() {
+            self.add(alloc, *key, *bearer)?;
+        }
+        Ok(())
+    }
+
     /// The number of changes.
     pub(crate) fn count(&self) -> usize {
         self.changes.len()
@@ -90,14 +101,12 @@ impl Candidates {
 /// Out of memory.
 pub(crate) fn candidates_of(
     alloc: Global,
-    bearers: BTreeMap<BearerOf, Bearer>,
+    bearers: &BTreeMap<BearerOf, Bearer>,
 ) -> Result<Candidates, AllocError> {
     let mut candidates = Candidates {
         changes: Vec::new(alloc),
         begins: BTreeMap::new(alloc),
     };
-    for (key, bearer) in bearers {
-        candidates.add(alloc, key, bearer)?;
-    }
-    Ok(candidates)
+    let done = candidates.add_all(alloc, bearers);
+    done.and(Ok(candidates))
 }

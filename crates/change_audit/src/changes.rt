@@ -6,54 +6,19 @@ ghost use Rattle.change_audit.specs.CallGraphs.{AreGraphsOf};
 ghost use Rattle.change_audit.specs.Claims.{KeepClaims};
 ghost use Rattle.change_audit.specs.Entries.{AreNotesOf, IsClaimed, IsClaimedInTime, IsEntryClaimed};
 
-use crate::acknowledged::{answered_well, mark_of};
+use crate::acknowledged::mark_of;
 use crate::bearers::has_bearers;
-use crate::call_graphs::{CallGraphs, call_graphs, graph_of, set_in, set_with};
-use crate::candidates::{Candidate, Candidates};
+use crate::call_graphs::{CallGraphs, graph_of, set_in, set_with};
+use crate::candidates::Candidate;
 use crate::claims::Claims;
-use crate::finding::find;
-use crate::placing::{Makers, is_on_set, makers_of};
+use crate::notes::{Notes, notes_of};
+use crate::placing::is_on_set;
 use brick_machine::Brick;
-use fop_types::{Entry, FlatOp, Seq};
+use fop_types::{Entry, FlatOp};
 use graph_build::Plan;
 use mount_log::Log;
 use script_lang::Script;
 use std::alloc::{AllocError, Global};
-
-/// What is known of a run before its history is gone through: the graphs of its calls, which calls were answered well and by
-/// which event, which changes bricks are said to bear, and which entries make directories.
-#[derive(Drop)]
-pub struct Notes {
-    pub graphs: CallGraphs,
-    pub marks: Seq<Option<u64>>,
-    pub found: Candidates,
-    pub makers: Makers,
-}
-
-// Each call was submitted by an event of its own, so no call has a greater number than there are events.
-fn notes_of(
-    alloc: Global,
-    script: &Script,
-    log: &Log,
-    bricks: &[Brick],
-    ops: &[FlatOp],
-) -> Result<Option<Notes>, AllocError>
-    ensures { IfOk result (λ found. IfSome found (λ notes. AreNotesOf script.now log.now notes)) }
-{
-    let bound = log.events.len().saturating_add(1);
-    let Some(marks) = answered_well(alloc, log.replies.as_slice(), bound)? else {
-        return Ok(None);
-    };
-    let graphs = call_graphs(alloc, script, log)?;
-    let found = find(alloc, log, bricks, marks.as_slice())?;
-    let makers = makers_of(alloc, ops)?;
-    Ok(Some(Notes {
-        graphs,
-        marks,
-        found,
-        makers,
-    }))
-}
 
 // The number of the set that the first of the bearers is in.
 fn set_of(plans: &[Plan], graphs: &CallGraphs, graph: usize, change: &Candidate) -> Option<u8> {
@@ -89,7 +54,7 @@ fn is_borne(
     let Some(plan) = set_in(plans, graphs, graph, set) else {
         return Ok(false);
     };
-    let makers = &notes.makers;
+    let makers = &notes.leads.makers;
     if !is_on_set(alloc, plans, log, graphs, ops, makers, operation, set)? {
         return Ok(false);
     }
@@ -119,8 +84,9 @@ fn change_for(
     requires { AreGraphsOf script.now log.now notes.now.graphs }
     ensures { IfOk result (λ found. IfSome found (λ change. IsBorne script.now plans.now log.now bricks.now ops.now call change number operation.now)) }
 {
-    for at in notes.found.begin(call)..notes.found.count() {
-        let Some(change) = notes.found.change(at, call) else {
+    let found = &notes.leads.found;
+    for at in found.begin(call)..found.count() {
+        let Some(change) = found.change(at, call) else {
             return Ok(None);
         };
         if claims.has(change.change) {
@@ -234,11 +200,43 @@ fn take_entry(
     Ok(yes)
 }
 
-/// Whether each entry of the history whose call was answered well has a change of its own on the bricks: a quorum of the bricks
-/// of one set have answered Done to the op of the change, which makes the entry's operation, and then to its post, which was sent
-/// when that answer had arrived, both for winds of the call, and the second answer arrived by the event of the call's reply; where
-/// the operation makes an object, the set is that of its name. `ops` are the operations of the entries, in their order; where
-/// they are fewer than the entries, it is false.
+// Whether each entry whose call was answered well has a change of its own on the bricks, by the notes of the run.
+fn are_borne(
+    alloc: Global,
+    script: &Script,
+    plans: &[Plan],
+    log: &Log,
+    bricks: &[Brick],
+    ops: &[FlatOp],
+    notes: &Notes,
+) -> Result<bool, AllocError>
+    requires { AreNotesOf script.now log.now notes.now }
+    ensures { IfOk result (λ yes. yes ≡ true → AreBorne script.now plans.now log.now bricks.now ops.now) }
+{
+    let mut claims = Claims::new(alloc);
+    for k in 0..log.history.len() {
+        if !take_entry(
+            alloc,
+            script,
+            plans,
+            log,
+            bricks,
+            ops,
+            notes,
+            &mut claims,
+            k,
+        )? {
+            return Ok(false);
+        }
+    }
+    Ok(true)
+}
+
+/// Whether each entry of the history whose call was answered well has a change of its own on the bricks. A quorum of the bricks
+/// of one set have answered Done to the op of the change, which makes the entry's operation, and then to its post. Both were for
+/// winds of the call; the post was sent when the first answer had arrived, and the second arrived by the event of the call's
+/// reply. Where the operation makes an object, the set is that of its name. `ops` are the operations of the entries, in their
+/// order; where they are fewer than the entries, it is false.
 ///
 /// # Errors
 /// Out of memory.
@@ -252,24 +250,12 @@ pub fn changes_are_borne(
 ) -> Result<bool, AllocError>
     ensures { IfOk result (λ yes. yes ≡ true → AreBorne script.now plans.now log.now bricks.now ops.now) }
 {
-    let Some(notes) = notes_of(alloc, script, log, bricks, ops)? else {
-        return Ok(false);
-    };
-    let mut claims = Claims::new(alloc);
-    for k in 0..log.history.len() {
-        if !take_entry(
-            alloc,
-            script,
-            plans,
-            log,
-            bricks,
-            ops,
-            &notes,
-            &mut claims,
-            k,
-        )? {
-            return Ok(false);
+    match notes_of(alloc, script, log, bricks, ops)? {
+        Some(notes) => {
+            let yes = are_borne(alloc, script, plans, log, bricks, ops, &notes);
+            drop(notes);
+            yes
         }
+        None => Ok(false),
     }
-    Ok(true)
 }

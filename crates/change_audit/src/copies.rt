@@ -1,18 +1,16 @@
 //! The audit of copies.
-ghost use Rattle.std.specs.Prelude.{◌≡◌, ◌≢◌, ◌+◌, true, length, Contains, Some, option_copied, slice_get, IfOk, IfSome};
+ghost use Rattle.std.specs.Prelude.{◌≡◌, ◌≢◌, true, length, Contains, Some, option_copied, slice_get, IfOk, IfSome};
 ghost use Rattle.fop_types.specs.declared.copy_jobs.CopyRecord.{CopyRecord as Copied};
-ghost use Rattle.change_audit.specs.Answered.{IsOpenedIn};
 ghost use Rattle.change_audit.specs.CallGraphs.{AreGraphsOf};
 ghost use Rattle.change_audit.specs.Claims.{KeepClaims};
-ghost use Rattle.change_audit.specs.Copied.{IsReplaced, IsMade, CopiesAreMade};
-ghost use Rattle.change_audit.specs.Copying.{IsOfCopy, HasFetch, IsWithinTables, IsCopyClaimed, IsCopyDue};
+ghost use Rattle.change_audit.specs.Copied.{IsMade, CopiesAreMade};
+ghost use Rattle.change_audit.specs.Copying.{IsWithinTables, IsCopyClaimed, IsCopyDue};
 
 use crate::bearers::has_member;
 use crate::call_graphs::{CallGraphs, call_graphs, set_in, set_with};
 use crate::claims::Claims;
 use crate::copy_finding::{Found, Replacements, find_replacements};
-use crate::copy_requests::{Replacement, confirmed, fetched, is_cell};
-use crate::openings::{is_opened_in, is_wind_for};
+use crate::replacing::replacement_for;
 use crate::sources::has_sound_source;
 use brick_machine::Brick;
 use fop_types::{CopyRecord, SetPlan};
@@ -21,72 +19,7 @@ use mount_log::Log;
 use script_lang::Script;
 use std::alloc::{AllocError, Global};
 
-// ---- the replacement of a copy
-
-fn is_of(by: &Replacement, copy: &CopyRecord) -> bool
-    ensures { result ≡ true → IsOfCopy copy.now by.now }
-{
-    by.last == copy.last && is_cell(&by.cell, &copy.cell)
-}
-
-// Whether the source has answered the fetch, on a wind of the call, by what the replacement carries.
-fn has_fetch(
-    alloc: Global,
-    log: &Log,
-    bricks: &[Brick],
-    source: u8,
-    at: Found,
-    by: &Replacement,
-) -> Result<bool, AllocError>
-    ensures { IfOk result (λ yes. yes ≡ true → HasFetch log.now bricks.now source at.call at.fetched by.now) }
-{
-    match fetched(alloc, log, bricks, source, at.fetched, by)? {
-        Some(wind) => Ok(is_wind_for(log.winds.as_slice(), at.fetch_opening, at.call, wind)),
-        None => Ok(false),
-    }
-}
-
-// Whether the wind of a replacement was opened in the event in which the answer to its fetch arrived.
-fn is_in_turn(log: &Log, at: Found, wind: u64) -> bool
-    ensures { result ≡ true → IsOpenedIn log.now.winds at.call wind (at.fetched + 1) }
-{
-    if at.fetched >= usize::MAX {
-        return false;
-    }
-    let number = at.fetched as u64 + 1;
-    is_opened_in(log.winds.as_slice(), at.opening, at.call, wind, number)
-}
-
-// The replacement by which a copy was made in a call, if it was confirmed before the copy's event ended.
-fn replacement_for(
-    alloc: Global,
-    log: &Log,
-    bricks: &[Brick],
-    copy: &CopyRecord,
-    number: u64,
-    at: Found,
-) -> Result<Option<Replacement>, AllocError>
-    ensures { IfOk result (λ found. IfSome found (λ by. IsReplaced log.now bricks.now copy.now number at.call by.graph by.wind)) }
-{
-    if at.replaced as u64 >= number {
-        return Ok(None);
-    }
-    let Some(by) = confirmed(alloc, log, bricks, copy.sink, at.replaced)? else {
-        return Ok(None);
-    };
-    if !is_of(&by, copy) {
-        return Ok(None);
-    }
-    if !has_fetch(alloc, log, bricks, copy.source, at, &by)? {
-        return Ok(None);
-    }
-    if !is_in_turn(log, at, by.wind) {
-        return Ok(None);
-    }
-    Ok(Some(by))
-}
-
-// ---- its set
+// ---- the set
 
 fn has_sink(plan: &SetPlan, copy: &CopyRecord) -> bool
     ensures sink { result ≡ true → Contains plan.now.bricks copy.now.sink }
@@ -135,13 +68,13 @@ fn made_by(
     requires { AreGraphsOf script.now log.now graphs.now }
     ensures { IfOk result (λ found. IfSome found (λ wind. IsMade script.now plans.now log.now bricks.now copy.now number wind)) }
 {
-    let Some(by) = replacement_for(alloc, log, bricks, copy, number, at)? else {
+    let Some(on) = replacement_for(alloc, log, bricks, copy, number, at)? else {
         return Ok(None);
     };
-    if !is_within(alloc, plans, graphs, by.graph as usize, copy)? {
+    if !is_within(alloc, plans, graphs, on.graph as usize, copy)? {
         return Ok(None);
     }
-    Ok(Some(by.wind))
+    Ok(Some(on.wind))
 }
 
 // Takes a replacement for the copy at a place.
@@ -219,6 +152,59 @@ fn are_numbered(log: &Log) -> bool
     log.copied.len() == log.copies.len() && log.skipped.len() == log.skips.len()
 }
 
+// Whether each copy was made, by a replacement of its own, by the graphs of the calls.
+fn each_is_made(
+    alloc: Global,
+    script: &Script,
+    plans: &[Plan],
+    log: &Log,
+    bricks: &[Brick],
+    graphs: &CallGraphs,
+    found: &mut Replacements,
+) -> Result<bool, AllocError>
+    requires graphs { AreGraphsOf script.now log.now graphs.now }
+    requires copied { length log.now.copied ≡ length log.now.copies }
+    requires skipped { length log.now.skipped ≡ length log.now.skips }
+    ensures { IfOk result (λ yes. yes ≡ true → CopiesAreMade script.now plans.now log.now bricks.now) }
+{
+    let mut claims = Claims::new(alloc);
+    for k in 0..log.copies.len() {
+        if !take_copy(
+            alloc,
+            script,
+            plans,
+            log,
+            bricks,
+            graphs,
+            found,
+            &mut claims,
+            k,
+        )? {
+            return Ok(false);
+        }
+    }
+    Ok(true)
+}
+
+fn are_all_made(
+    alloc: Global,
+    script: &Script,
+    plans: &[Plan],
+    log: &Log,
+    bricks: &[Brick],
+    graphs: &CallGraphs,
+) -> Result<bool, AllocError>
+    requires graphs { AreGraphsOf script.now log.now graphs.now }
+    requires copied { length log.now.copied ≡ length log.now.copies }
+    requires skipped { length log.now.skipped ≡ length log.now.skips }
+    ensures { IfOk result (λ yes. yes ≡ true → CopiesAreMade script.now plans.now log.now bricks.now) }
+{
+    let mut found = find_replacements(alloc, log, bricks)?;
+    let yes = each_is_made(alloc, script, plans, log, bricks, graphs, &mut found);
+    drop(found);
+    yes
+}
+
 /// Whether each copy and each skip of the log has the number of its event, and each copy was made, by a replacement of its own:
 /// the source answered the fetch of the cell, in that event the replacement of the cell by just that answer was sent to the
 /// sink for a wind of the same call, and the sink confirmed it by the event of the copy. Both are bricks of one set of the
@@ -239,22 +225,7 @@ pub fn copies_are_made(
         return Ok(false);
     }
     let graphs = call_graphs(alloc, script, log)?;
-    let mut found = find_replacements(alloc, log, bricks)?;
-    let mut claims = Claims::new(alloc);
-    for k in 0..log.copies.len() {
-        if !take_copy(
-            alloc,
-            script,
-            plans,
-            log,
-            bricks,
-            &graphs,
-            &mut found,
-            &mut claims,
-            k,
-        )? {
-            return Ok(false);
-        }
-    }
-    Ok(true)
+    let yes = are_all_made(alloc, script, plans, log, bricks, &graphs);
+    drop(graphs);
+    yes
 }

@@ -1,11 +1,10 @@
 //! Which replacements were confirmed, found in what arrived. Nothing is said of what is found.
 
 use crate::arrivals::written_output;
-use crate::copy_requests::replacement_in;
-use crate::finding::{Confirmed, Opening, confirmed_in, openings_for};
-use crate::journals::input_at;
+use crate::finding::{Confirmed, Opening, confirmed_in, openings_of};
+use crate::journals::{input_at, whole_input};
 use brick_machine::Brick;
-use fop_types::{BrickRep, Cell, CopyRecord, DoneArm, OutKind, Output, Proc};
+use fop_types::{BrickRep, BrickReq, Cell, CopyRecord, DoneArm, Input, OutKind, Output, Proc};
 use log_audit::by_place::event_at;
 use mount_log::requests::is_request_of;
 use mount_log::{HubEvent, Log};
@@ -74,15 +73,21 @@ fn origin_with(source: u8, wind: u64, arm: &DoneArm) -> Option<Origin> {
     }
 }
 
+fn origin_from(alloc: Global, source: u8, bytes: &[u8]) -> Result<Option<Origin>, AllocError> {
+    match written_output(alloc, bytes)? {
+        Some(output) => {
+            let origin = origin_by(source, &output);
+            drop(output);
+            Ok(origin)
+        }
+        None => Ok(None),
+    }
+}
+
 // Where the content comes from that arrived in an event.
 fn origin_in(alloc: Global, event: &HubEvent) -> Result<Option<Origin>, AllocError> {
     match event {
-        HubEvent::Arrive { brick, bytes } => {
-            let Some(output) = written_output(alloc, bytes.as_slice())? else {
-                return Ok(None);
-            };
-            Ok(origin_by(*brick, &output))
-        }
+        HubEvent::Arrive { brick, bytes } => origin_from(alloc, *brick, bytes.as_slice()),
         _ => Ok(None),
     }
 }
@@ -117,9 +122,27 @@ fn replaced_cell(
     if !is_request_of(bytes, Proc::Replace) {
         return Ok(None);
     }
-    match replacement_in(alloc, bytes)? {
-        Some(replacement) => Ok(Some(replacement.cell)),
+    match whole_input(alloc, bytes)? {
+        Some(input) => {
+            let cell = cell_in(&input);
+            drop(input);
+            Ok(cell)
+        }
         None => Ok(None),
+    }
+}
+
+fn cell_in(input: &Input) -> Option<Cell> {
+    match input {
+        Input::Request { req, .. } => cell_of(req),
+        _ => None,
+    }
+}
+
+fn cell_of(req: &BrickReq) -> Option<Cell> {
+    match req {
+        BrickReq::Replace { cell, .. } => Some(*cell),
+        _ => None,
     }
 }
 
@@ -130,13 +153,19 @@ fn opened_in(log: &Log, opening: Opening) -> Option<usize> {
     Some(before as usize)
 }
 
+fn list_of(alloc: Global, found: Found) -> Result<Vec<Found>, AllocError> {
+    let mut list = Vec::new(alloc);
+    list.push(found)?;
+    Ok(list)
+}
+
 impl Replacements {
     fn add(&mut self, alloc: Global, kind: Kind, found: Found) -> Result<(), AllocError> {
-        let mut list = match self.found.remove(&kind) {
-            Some(list) => list,
-            None => Vec::new(alloc),
-        };
-        list.push(found)?;
+        if let Some(list) = self.found.get_mut(&kind) {
+            list.push(found)?;
+            return Ok(());
+        }
+        let list = list_of(alloc, found)?;
         self.found.insert(kind, list)?;
         Ok(())
     }
@@ -191,6 +220,30 @@ impl Replacements {
         self.note(alloc, log, openings, place, done, cell)
     }
 
+    fn read_all(
+        &mut self,
+        alloc: Global,
+        log: &Log,
+        bricks: &[Brick],
+        openings: &BTreeMap<u64, Opening>,
+    ) -> Result<(), AllocError> {
+        let events = log.events.as_slice();
+        for place in 0..events.len() {
+            self.read(alloc, log, bricks, openings, place, &events[place])?;
+        }
+        Ok(())
+    }
+
+    fn find(&mut self, alloc: Global, log: &Log, bricks: &[Brick]) -> Result<(), AllocError> {
+        if log.copies.is_empty() {
+            return Ok(());
+        }
+        let openings = openings_of(alloc, log.winds.as_slice())?;
+        let done = self.read_all(alloc, log, bricks, &openings);
+        drop(openings);
+        done
+    }
+
     /// The next replacement that may make a copy.
     ///
     /// # Errors
@@ -224,17 +277,10 @@ pub(crate) fn find_replacements(
     log: &Log,
     bricks: &[Brick],
 ) -> Result<Replacements, AllocError> {
-    let openings = openings_for(alloc, log.winds.as_slice(), !log.copies.is_empty())?;
     let mut replacements = Replacements {
         found: BTreeMap::new(alloc),
         taken: BTreeMap::new(alloc),
     };
-    if log.copies.is_empty() {
-        return Ok(replacements);
-    }
-    let events = log.events.as_slice();
-    for place in 0..events.len() {
-        replacements.read(alloc, log, bricks, &openings, place, &events[place])?;
-    }
-    Ok(replacements)
+    let done = replacements.find(alloc, log, bricks);
+    done.and(Ok(replacements))
 }

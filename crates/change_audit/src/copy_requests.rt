@@ -8,11 +8,11 @@ ghost use Rattle.fop_types.specs.declared.messages.OutKind.TheVariants.{Reply};
 ghost use Rattle.wire_xdr.specs.WireText.{input_text, output_text};
 ghost use Rattle.change_audit.specs.Copying.{IsSentAs, replace_of, IsConfirmed, IsFetchedFor};
 
-use crate::answers::done_wind;
-use crate::arrivals::{arrived, written_output};
+use crate::answers::{Answering, done_in};
+use crate::arrivals::{arrived, hyper_at};
 use crate::journals::{input_at, whole_input};
 use brick_machine::Brick;
-use fop_types::{BrickReq, Cell, Content, Input, OutKind};
+use fop_types::{BrickReq, Cell, Content, Input};
 use mount_log::Log;
 use std::alloc::{AllocError, Global};
 use wire_xdr::copy_bytes;
@@ -44,7 +44,10 @@ fn replacement_on(wind: u64, graph: u32, req: BrickReq) -> Option<Replacement>
             last,
             content,
         }),
-        _ => None,
+        other => {
+            drop(other);
+            None
+        }
     }
 }
 
@@ -57,11 +60,8 @@ fn replacement_of(input: Input) -> Option<Replacement>
     }
 }
 
-/// The replacement that the bytes are, if they are one.
-///
-/// # Errors
-/// Out of memory.
-pub(crate) fn replacement_in(alloc: Global, bytes: &[u8]) -> Result<Option<Replacement>, AllocError>
+// The replacement that the bytes are, if they are one.
+fn replacement_in(alloc: Global, bytes: &[u8]) -> Result<Option<Replacement>, AllocError>
     ensures { IfOk result (λ found. IfSome found (λ r. bytes.now ≡ input_text (Request r.wind r.graph (replace_of r)))) }
 {
     match whole_input(alloc, bytes)? {
@@ -126,7 +126,11 @@ fn is_fetch(
     ensures { IfOk result (λ yes. yes ≡ true → bytes.now ≡ input_text (Request wind graph (Fetch 0 cell.now))) }
 {
     match whole_input(alloc, bytes)? {
-        Some(input) => Ok(is_fetch_on(&input, wind, graph, cell)),
+        Some(input) => {
+            let yes = is_fetch_on(&input, wind, graph, cell);
+            drop(input);
+            Ok(yes)
+        }
         None => Ok(false),
     }
 }
@@ -168,27 +172,29 @@ pub(crate) fn confirmed(
     let Some(bytes) = arrived(log, event, brick) else {
         return Ok(None);
     };
-    let Some(output) = written_output(alloc, bytes)? else {
+    let Some(done) = done_in(alloc, bytes)? else {
         return Ok(None);
     };
-    let Some(wind) = done_wind(&output.kind) else {
+    let Some(found) = asked_replacement(alloc, bricks, brick, done.taken)? else {
         return Ok(None);
     };
-    let Some(found) = asked_replacement(alloc, bricks, brick, output.taken)? else {
-        return Ok(None);
-    };
-    if found.wind != wind {
+    if found.wind != done.wind {
+        drop(found);
         return Ok(None);
     }
     Ok(Some(found))
 }
 
-// The wind of an output that is a reply.
-fn reply_wind(kind: &OutKind) -> Option<u64> {
-    match kind {
-        OutKind::Reply { wind, rep: _ } => Some(*wind),
-        _ => None,
-    }
+// Where the count of inputs and the wind are in the encoding of a reply: two hypers, with a unit for the kind of output between.
+const TAKEN: usize = 0;
+
+const WIND: usize = 12;
+
+// What a reply answers, read without the rest.
+fn answering(bytes: &[u8]) -> Option<Answering> {
+    let taken = hyper_at(bytes, TAKEN)?;
+    let wind = hyper_at(bytes, WIND)?;
+    Some(Answering { taken, wind })
 }
 
 // Whether the bytes are the reply to a fetch by what a replacement carries.
@@ -202,7 +208,9 @@ fn is_reply(
     ensures { IfOk result (λ yes. yes ≡ true → bytes.now ≡ output_text (record { taken = taken; kind = Reply wind (Done (Shown by.now.content by.now.last)) })) }
 {
     let expected = copy_bytes(alloc, taken, wind, &by.content, by.last)?;
-    Ok(bytes == expected.as_slice())
+    let yes = bytes == expected.as_slice();
+    drop(expected);
+    Ok(yes)
 }
 
 /// The wind of the fetch that a brick has answered by what a replacement carries, as that arrived in the event at a place.
@@ -222,13 +230,10 @@ pub(crate) fn fetched(
     let Some(bytes) = arrived(log, event, brick) else {
         return Ok(None);
     };
-    let Some(output) = written_output(alloc, bytes)? else {
+    let Some(reply) = answering(bytes) else {
         return Ok(None);
     };
-    let Some(wind) = reply_wind(&output.kind) else {
-        return Ok(None);
-    };
-    let taken = output.taken;
+    let Answering { taken, wind } = reply;
     if !is_reply(alloc, bytes, taken, wind, by)? {
         return Ok(None);
     }

@@ -1,8 +1,8 @@
 //! Which bricks bear which changes, found in what arrived. Nothing is said of what is found.
 
 use crate::acknowledged::mark_of;
-use crate::answers::{Bearer, Served, done_wind};
-use crate::arrivals::written_output;
+use crate::answers::{Bearer, Served, done_in};
+use crate::arrivals::hyper_at;
 use crate::candidates::{BearerOf, Candidates, candidates_of};
 use crate::journals::input_at;
 use brick_machine::Brick;
@@ -11,6 +11,7 @@ use mount_log::requests::request_proc;
 use mount_log::{HubEvent, Log, WindLine};
 use std::alloc::{AllocError, Global};
 use std::collections::BTreeMap;
+use std::mem;
 
 // The op of a change at a brick.
 #[derive(Clone, Copy, PartialEq, Eq, PartialOrd, Ord)]
@@ -35,6 +36,14 @@ pub fn openings_of(
     winds: &[WindLine],
 ) -> Result<BTreeMap<u64, Opening>, AllocError> {
     let mut openings = BTreeMap::new(alloc);
+    let done = note_openings(&mut openings, winds);
+    done.and(Ok(openings))
+}
+
+fn note_openings(
+    openings: &mut BTreeMap<u64, Opening>,
+    winds: &[WindLine],
+) -> Result<(), AllocError> {
     for place in 0..winds.len() {
         let line = &winds[place];
         if line.opened {
@@ -42,23 +51,7 @@ pub fn openings_of(
             openings.insert(line.wind.number(), Opening { call, place })?;
         }
     }
-    Ok(openings)
-}
-
-/// The opening of each wind, and nothing where nobody asks for one.
-///
-/// # Errors
-/// Out of memory.
-pub(crate) fn openings_for(
-    alloc: Global,
-    winds: &[WindLine],
-    asked: bool,
-) -> Result<BTreeMap<u64, Opening>, AllocError> {
-    if asked {
-        openings_of(alloc, winds)
-    } else {
-        Ok(BTreeMap::new(alloc))
-    }
+    Ok(())
 }
 
 /// A Done with nothing that arrived from a brick: its wind, and the count of the input that it answers.
@@ -78,14 +71,11 @@ fn confirmed_by(alloc: Global, brick: u8, bytes: &[u8]) -> Result<Option<Confirm
     if bytes.len() != DONE {
         return Ok(None);
     }
-    let Some(output) = written_output(alloc, bytes)? else {
-        return Ok(None);
-    };
-    match done_wind(&output.kind) {
-        Some(wind) => Ok(Some(Confirmed {
+    match done_in(alloc, bytes)? {
+        Some(done) => Ok(Some(Confirmed {
             brick,
-            wind,
-            taken: output.taken,
+            wind: done.wind,
+            taken: done.taken,
         })),
         None => Ok(None),
     }
@@ -116,15 +106,6 @@ enum Part {
 // unit for the graph; and one for the procedure.
 const CHANGE: usize = 20;
 
-// The hyper at a place.
-fn hyper_at(bytes: &[u8], at: usize) -> Option<u64> {
-    let mut number = 0u64;
-    for byte in bytes.get(at..)?.get(..8)? {
-        number = (number << 8) | *byte as u64;
-    }
-    Some(number)
-}
-
 // The op or the post that bytes are, read without the rest.
 fn part_in(bytes: &[u8]) -> Option<Part> {
     let proc = request_proc(bytes)?;
@@ -136,10 +117,9 @@ fn part_in(bytes: &[u8]) -> Option<Part> {
     }
 }
 
-// The search: the opening of each wind, the ops that wait for their posts, and the bearers found so far.
+// The search: the ops that wait for their posts, and the bearers found so far.
 #[derive(Drop)]
 struct Search {
-    openings: BTreeMap<u64, Opening>,
     ops: BTreeMap<OpAt, Served>,
     found: BTreeMap<BearerOf, Bearer>,
 }
@@ -179,17 +159,15 @@ impl Search {
         Ok(())
     }
 
-    // An op or a post was answered in the event at a place.
+    // An op or a post, whose wind was opened so, was answered in the event at a place.
     fn take(
         &mut self,
         marks: &[Option<u64>],
         event: usize,
+        opened: Opening,
         done: Confirmed,
         part: Part,
     ) -> Result<(), AllocError> {
-        let Some(opened) = self.openings.get(&done.wind).copied() else {
-            return Ok(());
-        };
         let served = Served {
             taken: done.taken,
             event,
@@ -209,6 +187,7 @@ impl Search {
         &mut self,
         alloc: Global,
         bricks: &[Brick],
+        openings: &BTreeMap<u64, Opening>,
         marks: &[Option<u64>],
         place: usize,
         event: &HubEvent,
@@ -216,14 +195,53 @@ impl Search {
         let Some(done) = confirmed_in(alloc, event)? else {
             return Ok(());
         };
-        let Some(bytes) = input_at(bricks, done.brick, done.taken) else {
+        let Some(part) = part_of(bricks, done) else {
             return Ok(());
         };
-        match part_in(bytes) {
-            Some(part) => self.take(marks, place, done, part),
+        match openings.get(&done.wind) {
+            Some(opened) => self.take(marks, place, *opened, done, part),
             None => Ok(()),
         }
     }
+
+    fn read_all(
+        &mut self,
+        alloc: Global,
+        log: &Log,
+        bricks: &[Brick],
+        openings: &BTreeMap<u64, Opening>,
+        marks: &[Option<u64>],
+    ) -> Result<(), AllocError> {
+        let events = log.events.as_slice();
+        for place in 0..events.len() {
+            self.read(alloc, bricks, openings, marks, place, &events[place])?;
+        }
+        Ok(())
+    }
+}
+
+// What a request that was confirmed has to do with a change.
+fn part_of(bricks: &[Brick], done: Confirmed) -> Option<Part> {
+    let bytes = input_at(bricks, done.brick, done.taken)?;
+    part_in(bytes)
+}
+
+fn bearers_of(
+    alloc: Global,
+    log: &Log,
+    bricks: &[Brick],
+    marks: &[Option<u64>],
+) -> Result<BTreeMap<BearerOf, Bearer>, AllocError> {
+    let openings = openings_of(alloc, log.winds.as_slice())?;
+    let mut search = Search {
+        ops: BTreeMap::new(alloc),
+        found: BTreeMap::new(alloc),
+    };
+    let done = search.read_all(alloc, log, bricks, &openings, marks);
+    drop(openings);
+    let found = mem::replace(&mut search.found, BTreeMap::new(alloc));
+    drop(search);
+    done.and(Ok(found))
 }
 
 /// The changes that bricks bear of the calls that were answered well, by the marks of these calls.
@@ -236,14 +254,8 @@ pub(crate) fn find(
     bricks: &[Brick],
     marks: &[Option<u64>],
 ) -> Result<Candidates, AllocError> {
-    let mut search = Search {
-        openings: openings_of(alloc, log.winds.as_slice())?,
-        ops: BTreeMap::new(alloc),
-        found: BTreeMap::new(alloc),
-    };
-    let events = log.events.as_slice();
-    for place in 0..events.len() {
-        search.read(alloc, bricks, marks, place, &events[place])?;
-    }
-    candidates_of(alloc, search.found)
+    let found = bearers_of(alloc, log, bricks, marks)?;
+    let candidates = candidates_of(alloc, &found);
+    drop(found);
+    candidates
 }

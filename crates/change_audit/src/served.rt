@@ -1,7 +1,7 @@
 //! Ops and posts that a brick has answered Done.
 ghost use Rattle.std.specs.Prelude.{◌≡◌, true, drop, IfOk, IfSome};
 ghost use Rattle.change_audit.specs.Answered.{IsWindFor, IsOpenedSince};
-ghost use Rattle.change_audit.specs.Served.{IsOnWind, IsOpOf, IsOpIn, IsOpText, IsPostOf, IsPostIn, IsPostOn, HasText, IsServed, IsPosted};
+ghost use Rattle.change_audit.specs.Served.{IsRequestOn, IsOnWind, IsOpOf, IsOpIn, IsPostOf, IsPostIn, IsPostOn, HasText, IsServed, IsPosted};
 
 use crate::answers::{Bearer, Served, is_answered};
 use crate::journals::{input_at, whole_input};
@@ -25,13 +25,27 @@ pub(crate) fn text_in(bytes: &[u8]) -> Option<&[u8]>
     Some(text)
 }
 
+// The wind of an input that is a request.
+fn wind_of(input: &Input) -> Option<u64>
+    ensures { IfSome result (λ wind. IsRequestOn wind input.now) }
+{
+    match input {
+        Input::Request { wind, .. } => Some(*wind),
+        _ => None,
+    }
+}
+
 // The wind of bytes that are a request.
 fn wind_in(alloc: Global, bytes: &[u8]) -> Result<Option<u64>, AllocError>
     ensures { IfOk result (λ found. IfSome found (λ wind. IsOnWind wind bytes.now)) }
 {
     match whole_input(alloc, bytes)? {
-        Some(Input::Request { wind, .. }) => Ok(Some(wind)),
-        _ => Ok(None),
+        Some(input) => {
+            let found = wind_of(&input);
+            drop(input);
+            Ok(found)
+        }
+        None => Ok(None),
     }
 }
 
@@ -91,45 +105,28 @@ pub(crate) fn is_served(
 
 // ---- ops
 
-fn op_of(req: BrickReq, change: u64) -> Option<StoreOp>
-    ensures { IfSome result (λ o. IsOpOf change o req) }
+fn op_of(req: &BrickReq, change: u64) -> Option<&StoreOp>
+    ensures { IfSome result (λ o. IsOpOf change o.now req.now) }
 {
     match req {
-        BrickReq::Op { change: of, op, .. } => { if of == change { Some(op) } else { None } }
+        BrickReq::Op { change: of, op, .. } => { if *of == change { Some(op) } else { None } }
         _ => None,
     }
 }
 
-fn op_asked(input: Input, graph: usize, change: u64) -> Option<StoreOp>
-    ensures { IfSome result (λ o. IsOpIn graph change o input) }
+/// The store op of an input that is the op of a change in a graph.
+pub(crate) fn op_asked(input: &Input, graph: usize, change: u64) -> Option<&StoreOp>
+    ensures { IfSome result (λ o. IsOpIn graph change o.now input.now) }
 {
     match input {
         Input::Request { graph: of, req, .. } => {
-            if of as usize == graph {
+            if *of as usize == graph {
                 op_of(req, change)
             } else {
                 None
             }
         }
         _ => None,
-    }
-}
-
-/// The store op of bytes that are the op of a change in a graph.
-///
-/// # Errors
-/// Out of memory.
-pub(crate) fn op_in(
-    alloc: Global,
-    bytes: &[u8],
-    graph: usize,
-    change: u64,
-) -> Result<Option<StoreOp>, AllocError>
-    ensures { IfOk result (λ found. IfSome found (λ o. IsOpText graph change o (drop 12 bytes.now))) }
-{
-    match whole_input(alloc, bytes)? {
-        Some(input) => Ok(op_asked(input, graph, change)),
-        None => Ok(None),
     }
 }
 
@@ -173,7 +170,11 @@ fn post_in(
     ensures { IfOk result (λ found. IfSome found (λ wind. IsPostOn wind graph change bytes.now)) }
 {
     match whole_input(alloc, bytes)? {
-        Some(input) => Ok(post_asked(&input, graph, change)),
+        Some(input) => {
+            let found = post_asked(&input, graph, change);
+            drop(input);
+            Ok(found)
+        }
         None => Ok(None),
     }
 }

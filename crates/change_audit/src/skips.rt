@@ -47,6 +47,18 @@ fn is_due(log: &Log, bricks: &[Brick], listings: &Listings, k: usize) -> bool
     is_listed(log, bricks, listings, &skip.0, number)
 }
 
+fn are_due(log: &Log, bricks: &[Brick], listings: &Listings) -> bool
+    requires { AreListings log.now bricks.now listings.now }
+    ensures { result ≡ true → SkipsAreListed log.now bricks.now }
+{
+    for k in 0..log.skips.len() {
+        if !is_due(log, bricks, listings, k) {
+            return false;
+        }
+    }
+    true
+}
+
 /// Whether each skip of the log is of a cell that a brick had listed to an internal call by then.
 ///
 /// # Errors
@@ -55,10 +67,7 @@ pub fn skips_are_listed(alloc: Global, log: &Log, bricks: &[Brick]) -> Result<bo
     ensures { IfOk result (λ yes. yes ≡ true → SkipsAreListed log.now bricks.now) }
 {
     let listings = listings_of(alloc, log, bricks)?;
-    for k in 0..log.skips.len() {
-        if !is_due(log, bricks, &listings, k) {
-            return Ok(false);
-        }
-    }
-    Ok(true)
+    let yes = are_due(log, bricks, &listings);
+    drop(listings);
+    Ok(yes)
 }

@@ -1,10 +1,10 @@
 -- Items of lists with one more, and lists of numbers that are equal.
 use Rattle.std.proofs.Common.{◌≡◌, refl, sym, ap, subst, ◌∙◌, arith, get_or}
-use Rattle.std.specs.Prelude.{ℕ, zero, suc, ◌<◌, ◌+◌, ◌==◌, nat_lt, Bool, true, false, List, [], ◌∷◌, ◌++◌, Some, length, take, slice_get}
+use Rattle.std.specs.Prelude.{ℕ, zero, suc, ◌<◌, ◌+◌, ◌==◌, nat_lt, Bool, true, false, List, [], ◌∷◌, ◌++◌, Some, length, take, drop, slice_get}
 use Rattle.std.specs.Cmp.Derive.{both_true}
 use Rattle.std.specs.Cmp.Lexicographic.{pointwise}
 use Rattle.std.proofs.lemmas.Bool.{eq-eqb, eqb-true, ltb-true, ltb-false}
-use Rattle.std.proofs.lemmas.List.{length-append}
+use Rattle.std.proofs.lemmas.List.{length-append, at_drop_more}
 use Rattle.std.proofs.lemmas.Option.{slice_get_read}
 use Rattle.mount_log.proofs.Items.{some_is}
 use Rattle.log_audit.proofs.Bools.{both}
@@ -43,6 +43,17 @@ module _ {X : Type 0} where
     first : (a b : X) → Some a ≡ Some b → a ≡ b
     first a b e = cc
   take_next (y ∷ xs) (suc n) x is = let e : suc n + 1 ≡ suc (n + 1) = omega arith in ap (λ (m : ℕ). take m (y ∷ xs)) e ∙ ap (λ l. y ∷ l) (take_next xs n x is)
+
+  -- a list that grows by what a function says of the items of another, with the item at a place more
+  pub grown : {Y : Type 0} (f : List X → List Y) (xs : List X) (i : ℕ) (d : X) (old new rest all : List Y) → i < length xs → new ++ rest ≡ old ++ f (get_or xs i d ∷ drop (i + 1) xs) → old ++ f (drop i xs) ≡ all
+      → new ++ rest ≡ all
+  grown {Y = Y} f xs i d old new rest all lt added so_far = added ∙ ap (λ (l : List Y). old ++ l) (sym (at_drop_more f xs i d lt)) ∙ so_far
+
+  -- where the other list is read as these items, and this is the one at the place
+  pub grown_by : {Y : Type 0} (f : List X → List Y) (xs items : List X) (i : ℕ) (x : X) (old new rest all : List Y) → items ≡ xs → i < length items → x ≡ get_or items i x → new ++ rest ≡ old ++ f (x ∷ drop (i + 1) xs)
+      → old ++ f (drop i xs) ≡ all → new ++ rest ≡ all
+  grown_by {Y = Y} f xs items i x old new rest all same lt is added so_far =
+      grown f items i x old new rest all lt (added ∙ ap (λ (l : List X). old ++ f (x ∷ drop (i + 1) l)) (sym same) ∙ ap (λ (y : X). old ++ f (y ∷ drop (i + 1) items)) is) (ap (λ (l : List X). old ++ f (drop i l)) same ∙ so_far)
 
 -- ---- lists of numbers
 

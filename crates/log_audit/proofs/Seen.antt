@@ -1,8 +1,8 @@
 -- Calls that have a reply, with one reply more.
 use Rattle.std.proofs.Common.{◌≡◌, refl, sym, ap, subst, ◌∙◌, arith, get_or}
-use Rattle.std.specs.Prelude.{ℕ, zero, suc, ◌≢◌, ◌<◌, ◌≤◌, ◌+◌, ◌-◌, ◌==◌, Bool, true, false, List, [], ◌∷◌, ◌++◌, Option, None, Some, length, take, slice_get, slice_set, if◌then◌else◌}
+use Rattle.std.specs.Prelude.{ℕ, zero, suc, ◌≢◌, ◌<◌, ◌≤◌, ◌+◌, ◌-◌, ◌==◌, Bool, true, false, List, [], ◌∷◌, ◌++◌, Option, None, Some, length, take, replicate, slice_get, slice_set, if◌then◌else◌}
 use Rattle.std.proofs.lemmas.Bool.{eqb-true, eqb-false, eq-eqb, ne_eqb}
-use Rattle.std.proofs.lemmas.List.{take_more, take_all, length-set}
+use Rattle.std.proofs.lemmas.List.{take_more, take_all, length-set, length-replicate}
 use Rattle.std.proofs.lemmas.Option.{slice_get_within}
 use Rattle.mount_log.proofs.Items.{some_is, at_set, beside_set}
 use Rattle.mount_log.specs.Follows.{replies_to}
@@ -39,6 +39,15 @@ module _ (calls : ℕ) (rs : List ReplyLine) (r : ReplyLine) (old new : List Boo
     long = ap length sees.after ∙ length-set old sees.index true ∙ seen.long;
     each = λ index b is. by_index index b (ap (λ (l : List Bool). slice_get l index) (sym sees.after) ∙ is) (index == sees.index) refl;
   }
+
+-- where no call was seen
+all_false : (n index : ℕ) (b : Bool) → slice_get (replicate n false) index ≡ Some b → false ≡ b
+all_false zero index b is = absurd cc
+all_false (suc n) zero b is = some_is false b is
+all_false (suc n) (suc index) b is = all_false n index b is
+
+pub none_seen : (n : ℕ) (seen : List Bool) → seen ≡ replicate n false → AreSeen n [] seen
+none_seen n seen are = subst (AreSeen n []) (sym are) (record { long = length-replicate n false; each = λ index b is. ap one (all_false n index b is) })
 
 pub next_seen : (calls : ℕ) (replies : List ReplyLine) (i : ℕ) (r : ReplyLine) (old new : List Bool) → i < length replies → r ≡ get_or replies i r → AreSeen calls (take i replies) old → Sees old r.call new
     → AreSeen calls (take (i + 1) replies) new

@@ -57,6 +57,7 @@ fn are_armable(alloc: Global, bytes: &[u8]) -> Result<bool, AllocError>
     }
     let message = input_of(alloc, bytes)?;
     let yes = says_armable(&message);
+    drop(message);
     Ok(yes)
 }
 

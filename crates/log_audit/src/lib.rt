@@ -18,9 +18,9 @@
 //! how the log came about. True says that its definition holds of the log; false alone says nothing: an audit may ask for
 //! more than its definition, where every log of a run has it. A program calls them before it writes a report.
 //!
-//! `run_audit`, `line_audit`, `error_audit` and `change_audit` have the other audits. What several of them look up in a log is
-//! here, in the modules that are public: events and lines by their numbers and places, the calls that were submitted and their
-//! graphs, switches so far, the procedure of a request, and lines that can be armed.
+//! `run_audit`, `line_audit`, `error_audit`, `change_audit` and `read_audit` have the other audits. What several of them look up
+//! in a log is here, in the modules that are public: events and lines by their numbers and places, the calls that were submitted
+//! and their graphs, switches so far, the procedure of a request, and lines that can be armed.
 #![tactic(auto)]
 
 pub mod armed_lines;

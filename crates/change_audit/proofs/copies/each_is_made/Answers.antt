@@ -1,6 +1,6 @@
 use Rattle.std.proofs.Common.{arith}
 use Rattle.change_audit.proofs.Copying.{copies_next, all_made}
-use Rattle.change_audit.proofs.copies.copies_are_made.Goals as goal
+use Rattle.change_audit.proofs.copies.each_is_made.Goals as goal
 
 pub loop-k-preserved : goal.loop-k-preserved
 loop-k-preserved c =
@@ -9,5 +9,5 @@ loop-k-preserved c =
 
 pub returns : goal.returns
 returns c = λ _.
-    all_made c.args.script.now c.args.plans.now c.args.log.now c.args.bricks.now c.loop-k.k c.loop-k.claims (c.are_numbered.ensures.copied c.if-not-are_numbered.false)
-    (c.are_numbered.ensures.skipped c.if-not-are_numbered.false) (omega (arith, c.loop-k-test.false, c.len-k-end.ensures)) c.loop-k.invariant
+    all_made c.args.script.now c.args.plans.now c.args.log.now c.args.bricks.now c.loop-k.k c.loop-k.claims c.requires.copied c.requires.skipped
+    (omega (arith, c.loop-k-test.false, c.len-k-end.ensures)) c.loop-k.invariant

@@ -1,6 +1,6 @@
 use Rattle.std.proofs.Common.{arith}
 use Rattle.change_audit.proofs.ListedCells.{skips_next, all_listed}
-use Rattle.change_audit.proofs.skips.skips_are_listed.Goals as goal
+use Rattle.change_audit.proofs.skips.are_due.Goals as goal
 
 pub loop-k-preserved : goal.loop-k-preserved
 loop-k-preserved c = skips_next c.args.log.now c.args.bricks.now c.loop-k.k (c.is_due.ensures c.if-not-is_due.false) c.loop-k.invariant

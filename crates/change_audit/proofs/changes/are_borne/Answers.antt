@@ -1,6 +1,6 @@
 use Rattle.std.proofs.Common.{arith}
 use Rattle.change_audit.proofs.Entries.{claimed_next, all_claimed}
-use Rattle.change_audit.proofs.changes.changes_are_borne.Goals as goal
+use Rattle.change_audit.proofs.changes.are_borne.Goals as goal
 
 pub loop-k-preserved : goal.loop-k-preserved
 loop-k-preserved c =

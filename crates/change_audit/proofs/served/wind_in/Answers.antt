@@ -1,0 +1,12 @@
+use Rattle.std.proofs.Common.{◌≡◌, subst}
+use Rattle.std.specs.Prelude.{Option, IfSome}
+use Rattle.std.proofs.lemmas.Option.{IfSome_then}
+use Rattle.fop_types.specs.declared.messages.Input.{Input}
+use Rattle.wire_xdr.specs.WireText.{input_text}
+use Rattle.change_audit.proofs.Texts.{on_wind}
+use Rattle.change_audit.proofs.served.wind_in.Goals as goal
+
+pub returns-in-Some : goal.returns-in-Some
+returns-in-Some c =
+    let is : c.args.bytes.now ≡ input_text c.in-Some.input = subst (λ (f : Option Input). IfSome f (λ x. c.args.bytes.now ≡ input_text x)) c.in-Some.is c.in_ok-input.ensures in
+    IfSome_then c.wind_of-found.result c.wind_of-found.ensures (λ wind on. on_wind wind c.in-Some.input c.args.bytes.now is on)
