@@ -88,7 +88,10 @@ impl FlatFs {
     {
         match self.held.get_mut(&gfid) {
             Some(held) => held.edit(alloc, edit),
-            None => Ok(()),
+            None => {
+                drop(edit);
+                Ok(())
+            }
         }
     }
 }
