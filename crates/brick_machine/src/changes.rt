@@ -54,11 +54,9 @@ pub(crate) fn change_cells(
             drop(those);
             settled.and(Ok(true))
         }
-        BrickReq::Lock { .. } => Ok(true),
-        BrickReq::Unlock { .. } => Ok(true),
-        BrickReq::Fetch { .. } => Ok(true),
-        BrickReq::Index => Ok(true),
-        BrickReq::Open { .. } => Ok(true),
-        BrickReq::Release { .. } => Ok(true),
+        other => {
+            drop(other);
+            Ok(true)
+        }
     }
 }
