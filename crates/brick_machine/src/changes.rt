@@ -22,8 +22,9 @@ pub(crate) fn change_cells(
 {
     match req {
         BrickReq::Mark { cells: those, .. } => {
-            store.mark(those.as_slice())?;
-            Ok(true)
+            let marked = store.mark(those.as_slice());
+            drop(those);
+            marked.and(Ok(true))
         }
         BrickReq::Op { change, op, .. } => store.take(alloc, change, op),
         BrickReq::Post {
@@ -31,8 +32,9 @@ pub(crate) fn change_cells(
             mask,
             ..
         } => {
-            store.post(those.as_slice(), mask)?;
-            Ok(true)
+            let posted = store.post(those.as_slice(), mask);
+            drop(those);
+            posted.and(Ok(true))
         }
         BrickReq::Replace {
             cell,
@@ -44,17 +46,17 @@ pub(crate) fn change_cells(
         }
         BrickReq::Clear { cells: those, mask } => {
             store.clear(those.as_slice(), mask);
+            drop(those);
             Ok(true)
         }
         BrickReq::Settle { cells: those, mask } => {
-            store.settle(those.as_slice(), mask)?;
+            let settled = store.settle(those.as_slice(), mask);
+            drop(those);
+            settled.and(Ok(true))
+        }
+        other => {
+            drop(other);
             Ok(true)
         }
-        BrickReq::Lock { .. } => Ok(true),
-        BrickReq::Unlock { .. } => Ok(true),
-        BrickReq::Fetch { .. } => Ok(true),
-        BrickReq::Index => Ok(true),
-        BrickReq::Open { .. } => Ok(true),
-        BrickReq::Release { .. } => Ok(true),
     }
 }

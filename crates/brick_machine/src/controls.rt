@@ -11,6 +11,23 @@ use fop_types::{OutKind, Proc};
 use std::alloc::{AllocError, Global};
 use std::mem;
 
+// A brick after a Down: one that was down serves no more requests late.
+fn late_after(down: Option<Late>, serve: u32, graphs: Graphs) -> Late
+    ensures { result ≡ late_after down serve graphs }
+{
+    match down {
+        Some(mut late) => {
+            drop(graphs);
+            late.left = 0;
+            late
+        }
+        None => Late {
+            left: serve,
+            graphs,
+        },
+    }
+}
+
 #[tactic(auto, using(crate::proofs::Puts::put_nothing, crate::proofs::Puts::put_both))]
 impl State {
     /// Drops the graph's locks and descriptors, and connects it. On a brick that is down it does nothing.
@@ -54,18 +71,8 @@ impl State {
         ensures { self.new ≡ record self.old { graphs = []; down = Some (late_after self.old.down serve self.old.graphs) } }
     {
         let graphs = mem::replace(&mut self.graphs, Graphs::new(alloc));
-        match mem::replace(&mut self.down, None) {
-            Some(mut late) => {
-                late.left = 0;
-                self.down = Some(late);
-            }
-            None => {
-                self.down = Some(Late {
-                    left: serve,
-                    graphs,
-                });
-            }
-        }
+        let late = late_after(self.down.take(), serve, graphs);
+        drop(mem::replace(&mut self.down, Some(late)));
     }
 
     /// Drops all locks, descriptors and connections.
@@ -91,7 +98,7 @@ impl State {
         ensures outs { OnOk result (outs.new ≡ put_out outs.old (opened_again self.old).outs) }
         ensures names { self.new.store.names ≡ self.old.store.names }
     {
-        self.down = None;
+        drop(self.down.take());
         outs.put(alloc, OutKind::Opened)
     }
 

@@ -104,14 +104,14 @@ impl Graphs {
         ensures ok { OnOk result (self.new ≡ with_graph self.old graph) }
         ensures err { OnErr result (self.new ≡ self.old) }
     {
-        self.held.insert(graph, Fds::new(alloc))?;
+        drop(self.held.insert(graph, Fds::new(alloc))?);
         Ok(())
     }
 
     pub(crate) fn disconnect(&mut self, graph: u32)
         ensures { self.new ≡ without_graph self.old graph }
     {
-        self.held.remove(&graph);
+        drop(self.held.remove(&graph));
     }
 
     /// Opens a descriptor on a connection, where the graph is connected.

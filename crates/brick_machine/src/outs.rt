@@ -49,7 +49,9 @@ impl Outs {
             taken: self.count,
             kind,
         };
-        let made = Bytes::from_vec(rep_bytes(alloc, &output)?)?;
+        let bytes = rep_bytes(alloc, &output);
+        drop(output);
+        let made = Bytes::from_vec(bytes?)?;
         self.made.push(made)?;
         Ok(())
     }

@@ -109,6 +109,7 @@ impl State {
             }
             BrickReq::Op { change, fd, op } => {
                 if !self.graphs.is_good(graph, fd) {
+                    drop(op);
                     return outs.reply(alloc, wind, BrickRep::BadFd);
                 }
                 self.change(alloc, outs, wind, BrickReq::Op { change, fd, op })
@@ -193,10 +194,12 @@ impl State {
         ensures names { self.new.store.names ≡ self.old.store.names }
     {
         if !self.is_late(graph) {
+            drop(req);
             return outs.reply(alloc, wind, BrickRep::Gone);
         }
         self.count_late();
         if self.faults.take(proc_of(&req)) {
+            drop(req);
             return outs.reply(alloc, wind, BrickRep::Fault);
         }
         self.serve_late(alloc, outs, wind, req)
@@ -215,9 +218,11 @@ impl State {
         ensures names { self.new.store.names ≡ self.old.store.names }
     {
         if !self.graphs.is_connected(graph) {
+            drop(req);
             return outs.reply(alloc, wind, BrickRep::Gone);
         }
         if self.faults.take(proc_of(&req)) {
+            drop(req);
             return outs.reply(alloc, wind, BrickRep::Fault);
         }
         self.serve_now(alloc, outs, wind, graph, req)

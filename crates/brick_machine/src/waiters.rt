@@ -47,7 +47,7 @@ impl Waiters {
         ensures ok { OnOk result (self.new ≡ with_waiter self.old owner waiter) }
         ensures err { OnErr result (self.new ≡ self.old) }
     {
-        self.held.insert(owner, waiter)?;
+        drop(self.held.insert(owner, waiter)?);
         Ok(())
     }
 

@@ -28,11 +28,16 @@ impl CellMap {
         ensures counted { IfOk result (λ rows. IfSome rows.0 IsCountedRow × IfSome rows.1 IsCountedRow) }
         ensures err { OnErr result (self.new ≡ self.old) }
     {
-        let earlier = self.step(first, Step::Birth { content: a, change })?;
-        match self.step(second, Step::Birth { content: b, change }) {
-            Ok(row) => Ok((earlier, row)),
+        match self.step(first, Step::Birth { content: a, change }) {
+            Ok(earlier) => match self.step(second, Step::Birth { content: b, change }) {
+                Ok(row) => Ok((earlier, row)),
+                Err(error) => {
+                    self.take_back(first, earlier);
+                    Err(error)
+                }
+            },
             Err(error) => {
-                self.take_back(first, earlier);
+                drop(b);
                 Err(error)
             }
         }
@@ -83,8 +88,6 @@ impl CellMap {
         ensures err { OnErr result (self.new ≡ self.old) }
     {
         let gfid = item.gfid;
-        let attrs = Seq::new(alloc);
-        let meta = Content::Meta { mode, attrs, span };
         match item.kind {
             Kind::File => {
                 let bytes = Content::Bytes(Seq::new(alloc));
@@ -97,7 +100,7 @@ impl CellMap {
                     &data,
                     bytes,
                     &meta_cell(gfid),
-                    meta,
+                    new_meta(alloc, mode, span),
                 )
             }
             Kind::Dir => {
@@ -109,7 +112,7 @@ impl CellMap {
                     parent,
                     item,
                     &meta_cell(gfid),
-                    meta,
+                    new_meta(alloc, mode, span),
                     &cell,
                     names,
                 )
@@ -132,15 +135,21 @@ impl CellMap {
         ensures ok { OnOk result (self.new ≡ with_births self.old change (born_of Kind.Dir gfid 0 span)) }
         ensures err { OnErr result (self.new ≡ self.old) }
     {
-        let attrs = Seq::new(alloc);
-        let meta = Content::Meta {
-            mode: 0,
-            attrs,
-            span,
-        };
+        let meta = new_meta(alloc, 0, span);
         let names = no_names(alloc);
         self.give_both(change, &meta_cell(gfid), meta, &names_cell(gfid), names)?;
         Ok(())
+    }
+}
+
+// Metadata without attributes.
+fn new_meta(alloc: Global, mode: u16, span: Option<Span>) -> Content
+    ensures { result ≡ Content.Meta mode [] span }
+{
+    Content::Meta {
+        mode,
+        attrs: Seq::new(alloc),
+        span,
     }
 }
 

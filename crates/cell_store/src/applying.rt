@@ -157,6 +157,7 @@ impl CellMap {
         ensures err { OnErr result (self.new ≡ self.old) }
     {
         if !self.fits(&op) {
+            drop(op);
             return Ok(false);
         }
         self.make(alloc, change, op)?;

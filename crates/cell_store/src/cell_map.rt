@@ -60,13 +60,13 @@ impl CellMap {
             span: None,
         };
         let aspect = Aspect::Meta;
-        cells.insert(Cell { gfid, aspect }, present(meta))?;
+        drop(cells.insert(Cell { gfid, aspect }, present(meta))?);
         let names = Content::Names {
             removed: false,
             items: Seq::new(alloc),
         };
         let aspect = Aspect::Entry;
-        cells.insert(Cell { gfid, aspect }, present(names))?;
+        drop(cells.insert(Cell { gfid, aspect }, present(names))?);
         Ok(CellMap { cells })
     }
 
@@ -179,7 +179,7 @@ impl CellMap {
             None => {
                 let mut kept = Kept::nothing();
                 kept.replace(content, last);
-                self.cells.insert(*cell, kept)?;
+                drop(self.cells.insert(*cell, kept)?);
                 Ok(())
             }
         }
@@ -204,7 +204,7 @@ impl CellMap {
             None => {
                 let mut kept = Kept::nothing();
                 kept.step(step);
-                self.cells.insert(*cell, kept)?;
+                drop(self.cells.insert(*cell, kept)?);
                 Ok(None)
             }
         }
@@ -234,7 +234,8 @@ impl CellMap {
     fn forget(&mut self, cell: &Cell)
         ensures { self.new ≡ with_earlier self.old cell.now None }
     {
-        let _kept = self.cells.remove(cell);
+        let kept = self.cells.remove(cell);
+        drop(kept);
     }
 
     /// Edits the copy of a cell that is present.

@@ -9,6 +9,7 @@ use afr_changelog::{lower, raise};
 use contents::{Edit, OrderedContent};
 use fop_types::{Content, Mask, Row};
 use std::alloc::{AllocError, Global};
+use std::mem;
 
 /// What a brick keeps of a cell: its copy, where the cell is present; the count of marks that no post has
 /// lowered, and the counters of accusations for each replica, all at most 2,147,483,647; and the number of
@@ -82,8 +83,10 @@ impl Kept {
         ensures { self.new ≡ birth_of self.old content change }
     {
         if self.content.is_none() {
-            self.content = Some(OrderedContent::new(content));
+            drop(mem::replace(&mut self.content, Some(OrderedContent::new(content))));
             self.last = change;
+        } else {
+            drop(content);
         }
     }
 
@@ -92,7 +95,7 @@ impl Kept {
         ensures { self.new ≡ kept_with_row self.old row }
     {
         if !row.present {
-            self.content = None;
+            drop(self.content.take());
         }
         self.dirty = row.dirty;
         let pending = row.pending;
@@ -105,7 +108,7 @@ impl Kept {
         ensures copy { self.new ≡ copied_in content last self.old }
         ensures counts { (self.new.dirty ≡ self.old.dirty) × (self.new.pending ≡ self.old.pending) }
     {
-        self.content = Some(OrderedContent::new(content));
+        drop(mem::replace(&mut self.content, Some(OrderedContent::new(content))));
         self.last = last;
     }
 
@@ -138,6 +141,7 @@ impl Kept {
                 Ok(())
             }
             None => {
+                drop(by);
                 self.last = change;
                 Ok(())
             }

@@ -74,7 +74,7 @@ impl FlatFs {
         requires { IsSmall object }
         ensures { OnOk result (self.new ≡ with_object self.old gfid object) }
     {
-        self.held.insert(gfid, Held::new(object))?;
+        drop(self.held.insert(gfid, Held::new(object))?);
         Ok(())
     }
 
@@ -88,7 +88,10 @@ impl FlatFs {
     {
         match self.held.get_mut(&gfid) {
             Some(held) => held.edit(alloc, edit),
-            None => Ok(()),
+            None => {
+                drop(edit);
+                Ok(())
+            }
         }
     }
 }

@@ -1,7 +1,7 @@
-ghost use Rattle.std.specs.Prelude.{◌≡◌, [], OnOk, IfOk};
+ghost use Rattle.std.specs.Prelude.{◌≡◌, [], OnOk, IfOk, MatchResult};
 ghost use Rattle.std.specs.Option.{option_copied};
 ghost use Rattle.fop_types.specs.Files.{object_at, names_of, names_at, with_removed};
-ghost use Rattle.fop_types.specs.Flat.{flat_answer, flat_after, answer_in, files_in, entry_error as entry_error_of, is_empty as is_empty_list, without_name};
+ghost use Rattle.fop_types.specs.Flat.{flat_answer, flat_after, answer_in, files_in, entry_error as entry_error_of, is_empty as is_empty_list, with_new, without_name};
 ghost use Rattle.fop_types.specs.Names.{item_named};
 ghost use Rattle.flat_fs.specs.Edits.{IsSmall};
 ghost use Rattle.flat_fs.specs.Outcomes.{made, removed_child, unlinked_child};
@@ -75,24 +75,55 @@ impl FlatFs {
         names_in(self.get(gfid)).is_empty()
     }
 
+    /// The item of a name in a directory, or the error of a look-up of it.
+    pub(crate) fn named(&self, parent: Gfid, name: &[u8]) -> Result<&Item, AppError>
+        ensures { MatchResult result (λ item. flat_answer self.now (FlatOp.Lookup parent name.now) ≡ FlatAnswer.Found item.now.gfid item.now.kind) (λ error. flat_answer self.now (FlatOp.Lookup parent name.now) ≡ FlatAnswer.Call (Answer.App error)) }
+    {
+        if let Some(error) = self.entry_error(parent, name) {
+            return Err(error);
+        }
+        match self.item(parent, name) {
+            None => Err(AppError::Enoent),
+            Some(item) => Ok(item),
+        }
+    }
+
     /// The object of a name in a directory.
     pub(crate) fn lookup(&self, parent: Gfid, name: &[u8]) -> FlatAnswer
         ensures { result ≡ flat_answer self.now (FlatOp.Lookup parent name.now) }
     {
-        if let Some(error) = self.entry_error(parent, name) {
-            return refused(error);
-        }
-        match self.item(parent, name) {
-            None => refused(AppError::Enoent),
-            Some(item) => FlatAnswer::Found {
+        match self.named(parent, name) {
+            Ok(item) => FlatAnswer::Found {
                 gfid: item.gfid,
                 kind: item.kind,
             },
+            Err(error) => refused(error),
+        }
+    }
+
+    // A new object and its name, which is free.
+    #[tactic(auto, using(crate::proofs::Outcomes::put_item_is))]
+    fn make_free(
+        &mut self,
+        alloc: Global,
+        parent: Gfid,
+        item: Item,
+        object: FlatObject,
+    ) -> Result<(), AllocError>
+        requires { IsSmall object }
+        ensures { OnOk result (self.new ≡ with_new self.old parent item object) }
+    {
+        let gfid = item.gfid;
+        match self.edit(alloc, parent, Edit::PutItem(item)) {
+            Ok(()) => self.put(gfid, object),
+            Err(error) => {
+                drop(object);
+                Err(error)
+            }
         }
     }
 
     // A new object and its name.
-    #[tactic(auto, using(crate::proofs::Outcomes::put_item_is))]
     fn make(
         &mut self,
         alloc: Global,
@@ -105,14 +136,14 @@ impl FlatFs {
         ensures files { OnOk result (self.new ≡ files_in (made self.old parent item object) self.old) }
     {
         if let Some(error) = self.entry_error(parent, item.name.as_slice()) {
+            drop(object);
             return Ok(refused(error));
         }
         if self.item(parent, item.name.as_slice()).is_some() {
+            drop(object);
             return Ok(refused(AppError::Eexist));
         }
-        let gfid = item.gfid;
-        self.edit(alloc, parent, Edit::PutItem(item))?;
-        self.put(gfid, object)?;
+        self.make_free(alloc, parent, item, object)?;
         Ok(done())
     }
 

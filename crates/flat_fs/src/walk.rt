@@ -6,7 +6,7 @@ ghost use Rattle.flat_fs.specs.Mount.{path_walk, paths_walk};
 ghost use Rattle.flat_fs.specs.Walks.{found_in, IsLed, IsWalked};
 
 use crate::flat_fs::FlatFs;
-use fop_types::{Answer, AppError, Call, FlatAnswer, FlatOp, Gfid, Path, Seq};
+use fop_types::{AppError, Call, FlatOp, Gfid, Path, Seq};
 
 /// The objects that a call's paths led to.
 #[derive(Clone, Copy)]
@@ -32,10 +32,9 @@ impl FlatFs {
     fn child(&self, parent: Gfid, name: &[u8]) -> Result<Gfid, AppError>
         ensures { found_in (flat_answer self.now (FlatOp.Lookup parent name.now)) ≡ Some result }
     {
-        match self.lookup(parent, name) {
-            FlatAnswer::Found { gfid, .. } => Ok(gfid),
-            FlatAnswer::Call(Answer::App(error)) => Err(error),
-            FlatAnswer::Call(_) => Err(AppError::Enoent),
+        match self.named(parent, name) {
+            Ok(item) => Ok(item.gfid),
+            Err(error) => Err(error),
         }
     }
 
