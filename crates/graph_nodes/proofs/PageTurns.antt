@@ -1,10 +1,18 @@
 -- Where pages begin, and the pages that are kept one after the other.
-use Rattle.std.proofs.Common.{◌≡◌, ◌∙◌, ℕ, suc, ◌+◌, ◌-◌, ◌*◌, ◌<◌, ◌≤◌, Bool, true, false, nat_le, nat_lt, List, [], ◌∷◌, length, refl, ap, arith, if◌then◌else◌}
+use Rattle.std.proofs.Common.{◌≡◌, ◌∙◌, ℕ, suc, ◌+◌, ◌-◌, ◌*◌, ◌<◌, ◌≤◌, Bool, true, false, nat_le, nat_lt, List, [], ◌∷◌, length, Option, Some, None, refl, ap, subst, arith, if◌then◌else◌}
 use Rattle.std.proofs.lemmas.Bool.{leb-true, leb-false}
 use Rattle.std.specs.List.{range_with_len}
 use Rattle.io_cache.specs.Pages.{Held}
+use Rattle.xlator_law.specs.declared.step.Step.{Step}
+use Rattle.graph_items.specs.declared.items.Down.{Down}
+use Rattle.graph_items.specs.declared.items.Up.{Up}
+use Rattle.graph_nodes.specs.declared.kinds.IoCache.{IoCache}
+use Rattle.graph_nodes.specs.declared.locals.Local.{Local}
+use Rattle.graph_nodes.specs.declared.locals.Local.TheVariants as local
 use Rattle.graph_nodes.specs.declared.locals.PageRange.{PageRange}
-use Rattle.graph_nodes.specs.IoCache.{put_of, kept}
+use Rattle.graph_nodes.specs.IoCache.{PagesCome, IsAnswered, range_in, bytes_in, put_of, kept}
+use Rattle.graph_nodes.specs.Moves.{IsMove}
+use Rattle.graph_nodes.specs.Moves.Move.{Back}
 use Rattle.graph_nodes.specs.Pages.{start_of, page_bytes}
 
 -- a number with a bound, and what the test of the bound said
@@ -59,3 +67,20 @@ module _ (r : PageRange) (bytes : List ℕ) (page : ℕ) (held : Held) where
 
   pub kept_past : r.end ≤ page → kept r bytes (range_with_len page (r.end - page)) held ≡ held
   kept_past h = ap (λ (ns : List ℕ). kept r bytes ns held) (none_of page r.end h)
+
+-- a frame that has asked for pages takes their reply, and any other one hands its reply back
+pub answered_pages : (old new : IoCache) (l : Local) (r : PageRange) (reply : Up) (s : Step Down Up Local) → Some r ≡ range_in l → PagesCome (bytes_in reply) old r reply s new → IsAnswered old l reply s new
+answered_pages old new (local.Pages q) r reply s is h = subst (λ (x : PageRange). PagesCome (bytes_in reply) old x reply s new) (same r q is) h where
+  same : (a b : PageRange) → Some a ≡ Some b → a ≡ b
+  same a b e = cc
+answered_pages old new local.Relay r reply s is h = absurd cc
+answered_pages old new (local.Queued d) r reply s is h = absurd cc
+answered_pages old new (local.Distribute frame) r reply s is h = absurd cc
+answered_pages old new (local.Set frame) r reply s is h = absurd cc
+
+pub answered_other : (old new : IoCache) (l : Local) (reply : Up) (s : Step Down Up Local) → None ≡ range_in l → IsMove (Back reply) s × (new ≡ old) → IsAnswered old l reply s new
+answered_other old new (local.Pages q) reply s is h = absurd cc
+answered_other old new local.Relay reply s is h = h
+answered_other old new (local.Queued d) reply s is h = h
+answered_other old new (local.Distribute frame) reply s is h = h
+answered_other old new (local.Set frame) reply s is h = h

@@ -1,5 +1,5 @@
 -- The turns of a transaction keep its bounds, by its laws, and leave few cells to each unsettled change.
-use Rattle.std.proofs.Common.{◌≡◌, ◌⊎◌, inl, inr, ℕ, Bool, true, List, [], ◌∷◌, Option, Some, None, sym, subst}
+use Rattle.std.proofs.Common.{◌≡◌, ◌⊎◌, inl, inr, ℕ, Bool, true, List, [], ◌∷◌, Option, Some, None, Result, Ok, Err, IfOk, OnErr, sym, subst}
 use Rattle.std.proofs.lemmas.Bool.{cond_both}
 use Rattle.fop_types.specs.Bounds.{Each, IsReq, IsRep, IsUnit}
 use Rattle.fop_types.specs.Jobs.{IsJob}
@@ -122,3 +122,8 @@ module _ (txn : Txn) (before : State Cell) (few : HaveFew before) where
 
 pub few_left : (p : Phase) (txn : Txn) (before after : State Cell) → HaveFew before → IsLeftIn p txn before after → HaveFew after
 few_left p txn before after few h = left_in txn before few p after h
+
+-- so they are few after a turn, whether or not the memory ran out
+pub few_either : {T E : Type 0} (r : Result T E) (P : T → Type 0) (Q : Type 0) (s : State Cell) → ((x : T) → P x → HaveFew s) → (Q → HaveFew s) → IfOk r P → OnErr r Q → HaveFew s
+few_either (Ok x) P Q s f g h e = f x h
+few_either (Err y) P Q s f g h e = g e

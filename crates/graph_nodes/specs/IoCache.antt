@@ -87,6 +87,14 @@ abbrev pub PagesCome : Option Came → IoCache → PageRange → Up → Step Dow
 PagesCome (Some came) old r reply step new = IsMove (Back (up.Answer (fop_answer.Call (answer.Bytes (answer_of r came.bytes))) came.place)) step × (new ≡ kept_by old r came.bytes)
 PagesCome None old r reply step new = IsMove (Back reply) step × (new ≡ old)
 
+-- the read for whose pages a frame has asked
+abbrev pub range_in : Local → Option PageRange
+range_in (local.Pages r) = Some r
+range_in local.Relay = None
+range_in (local.Queued d) = None
+range_in (local.Distribute frame) = None
+range_in (local.Set frame) = None
+
 -- the bytes that came back are kept, and the read is cut from them; any other reply passes
 abbrev pub IsAnswered : IoCache → Local → Up → Step Down Up Local → IoCache → Type 0
 IsAnswered old (local.Pages r) reply step new = PagesCome (bytes_in reply) old r reply step new

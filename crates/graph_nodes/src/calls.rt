@@ -80,8 +80,7 @@ impl Graph {
         ensures well { OnOk result (Settles self.old parked.old.keys self.new parked.new.keys) }
     {
         self.put(alloc, call, fop)?;
-        let moved = self.run(alloc, parked)?;
-        Ok(moved)
+        self.run(alloc, parked)
     }
 
     // A fop is to enter the root.
@@ -106,8 +105,7 @@ impl Graph {
         ensures live { OnOk result (StaysLive self.old mount.old self.new mount.new) }
     {
         let frame = self.waits.remove(&call);
-        let moved = self.resumed(alloc, frame, mount)?;
-        Ok(moved)
+        self.resumed(alloc, frame, mount)
     }
 
     // A frame that is parked goes on, if there is one.
@@ -138,8 +136,7 @@ impl Graph {
         ensures well { OnOk result (Settles self.old parked.old.keys self.new parked.new.keys) }
     {
         self.wake_parked(alloc, frame, parked)?;
-        let moved = self.run(alloc, parked)?;
-        Ok(moved)
+        self.run(alloc, parked)
     }
 
     // A frame that is parked is to go on. Another one is left as it is.
@@ -152,8 +149,7 @@ impl Graph {
         ensures kept { KeepsGraph self.old self.new }
         ensures works { OnOk result (KeepsWork self.old parked.old.keys self.new parked.new.keys) }
     {
-        wake(alloc, &mut self.board, parked, frame)?;
-        Ok(())
+        wake(alloc, &mut self.board, parked, frame)
     }
 
     /// Runs a task: the frame of the io-threads node with this number whose turn it is goes on. `None` comes exactly where

@@ -109,6 +109,7 @@ impl Graphs {
         ensures err { OnErr result (IsSpentBy self.old self.new) }
     {
         if self.is_spent {
+            drop(fop);
             return Err(Stop::Mem);
         }
         self.is_spent = true;
@@ -153,6 +154,7 @@ impl Graphs {
         ensures err { OnErr result (IsSpentBy self.old self.new) }
     {
         if self.is_spent {
+            drop(rep);
             return Err(Stop::Mem);
         }
         self.is_spent = true;

@@ -50,7 +50,6 @@ impl MountLedger {
     ///
     /// # Errors
     /// Out of memory.
-    #[tactic(auto, using(crate::proofs::TxnTurns::begun_turn))]
     pub fn begin(
         &self,
         alloc: Global,
@@ -70,15 +69,13 @@ impl MountLedger {
         requests_are_of_phases();
         requests_are_encoded();
         replies_are_within_bounds();
-        let begun = Txn::begin(alloc, set, call, job, live, last, &self.ledger)?;
-        Ok(begun)
+        Txn::begin(alloc, set, call, job, live, last, &self.ledger)
     }
 
     /// A transaction takes the answer of a replica that was asked, as `Txn::answer` does.
     ///
     /// # Errors
     /// Out of memory.
-    #[tactic(auto, using(crate::proofs::TxnTurns::answer_turn, crate::proofs::TxnTurns::few_after, crate::proofs::TxnTurns::few_left))]
     pub fn answer(
         &mut self,
         alloc: Global,
@@ -100,15 +97,13 @@ impl MountLedger {
         requests_are_of_phases();
         requests_are_encoded();
         replies_are_within_bounds();
-        let need = txn.answer(alloc, replica, rep, mark, live, last, &mut self.ledger)?;
-        Ok(need)
+        txn.answer(alloc, replica, rep, mark, live, last, &mut self.ledger)
     }
 
     /// A transaction takes a copy that is done, as `Txn::copied` does.
     ///
     /// # Errors
     /// Out of memory.
-    #[tactic(auto, using(crate::proofs::TxnTurns::copied_turn, crate::proofs::TxnTurns::few_copied))]
     pub fn copied(
         &mut self,
         alloc: Global,
@@ -125,8 +120,7 @@ impl MountLedger {
         requests_are_of_phases();
         requests_are_encoded();
         replies_are_within_bounds();
-        let need = txn.copied(alloc, done, live, last, &mut self.ledger)?;
-        Ok(need)
+        txn.copied(alloc, done, live, last, &mut self.ledger)
     }
 
     /// The accepted changes with an effect, in the order in which they were decided.

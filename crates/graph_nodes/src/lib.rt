@@ -19,6 +19,7 @@
 #![tactic(auto)]
 
 mod arriving;
+mod bailing;
 mod calls;
 mod context;
 mod costs;
@@ -34,6 +35,7 @@ mod names;
 mod nodes;
 mod outer;
 mod parked;
+mod planned;
 mod reading;
 mod running;
 mod tree;

@@ -36,7 +36,7 @@ pub(crate) fn make_in(
         return Ok(false);
     }
     let graph = Graph::new(alloc, plan, number)?;
-    live.insert(number, graph)?;
+    drop(live.insert(number, graph)?);
     Ok(true)
 }
 
@@ -57,7 +57,7 @@ pub(crate) fn remove_in(live: &mut BTreeMap<u32, Graph>, number: u32) -> bool
 {
     let drained = is_drained_in(live, number);
     if drained {
-        live.remove(&number);
+        drop(live.remove(&number));
         return true;
     }
     false
@@ -87,7 +87,10 @@ pub(crate) fn submit_in(
             let moved = graph.submit(alloc, call, fop, mount)?;
             Ok(Some(moved))
         }
-        None => Ok(None),
+        None => {
+            drop(fop);
+            Ok(None)
+        }
     }
 }
 
@@ -142,7 +145,10 @@ pub(crate) fn arrive_in(
             let arrived = graph.arrive(alloc, wind, rep, taken, mount)?;
             Ok(Some(arrived))
         }
-        None => Ok(None),
+        None => {
+            drop(rep);
+            Ok(None)
+        }
     }
 }
 
@@ -189,10 +195,7 @@ pub(crate) fn run_task_in(
     ensures inodes { mount.new.inodes ≡ mount.old.inodes }
 {
     match live.get_mut(&number) {
-        Some(graph) => {
-            let moved = graph.run_task(alloc, task, mount)?;
-            Ok(moved)
-        }
+        Some(graph) => graph.run_task(alloc, task, mount),
         None => Ok(None),
     }
 }

@@ -50,9 +50,6 @@ where
     Ok(Step::Wind(winds, local))
 }
 
-// A frame ends, and what it kept goes.
-fn end(_local: Local) {}
-
 // The error of a set that lacks a quorum, of which no brick is known to be lost.
 pub(crate) fn lost(alloc: Global, set: u8) -> IoError
     ensures { result ≡ IoError.Quorum set [] }
@@ -64,7 +61,6 @@ pub(crate) fn lost(alloc: Global, set: u8) -> IoError
 }
 
 // A fop enters a distribute node.
-#[tactic(auto, using(crate::proofs::FopLaw::begun))]
 fn enter_fop(
     node: &Distribute,
     alloc: Global,
@@ -75,12 +71,10 @@ fn enter_fop(
     ensures made { IfOk result (λ step. IsFopBegun node.now cx.old entry down step cx.new) }
     ensures lawful { IfOk result (λ step. (weight breadth : ℕ) → IsStep (promise_of Shape.Distribute node.now.sets weight breadth) (Enter entry down) step) }
 {
-    let step = node.enter(alloc, cx, entry, down)?;
-    Ok(step)
+    node.enter(alloc, cx, entry, down)
 }
 
 // A job enters the node of a set.
-#[tactic(auto, using(crate::proofs::SetLaw::begun))]
 fn enter_job(
     node: &Replicate,
     alloc: Global,
@@ -93,8 +87,7 @@ fn enter_job(
 {
     transactions_go_on();
     copies_go_on();
-    let step = node.enter(alloc, cx, entry, down)?;
-    Ok(step)
+    node.enter(alloc, cx, entry, down)
 }
 
 // A fop under way takes a reply.
@@ -110,10 +103,7 @@ fn take_fop(
     ensures sets { node.new.sets ≡ node.old.sets }
 {
     match local {
-        Local::Distribute(frame) => {
-            let step = node.resume(alloc, cx, frame, reply)?;
-            Ok(step)
-        }
+        Local::Distribute(frame) => node.resume(alloc, cx, frame, reply),
         Local::Relay => unreachable!(),
         Local::Queued(_) => unreachable!(),
         Local::Pages(_) => unreachable!(),
@@ -121,7 +111,6 @@ fn take_fop(
     }
 }
 
-#[tactic(auto, using(crate::proofs::FopLaw::fop_resumes))]
 fn resume_fop(
     node: &mut Distribute,
     alloc: Global,
@@ -137,8 +126,7 @@ fn resume_fop(
     ensures sets { node.new.sets ≡ node.old.sets }
 {
     let _ = slot;
-    let step = take_fop(node, alloc, cx, local, reply)?;
-    Ok(step)
+    take_fop(node, alloc, cx, local, reply)
 }
 
 // A fop goes on whose hold was extended.
@@ -152,10 +140,7 @@ fn extend_fop(
     ensures { IfOk result (λ step. FopGoes node.now cx.old local step cx.new) }
 {
     match local {
-        Local::Distribute(frame) => {
-            let step = node.go_on(alloc, cx, frame)?;
-            Ok(step)
-        }
+        Local::Distribute(frame) => node.go_on(alloc, cx, frame),
         Local::Relay => unreachable!(),
         Local::Queued(_) => unreachable!(),
         Local::Pages(_) => unreachable!(),
@@ -163,7 +148,6 @@ fn extend_fop(
     }
 }
 
-#[tactic(auto, using(crate::proofs::FopLaw::fop_goes))]
 fn go_on_fop(
     node: &Distribute,
     alloc: Global,
@@ -174,8 +158,7 @@ fn go_on_fop(
     ensures made { IfOk result (λ step. FopGoes node.now cx.old local step cx.new) }
     ensures lawful { IfOk result (λ step. (weight breadth : ℕ) → waits_of local ≡ true → IsStep (promise_of Shape.Distribute node.now.sets weight breadth) (Go local) step) }
 {
-    let step = extend_fop(node, alloc, cx, local)?;
-    Ok(step)
+    extend_fop(node, alloc, cx, local)
 }
 
 // A job under way takes the reply of a slot.
@@ -193,10 +176,7 @@ fn take_job(
     ensures { IfOk result (λ step. JobResumes node.now cx.old local slot reply step cx.new) }
 {
     match local {
-        Local::Set(frame) => {
-            let step = node.resume(alloc, cx, frame, slot, reply)?;
-            Ok(step)
-        }
+        Local::Set(frame) => node.resume(alloc, cx, frame, slot, reply),
         Local::Relay => unreachable!(),
         Local::Queued(_) => unreachable!(),
         Local::Pages(_) => unreachable!(),
@@ -204,7 +184,6 @@ fn take_job(
     }
 }
 
-#[tactic(auto, using(crate::proofs::SetLaw::job_resumes))]
 fn resume_job(
     node: &Replicate,
     alloc: Global,
@@ -220,8 +199,7 @@ fn resume_job(
 {
     transactions_go_on();
     copies_go_on();
-    let step = take_job(node, alloc, cx, local, slot, reply)?;
-    Ok(step)
+    take_job(node, alloc, cx, local, slot, reply)
 }
 
 impl Xlator<Down, Up, Context> for Node {
@@ -234,7 +212,6 @@ impl Xlator<Down, Up, Context> for Node {
 
     ghost makes = { node_makes };
 
-    #[tactic(auto, using(crate::proofs::NodeSteps::same_kind, crate::proofs::NodeSteps::kind_promise, crate::proofs::NodeSteps::queue_promise, crate::proofs::NodeSteps::cache_promise, crate::proofs::NodeSteps::root_entered, crate::proofs::NodeSteps::root_step, crate::proofs::NodeSteps::pass_entered, crate::proofs::NodeSteps::pass_step, crate::proofs::NodeSteps::queue_entered, crate::proofs::NodeSteps::queue_step, crate::proofs::NodeSteps::cache_entered, crate::proofs::NodeSteps::cache_step, crate::proofs::NodeSteps::fop_entered, crate::proofs::NodeSteps::fop_step, crate::proofs::NodeSteps::job_entered, crate::proofs::NodeSteps::job_step, crate::proofs::NodeSteps::client_entered, crate::proofs::NodeSteps::client_step))]
     fn enter(
         &mut self,
         alloc: Global,
@@ -243,38 +220,16 @@ impl Xlator<Down, Up, Context> for Node {
         fop: Down,
     ) -> Result<Step<Down, Up, Local>, AllocError> {
         match &mut self.kind {
-            Kind::Root => {
-                let step = root::enter(alloc, fop)?;
-                Ok(step)
-            }
-            Kind::Pass => {
-                let step = pass::enter(alloc, fop)?;
-                Ok(step)
-            }
-            Kind::IoThreads(node) => {
-                let step = node.enter(alloc, cx, entry, fop)?;
-                Ok(step)
-            }
-            Kind::IoCache(node) => {
-                let step = node.enter(alloc, fop)?;
-                Ok(step)
-            }
-            Kind::Distribute(node) => {
-                let step = enter_fop(node, alloc, cx, entry, fop)?;
-                Ok(step)
-            }
-            Kind::Replicate(node) => {
-                let step = enter_job(node, alloc, cx, entry, fop)?;
-                Ok(step)
-            }
-            Kind::Client(node) => {
-                let step = node.enter(alloc, &cx.clients, fop)?;
-                Ok(step)
-            }
+            Kind::Root => root::enter(alloc, fop),
+            Kind::Pass => pass::enter(alloc, fop),
+            Kind::IoThreads(node) => node.enter(alloc, cx, entry, fop),
+            Kind::IoCache(node) => node.enter(alloc, fop),
+            Kind::Distribute(node) => enter_fop(node, alloc, cx, entry, fop),
+            Kind::Replicate(node) => enter_job(node, alloc, cx, entry, fop),
+            Kind::Client(node) => node.enter(alloc, &cx.clients, fop),
         }
     }
 
-    #[tactic(auto, using(crate::proofs::NodeSteps::same_kind, crate::proofs::NodeSteps::kind_promise, crate::proofs::NodeSteps::cache_promise, crate::proofs::NodeSteps::fop_promise, crate::proofs::NodeSteps::owned_fop, crate::proofs::NodeSteps::owned_job, crate::proofs::NodeSteps::root_replied, crate::proofs::NodeSteps::root_reply_step, crate::proofs::NodeSteps::pass_replied, crate::proofs::NodeSteps::pass_reply_step, crate::proofs::NodeSteps::queue_replied, crate::proofs::NodeSteps::queue_reply_step, crate::proofs::NodeSteps::cache_replied, crate::proofs::NodeSteps::cache_reply_step, crate::proofs::NodeSteps::fop_replied, crate::proofs::NodeSteps::fop_reply_step, crate::proofs::NodeSteps::job_replied, crate::proofs::NodeSteps::job_reply_step, crate::proofs::NodeSteps::client_replied, crate::proofs::NodeSteps::client_reply_step))]
     fn resume(
         &mut self,
         alloc: Global,
@@ -285,37 +240,27 @@ impl Xlator<Down, Up, Context> for Node {
     ) -> Result<Step<Down, Up, Local>, AllocError> {
         match &mut self.kind {
             Kind::Root => {
-                end(local);
+                drop(local);
                 Ok(root::resume(cx, reply))
             }
             Kind::Pass => {
-                end(local);
+                drop(local);
                 Ok(pass::resume(reply))
             }
             Kind::IoThreads(_) => {
-                end(local);
+                drop(local);
                 Ok(pass::resume(reply))
             }
-            Kind::IoCache(node) => {
-                let step = node.resume(alloc, local, reply)?;
-                Ok(step)
-            }
-            Kind::Distribute(node) => {
-                let step = resume_fop(node, alloc, cx, local, slot, reply)?;
-                Ok(step)
-            }
-            Kind::Replicate(node) => {
-                let step = resume_job(node, alloc, cx, local, slot, reply)?;
-                Ok(step)
-            }
+            Kind::IoCache(node) => node.resume(alloc, local, reply),
+            Kind::Distribute(node) => resume_fop(node, alloc, cx, local, slot, reply),
+            Kind::Replicate(node) => resume_job(node, alloc, cx, local, slot, reply),
             Kind::Client(_) => {
-                end(local);
+                drop(local);
                 Ok(client::resume(reply))
             }
         }
     }
 
-    #[tactic(auto, using(crate::proofs::NodeSteps::owned_fop, crate::proofs::NodeSteps::root_go_step, crate::proofs::NodeSteps::root_went, crate::proofs::NodeSteps::pass_go_step, crate::proofs::NodeSteps::pass_went, crate::proofs::NodeSteps::cache_go_step, crate::proofs::NodeSteps::cache_went, crate::proofs::NodeSteps::job_go_step, crate::proofs::NodeSteps::job_went, crate::proofs::NodeSteps::client_go_step, crate::proofs::NodeSteps::client_went, crate::proofs::NodeSteps::queue_went, crate::proofs::NodeSteps::fop_went, crate::proofs::NodeSteps::queue_go_step, crate::proofs::NodeSteps::fop_go_step))]
     fn go_on(
         &mut self,
         alloc: Global,
@@ -323,16 +268,10 @@ impl Xlator<Down, Up, Context> for Node {
         local: Local,
     ) -> Result<Step<Down, Up, Local>, AllocError> {
         match &self.kind {
-            Kind::Distribute(node) => {
-                let step = go_on_fop(node, alloc, cx, local)?;
-                Ok(step)
-            }
+            Kind::Distribute(node) => go_on_fop(node, alloc, cx, local),
             Kind::Root => Ok(Step::Wait(local)),
             Kind::Pass => Ok(Step::Wait(local)),
-            Kind::IoThreads(_) => {
-                let step = queuing::go_on(alloc, local)?;
-                Ok(step)
-            }
+            Kind::IoThreads(_) => queuing::go_on(alloc, local),
             Kind::IoCache(_) => Ok(Step::Wait(local)),
             Kind::Replicate(_) => Ok(Step::Wait(local)),
             Kind::Client(_) => Ok(Step::Wait(local)),

@@ -93,6 +93,18 @@ fn collect_into(
     )?;
     take_holds(&mut cx.holds, waits, &mut moved.holds)?;
     park(&mut board.waiting, parked)?;
+    take_ended(board, cx, moved)
+}
+
+// The answers, the copies and the skips, and the lines of the winds.
+fn take_ended(
+    board: &mut Board<Down, Up, Local>,
+    cx: &mut Context,
+    moved: &mut Moved,
+) -> Result<(), AllocError>
+    ensures board { OnOk result (board.new ≡ record board.old { answers = []; stack = record board.old.stack { lines = [] } }) }
+    ensures err { OnErr result ((board.new.graph ≡ board.old.graph) × (board.new.stack ≡ board.old.stack)) }
+{
     take_answers(&mut board.answers, &mut moved.answers)?;
     take_all(&mut cx.copies, &mut moved.copies)?;
     take_all(&mut cx.skips, &mut moved.skips)?;
@@ -259,7 +271,10 @@ fn answer_of(answered: Answered<Up>) -> Option<(u32, FopAnswer, u32)> {
     match answered.reply {
         Up::Answer(answer, place) => match place {
             Some(place) => Some((call, answer, place)),
-            None => None,
+            None => {
+                drop(answer);
+                None
+            }
         },
         Up::Set(said) => {
             drop(said);

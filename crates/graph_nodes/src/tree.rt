@@ -1,22 +1,17 @@
 //! The nodes of a plan, with the root above its top, and which of them is below which.
-ghost use Rattle.std.specs.Prelude.{◌≡◌, ◌<◌, ◌≤◌, IfOk, IfSome, IsSomeAnd, length, map, slice_get};
-ghost use Rattle.fop_types.specs.Jobs.{IsSetPlan};
+ghost use Rattle.std.specs.Prelude.{◌≡◌, ◌<◌, ◌≤◌, IfOk, IfSome, length, map};
 ghost use Rattle.frame_driver.specs.Follows.{Fits};
-ghost use Rattle.graph_build.specs.PlanLaw.{AreSets};
-ghost use Rattle.graph_nodes.specs.Plans.{IsPlan, HasNeeds};
+ghost use Rattle.graph_nodes.specs.Plans.{IsPlan};
 ghost use Rattle.graph_nodes.specs.Promises.{node_promise};
 
 use crate::costs::{Shape, breadth_of, fop_units, shape_of, weight_of};
 use crate::fits::fits;
-use crate::kinds::{BrickClient, Distribute, IoCache, IoThreads, Kind, Node, Replicate};
-use crate::names::SetNames;
-use fop_types::{Fop, Seq, SetPlan};
+use crate::kinds::{Kind, Node};
+use crate::planned::kind_of;
+use fop_types::{Fop, SetPlan};
 use frame_driver::{Child, Wiring};
 use graph_build::{NodeKind, NodePlan, Plan};
-use io_cache::PageCache;
-use io_threads::Queues;
 use std::alloc::{AllocError, Global};
-use std::collections::BTreeMap;
 
 /// The nodes of a graph, and which is below which. The last node is the root.
 #[derive(Drop)]
@@ -30,98 +25,6 @@ pub struct Tree {
 struct Load {
     weight: u32,
     breadth: u32,
-}
-
-fn copy_set(alloc: Global, set: &SetPlan) -> Result<SetPlan, AllocError>
-    ensures { IfOk result (λ s. s ≡ set.now) }
-{
-    let mut clients = Seq::new(alloc);
-    for client in set.clients.as_slice() {
-        let name = client.copy(alloc)?;
-        clients.push(name)?;
-    }
-    Ok(SetPlan {
-        number: set.number,
-        name: set.name.copy(alloc)?,
-        bricks: set.bricks.copy(alloc)?,
-        clients,
-        q: set.q,
-    })
-}
-
-fn names_of(alloc: Global, sets: &[SetPlan]) -> Result<SetNames, AllocError>
-    requires { AreSets sets.now }
-    ensures { IfOk result (λ names. names ≡ map (λ s. s.name) sets.now) }
-{
-    let mut names = SetNames::new(alloc);
-    for set in sets {
-        let name = set.name.copy(alloc)?;
-        names.push(name)?;
-    }
-    Ok(names)
-}
-
-#[tactic(auto, using(crate::proofs::Plans::count_names))]
-fn distribute_of(alloc: Global, sets: &[SetPlan]) -> Result<Kind, AllocError>
-    requires { AreSets sets.now }
-{
-    let names = names_of(alloc, sets)?;
-    Ok(Kind::Distribute(Distribute {
-        names,
-        sets: sets.len() as u8,
-        kept: BTreeMap::new(alloc),
-    }))
-}
-
-#[tactic(auto, using(crate::proofs::Plans::odd_replicas, crate::proofs::Plans::few_replicas, crate::proofs::Plans::half_replicas))]
-fn replicate_of(alloc: Global, set: &SetPlan) -> Result<Kind, AllocError>
-    requires { IsSetPlan set.now }
-{
-    let plan = copy_set(alloc, set)?;
-    Ok(Kind::Replicate(Replicate { plan }))
-}
-
-// The node of the set with this number, which there is.
-fn set_of(alloc: Global, sets: &[SetPlan], number: u8) -> Result<Kind, AllocError>
-    requires { IsSomeAnd (slice_get sets.now number) IsSetPlan }
-{
-    match sets.get(number as usize) {
-        Some(set) => replicate_of(alloc, set),
-        None => unreachable!(),
-    }
-}
-
-fn cache_of(alloc: Global, pages: u32) -> Result<Kind, AllocError>
-    requires { 1 ≤ pages }
-{
-    let pages = PageCache::new(alloc, pages)?;
-    Ok(Kind::IoCache(IoCache {
-        pages,
-        retired: false,
-    }))
-}
-
-// The kind of the node with this number.
-fn kind_of(
-    alloc: Global,
-    sets: &[SetPlan],
-    planned: &NodePlan,
-    number: u16,
-) -> Result<Kind, AllocError>
-    requires { HasNeeds sets.now planned.now }
-{
-    match planned.kind {
-        NodeKind::Client(brick) => Ok(Kind::Client(BrickClient { brick })),
-        NodeKind::Replicate(number) => set_of(alloc, sets, number),
-        NodeKind::Distribute => distribute_of(alloc, sets),
-        NodeKind::IoCache => cache_of(alloc, planned.cache_pages),
-        NodeKind::IoThreads => Ok(Kind::IoThreads(IoThreads {
-            number,
-            queues: Queues::new(alloc),
-            waiting: 0,
-        })),
-        NodeKind::Pass => Ok(Kind::Pass),
-    }
 }
 
 // The greatest of the loads of a node's children.
@@ -291,13 +194,25 @@ struct Growing {
 }
 
 impl Growing {
+    // The load and the row of a node over these children.
+    fn push_place(&mut self, kind: &Kind, children: &[u16], under: Load) -> Result<(), AllocError> {
+        self.loads.push(load_of(shape_of(kind), self.sets, under))?;
+        push_row(&mut self.row, self.width, kind, children)
+    }
+
     // A node over these children.
     fn push(&mut self, kind: Kind, children: &[u16]) -> Result<(), AllocError> {
         let under = below(&self.loads, children);
-        self.loads.push(load_of(shape_of(&kind), self.sets, under))?;
-        push_row(&mut self.row, self.width, &kind, children)?;
-        self.nodes.push(node(kind, self.sets, under))?;
-        Ok(())
+        match self.push_place(&kind, children, under) {
+            Ok(()) => {
+                self.nodes.push(node(kind, self.sets, under))?;
+                Ok(())
+            }
+            Err(error) => {
+                drop(kind);
+                Err(error)
+            }
+        }
     }
 
     // Each node of the plan.

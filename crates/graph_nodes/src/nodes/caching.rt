@@ -1,10 +1,10 @@
 //! The io-cache node: a read of which all pages are held is answered at once; any other asks below for whole pages, keeps
 //! those that come back, and is answered from them alone. All else passes.
-ghost use Rattle.std.specs.Prelude.{◌≡◌, ◌≤◌, ◌<◌, ◌+◌, ◌-◌, IfOk, OnOk, length, take, drop, nat_lt, true};
+ghost use Rattle.std.specs.Prelude.{◌≡◌, ◌≤◌, ◌<◌, ◌+◌, ◌-◌, IfOk, IfSome, OnOk, length, take, drop, nat_lt, true};
 ghost use Rattle.std.specs.List.{range_with_len};
 ghost use Rattle.fop_types.specs.Bounds.{IsFop, IsObject, IsOpenFd};
 ghost use Rattle.io_cache.specs.Pages.{no_pages};
-ghost use Rattle.graph_nodes.specs.IoCache.{IsRead, EntersBy, IsEntered, PagesCome, IsAnswered, asked_for, hit_or_miss, read_in, bytes_in, put_of, kept, kept_by};
+ghost use Rattle.graph_nodes.specs.IoCache.{IsRead, EntersBy, IsEntered, PagesCome, IsAnswered, asked_for, hit_or_miss, read_in, range_in, bytes_in, put_of, kept, kept_by};
 ghost use Rattle.graph_nodes.specs.Moves.{IsMove};
 ghost use Rattle.graph_nodes.specs.Pages.{IsRange, start_of, pages_of, page_bytes, answer_of};
 
@@ -155,8 +155,7 @@ fn hit_or_miss(
         None => {
             let read = pages_of(object, offset, count);
             let op = asked_for(fd, object, read.range());
-            let step = one(alloc, 0, Down::Fop(op), Local::Pages(read))?;
-            Ok(step)
+            one(alloc, 0, Down::Fop(op), Local::Pages(read))
         }
     }
 }
@@ -176,6 +175,20 @@ fn asked_for(fd: u32, object: Object, range: PageRange) -> FileOp
     })
 }
 
+// The read for whose pages a frame has asked.
+fn range_in(local: &Local) -> Option<PageRange>
+    ensures is { result ≡ range_in local.now }
+    ensures within { IfSome result IsRange }
+{
+    match local {
+        Local::Pages(read) => Some(read.range()),
+        Local::Relay => None,
+        Local::Queued(_) => None,
+        Local::Distribute(_) => None,
+        Local::Set(_) => None,
+    }
+}
+
 impl IoCache {
     /// Takes what comes from above.
     ///
@@ -189,18 +202,9 @@ impl IoCache {
         ensures { IfOk result (λ step. IsEntered self.old down step self.new) }
     {
         match down {
-            Down::Fop(op) => {
-                let step = self.enter_fop(alloc, op)?;
-                Ok(step)
-            }
-            Down::Job(job) => {
-                let step = one(alloc, 0, Down::Job(job), Local::Relay)?;
-                Ok(step)
-            }
-            Down::Request(request) => {
-                let step = one(alloc, 0, Down::Request(request), Local::Relay)?;
-                Ok(step)
-            }
+            Down::Fop(op) => self.enter_fop(alloc, op),
+            Down::Job(job) => one(alloc, 0, Down::Job(job), Local::Relay),
+            Down::Request(request) => one(alloc, 0, Down::Request(request), Local::Relay),
         }
     }
 
@@ -214,10 +218,7 @@ impl IoCache {
                 object,
                 offset,
                 count,
-            } => {
-                let step = self.read(alloc, fd, object, offset, count)?;
-                Ok(step)
-            }
+            } => self.read(alloc, fd, object, offset, count),
             other => {
                 let step = one(alloc, 0, Down::Fop(FileOp::new(other)), Local::Relay)?;
                 Ok(step)
@@ -238,8 +239,7 @@ impl IoCache {
         ensures { IfOk result (λ step. IsRead self.old fd object offset count step self.new) }
     {
         let found = self.pages.read(alloc, object.gfid, offset, count)?;
-        let step = hit_or_miss(alloc, fd, object, offset, count, found)?;
-        Ok(step)
+        hit_or_miss(alloc, fd, object, offset, count, found)
     }
 
     /// Takes the reply of what was handed on.
@@ -254,15 +254,11 @@ impl IoCache {
     ) -> Result<Step<Down, Up, Local>, AllocError>
         ensures { IfOk result (λ step. IsAnswered self.old local reply step self.new) }
     {
-        match local {
-            Local::Pages(read) => {
-                let step = self.take_pages(alloc, read.range(), reply)?;
-                Ok(step)
-            }
-            Local::Relay => Ok(Step::Unwind(reply)),
-            Local::Queued(_) => Ok(Step::Unwind(reply)),
-            Local::Distribute(_) => Ok(Step::Unwind(reply)),
-            Local::Set(_) => Ok(Step::Unwind(reply)),
+        let asked = range_in(&local);
+        drop(local);
+        match asked {
+            Some(range) => self.take_pages(alloc, range, reply),
+            None => Ok(Step::Unwind(reply)),
         }
     }
 
@@ -277,10 +273,7 @@ impl IoCache {
         ensures { IfOk result (λ step. PagesCome (bytes_in reply) self.old range reply step self.new) }
     {
         match reply {
-            Up::Answer(answer, place) => {
-                let step = self.take_answer(alloc, range, answer, place)?;
-                Ok(step)
-            }
+            Up::Answer(answer, place) => self.take_answer(alloc, range, answer, place),
             other => Ok(Step::Unwind(other)),
         }
     }
@@ -296,10 +289,7 @@ impl IoCache {
         ensures { IfOk result (λ step. PagesCome (bytes_in (Up.Answer answer place)) self.old range (Up.Answer answer place) step self.new) }
     {
         match answer {
-            FopAnswer::Call(call) => {
-                let step = self.take_call(alloc, range, call, place)?;
-                Ok(step)
-            }
+            FopAnswer::Call(call) => self.take_call(alloc, range, call, place),
             other => Ok(Step::Unwind(Up::Answer(other, place))),
         }
     }

@@ -7,7 +7,7 @@ ghost use Rattle.graph_nodes.specs.Moves.{IsMove};
 use crate::kinds::BrickClient;
 use crate::locals::Local;
 use crate::nodes::one;
-use graph_items::{BrickReply, Clients, Down, Up};
+use graph_items::{BrickReply, Clients, Down, Request, Up};
 use std::alloc::{AllocError, Global};
 use xlator_law::Step;
 
@@ -33,15 +33,32 @@ impl BrickClient {
         ensures { IfOk result (λ step. IsMove (enter_of clients.now self.now.brick down) step) }
     {
         match down {
-            Down::Request(request) => {
-                if clients.reaches(self.brick, request.bound()) {
-                    let step = one(alloc, 0, Down::Request(request), Local::Relay)?;
-                    return Ok(step);
-                }
+            Down::Request(request) => self.enter_request(alloc, clients, request),
+            Down::Fop(op) => {
+                drop(op);
                 Ok(self.gone(clients))
             }
-            Down::Fop(_) => Ok(self.gone(clients)),
-            Down::Job(_) => Ok(self.gone(clients)),
+            Down::Job(job) => {
+                drop(job);
+                Ok(self.gone(clients))
+            }
+        }
+    }
+
+    // A request goes out over the connection that it needs, where that is open.
+    fn enter_request(
+        &self,
+        alloc: Global,
+        clients: &Clients,
+        request: Request,
+    ) -> Result<Step<Down, Up, Local>, AllocError>
+        ensures { IfOk result (λ step. IsMove (enter_of clients.now self.now.brick (Down.Request request)) step) }
+    {
+        if clients.reaches(self.brick, request.bound()) {
+            one(alloc, 0, Down::Request(request), Local::Relay)
+        } else {
+            drop(request);
+            Ok(self.gone(clients))
         }
     }
 }

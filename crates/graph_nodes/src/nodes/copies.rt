@@ -12,7 +12,6 @@ use std::alloc::{AllocError, Global};
 ///
 /// # Errors
 /// Out of memory.
-#[tactic(auto, using(crate::proofs::CopyTurns::begun_encoded, crate::proofs::CopyTurns::begun_few))]
 pub(crate) fn begin_run(
     alloc: Global,
     job: CopyJob,
@@ -24,15 +23,13 @@ pub(crate) fn begin_run(
     ensures few { IfOk result (λ r. AreFew r.0.job.cells) }
 {
     copies_are_encoded();
-    let begun = CopyRun::begin(alloc, job, rows)?;
-    Ok(begun)
+    CopyRun::begin(alloc, job, rows)
 }
 
 /// A copy takes the answer of a replica, as `CopyRun::answer` does. What it sends has an encoding, where the answer has one.
 ///
 /// # Errors
 /// Out of memory.
-#[tactic(auto, using(crate::proofs::CopyTurns::answer_encoded, crate::proofs::CopyTurns::answer_few))]
 pub(crate) fn answer_run(
     alloc: Global,
     run: &mut CopyRun,
@@ -48,6 +45,5 @@ pub(crate) fn answer_run(
     ensures few { OnOk result (AreFew run.new.job.cells) }
 {
     copies_are_encoded();
-    let need = run.answer(alloc, replica, rep, mark)?;
-    Ok(need)
+    run.answer(alloc, replica, rep, mark)
 }

@@ -39,10 +39,7 @@ impl Distribute {
         ensures { IfOk result (λ step. IsBegun self.now cx.old entry down step cx.new) }
     {
         match down {
-            Down::Fop(op) => {
-                let step = self.begin(alloc, cx, entry, op.into_fop())?;
-                Ok(step)
-            }
+            Down::Fop(op) => self.begin(alloc, cx, entry, op.into_fop()),
             Down::Job(job) => Ok(refuse(alloc, job)),
             Down::Request(request) => Ok(refuse(alloc, request)),
         }
@@ -63,10 +60,7 @@ impl Distribute {
         ensures sets { self.new.sets ≡ self.old.sets }
     {
         match reply {
-            Up::Set(answer) => {
-                let step = self.resume_set(alloc, cx, frame.into_state(), answer.into_reply())?;
-                Ok(step)
-            }
+            Up::Set(answer) => self.resume_set(alloc, cx, frame.into_state(), answer.into_reply()),
             Up::Answer(answer, _) => Ok(refuse(alloc, (frame, answer))),
             Up::Brick(said) => Ok(refuse(alloc, (frame, said))),
         }
@@ -85,15 +79,11 @@ impl Distribute {
         ensures sets { self.new.sets ≡ self.old.sets }
     {
         match state.fop.asked() {
-            Some(set) => {
-                let step = self.take_reply(alloc, cx, state, set, reply)?;
-                Ok(step)
-            }
+            Some(set) => self.take_reply(alloc, cx, state, set, reply),
             None => Ok(refuse(alloc, (state, reply))),
         }
     }
 
-    #[tactic(auto, using(crate::proofs::FopSteps::reply_taken))]
     fn take_reply(
         &mut self,
         alloc: Global,
@@ -110,10 +100,7 @@ impl Distribute {
     {
         let mut state = state;
         match self.answer(alloc, &mut state, set, reply) {
-            Ok(next) => {
-                let step = self.go(alloc, cx, state, next)?;
-                Ok(step)
-            }
+            Ok(next) => self.go(alloc, cx, state, next),
             Err(error) => {
                 drop(state);
                 Err(error)
@@ -122,7 +109,6 @@ impl Distribute {
     }
 
     // The fop takes the reply, and the node keeps the layouts that the fop has read since.
-    #[tactic(auto, using(crate::proofs::FopTurns::answer_turn))]
     fn answer(
         &mut self,
         alloc: Global,
@@ -145,7 +131,13 @@ impl Distribute {
         let next = state.fop.answer(alloc, set, reply)?;
         let kept = self.learn(alloc, state.fop.learnt(), state.learnt);
         state.learnt = state.fop.learnt().len();
-        kept.and(Ok(next))
+        match kept {
+            Ok(()) => Ok(next),
+            Err(error) => {
+                drop(next);
+                Err(error)
+            }
+        }
     }
 
     /// The call's hold was extended. A fop that waits for no hold is refused.
@@ -162,15 +154,11 @@ impl Distribute {
     {
         let state = frame.into_state();
         match state.fop.asked() {
-            None => {
-                let step = self.extended(alloc, cx, state)?;
-                Ok(step)
-            }
+            None => self.extended(alloc, cx, state),
             Some(_) => Ok(refuse(alloc, state)),
         }
     }
 
-    #[tactic(auto, using(crate::proofs::FopTurns::held_turn, crate::proofs::FopSteps::hold_taken))]
     fn extended(
         &self,
         alloc: Global,
@@ -184,10 +172,7 @@ impl Distribute {
         fops_keep_bounds();
         let mut state = state;
         match state.fop.held(alloc) {
-            Ok(next) => {
-                let step = self.go(alloc, cx, state, next)?;
-                Ok(step)
-            }
+            Ok(next) => self.go(alloc, cx, state, next),
             Err(error) => {
                 drop(state);
                 Err(error)

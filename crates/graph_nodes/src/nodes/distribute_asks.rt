@@ -1,5 +1,5 @@
 //! What a fop of the distribute node does next: a set is asked for a job, a hold is waited for, or the fop ends.
-ghost use Rattle.std.specs.Prelude.{◌≡◌, ◌<◌, ◌-◌, IfOk, OnOk};
+ghost use Rattle.std.specs.Prelude.{◌≡◌, ◌<◌, ◌-◌, IfOk};
 ghost use Rattle.fop_types.specs.Jobs.{IsJob};
 ghost use Rattle.graph_nodes.specs.Distribute.{Gives, AreJobs, first_asked, asked_move, waiting};
 ghost use Rattle.graph_nodes.specs.Kept.{IsFopKept};
@@ -35,14 +35,8 @@ impl Distribute {
         ensures { IfOk result (λ step. Gives self.now.sets state next cx.old step cx.new) }
     {
         match next {
-            DhtNext::Jobs(jobs) => {
-                let step = self.ask(alloc, state, jobs)?;
-                Ok(step)
-            }
-            DhtNext::Hold(gfid) => {
-                let step = hold(alloc, cx, state, gfid)?;
-                Ok(step)
-            }
+            DhtNext::Jobs(jobs) => self.ask(alloc, state, jobs),
+            DhtNext::Hold(gfid) => hold(alloc, cx, state, gfid),
             DhtNext::Done(answer, place) => {
                 drop(state);
                 Ok(Step::Unwind(Up::Answer(answer, place)))
@@ -62,11 +56,10 @@ impl Distribute {
         ensures { IfOk result (λ step. IsMove (first_asked self.now.sets state jobs) step) }
     {
         let mut jobs = Queue::from_vec(jobs.into_vec());
-        match jobs.pop() {
-            Some((set, job)) => {
-                let step = self.ask_set(alloc, state, set, job)?;
-                Ok(step)
-            }
+        let first = jobs.pop();
+        drop(jobs);
+        match first {
+            Some((set, job)) => self.ask_set(alloc, state, set, job),
             None => Ok(refuse(alloc, state)),
         }
     }
@@ -84,10 +77,10 @@ impl Distribute {
         ensures { IfOk result (λ step. IsMove (asked_move self.now.sets state set job) step) }
     {
         if set < self.sets && 0 < state.jobs {
-            let step = asked(alloc, state, set, job)?;
-            return Ok(step);
+            asked(alloc, state, set, job)
+        } else {
+            Ok(refuse(alloc, (state, job)))
         }
-        Ok(refuse(alloc, (state, job)))
     }
 }
 
@@ -108,8 +101,7 @@ fn asked(
     match FopFrame::new(alloc, state) {
         Ok(frame) => {
             let asked = Down::Job(SetJob::new(job));
-            let step = one(alloc, set as u16, asked, Local::Distribute(frame))?;
-            Ok(step)
+            one(alloc, set as u16, asked, Local::Distribute(frame))
         }
         Err(error) => {
             drop(job);
@@ -126,8 +118,7 @@ fn hold(
     gfid: Gfid,
 ) -> Result<Step<Down, Up, Local>, AllocError>
     requires kept { IsFopKept state.fop }
-    ensures step { IfOk result (λ step. IsMove (Waits (Local.Distribute state)) step) }
-    ensures cx { OnOk result (cx.new ≡ waiting cx.old state.entry gfid) }
+    ensures { IfOk result (λ step. IsMove (Waits (Local.Distribute state)) step × (cx.new ≡ waiting cx.old state.entry gfid)) }
 {
     let wait = HoldWait {
         call: state.entry.call,

@@ -61,13 +61,12 @@ impl Distribute {
         ensures { IfOk result (λ step. Begins self.now cx.old entry fop step cx.new) }
     {
         if 1 <= cx.root_sets && cx.root_sets <= self.sets && names_sets(&fop, self.sets) {
-            let step = self.begin_over(alloc, cx, entry, fop)?;
-            return Ok(step);
+            self.begin_over(alloc, cx, entry, fop)
+        } else {
+            Ok(refuse(alloc, fop))
         }
-        Ok(refuse(alloc, fop))
     }
 
-    #[tactic(auto, using(crate::proofs::FopTurns::begun_turn, crate::proofs::FopTurns::named_sets, crate::proofs::FopSteps::fop_begun))]
     fn begin_over(
         &self,
         alloc: Global,
@@ -98,7 +97,6 @@ impl Distribute {
             learnt: 0,
             jobs,
         };
-        let step = self.go(alloc, cx, state, next)?;
-        Ok(step)
+        self.go(alloc, cx, state, next)
     }
 }

@@ -16,8 +16,7 @@ use xlator_law::Step;
 pub(crate) fn enter(alloc: Global, down: Down) -> Result<Step<Down, Up, Local>, AllocError>
     ensures { IfOk result (λ step. IsMove (enter_of down) step) }
 {
-    let step = one(alloc, 0, down, Local::Relay)?;
-    Ok(step)
+    one(alloc, 0, down, Local::Relay)
 }
 
 /// Hands a reply back.

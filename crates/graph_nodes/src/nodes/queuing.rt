@@ -116,10 +116,7 @@ pub(crate) fn go_on(alloc: Global, local: Local) -> Result<Step<Down, Up, Local>
     ensures { IfOk result (λ step. IsMove (go_on_of local) step) }
 {
     match local {
-        Local::Queued(down) => {
-            let step = one(alloc, 0, down, Local::Relay)?;
-            Ok(step)
-        }
+        Local::Queued(down) => one(alloc, 0, down, Local::Relay),
         Local::Relay => Ok(Step::Wait(Local::Relay)),
         Local::Pages(read) => Ok(Step::Wait(Local::Pages(read))),
         Local::Distribute(frame) => Ok(Step::Wait(Local::Distribute(frame))),

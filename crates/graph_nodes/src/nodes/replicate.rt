@@ -37,8 +37,14 @@ fn said_by(reply: Up) -> BrickReply
 {
     match reply {
         Up::Brick(said) => said,
-        Up::Set(_) => BrickReply::gone(0),
-        Up::Answer(_, _) => BrickReply::gone(0),
+        Up::Set(answer) => {
+            drop(answer);
+            BrickReply::gone(0)
+        }
+        Up::Answer(answer, _) => {
+            drop(answer);
+            BrickReply::gone(0)
+        }
     }
 }
 
@@ -96,7 +102,6 @@ impl Replicate {
         }
     }
 
-    #[tactic(auto, using(crate::proofs::JobTurns::job_begun))]
     fn begin(
         &self,
         alloc: Global,
@@ -111,8 +116,7 @@ impl Replicate {
         let (txn, need) = cx
             .ledger
             .begin(alloc, &self.plan, call, job, at.live, &at.last)?;
-        let step = self.go(alloc, cx, txn, self.budget(), need)?;
-        Ok(step)
+        self.go(alloc, cx, txn, self.budget(), need)
     }
 
     /// Takes the reply of a replica that was asked.
@@ -145,7 +149,6 @@ impl Replicate {
     }
 
     // A replica has answered the transaction.
-    #[tactic(auto, using(crate::proofs::AskedSlots::asking_of))]
     fn answered(
         &self,
         alloc: Global,
@@ -208,8 +211,13 @@ fn answer(cx: &mut Context, txn: Txn, reply: SetReply) -> Result<Step<Down, Up, 
 {
     let noted = note_skip(cx, &txn.job, &reply);
     drop(txn);
-    let answer = SetAnswer::new(reply);
-    noted.and(Ok(Step::Unwind(Up::Set(answer))))
+    match noted {
+        Ok(()) => Ok(Step::Unwind(Up::Set(SetAnswer::new(reply)))),
+        Err(error) => {
+            drop(reply);
+            Err(error)
+        }
+    }
 }
 
 // A heal that leaves its cell is noted.

@@ -28,7 +28,6 @@ impl Replicate {
     ///
     /// # Errors
     /// Out of memory.
-    #[tactic(auto, using(crate::proofs::AskedSlots::copying_of))]
     pub(crate) fn copy_answered(
         &self,
         alloc: Global,

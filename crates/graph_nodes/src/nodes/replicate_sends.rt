@@ -61,10 +61,31 @@ fn winding(
 {
     let mut job = job;
     job.requests -= list.len();
-    let locks = job.txn.locks;
-    let frame = SetFrame::new(alloc, job)?;
-    let winds = winds_of(alloc, list, locks)?;
-    Ok(Step::Wind(winds, Local::Set(frame)))
+    match winds_of(alloc, list, job.txn.locks) {
+        Ok(winds) => wait_for(alloc, job, winds),
+        Err(error) => {
+            drop(job);
+            Err(error)
+        }
+    }
+}
+
+// The frame waits for these winds, and for those who have not answered.
+fn wait_for(
+    alloc: Global,
+    job: JobState,
+    winds: Vec<(u16, u8, Down)>,
+) -> Result<Step<Down, Up, Local>, AllocError>
+    requires kept { IsJobKept job }
+    ensures { IfOk result (λ step. IsMove (On winds.items (Local.Set job)) step) }
+{
+    match SetFrame::new(alloc, job) {
+        Ok(frame) => Ok(Step::Wind(winds, Local::Set(frame))),
+        Err(error) => {
+            drop(winds);
+            Err(error)
+        }
+    }
 }
 
 /// The frame waits on, for those who have not answered.
@@ -81,13 +102,10 @@ pub(crate) fn waiting(
     requires copy { IsCopyKept copy }
     ensures { IfOk result (λ step. IsMove (On [] (Local.Set (record { txn = txn; copy = copy; requests = requests }))) step) }
 {
-    let frame = SetFrame::new(
-        alloc,
-        JobState {
-            txn,
-            copy,
-            requests,
-        },
-    )?;
-    Ok(Step::Wind(Vec::new(alloc), Local::Set(frame)))
+    let job = JobState {
+        txn,
+        copy,
+        requests,
+    };
+    wait_for(alloc, job, Vec::new(alloc))
 }

@@ -1,5 +1,5 @@
 //! The requests of a phase as winds to the replicas.
-ghost use Rattle.std.specs.Prelude.{◌≡◌, ◌<◌, IfOk, true, map, slice_get};
+ghost use Rattle.std.specs.Prelude.{◌≡◌, ◌<◌, ◌++◌, IfOk, OnOk, true, map, slice_get};
 ghost use Rattle.fop_types.specs.Bounds.{IsReq};
 ghost use Rattle.graph_nodes.specs.Replicate.{bound_of, wind_of, AreEncoded};
 
@@ -47,8 +47,22 @@ pub(crate) fn winds_of(
 {
     let mut winds = Vec::new(alloc);
     let mut rest = Queue::from_vec(list.into_vec());
+    let pushed = push_winds(&mut winds, &mut rest, &locks);
+    drop(rest);
+    pushed.and(Ok(winds))
+}
+
+// Puts the winds of requests behind others.
+fn push_winds(
+    winds: &mut Vec<(u16, u8, Down)>,
+    rest: &mut Queue<(u8, BrickReq)>,
+    locks: &Locks,
+) -> Result<(), AllocError>
+    requires { AreEncoded rest.old }
+    ensures { OnOk result (winds.new.items ≡ winds.old.items ++ map (wind_of locks.now) rest.old) }
+{
     while let Some(next) = rest.pop() {
-        winds.push(wind_of(&locks, next))?;
+        winds.push(wind_of(locks, next))?;
     }
-    Ok(winds)
+    Ok(())
 }

@@ -1,4 +1,5 @@
 use Rattle.std.proofs.Common.{ap}
+use Rattle.std.proofs.lemmas.Result.{on_ok_weaker}
 use Rattle.std.specs.Prelude.{ℕ}
 use Rattle.std.specs.BTreeMap.{BTreeMap, keys}
 use Rattle.graph_nodes.specs.declared.graph.Graph.{Graph}
@@ -8,21 +9,15 @@ use Rattle.graph_nodes.proofs.mounted.run_task_in.Goals as goal
 pub run_task-requires : goal.run_task-requires
 run_task-requires c = record { live = one_found c.args.live.now c.args.number c.in-Some.graph.now c.args.mount.now c.requires.live c.in-Some.ensures.value }
 
-pub returns-in_ok-moved-in-Some-clause-live : goal.returns-in_ok-moved-in-Some-clause-live
-returns-in_ok-moved-in-Some-clause-live c = called_through c.args.live.now _ c.args.number c.in-Some.graph.now c.run_task.new.self c.args.mount.now c.run_task.new.mount c.requires.live c.in-Some.ensures.value
-    (c.get_mut.follows.holds c.run_task.new.self) c.in_ok-moved-in-Some.ensures.live c.run_task.ensures.kept
+pub returns-in-Some-clause-live : goal.returns-in-Some-clause-live
+returns-in-Some-clause-live c = on_ok_weaker c.run_task.result (λ live. called_through c.args.live.now _ c.args.number c.in-Some.graph.now c.run_task.new.self c.args.mount.now c.run_task.new.mount c.requires.live c.in-Some.ensures.value
+    (c.get_mut.follows.holds c.run_task.new.self) live c.run_task.ensures.kept) c.run_task.ensures.live
 
-pub returns-in_ok-moved-in-Some-clause-numbers : goal.returns-in_ok-moved-in-Some-clause-numbers
-returns-in_ok-moved-in-Some-clause-numbers c = (c.get_mut.follows.holds c.run_task.new.self).1
+pub returns-in-Some-clause-numbers : goal.returns-in-Some-clause-numbers
+returns-in-Some-clause-numbers c = (c.get_mut.follows.holds c.run_task.new.self).1
 
-pub returns-in_ok-moved-in-Some-clause-inodes : goal.returns-in_ok-moved-in-Some-clause-inodes
-returns-in_ok-moved-in-Some-clause-inodes c = c.run_task.ensures.kept.inodes
-
-pub returns-in_err-moved-in-Some-clause-numbers : goal.returns-in_err-moved-in-Some-clause-numbers
-returns-in_err-moved-in-Some-clause-numbers c = (c.get_mut.follows.holds c.run_task.new.self).1
-
-pub returns-in_err-moved-in-Some-clause-inodes : goal.returns-in_err-moved-in-Some-clause-inodes
-returns-in_err-moved-in-Some-clause-inodes c = c.run_task.ensures.kept.inodes
+pub returns-in-Some-clause-inodes : goal.returns-in-Some-clause-inodes
+returns-in-Some-clause-inodes c = c.run_task.ensures.kept.inodes
 
 pub returns-in-None-clause-live : goal.returns-in-None-clause-live
 returns-in-None-clause-live c = all_same c.args.live.now _ c.args.mount.now c.get_mut.follows.holds-at-none c.requires.live

@@ -1,3 +1,4 @@
+use Rattle.std.proofs.lemmas.Result.{on_ok_weaker}
 use Rattle.graph_nodes.proofs.Living.{work_then, keeps_then, settles_then}
 use Rattle.graph_nodes.proofs.graph.Graph.entered.Goals as goal
 
@@ -8,7 +9,4 @@ pub returns-clause-kept : goal.returns-clause-kept
 returns-clause-kept c = keeps_then c.args.self.now c.put.new.self _ c.put.ensures.kept c.run.ensures.kept
 
 pub returns-clause-well : goal.returns-clause-well
-returns-clause-well c = settles_then c.args.self.now c.put.new.self _ c.args.parked.now.keys _ c.in_ok-put.ensures.works c.in_ok-moved.ensures.well
-
-pub returns-in_err-moved-clause-kept : goal.returns-in_err-moved-clause-kept
-returns-in_err-moved-clause-kept c = keeps_then c.args.self.now c.put.new.self _ c.put.ensures.kept c.run.ensures.kept
+returns-clause-well c = on_ok_weaker c.run.result (λ settled. settles_then c.args.self.now c.put.new.self _ c.args.parked.now.keys _ c.in_ok-put.ensures.works settled) c.run.ensures.well

@@ -1,4 +1,5 @@
 use Rattle.std.proofs.Common.{refl}
+use Rattle.std.proofs.lemmas.Result.{on_ok_weaker}
 use Rattle.graph_nodes.proofs.Living.{others_same}
 use Rattle.graph_nodes.proofs.graph.Graph.wake_parked.Goals as goal
 
@@ -6,7 +7,4 @@ pub returns-clause-kept : goal.returns-clause-kept
 returns-clause-kept c = record { number = c.wake.ensures.graph; top = refl; wiring = refl; promises = refl; others = others_same c.args.self.now.board.graph c.args.self.now.board.stack _ c.wake.ensures.stack }
 
 pub returns-clause-works : goal.returns-clause-works
-returns-clause-works c = λ ps is. c.in_ok-wake.ensures.works ps c.args.self.now.nodes.items c.args.self.now.wiring is
-
-pub returns-in_err-wake-clause-kept : goal.returns-in_err-wake-clause-kept
-returns-in_err-wake-clause-kept c = record { number = c.wake.ensures.graph; top = refl; wiring = refl; promises = refl; others = others_same c.args.self.now.board.graph c.args.self.now.board.stack _ c.wake.ensures.stack }
+returns-clause-works c = on_ok_weaker c.wake.result (λ works ps is. works ps c.args.self.now.nodes.items c.args.self.now.wiring is) c.wake.ensures.works

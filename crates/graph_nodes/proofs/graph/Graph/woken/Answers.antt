@@ -1,3 +1,4 @@
+use Rattle.std.proofs.lemmas.Result.{on_ok_weaker}
 use Rattle.graph_nodes.proofs.Living.{work_by, keeps_then, settles_by}
 use Rattle.graph_nodes.proofs.graph.Graph.woken.Goals as goal
 
@@ -8,7 +9,4 @@ pub returns-clause-kept : goal.returns-clause-kept
 returns-clause-kept c = keeps_then c.args.self.now c.wake_parked.new.self _ c.wake_parked.ensures.kept c.run.ensures.kept
 
 pub returns-clause-well : goal.returns-clause-well
-returns-clause-well c = settles_by c.args.self.now c.wake_parked.new.self _ c.args.parked.now.keys c.wake_parked.new.parked.keys _ c.in_ok-wake_parked.ensures.works c.in_ok-moved.ensures.well
-
-pub returns-in_err-moved-clause-kept : goal.returns-in_err-moved-clause-kept
-returns-in_err-moved-clause-kept c = keeps_then c.args.self.now c.wake_parked.new.self _ c.wake_parked.ensures.kept c.run.ensures.kept
+returns-clause-well c = on_ok_weaker c.run.result (λ settled. settles_by c.args.self.now c.wake_parked.new.self _ c.args.parked.now.keys c.wake_parked.new.parked.keys _ c.in_ok-wake_parked.ensures.works settled) c.run.ensures.well

@@ -1,6 +1,6 @@
 use Rattle.std.proofs.Common.{◌≡◌, map, take}
 use Rattle.graph_nodes.specs.Replicate.{named_row}
-use Rattle.graph_nodes.proofs.nodes.records.named.Given as goal
+use Rattle.graph_nodes.proofs.nodes.records.named_rows.Given as goal
 
 abbrev pub invariant-loop-row : goal.invariant-loop-row
-invariant-loop-row l = l.rows ≡ map (named_row l.bricks) (take l.row-index l.made.rows)
+invariant-loop-row l = l.named ≡ map (named_row l.bricks) (take l.row-index l.rows)
