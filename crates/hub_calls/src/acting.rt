@@ -23,14 +23,9 @@ impl Parts {
             }
             Action::Heal => self.internal.is_none(),
             Action::Switch(volfile) => {
-                self.internal.is_none() && self.graphs.may_follow(on, volfile)
+                self.internal.is_none() && self.graphs.live.may_follow(on, volfile)
             }
         }
-    }
-
-    /// Whether a control without a condition may be carried out next: none before it is under way.
-    pub(crate) fn may_go_on(&self) -> bool {
-        self.internal.is_none()
     }
 
     /// Whether the phase has nothing left but controls: its calls are answered, no internal call is under way, no task is
@@ -52,7 +47,7 @@ impl Parts {
         on: &Planned,
         action: Action,
     ) -> Result<(), Stop> {
-        let plain = self.may_go_on();
+        let plain = self.internal.is_none();
         let rest = self.has_nothing_else();
         if let Some(control) = self.turn.controls.carried_by(action, plain, rest) {
             self.turn.controls.carried(control);
@@ -88,7 +83,7 @@ impl Parts {
 
     // An internal call sends its fop in the newest graph. No internal call is under way.
     fn internal_call(&mut self, alloc: Global, fop: Fop) -> Result<(), Stop> {
-        let graph = self.graphs.newest;
+        let graph = self.graphs.live.newest;
         self.internal = Some(graph);
         self.enter(alloc, graph, 0, fop)
     }
@@ -96,7 +91,7 @@ impl Parts {
     // The pages of the newest graph go; the next graph is made and connected, and an internal call opens the descriptors
     // there.
     fn switch(&mut self, alloc: Global, on: &Planned, volfile: u8) -> Result<(), Stop> {
-        self.graphs.retire_newest();
+        self.graphs.nodes.retire(self.graphs.live.newest);
         self.make_graph(alloc, on, volfile)?;
         let fds = self.open_fds(alloc)?;
         self.internal_call(alloc, Fop::Migrate { fds })
@@ -113,15 +108,10 @@ impl Parts {
         on: &Planned,
         volfile: u8,
     ) -> Result<(), Stop> {
-        self.make_next(alloc, on, volfile)?;
-        self.connect_newest(alloc, on)
-    }
-
-    fn make_next(&mut self, alloc: Global, on: &Planned, volfile: u8) -> Result<(), Stop> {
-        match on.plan(volfile) {
-            Some(plan) => self.graphs.make(alloc, plan, volfile),
-            None => Ok(()),
+        if let Some(plan) = on.plan(volfile) {
+            self.graphs.make(alloc, plan, volfile)?;
         }
+        self.connect_newest(alloc, on)
     }
 
     // The open descriptors, as a new graph opens them again.

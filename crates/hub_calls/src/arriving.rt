@@ -80,8 +80,7 @@ impl Parts {
     // The graph that waits for a reply of this brick to a wind.
     fn graph_of(&self, on: &Planned, wind: WindNo, brick: u8) -> Option<u32> {
         let owner = self.graphs.nodes.owner(request_wind(wind))?;
-        let volfile = self.graphs.get(owner.graph)?.volfile;
-        let plan = on.plan(volfile)?;
+        let plan = self.graphs.live.plan(on, owner.graph)?;
         match plan.nodes.as_slice().get(owner.node as usize)?.kind {
             NodeKind::Client(at) => { if at == brick { Some(owner.graph) } else { None } }
             _ => None,

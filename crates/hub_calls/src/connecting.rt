@@ -22,20 +22,13 @@ impl Parts {
     /// # Errors
     /// As for `Hub::submit`.
     pub(crate) fn connect_newest(&mut self, alloc: Global, on: &Planned) -> Result<(), Stop> {
-        let graph = self.graphs.newest;
+        let graph = self.graphs.live.newest;
         for brick in 0..on.bricks() {
-            if self.uses(graph, brick) && !self.turn.bricks.closed.has(brick) {
+            if self.graphs.live.uses(graph, brick) && !self.turn.bricks.closed.has(brick) {
                 self.connect(alloc, graph, brick)?;
             }
         }
         Ok(())
-    }
-
-    fn uses(&self, graph: u32, brick: u8) -> bool {
-        match self.graphs.get(graph) {
-            Some(live) => live.bricks.has(brick),
-            None => false,
-        }
     }
 
     /// The connection of a graph to a brick ends with its winds, and the brick is sent a Disconnect.
@@ -43,7 +36,7 @@ impl Parts {
     /// # Errors
     /// As for `Hub::submit`.
     pub(crate) fn lose(&mut self, alloc: Global, graph: u32, brick: u8) -> Result<(), Stop> {
-        if self.graphs.connection(graph, brick).is_none() {
+        if self.graphs.nodes.connection(graph, brick).is_none() {
             return Ok(());
         }
         self.bail(alloc, graph, brick)?;
@@ -58,7 +51,7 @@ impl Parts {
     pub(crate) fn cut(&mut self, alloc: Global, brick: u8) -> Result<(), Stop> {
         let mut from = 0;
         for _ in 0..self.graphs.live.len() {
-            let Some(graph) = self.graphs.first_from(from) else {
+            let Some(graph) = self.graphs.live.first_from(from) else {
                 return Ok(());
             };
             self.lose(alloc, graph, brick)?;
@@ -74,10 +67,10 @@ impl Parts {
     pub(crate) fn closed(&mut self, alloc: Global, brick: u8) -> Result<(), Stop> {
         let mut from = 0;
         for _ in 0..self.graphs.live.len() {
-            let Some(graph) = self.graphs.first_from(from) else {
+            let Some(graph) = self.graphs.live.first_from(from) else {
                 return Ok(());
             };
-            if self.graphs.connection(graph, brick).is_some() {
+            if self.graphs.nodes.connection(graph, brick).is_some() {
                 self.bail(alloc, graph, brick)?;
             }
             from = graph.saturating_add(1);
@@ -92,10 +85,12 @@ impl Parts {
     pub(crate) fn opened(&mut self, alloc: Global, brick: u8) -> Result<(), Stop> {
         let mut from = 0;
         for _ in 0..self.graphs.live.len() {
-            let Some(graph) = self.graphs.first_from(from) else {
+            let Some(graph) = self.graphs.live.first_from(from) else {
                 return Ok(());
             };
-            if self.uses(graph, brick) && self.graphs.connection(graph, brick).is_none() {
+            if self.graphs.live.uses(graph, brick)
+                && self.graphs.nodes.connection(graph, brick).is_none()
+            {
                 self.connect(alloc, graph, brick)?;
             }
             from = graph.saturating_add(1);
@@ -106,7 +101,7 @@ impl Parts {
     // A graph's bricks are sent a Disconnect.
     fn disconnect_all(&mut self, alloc: Global, on: &Planned, graph: u32) -> Result<(), Stop> {
         for brick in 0..on.bricks() {
-            if self.uses(graph, brick) {
+            if self.graphs.live.uses(graph, brick) {
                 self.turn.send_disconnect(alloc, brick, graph)?;
             }
         }
@@ -120,12 +115,8 @@ impl Parts {
             return Ok(());
         }
         self.disconnect_all(alloc, on, graph)?;
-        self.graphs.live.remove(&graph);
+        self.graphs.live.remove(graph);
         Ok(())
-    }
-
-    fn is_done(&self, graph: u32) -> bool {
-        graph != self.graphs.newest && self.calls.count_of(graph) == 0
     }
 
     /// The older graphs that have no frames and no calls without a reply are done with.
@@ -135,10 +126,10 @@ impl Parts {
     pub(crate) fn disconnect_drained(&mut self, alloc: Global, on: &Planned) -> Result<(), Stop> {
         let mut from = 0;
         for _ in 0..self.graphs.live.len() {
-            let Some(graph) = self.graphs.first_from(from) else {
+            let Some(graph) = self.graphs.live.first_from(from) else {
                 return Ok(());
             };
-            if self.is_done(graph) {
+            if graph != self.graphs.live.newest && self.calls.count_of(graph) == 0 {
                 self.disconnect(alloc, on, graph)?;
             }
             from = graph.saturating_add(1);

@@ -20,7 +20,7 @@ impl Hub {
 
     /// The next control without a condition, where the one before it is finished.
     pub fn plain(&self) -> Option<Action> {
-        if self.parts.may_go_on() {
+        if self.parts.internal.is_none() {
             self.parts.turn.controls.plain()
         } else {
             None

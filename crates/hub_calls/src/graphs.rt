@@ -18,112 +18,61 @@ pub struct LiveGraph {
     pub sets: u8,
 }
 
-/// The live graphs by their numbers, which of them is the newest, and the nodes of all of them, with what they share.
+/// The live graphs by their numbers, and which of them is the newest.
 #[derive(Drop)]
-pub struct Graphs {
-    pub live: BTreeMap<u32, LiveGraph>,
+pub struct LiveGraphs {
+    graphs: BTreeMap<u32, LiveGraph>,
     pub newest: u32,
-    pub nodes: NodeGraphs,
 }
 
-impl Graphs {
-    /// No graphs, of which the first one will have so many sets. It takes no memory.
-    pub(crate) fn new(alloc: Global, root_sets: u8) -> Graphs {
-        Graphs {
-            live: BTreeMap::new(alloc),
+impl LiveGraphs {
+    /// No graphs. It takes no memory.
+    fn new(alloc: Global) -> LiveGraphs {
+        LiveGraphs {
+            graphs: BTreeMap::new(alloc),
             newest: 0,
-            nodes: NodeGraphs::new(alloc, root_sets),
         }
     }
 
-    /// Makes the next graph, from the plan of a volfile.
-    ///
-    /// # Errors
-    /// Out of memory.
-    pub(crate) fn make(&mut self, alloc: Global, plan: &Plan, volfile: u8) -> Result<(), Stop>
-        requires { IsPlan plan.now }
-    {
-        let Some(number) = self.newest.checked_add(1) else {
-            return Err(Stop::Mem);
-        };
-        self.nodes.make(alloc, plan, number)?;
-        let made = LiveGraph {
-            volfile,
-            bricks: bricks_of(plan),
-            sets: plan.sets.len().min(255) as u8,
-        };
-        self.put(number, made)?;
+    // Puts the newest graph to the others.
+    fn add(&mut self, number: u32, made: LiveGraph) -> Result<(), AllocError> {
+        self.graphs.insert(number, made)?;
         self.newest = number;
         Ok(())
     }
 
-    fn put(&mut self, number: u32, made: LiveGraph) -> Result<(), AllocError> {
-        self.live.insert(number, made)?;
-        Ok(())
+    /// A graph is live no more.
+    pub(crate) fn remove(&mut self, number: u32) {
+        self.graphs.remove(&number);
     }
 
-    /// A live graph.
-    pub(crate) fn get(&self, number: u32) -> Option<&LiveGraph> {
-        self.live.get(&number)
+    /// How many graphs are live.
+    pub(crate) fn len(&self) -> usize {
+        self.graphs.len()
     }
 
     /// How many sets a graph has; 0 where it is not live.
     pub(crate) fn sets_of(&self, number: u32) -> u8 {
-        match self.live.get(&number) {
+        match self.graphs.get(&number) {
             Some(graph) => graph.sets,
             None => 0,
         }
     }
 
+    /// Whether a live graph uses a brick.
+    pub(crate) fn uses(&self, number: u32, brick: u8) -> bool {
+        match self.graphs.get(&number) {
+            Some(graph) => graph.bricks.has(brick),
+            None => false,
+        }
+    }
+
     /// The first live graph from a number on.
     pub(crate) fn first_from(&self, number: u32) -> Option<u32> {
-        match self.live.range(number..).next() {
+        match self.graphs.range(number..).next() {
             Some((found, _)) => Some(*found),
             None => None,
         }
-    }
-
-    /// How many tasks are ready, over all live graphs.
-    pub(crate) fn ready_len(&self) -> u32 {
-        let mut count = 0u32;
-        for (number, _) in &self.live {
-            count = count.saturating_add(self.nodes.ready_len(*number));
-        }
-        count
-    }
-
-    /// The ready task of this place, from 0, among those of all live graphs, by graph and then by task.
-    pub(crate) fn ready_at(&self, at: u32) -> Option<(u32, u32)> {
-        let mut left = at;
-        for (number, _) in &self.live {
-            match self.nodes.ready_at(*number, left) {
-                Some(task) => return Some((*number, task)),
-                None => left = left.saturating_sub(self.nodes.ready_len(*number)),
-            }
-        }
-        None
-    }
-
-    /// Whether a task of a graph is ready.
-    pub(crate) fn is_ready(&self, number: u32, task: u32) -> bool {
-        self.nodes.is_ready(number, task)
-    }
-
-    /// Drops the pages of a file in every live graph.
-    pub(crate) fn drop_pages(&mut self, gfid: Gfid) {
-        let mut from = 0;
-        for _ in 0..self.live.len() {
-            let Some(number) = self.first_from(from) else {
-                return;
-            };
-            self.nodes.drop_pages(number, gfid);
-            from = number.saturating_add(1);
-        }
-    }
-
-    /// Empties the pages of the newest graph, which keeps none from now on.
-    pub(crate) fn retire_newest(&mut self) {
-        self.nodes.retire(self.newest);
     }
 
     /// Whether a switch to the plan of a volfile may be carried out: the plan follows that of the newest graph. Each plan
@@ -142,16 +91,81 @@ impl Graphs {
         }
     }
 
-    // The plan that a live graph is made from.
-    fn plan<'a>(&self, on: &'a Planned, number: u32) -> Option<&'a Plan> {
-        match self.live.get(&number) {
+    /// The plan that a live graph is made from.
+    pub(crate) fn plan<'a>(&self, on: &'a Planned, number: u32) -> Option<&'a Plan> {
+        match self.graphs.get(&number) {
             Some(graph) => on.plan(graph.volfile),
             None => None,
         }
     }
+}
 
-    /// The number of the open connection of a graph to a brick.
-    pub(crate) fn connection(&self, number: u32, brick: u8) -> Option<u32> {
-        self.nodes.connection(number, brick)
+/// The live graphs, and the nodes of all of them, with what they share.
+#[derive(Drop)]
+pub struct Graphs {
+    pub live: LiveGraphs,
+    pub nodes: NodeGraphs,
+}
+
+impl Graphs {
+    /// No graphs, of which the first one will have so many sets. It takes no memory.
+    pub(crate) fn new(alloc: Global, root_sets: u8) -> Graphs {
+        Graphs {
+            live: LiveGraphs::new(alloc),
+            nodes: NodeGraphs::new(alloc, root_sets),
+        }
+    }
+
+    /// Makes the next graph, from the plan of a volfile.
+    ///
+    /// # Errors
+    /// Out of memory.
+    pub(crate) fn make(&mut self, alloc: Global, plan: &Plan, volfile: u8) -> Result<(), Stop>
+        requires { IsPlan plan.now }
+    {
+        let Some(number) = self.live.newest.checked_add(1) else {
+            return Err(Stop::Mem);
+        };
+        self.nodes.make(alloc, plan, number)?;
+        let made = LiveGraph {
+            volfile,
+            bricks: bricks_of(plan),
+            sets: plan.sets.len().min(255) as u8,
+        };
+        self.live.add(number, made)?;
+        Ok(())
+    }
+
+    /// How many tasks are ready, over all live graphs.
+    pub(crate) fn ready_len(&self) -> u32 {
+        let mut count = 0u32;
+        for (number, _) in &self.live.graphs {
+            count = count.saturating_add(self.nodes.ready_len(*number));
+        }
+        count
+    }
+
+    /// The ready task of this place, from 0, among those of all live graphs, by graph and then by task.
+    pub(crate) fn ready_at(&self, at: u32) -> Option<(u32, u32)> {
+        let mut left = at;
+        for (number, _) in &self.live.graphs {
+            match self.nodes.ready_at(*number, left) {
+                Some(task) => return Some((*number, task)),
+                None => left = left.saturating_sub(self.nodes.ready_len(*number)),
+            }
+        }
+        None
+    }
+
+    /// Drops the pages of a file in every live graph.
+    pub(crate) fn drop_pages(&mut self, gfid: Gfid) {
+        let mut from = 0;
+        for _ in 0..self.live.len() {
+            let Some(number) = self.live.first_from(from) else {
+                return;
+            };
+            self.nodes.drop_pages(number, gfid);
+            from = number.saturating_add(1);
+        }
     }
 }

@@ -2,6 +2,7 @@
 //! or released.
 ghost use Rattle.std.specs.Prelude.{◌≤◌};
 
+use crate::graphs::LiveGraphs;
 use crate::inodes::all_agree;
 use crate::parts::Parts;
 use crate::planned::Planned;
@@ -45,6 +46,15 @@ pub(crate) fn hold_next(calls: &Calls, fds: &FdTable, on: &Planned, call: u32) -
     next_hold(&line.call, &state.walk, state.session, fds)
 }
 
+// Whether a call of a graph has to wait for the calls of an older graph with fewer sets. The sets of later graphs are no
+// fewer, so the oldest one with calls decides.
+fn must_wait(calls: &Calls, live: &LiveGraphs, graph: u32) -> bool {
+    match calls.oldest_graph() {
+        Some(oldest) => oldest < graph && live.sets_of(oldest) < live.sets_of(graph),
+        None => false,
+    }
+}
+
 // Whether a call's fop runs and has not extended its hold. A fop extends it once.
 fn may_extend(calls: &Calls, call: u32) -> bool {
     match calls.get(call) {
@@ -54,17 +64,6 @@ fn may_extend(calls: &Calls, call: u32) -> bool {
 }
 
 impl Parts {
-    // Whether a call of a graph has to wait for the calls of an older graph with fewer sets. The sets of later graphs
-    // are no fewer, so the oldest one with calls decides.
-    fn must_wait(&self, graph: u32) -> bool {
-        match self.calls.oldest_graph() {
-            Some(oldest) => {
-                oldest < graph && self.graphs.sets_of(oldest) < self.graphs.sets_of(graph)
-            }
-            None => false,
-        }
-    }
-
     /// A call begins its walk: it asks for its first hold, or is parked.
     ///
     /// # Errors
@@ -76,7 +75,7 @@ impl Parts {
         call: u32,
         graph: u32,
     ) -> Result<(), Stop> {
-        if self.must_wait(graph) {
+        if must_wait(&self.calls, &self.graphs.live, graph) {
             self.calls.set_stage(call, Stage::Parked);
             self.calls.park(call)?;
             return Ok(());
@@ -104,7 +103,7 @@ impl Parts {
         let Some(state) = self.calls.get(call) else {
             return Ok(());
         };
-        if state.stage != Stage::Parked || self.must_wait(state.graph) {
+        if state.stage != Stage::Parked || must_wait(&self.calls, &self.graphs.live, state.graph) {
             return Ok(());
         }
         self.calls.unpark(call);
@@ -120,10 +119,6 @@ impl Parts {
             return Ok(());
         };
         self.calls.set_stage(call, Stage::Asks);
-        self.ask_for(alloc, on, call, hold)
-    }
-
-    fn ask_for(&mut self, alloc: Global, on: &Planned, call: u32, hold: Hold) -> Result<(), Stop> {
         let gfids = gfids_of(hold);
         match self
             .holds
@@ -134,7 +129,8 @@ impl Parts {
         }
     }
 
-    /// The hold of a call's next fop was granted: the fop begins.
+    /// The hold of a call's next fop was granted: the fop begins. Where an object has another kind than its inode, the fop is
+    /// refused.
     ///
     /// # Errors
     /// As for `Hub::submit`.
@@ -143,11 +139,6 @@ impl Parts {
             return Ok(());
         };
         self.calls.set_stage(call, Stage::Runs);
-        self.run_fop(alloc, on, call, hold)
-    }
-
-    // The next fop of a call begins under its hold. Where an object has another kind than its inode, the fop is refused.
-    fn run_fop(&mut self, alloc: Global, on: &Planned, call: u32, hold: Hold) -> Result<(), Stop> {
         if !all_agree(self.graphs.nodes.inodes(), hold) {
             self.turn.todo.push(Todo::Refuse(call))?;
             return Ok(());
@@ -198,9 +189,11 @@ impl Parts {
         }
     }
 
+    // The hold of a call that waits in its graph was extended.
     fn go_on_held(&mut self, alloc: Global, graph: u32, call: u32) -> Result<(), Stop> {
         self.calls.set_stage(call, Stage::Extended);
-        self.extended(alloc, graph, call)
+        let moved = self.graphs.nodes.held(alloc, graph, call);
+        self.ran(alloc, graph, moved)
     }
 
     /// Lets a call's holds go. The calls that are let in go on, in the order of the queue.

@@ -155,7 +155,7 @@ impl Hub {
         ensures stops { IfErr result (λ s. self.new.stop ≡ Some s) }
     {
         self.check()?;
-        if !self.parts.graphs.is_ready(graph, task) {
+        if !self.parts.graphs.nodes.is_ready(graph, task) {
             return Ok(false);
         }
         self.parts.open_event();

@@ -254,14 +254,4 @@ impl Parts {
             }
         }
     }
-
-    /// The internal call is answered.
-    ///
-    /// # Errors
-    /// Out of memory.
-    pub(crate) fn internal_answered(&mut self) -> Result<(), AllocError> {
-        self.internal = None;
-        self.turn.lines.answered.push(self.turn.event)?;
-        Ok(())
-    }
 }

@@ -17,23 +17,22 @@ impl Parts {
         match stop {
             Stop::Mem => Err(Stop::Mem),
             Stop::Winds => {
-                self.note_last_winds(alloc, graph)?;
+                if self.graphs.nodes.is_spent() {
+                    let lines = self.graphs.nodes.last_lines(alloc);
+                    let noted = self.turn.note_winds(graph, lines.as_slice());
+                    drop(lines);
+                    noted?;
+                }
                 Err(Stop::Winds)
             }
         }
     }
 
-    fn note_last_winds(&mut self, alloc: Global, graph: u32) -> Result<(), AllocError> {
-        if self.graphs.nodes.is_spent() {
-            let lines = self.graphs.nodes.last_lines(alloc);
-            let noted = self.turn.note_winds(graph, lines.as_slice());
-            drop(lines);
-            return noted;
-        }
-        Ok(())
-    }
-
-    fn ran(
+    /// What a graph that was moved has given is written down.
+    ///
+    /// # Errors
+    /// As for `Hub::submit`.
+    pub(crate) fn ran(
         &mut self,
         alloc: Global,
         graph: u32,
@@ -74,15 +73,6 @@ impl Parts {
     pub(crate) fn run_task(&mut self, alloc: Global, graph: u32, task: u32) -> Result<(), Stop> {
         self.turn.lines.add_event(HubEvent::Run { graph, task })?;
         let moved = self.graphs.nodes.run_task(alloc, graph, task);
-        self.ran(alloc, graph, moved)
-    }
-
-    /// The hold of a call that waits in its graph was extended.
-    ///
-    /// # Errors
-    /// As for `Hub::submit`.
-    pub(crate) fn extended(&mut self, alloc: Global, graph: u32, call: u32) -> Result<(), Stop> {
-        let moved = self.graphs.nodes.held(alloc, graph, call);
         self.ran(alloc, graph, moved)
     }
 

@@ -94,6 +94,15 @@ impl Turn {
         Ok(())
     }
 
+    /// The internal call is answered.
+    ///
+    /// # Errors
+    /// Out of memory.
+    pub(crate) fn note_answered(&mut self) -> Result<(), AllocError> {
+        self.lines.answered.push(self.event)?;
+        Ok(())
+    }
+
     fn note_copies(&mut self, copies: Seq<CopyRecord>) -> Result<(), AllocError> {
         for copy in copies.into_vec() {
             self.lines.copies.push(copy)?;

@@ -4,7 +4,7 @@ use crate::parts::Parts;
 use crate::planned::Planned;
 use crate::turn::{Given, Todo};
 use call_fops::{Walk, at_once};
-use fop_types::{Call, FopAnswer, Gfid, Seq};
+use fop_types::{FopAnswer, Gfid, Seq};
 use graph_nodes::HoldAsk;
 use hub_tables::{CallState, Controls, Stage, makes};
 use mount_log::{HubEvent, LineAt};
@@ -35,7 +35,7 @@ impl Parts {
         self.turn.event = (self.log.events.len() as u64).saturating_add(1);
     }
 
-    /// The next call of a session is submitted.
+    /// The next call of a session is submitted: it is answered at once, or begins its walk.
     ///
     /// # Errors
     /// As for `Hub::submit`.
@@ -48,24 +48,13 @@ impl Parts {
         let Some(at) = self.progress.submit(session) else {
             return Ok(());
         };
-        self.submit_line(alloc, on, session, at)
-    }
-
-    // The call of a line that was taken is submitted: it is answered at once, or begins its walk.
-    fn submit_line(
-        &mut self,
-        alloc: Global,
-        on: &Planned,
-        session: u8,
-        at: LineAt,
-    ) -> Result<(), Stop> {
         let Some(line) = on.line(at) else {
             return Ok(());
         };
         let call = self.opened_call(alloc, line, session, at)?;
         match at_once(&line.call, session, &self.fds) {
             Some(reply) => self.reply(alloc, on, call, reply),
-            None => self.start(alloc, on, call, self.graphs.newest),
+            None => self.start(alloc, on, call, self.graphs.live.newest),
         }
     }
 
@@ -83,26 +72,23 @@ impl Parts {
         };
         self.turn.lines.add_event(event)?;
         let call = self.calls.number()?;
+        let drawn = if makes(&line.call) {
+            self.calls.draw()
+        } else {
+            NOTHING_DRAWN
+        };
         let state = CallState {
             session,
             at,
             line: line.line,
-            graph: self.graphs.newest,
-            drawn: self.gfid_for(&line.call),
+            graph: self.graphs.live.newest,
+            drawn,
             places: Seq::new(alloc),
             walk: Walk::begin(),
             stage: Stage::Asks,
         };
         self.calls.open(call, state)?;
         Ok(call)
-    }
-
-    // The gfid that a call draws, where it makes an object.
-    fn gfid_for(&mut self, call: &Call) -> Gfid {
-        if makes(call) {
-            return self.calls.draw();
-        }
-        NOTHING_DRAWN
     }
 
     // Does what is to be done, in order, until nothing is left. What an item leaves behind is taken after the others.
@@ -163,7 +149,8 @@ impl Parts {
     ) -> Result<(), Stop> {
         if call == 0 {
             drop(answer);
-            self.internal_answered()?;
+            self.internal = None;
+            self.turn.note_answered()?;
             return Ok(());
         }
         self.fop_answered(alloc, on, call, answer, place)
@@ -223,18 +210,16 @@ impl Parts {
         }
     }
 
-    fn has_phase(&self, on: &Planned) -> bool {
-        on.has_phase(self.progress.phase())
-    }
-
     /// Whether all phases have ended, and nothing else is left.
     pub(crate) fn is_through(&self, on: &Planned) -> bool {
-        !self.has_phase(on) && self.has_nothing_else()
+        !on.has_phase(self.progress.phase()) && self.has_nothing_else()
     }
 
     // Whether the current phase has nothing left.
     fn has_ended(&self, on: &Planned) -> bool {
-        self.has_phase(on) && self.has_nothing_else() && self.turn.controls.is_empty()
+        on.has_phase(self.progress.phase())
+            && self.has_nothing_else()
+            && self.turn.controls.is_empty()
     }
 
     /// Begins the current phase.

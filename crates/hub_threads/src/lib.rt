@@ -16,6 +16,7 @@
 
 mod desk;
 mod gate;
+mod links;
 mod mounted;
 mod places;
 mod side;

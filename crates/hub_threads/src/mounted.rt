@@ -1,21 +1,18 @@
 ghost use Rattle.graph_build.specs.Scripts.{IsScript};
 
-use crate::desk::Desk;
+use crate::desk::{Desk, Ended};
 use crate::gate::Gate;
 use crate::places::{Places, Post, bricks_of, places_of};
 use crate::side::BrickSide;
-use brick_link::HubEnd;
-use brick_machine::Brick;
 use fop_types::Seq;
 use graph_build::Plan;
-use hub_calls::{Hub, Rack};
+use hub_calls::Rack;
 use script_lang::Script;
 use std::alloc::Global;
-use std::mem;
 use std::sync::atomic::{AtomicBool, Ordering};
 use std::sync::{Mutex, Wait};
-use std::thread;
 use std::thread::{Threads, yield_now};
+use std::{mem, thread};
 use xlator_law::Stop;
 
 // Takes the hub's turns until the log is finished, or somebody stopped.
@@ -96,19 +93,6 @@ pub struct Ran {
     pub plans: Seq<Plan>,
 }
 
-// The hub of a script, with its ends of the links.
-fn desk_of(alloc: Global, script: Script, plans: Seq<Plan>, ends: Vec<HubEnd>) -> Result<Desk, Stop>
-    requires { IsScript script plans }
-{
-    match Hub::new(alloc, script, plans) {
-        Ok(hub) => Desk::new(alloc, hub, ends),
-        Err(stop) => {
-            drop(ends);
-            Err(stop)
-        }
-    }
-}
-
 // A thread does what its post is.
 fn take_post<R: Wait, G: Gate>(
     rt: &R,
@@ -155,61 +139,27 @@ fn came_to_end(stop: Option<Stop>, whole: bool) -> Result<(), Stop> {
 // What a run has left goes into the rack.
 fn leave(
     alloc: Global,
-    desk: Desk,
+    ended: Ended,
     posts: Vec<Post>,
     whole: bool,
     rack: &mut Rack,
 ) -> Result<Ran, Stop> {
+    let Ended {
+        script,
+        plans,
+        log,
+        stop,
+    } = ended;
+    let ran = Ran { script, plans };
     match bricks_of(alloc, posts) {
-        Ok(bricks) => leave_all(desk, bricks, whole, rack),
-        Err(_) => {
-            drop(desk);
-            Err(Stop::Mem)
+        Ok(bricks) => {
+            drop(mem::replace(rack, Rack { bricks, log }));
+            came_to_end(stop, whole).and(Ok(ran))
         }
-    }
-}
-
-fn leave_all(desk: Desk, bricks: Seq<Brick>, whole: bool, rack: &mut Rack) -> Result<Ran, Stop> {
-    let (hub, stop) = desk.into_hub();
-    let (script, plans, log) = hub.into_log();
-    drop(mem::replace(rack, Rack { bricks, log }));
-    let ended = came_to_end(stop, whole);
-    ended.and(Ok(Ran { script, plans }))
-}
-
-// Runs until nothing is left, first in threads.
-fn run_desk<R: Threads + Wait + Sync, G: Gate + Sync>(
-    rt: &R,
-    alloc: Global,
-    desk: Desk,
-    posts: Vec<Post>,
-    gate: &G,
-    rack: &mut Rack,
-) -> Result<Ran, Stop> {
-    let mut posts = posts;
-    let mut desk = run_threads(rt, alloc, desk, posts.as_mut_slice(), gate);
-    let whole = go_on_alone(rt, alloc, &mut desk, posts.as_mut_slice(), gate);
-    leave(alloc, desk, posts, whole, rack)
-}
-
-// Runs a script at these places.
-fn run_places<R: Threads + Wait + Sync, G: Gate + Sync>(
-    rt: &R,
-    alloc: Global,
-    script: Script,
-    plans: Seq<Plan>,
-    places: Places,
-    gate: &G,
-    rack: &mut Rack,
-) -> Result<Ran, Stop>
-    requires { IsScript script plans }
-{
-    let Places { ends, posts } = places;
-    match desk_of(alloc, script, plans, ends) {
-        Ok(desk) => run_desk(rt, alloc, desk, posts, gate, rack),
-        Err(stop) => {
-            drop(posts);
-            Err(stop)
+        Err(_) => {
+            drop(log);
+            drop(ran);
+            Err(Stop::Mem)
         }
     }
 }
@@ -232,7 +182,20 @@ pub fn mount<R: Threads + Wait + Sync, G: Gate + Sync>(
     requires { IsScript script plans }
 {
     match places_of(alloc, &script, plans.as_slice(), workers) {
-        Ok(places) => run_places(rt, alloc, script, plans, places, gate, rack),
+        Ok(Places { ends, posts }) => {
+            let mut posts = posts;
+            match Desk::new(alloc, script, plans, ends) {
+                Ok(desk) => {
+                    let mut desk = run_threads(rt, alloc, desk, posts.as_mut_slice(), gate);
+                    let whole = go_on_alone(rt, alloc, &mut desk, posts.as_mut_slice(), gate);
+                    leave(alloc, desk.into_ended(), posts, whole, rack)
+                }
+                Err(stop) => {
+                    drop(posts);
+                    Err(stop)
+                }
+            }
+        }
         Err(_) => {
             drop(script);
             drop(plans);

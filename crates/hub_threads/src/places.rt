@@ -1,6 +1,6 @@
 //! The places of a run: the ends of the links, and what the threads do.
 
-use crate::desk::MOST_BRICKS;
+use crate::links::MOST_BRICKS;
 use crate::side::BrickSide;
 use brick_link::{BrickEnd, HubEnd, pair};
 use brick_machine::Brick;
@@ -108,22 +108,12 @@ pub(crate) fn places_of(
     filled.and(Ok(places))
 }
 
-fn add_brick(bricks: &mut Seq<Brick>, side: BrickSide) -> Result<(), AllocError> {
-    bricks.push(side.into_brick())?;
-    Ok(())
-}
-
-// Puts the brick of a post, if it is an owner's, to the others.
-fn add_brick_of(bricks: &mut Seq<Brick>, post: Post) -> Result<(), AllocError> {
-    match post {
-        Post::Worker => Ok(()),
-        Post::Owner(side) => add_brick(bricks, side),
-    }
-}
-
 fn add_bricks(bricks: &mut Seq<Brick>, posts: Vec<Post>) -> Result<(), AllocError> {
     for post in posts {
-        add_brick_of(bricks, post)?;
+        match post {
+            Post::Worker => {}
+            Post::Owner(side) => bricks.push(side.into_brick())?,
+        }
     }
     Ok(())
 }

@@ -27,11 +27,16 @@ pub struct Lines {
 }
 
 impl Lines {
-    /// The bricks of a script, to which nothing was sent.
+    /// The bricks of a script, with what was sent to them in their lines.
     ///
     /// # Errors
     /// Out of memory.
-    pub(crate) fn new(alloc: Global, script: &Script, plans: &[Plan]) -> Result<Lines, AllocError> {
+    pub(crate) fn new(
+        alloc: Global,
+        script: &Script,
+        plans: &[Plan],
+        sent: &[SentLine],
+    ) -> Result<Lines, AllocError> {
         let mut lines = Lines {
             bricks: Vec::new(alloc),
             queues: Vec::new(alloc),
@@ -39,22 +44,23 @@ impl Lines {
             serving: SmallSet::new(),
             arriving: SmallSet::new(),
         };
-        let added = lines.add_all(alloc, script, plans);
-        added.and(Ok(lines))
+        let filled = lines.fill(alloc, script, plans, sent);
+        filled.and(Ok(lines))
     }
 
-    fn add_all(
+    fn fill(
         &mut self,
         alloc: Global,
         script: &Script,
         plans: &[Plan],
+        sent: &[SentLine],
     ) -> Result<(), AllocError> {
         let many = script.bricks.len().min(64) as u8;
         for number in 0..many {
             let brick = named_brick(alloc, script, plans, number)?;
             self.add(alloc, brick)?;
         }
-        Ok(())
+        self.deliver(sent)
     }
 
     // A brick with empty lines is put to the others.

@@ -6,10 +6,10 @@ use crate::enabled::{Choice, Enabled};
 use crate::events::{Event, due_event, event_of};
 use crate::lines::Lines;
 use crate::schedule::Schedule;
-use fop_types::{Proc, Seq};
+use fop_types::Seq;
 use graph_build::Plan;
 use hub_calls::{Hub, Log, Rack};
-use script_lang::{Action, Script};
+use script_lang::Script;
 use std::alloc::Global;
 use std::marker::Model;
 use xlator_law::Stop;
@@ -45,52 +45,18 @@ impl World {
         requires { IsScript script plans }
         ensures { IfOk result (λ w. w ≡ record { script = script; plans = plans; stop = None }) }
     {
-        match Lines::new(alloc, &script, plans.as_slice()) {
-            Ok(lines) => World::of_lines(alloc, script, plans, lines),
+        let hub = Hub::new(alloc, script, plans)?;
+        match Lines::new(alloc, hub.script(), hub.plans(), hub.log().sent.as_slice()) {
+            Ok(lines) => Ok(World {
+                hub,
+                lines,
+                stop: None,
+            }),
             Err(_) => {
-                drop(script);
-                drop(plans);
+                drop(hub);
                 Err(Stop::Mem)
             }
         }
-    }
-
-    fn of_lines(
-        alloc: Global,
-        script: Script,
-        plans: Seq<Plan>,
-        lines: Lines,
-    ) -> Result<World, Stop>
-        requires { IsScript script plans }
-        ensures { IfOk result (λ w. w ≡ record { script = script; plans = plans; stop = None }) }
-    {
-        match Hub::new(alloc, script, plans) {
-            Ok(hub) => World::of_hub(hub, lines),
-            Err(stop) => {
-                drop(lines);
-                Err(stop)
-            }
-        }
-    }
-
-    fn of_hub(hub: Hub, lines: Lines) -> Result<World, Stop>
-        ensures { IfOk result (λ w. w ≡ record { script = hub.script; plans = hub.plans; stop = None }) }
-    {
-        let mut world = World {
-            hub,
-            lines,
-            stop: None,
-        };
-        let delivered = world.deliver();
-        delivered.and(Ok(world))
-    }
-
-    // Puts what the hub has sent into the bricks' lines.
-    fn deliver(&mut self) -> Result<(), Stop>
-        ensures { self.new ≡ self.old }
-    {
-        self.lines.deliver(self.hub.log().sent.as_slice())?;
-        Ok(())
     }
 
     // Puts what the hub has sent into the bricks' lines, where it did not stop.
@@ -98,15 +64,8 @@ impl World {
         ensures { self.new ≡ self.old }
     {
         let did = did?;
-        self.deliver()?;
+        self.lines.deliver(self.hub.log().sent.as_slice())?;
         Ok(did)
-    }
-
-    fn submit(&mut self, alloc: Global, session: u8) -> Result<bool, Stop>
-        ensures { (self.new.script ≡ self.old.script) × (self.new.plans ≡ self.old.plans) }
-    {
-        let did = self.hub.submit(alloc, session);
-        self.delivered(did)
     }
 
     // The next output of a brick arrives.
@@ -116,57 +75,35 @@ impl World {
         let Some(output) = self.lines.take_output(brick)? else {
             return Ok(false);
         };
-        self.hub.arrive(alloc, brick, output)?;
-        self.deliver()?;
-        Ok(true)
-    }
-
-    // A brick serves its next input.
-    fn serve(&mut self, alloc: Global, brick: u8) -> Result<bool, Stop>
-        ensures { self.new ≡ self.old }
-    {
-        let did = self.lines.serve(alloc, brick)?;
-        Ok(did)
-    }
-
-    fn run_task(&mut self, alloc: Global, graph: u32, task: u32) -> Result<bool, Stop>
-        ensures { (self.new.script ≡ self.old.script) × (self.new.plans ≡ self.old.plans) }
-    {
-        let did = self.hub.run(alloc, graph, task);
-        self.delivered(did)
-    }
-
-    fn act(&mut self, alloc: Global, action: Action) -> Result<bool, Stop>
-        ensures { (self.new.script ≡ self.old.script) × (self.new.plans ≡ self.old.plans) }
-    {
-        let did = self.hub.act(alloc, action);
-        self.delivered(did)
-    }
-
-    fn arm(
-        &mut self,
-        alloc: Global,
-        brick: u8,
-        proc: Proc,
-        count: u32,
-        action: Action,
-    ) -> Result<bool, Stop>
-        ensures { (self.new.script ≡ self.old.script) × (self.new.plans ≡ self.old.plans) }
-    {
-        let did = self.hub.arm(alloc, brick, proc, count, action);
-        self.delivered(did)
+        let arrived = self.hub.arrive(alloc, brick, output);
+        self.delivered(arrived.and(Ok(true)))
     }
 
     fn happen(&mut self, alloc: Global, happening: Event) -> Result<bool, Stop>
         ensures { (self.new.script ≡ self.old.script) × (self.new.plans ≡ self.old.plans) }
     {
         match happening {
-            Event::Submit(session) => self.submit(alloc, session),
+            Event::Submit(session) => {
+                let did = self.hub.submit(alloc, session);
+                self.delivered(did)
+            }
             Event::Arrive(brick) => self.arrive(alloc, brick),
-            Event::Serve(brick) => self.serve(alloc, brick),
-            Event::Run(graph, task) => self.run_task(alloc, graph, task),
-            Event::Act(action) => self.act(alloc, action),
-            Event::Arm(brick, proc, count, action) => self.arm(alloc, brick, proc, count, action),
+            Event::Serve(brick) => {
+                let did = self.lines.serve(alloc, brick)?;
+                Ok(did)
+            }
+            Event::Run(graph, task) => {
+                let did = self.hub.run(alloc, graph, task);
+                self.delivered(did)
+            }
+            Event::Act(action) => {
+                let did = self.hub.act(alloc, action);
+                self.delivered(did)
+            }
+            Event::Arm(brick, proc, count, action) => {
+                let did = self.hub.arm(alloc, brick, proc, count, action);
+                self.delivered(did)
+            }
         }
     }
 
