@@ -40,7 +40,6 @@ pub struct Inside {
 
 // What was read of a text so far, as contracts see it; the code keeps a draft, and the volfile where it is
 // inside one.
-#[derive(Drop)]
 pub enum Reading {
     InScript(Draft),
     InVolfile(Draft, Seq<u8>, VolfileReader),

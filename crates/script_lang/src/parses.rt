@@ -7,7 +7,7 @@ ghost use Rattle.script_lang.specs.declared.drafts.Reading.TheVariants.{InScript
 use crate::drafts::{Draft, Inside, Part};
 use crate::errors::{ScriptError, ScriptKind};
 use crate::few::Few;
-use crate::phase_lines::phases_of;
+use crate::phase_lines::end_phase;
 use crate::readings::with_line;
 use crate::scripts::Script;
 use fop_types::Seq;
@@ -38,8 +38,11 @@ fn lines_of(alloc: Global, text: &[u8]) -> Result<Script, ScriptError>
 {
     let mut draft = nothing_read(alloc);
     match read_text(alloc, &mut draft, text) {
-        Ok(number) => finish(draft, number),
-        Err(e) => Err(e),
+        Ok(number) => finish(alloc, draft, number),
+        Err(e) => {
+            drop(draft);
+            Err(e)
+        }
     }
 }
 
@@ -49,7 +52,9 @@ fn read_text(alloc: Global, draft: &mut Draft, text: &[u8]) -> Result<u32, Scrip
     ensures { HasRead result draft.new (parsed text.now) }
 {
     let mut inside: Option<Inside> = None;
-    read_lines(alloc, draft, &mut inside, text)
+    let read = read_lines(alloc, draft, &mut inside, text);
+    drop(inside);
+    read
 }
 
 // The same, where `inside` is the volfile whose lines are read, if there is one.
@@ -99,30 +104,44 @@ fn nothing_read(alloc: Global) -> Draft
 }
 
 // The text ends at the line with this number, outside a volfile.
-fn finish(draft: Draft, number: u32) -> Result<Script, ScriptError>
+fn finish(alloc: Global, draft: Draft, number: u32) -> Result<Script, ScriptError>
     ensures { IsButForMemory result (text_ended (InScript draft) number) }
 {
     if !has_start(draft.part) {
+        drop(draft);
         return Err(ScriptError::At {
             line: number,
             kind: ScriptKind::NoStart,
         });
     }
-    let script = script(draft)?;
+    let script = script(alloc, draft)?;
     Ok(script)
 }
 
-fn script(draft: Draft) -> Result<Script, AllocError>
+fn script(alloc: Global, draft: Draft) -> Result<Script, AllocError>
     ensures { IfOk result (λ script. script ≡ script_of draft) }
 {
-    let phases = phases_of(draft.part, draft.phases, draft.calls, draft.controls)?;
-    Ok(Script {
+    let mut draft = draft;
+    match end_phase(alloc, &mut draft) {
+        Ok(()) => Ok(into_script(draft)),
+        Err(error) => {
+            drop(draft);
+            Err(error)
+        }
+    }
+}
+
+// The script of a draft whose phases have ended.
+fn into_script(draft: Draft) -> Script
+    ensures { result ≡ record { bricks = draft.bricks; volfiles = draft.volfiles; start = draft.start; sessions = draft.sessions; phases = draft.phases } }
+{
+    Script {
         bricks: draft.bricks.into_seq(),
         volfiles: draft.volfiles.into_seq(),
         start: draft.start,
         sessions: draft.sessions.into_seq(),
-        phases,
-    })
+        phases: draft.phases,
+    }
 }
 
 fn has_start(part: Part) -> bool

@@ -30,7 +30,7 @@ pub(crate) fn with_phase(alloc: Global, draft: &mut Draft) -> Refused
 }
 
 // Puts the phase that is read, if there is one, behind those that have ended.
-fn end_phase(alloc: Global, draft: &mut Draft) -> Result<(), AllocError>
+pub(crate) fn end_phase(alloc: Global, draft: &mut Draft) -> Result<(), AllocError>
     ensures { OnOk result (draft.new ≡ record draft.old { phases = phases_read draft.old; calls = []; controls = [] }) }
 {
     let calls = mem::replace(&mut draft.calls, Seq::new(alloc));
@@ -56,20 +56,6 @@ fn put_phase(
             Ok(())
         }
     }
-}
-
-// The phases that have ended, and the one that is read, if there is one.
-pub(crate) fn phases_of(
-    part: Part,
-    phases: Seq<Phase>,
-    calls: Seq<CallLine>,
-    controls: Seq<ControlLine>,
-) -> Result<Seq<Phase>, AllocError>
-    ensures { IfOk result (λ all. all ≡ phases_with part phases calls controls) }
-{
-    let mut all = phases;
-    put_phase(part, &mut all, calls, controls)?;
-    Ok(all)
 }
 
 // What follows `do`.

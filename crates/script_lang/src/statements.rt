@@ -11,6 +11,7 @@ use crate::scripts::BrickLine;
 use crate::words::is_word;
 use fop_types::Seq;
 use std::alloc::{AllocError, Global};
+use std::mem;
 use volfile::{VolfileReader, is_name, is_visible_word};
 
 // Why a line is refused, if it is.
@@ -193,7 +194,7 @@ fn with_volfile(
     let name = Seq::from_bytes(alloc, name)?;
     let reader = VolfileReader::new(alloc);
     draft.part = Part::Volfiles;
-    *inside = Some(Inside { name, reader });
+    drop(mem::replace(inside, Some(Inside { name, reader })));
     Ok(None)
 }
 
