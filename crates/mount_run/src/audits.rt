@@ -154,7 +154,8 @@ fn are_read(
     if !answers_are_read(alloc, script, plans, &left.log, bricks, heads)? {
         return Ok(false);
     }
-    names_are_read(alloc, script, plans, &left.log, bricks, heads)
+    let yes = names_are_read(alloc, script, plans, &left.log, bricks, heads)?;
+    Ok(yes)
 }
 
 // Whether what arrived from the bricks is what they make of what was sent, and what answers show was read from them.
