@@ -154,7 +154,8 @@ fn are_read(
     if !answers_are_read(alloc, script, plans, &left.log, bricks, heads)? {
         return Ok(false);
     }
-    names_are_read(alloc, script, plans, &left.log, bricks, heads)
+    let yes = names_are_read(alloc, script, plans, &left.log, bricks, heads)?;
+    Ok(yes)
 }
 
 // Whether what arrived from the bricks is what they make of what was sent, and what answers show was read from them.
@@ -203,12 +204,14 @@ fn has_course(
         return Ok(false);
     }
     let heads = heads_of(alloc, left.log.events.as_slice())?;
-    if !follows(alloc, script, &left.log, heads.as_slice())?
-        || !is_from_bricks(alloc, script, plans, left, heads.as_slice())?
-    {
+    if !follows(alloc, script, &left.log, heads.as_slice())? {
         return Ok(false);
     }
-    is_sound(alloc, script, plans, &left.log, heads.as_slice())
+    if !is_from_bricks(alloc, script, plans, left, heads.as_slice())? {
+        return Ok(false);
+    }
+    let yes = is_sound(alloc, script, plans, &left.log, heads.as_slice())?;
+    Ok(yes)
 }
 
 /// Whether the log of a run, with its bricks, is as a run promises: sessions submit their lines in order, each control is
@@ -229,10 +232,14 @@ pub fn is_lawful(
     requires { IsScript script.now plans.now }
     ensures { IfOk result (λ yes. yes ≡ true → IsLawfulRun script.now plans.now left.now) }
 {
-    if !has_course(alloc, script, plans, left)? || !has_heals(alloc, script, plans, left)? {
+    if !has_course(alloc, script, plans, left)? {
         return Ok(false);
     }
-    has_files(alloc, script, plans, left)
+    if !has_heals(alloc, script, plans, left)? {
+        return Ok(false);
+    }
+    let yes = has_files(alloc, script, plans, left)?;
+    Ok(yes)
 }
 
 /// Whether a log bears out that its run needed a further wind where none was left.
