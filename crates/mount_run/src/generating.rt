@@ -6,21 +6,42 @@ ghost use Rattle.mount_run.specs.Headline.{IsLawfulRun};
 ghost use Rattle.mount_run.specs.Outcomes.{empty_rack, IsRunStatus, IsStopped, IsSummedUp, IsSummedUpShort, Generated, GeneratedUnwritten, WindsRanOut};
 
 use crate::audits::is_lawful;
-use crate::generator::generated;
 use crate::racks::{put_left, stopped};
 use crate::running::world_of;
 use fop_types::Seq;
 use graph_build::Plan;
 use hub_calls::Rack;
 use run_report::summary_line;
-use script_commands::{Accepted, NotRead, accept, write};
+use script_commands::{Accepted, Draws, NotRead, accept, generated, write};
 use script_lang::Script;
 use std::alloc::{AllocError, Global};
+use world_bricks::Schedule;
 use xl_base::Sink;
 use xlator_law::Stop;
 
 // The bytes of a script, at most.
 const SCRIPT_LIMIT: usize = 2097152;
+
+// The schedule of a number, by which its script is generated.
+#[derive(Drop)]
+struct Drawn {
+    schedule: Schedule,
+}
+
+impl Draws for Drawn {
+    fn draw(&mut self) -> u64 {
+        self.schedule.draw()
+    }
+}
+
+fn generated_by(alloc: Global, number: u64) -> Result<Vec<u8>, AllocError> {
+    generated(
+        alloc,
+        Drawn {
+            schedule: Schedule::new(number),
+        },
+    )
+}
 
 /// Runs the script that a number generates, with the number as its seed.
 pub fn generate<K: Sink>(alloc: Global, number: u64, sink: &mut K, rack: &mut Rack) -> u8
@@ -33,7 +54,7 @@ pub fn generate<K: Sink>(alloc: Global, number: u64, sink: &mut K, rack: &mut Ra
     ensures unlawful { result ≡ 6 → (sink.new ≡ sink.old) × (rack.new ≡ empty_rack) }
     ensures winds { result ≡ 7 → (sink.new ≡ sink.old) × WindsRanOut None rack.new }
 {
-    let Ok(text) = generated(alloc, number) else {
+    let Ok(text) = generated_by(alloc, number) else {
         return 5;
     };
     if text.len() > SCRIPT_LIMIT {

@@ -15,7 +15,6 @@
 
 mod audits;
 mod generating;
-mod generator;
 mod mains;
 mod mounting;
 mod racks;

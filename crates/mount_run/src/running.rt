@@ -23,7 +23,13 @@ use xl_base::Sink;
 use xlator_law::Stop;
 
 /// Runs a script by a seed's schedule and writes its report.
-pub fn run_read<K: Sink>(alloc: Global, read: Accepted, seed: u64, sink: &mut K, rack: &mut Rack) -> u8
+pub fn run_read<K: Sink>(
+    alloc: Global,
+    read: Accepted,
+    seed: u64,
+    sink: &mut K,
+    rack: &mut Rack,
+) -> u8
     requires sink { K.faults sink.old < 2 ^ 64 - 1 }
     requires script { IsScript read.script read.plans }
     ensures statuses { IsRunStatus result }

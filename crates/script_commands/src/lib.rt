@@ -1,5 +1,6 @@
 //! What the program does with a script without running it: which command its words are; a script that is read and accepted
-//! with its plans, or refused; the line of `check`; and `replay`, which judges a script with its report.
+//! with its plans, or refused; the line of `check`; `replay`, which judges a script with its report; and the script that
+//! `gen` generates.
 //!
 //! ```text
 //!   words  ── command_in ───► Command
@@ -14,6 +15,7 @@
 
 mod checks;
 mod commands;
+mod generator;
 mod head_sinks;
 mod meanings;
 mod plans;
@@ -24,6 +26,7 @@ mod verdicts;
 mod writes;
 
 pub use commands::{Command, command_in};
+pub use generator::{Draws, generated};
 pub use head_sinks::HeadSink;
 pub use meanings::{Meaning, meaning_of};
 pub use plans::{Accepted, accept};

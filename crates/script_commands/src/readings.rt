@@ -75,10 +75,7 @@ pub fn read_script<S: Source>(alloc: Global, source: &mut S) -> Result<Accepted,
 ///
 /// # Errors
 /// As of [`read_script`].
-pub fn read_twice<S: Source>(
-    alloc: Global,
-    source: &mut S,
-) -> Result<(Accepted, Accepted), NotRead>
+pub fn read_twice<S: Source>(alloc: Global, source: &mut S) -> Result<(Accepted, Accepted), NotRead>
     requires { S.faults source.old < 2 ^ 64 - 1 }
     ensures accepted { IfOk result (λ two. IsAccepted (S.left source.old) two.1) }
     ensures first { IfOk result (λ two. IsScript two.0.script two.0.plans) }

@@ -78,12 +78,7 @@ fn plan_name(kind: PlanKind) -> &'static [u8]
 }
 
 // fault line L KIND
-fn put_fault(
-    alloc: Global,
-    text: &mut Vec<u8>,
-    line: u32,
-    name: &[u8],
-) -> Result<(), AllocError>
+fn put_fault(alloc: Global, text: &mut Vec<u8>, line: u32, name: &[u8]) -> Result<(), AllocError>
     ensures { OnOk result (text.new.items ≡ text.old.items ++ fault_of line name.now) }
 {
     text.extend_from_slice(b"fault line ")?;

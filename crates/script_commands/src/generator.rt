@@ -2,13 +2,18 @@
 ghost use Rattle.std.specs.Prelude.{◌<◌, ◌≤◌};
 
 use std::alloc::{AllocError, Global};
-use world_bricks::Schedule;
 
-// The text so far, and the generator.
+/// Where the numbers come from by which a script is generated.
+pub trait Draws {
+    /// The next number.
+    fn draw(&mut self) -> u64;
+}
+
+// The text so far, and where its numbers come from.
 #[derive(Drop)]
-struct Writer {
+struct Writer<D> {
     text: Vec<u8>,
-    draws: Schedule,
+    draws: D,
 }
 
 const CLIENTS: u8 = 6;
@@ -17,7 +22,7 @@ const SESSIONS: u8 = 4;
 
 const ROUNDS: u32 = 40;
 
-impl Writer {
+impl<D: Draws> Writer<D> {
     // Draws a number below a bound.
     fn draw(&mut self, bound: u64) -> u64
         requires { 1 ≤ bound }
@@ -179,21 +184,28 @@ impl Writer {
         }
         Ok(())
     }
+
+    fn put_script(&mut self, alloc: Global) -> Result<(), AllocError> {
+        self.prologue()?;
+        self.first_phase()?;
+        for round in 1..ROUNDS + 1 {
+            self.round(alloc, round)?;
+        }
+        Ok(())
+    }
 }
 
-/// The text of the script that a number generates.
+/// The text of the script that these numbers generate.
 ///
 /// # Errors
 /// Out of memory.
-pub fn generated(alloc: Global, number: u64) -> Result<Vec<u8>, AllocError> {
+pub fn generated<D: Draws + Drop>(alloc: Global, draws: D) -> Result<Vec<u8>, AllocError> {
     let mut writer = Writer {
         text: Vec::new(alloc),
-        draws: Schedule::new(number),
+        draws,
     };
-    writer.prologue()?;
-    writer.first_phase()?;
-    for round in 1..ROUNDS + 1 {
-        writer.round(alloc, round)?;
-    }
-    Ok(writer.text)
+    let done = writer.put_script(alloc);
+    let Writer { text, draws } = writer;
+    drop(draws);
+    done.and(Ok(text))
 }
