@@ -1,12 +1,12 @@
 -- What the calls of a frame's node and the carrying out of its step rest on.
 use Rattle.std.proofs.Common.{◌≡◌, refl, sym, ap, subst, ◌∙◌, arith}
 use Rattle.std.proofs.lemmas.Bool.{eq-eqb}
-use Rattle.std.specs.Prelude.{ℕ, ◌<◌, ◌==◌, Bool, true, false, List, [], ◌∷◌, Option, Some, None, IsSome, IfSome, IsSomeAnd, count_by}
+use Rattle.std.specs.Prelude.{ℕ, zero, suc, ◌<◌, ◌==◌, Bool, true, false, List, [], ◌∷◌, length, map, Option, Some, None, IsSome, IfSome, IsSomeAnd, Result, IfOk, slice_get, slice_index_or, count_by}
 use Rattle.xlator_law.specs.declared.step.Step.{Step}
 use Rattle.xlator_law.specs.declared.step.Step.TheVariants.{Wind, Wait, Unwind}
 use Rattle.xlator_law.specs.declared.winds.WindNo.{WindNo}
 use Rattle.xlator_law.specs.declared.winds.Place.{Place}
-use Rattle.xlator_law.specs.Law.{Promise, Slots, AreWithin, IsStepFrom}
+use Rattle.xlator_law.specs.Law.{Promise, Slots, Cause, AreWithin, IsStep, IsStepFrom}
 use Rattle.frame_stack.specs.declared.frame.Frame.{Frame}
 use Rattle.frame_stack.specs.declared.frame.Opener.{Opener}
 use Rattle.frame_stack.specs.Stack.{Stack, HasParent, frame_at, place_in, place_at, local_in, local_at, awaits, opener_of}
@@ -46,6 +46,25 @@ module _ {L : Type 0} (s : Stack L) (key : ℕ) where
     by_cell : (c : Option (Frame L)) → IsSomeAnd c (λ f. IsSome f.local) → None ≡ local_in c → ⊥
     by_cell None kept none = kept
     by_cell (Some f) kept none = by_local f.local kept none
+
+-- the node at a place, and what it promises by the list of promises
+module _ {X F L : Type 0} (p : X → Promise F L) where
+  pub node_there : (nodes : List X) (at : ℕ) (x d : X) → at < length (map p nodes) → x ≡ slice_index_or nodes at d → slice_get nodes at ≡ Some x
+  node_there [] at x d low is = absurd (omega (arith, low))
+  node_there (n ∷ ns) zero x d low is = ap (λ y. Some y) (sym is)
+  node_there (n ∷ ns) (suc at) x d low is = node_there ns at x d (omega (arith, low)) is
+
+  pub promise_there : (nodes : List X) (at : ℕ) (x d : X) → at < length (map p nodes) → x ≡ slice_index_or nodes at d → promise_at (map p nodes) at ≡ p x
+  promise_there [] at x d low is = absurd (omega (arith, low))
+  promise_there (n ∷ ns) zero x d low is = ap p (sym is)
+  promise_there (n ∷ ns) (suc at) x d low is = promise_there ns at x d (omega (arith, low)) is
+
+  pub fact_there : (nodes : List X) (at : ℕ) (x d : X) → at < length (map p nodes) → x ≡ slice_index_or nodes at d → (P : Promise F L → Type 0) → P (promise_at (map p nodes) at) → P (p x)
+  fact_there nodes at x d low is P h = subst P (promise_there nodes at x d low is) h
+
+  -- a step by the promise of the node is one by the list
+  pub step_there : {R E : Type 0} (nodes : List X) (at : ℕ) (x d : X) → at < length (map p nodes) → x ≡ slice_index_or nodes at d → (cause : Cause F R L) (r : Result (Step F R L) E) → IfOk r (λ step. IsStep (p x) cause step) → IfOk r (λ step. IsStep (promise_at (map p nodes) at) cause step)
+  step_there nodes at x d low is cause r h = subst (λ (q : Promise F L). IfOk r (λ step. IsStep q cause step)) (sym (promise_there nodes at x d low is)) h
 
 -- the node of a place of this graph promises the same by the lists of all graphs and by that of the graph
 pub promise_same : {F L : Type 0} (all : ℕ → List (Promise F L)) (own : List (Promise F L)) (g : ℕ) (place : Place) → place.graph ≡ g → all g ≡ own → promise_of all place ≡ promise_at own place.node

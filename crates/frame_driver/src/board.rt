@@ -38,7 +38,6 @@ pub struct Board<F, R, L> {
 
 impl<F: Drop, R: Drop, L: Drop> Board<F, R, L> {
     /// The board of a graph without frames, with nothing to do, which takes no memory.
-    #[tactic(auto, using(crate::proofs::Sharing::empty_sound, crate::proofs::Sharing::empty_nests, crate::proofs::Rooting::empty_rooted))]
     pub fn new(alloc: Global, graph: u32) -> Board<F, R, L>
         ensures board { result ≡ empty_board graph }
         ensures sound { (ps : ℕ → List (Promise F L)) → Sound ps result }

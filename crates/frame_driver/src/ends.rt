@@ -96,7 +96,10 @@ impl<F: Drop, R: Drop, L: Drop> Board<F, R, L> {
                 })?;
                 Ok(Settled::Won)
             }
-            Settled::Lost(word) => Ok(Settled::Lost(word)),
+            Settled::Lost(word) => {
+                drop(reply);
+                Ok(Settled::Lost(word))
+            }
         }
     }
 
@@ -127,7 +130,6 @@ impl<F: Drop, R: Drop, L: Drop> Board<F, R, L> {
     }
 
     // Ends these winds, in order, and gives how many were pending.
-    #[tactic(auto, using(crate::proofs::Replying::ending_first, crate::proofs::Replying::ending_next, crate::proofs::Replying::ending_last, crate::proofs::Replying::first_ours, crate::proofs::Replying::ending_leads))]
     fn end_all(&mut self, alloc: Global, winds: Vec<Bailed<R>>) -> Result<u64, AllocError>
         requires ours { AreOurs self.old.stack self.old.graph winds.items }
         ensures ended { IfOk result (λ won. AreEnded winds.items self.old self.new won) }

@@ -52,8 +52,7 @@ impl<F: Drop, R: Drop, L: Drop> Board<F, R, L> {
         let frame = self.begin(alloc, place)?;
         let entry = Entry { frame, call };
         let step = enter_at(alloc, nodes, cx, node, entry, fop)?;
-        self.carry(alloc, wiring, frame, place, step)?;
-        Ok(())
+        self.carry(alloc, wiring, frame, place, step)
     }
 
     // A frame takes the answer of a slot.
@@ -76,8 +75,7 @@ impl<F: Drop, R: Drop, L: Drop> Board<F, R, L> {
     {
         let (place, local) = self.take_out(frame);
         let step = resume_at(alloc, nodes, cx, place.node, local, slot, reply)?;
-        self.carry(alloc, wiring, frame, place, step)?;
-        Ok(())
+        self.carry(alloc, wiring, frame, place, step)
     }
 
     // A frame goes on that waited for something that is no wind.
@@ -98,8 +96,7 @@ impl<F: Drop, R: Drop, L: Drop> Board<F, R, L> {
     {
         let (place, local) = self.take_out(frame);
         let step = go_on_at(alloc, nodes, cx, place.node, local)?;
-        self.carry(alloc, wiring, frame, place, step)?;
-        Ok(())
+        self.carry(alloc, wiring, frame, place, step)
     }
 
     // Whether the wind has ended that a fop was to enter by.
@@ -139,19 +136,15 @@ impl<F: Drop, R: Drop, L: Drop> Board<F, R, L> {
                 fop,
             } => {
                 if self.is_lost(parent) {
+                    drop(fop);
                     return Ok(());
                 }
-                self.enter(alloc, nodes, cx, wiring, node, call, parent, fop)?;
-                Ok(())
+                self.enter(alloc, nodes, cx, wiring, node, call, parent, fop)
             }
             Task::Resume { frame, slot, reply } => {
-                self.resume(alloc, nodes, cx, wiring, frame, slot, reply)?;
-                Ok(())
+                self.resume(alloc, nodes, cx, wiring, frame, slot, reply)
             }
-            Task::Go { frame } => {
-                self.go(alloc, nodes, cx, wiring, frame)?;
-                Ok(())
-            }
+            Task::Go { frame } => self.go(alloc, nodes, cx, wiring, frame),
         }
     }
 

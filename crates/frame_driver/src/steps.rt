@@ -16,7 +16,6 @@ use xlator_law::{Place, Step, Stop, WindNo};
 
 impl<F: Drop, R: Drop, L: Drop> Board<F, R, L> {
     // Opens a wind of an open frame at this place.
-    #[tactic(auto, using(crate::proofs::Leading::leads_wound, crate::proofs::Leading::leads_same))]
     fn open_wind(
         &mut self,
         alloc: Global,
@@ -40,7 +39,6 @@ impl<F: Drop, R: Drop, L: Drop> Board<F, R, L> {
     }
 
     // Hands the fop of a wind to the child.
-    #[tactic(auto, using(crate::proofs::Leading::leads_still))]
     fn hand_down(
         &mut self,
         to: Child,
@@ -54,30 +52,23 @@ impl<F: Drop, R: Drop, L: Drop> Board<F, R, L> {
         ensures leads { Leads self.old self.new }
     {
         match to {
-            Child::Node(node) => {
-                self.queue.push(Task::Enter {
-                    node,
-                    call: place.call,
-                    parent: Some(wind),
-                    fop,
-                })?;
-                Ok(())
-            }
-            Child::Outside => {
-                self.sent.push(Sent {
-                    wind,
-                    node: place.node,
-                    child,
-                    fop,
-                })?;
-                Ok(())
-            }
+            Child::Node(node) => self.queue.push(Task::Enter {
+                node,
+                call: place.call,
+                parent: Some(wind),
+                fop,
+            }),
+            Child::Outside => self.sent.push(Sent {
+                wind,
+                node: place.node,
+                child,
+                fop,
+            }),
             Child::Nothing => unreachable!(),
         }
     }
 
     // Opens a wind of a step, and hands its fop down.
-    #[tactic(auto, using(crate::proofs::Leading::leads_then))]
     fn wind_down(
         &mut self,
         alloc: Global,
@@ -102,7 +93,6 @@ impl<F: Drop, R: Drop, L: Drop> Board<F, R, L> {
     }
 
     // Opens the winds of a step, in order.
-    #[tactic(auto, using(crate::proofs::Opening::winding_first, crate::proofs::Opening::winding_next, crate::proofs::Opening::winding_last, crate::proofs::Opening::winding_cut, crate::proofs::Opening::winding_leads))]
     fn wind_all(
         &mut self,
         alloc: Global,
@@ -127,7 +117,6 @@ impl<F: Drop, R: Drop, L: Drop> Board<F, R, L> {
     }
 
     // Hands an answer to the frame that opened the wind, or out.
-    #[tactic(auto, using(crate::proofs::Leading::leads_same, crate::proofs::Leading::leads_still))]
     fn answer(
         &mut self,
         alloc: Global,
@@ -139,16 +128,16 @@ impl<F: Drop, R: Drop, L: Drop> Board<F, R, L> {
         ensures answered { OnOk result (IsAnswered parent call reply self.old self.new) }
         ensures leads { Leads self.old self.new }
     {
-        let Some(wind) = parent else {
-            self.answers.push(Answered { call, reply })?;
-            return Ok(());
-        };
-        self.end_wind(alloc, wind, reply)?;
-        Ok(())
+        match parent {
+            Some(wind) => {
+                self.end_wind(alloc, wind, reply)?;
+                Ok(())
+            }
+            None => self.answers.push(Answered { call, reply }),
+        }
     }
 
     // Opens a frame at this place, whose local is still to come.
-    #[tactic(auto, using(crate::proofs::Leading::leads_same, crate::proofs::Leading::leads_opened))]
     pub(crate) fn begin(&mut self, alloc: Global, place: Place) -> Result<u32, AllocError>
         requires home { place.graph ≡ self.old.graph }
         requires parent { HasParent self.old.stack place.graph place.call place.parent }
@@ -167,7 +156,6 @@ impl<F: Drop, R: Drop, L: Drop> Board<F, R, L> {
     }
 
     // A frame whose local is out opens these winds, in order, and keeps this local.
-    #[tactic(auto, using(crate::proofs::Keeping::out_at, crate::proofs::Keeping::out_still, crate::proofs::Keeping::wound_kept, crate::proofs::Keeping::wound_led))]
     fn wind_and_keep(
         &mut self,
         alloc: Global,
@@ -191,7 +179,6 @@ impl<F: Drop, R: Drop, L: Drop> Board<F, R, L> {
     }
 
     // A frame whose local is out keeps this one, and is noted as one that waits for no wind.
-    #[tactic(auto, using(crate::proofs::Keeping::out_none, crate::proofs::Opening::waited_leads))]
     fn keep_waiting(&mut self, frame: u32, place: Place, local: L) -> Result<(), AllocError>
         requires home { place.graph ≡ self.old.graph }
         requires out { frame_at self.old.stack frame ≡ Some (record { place = place; local = None }) }
@@ -199,12 +186,10 @@ impl<F: Drop, R: Drop, L: Drop> Board<F, R, L> {
         ensures leads { Leads self.old self.new }
     {
         self.stack.put(frame, local);
-        self.waiting.push(frame)?;
-        Ok(())
+        self.waiting.push(frame)
     }
 
     // Ends a frame whose local is out, and answers who opened it.
-    #[tactic(auto, using(crate::proofs::Keeping::out_ends, crate::proofs::Keeping::ended_led, crate::proofs::Opening::ended_leads, crate::proofs::Opening::parent_still))]
     fn end_frame(
         &mut self,
         alloc: Global,
@@ -222,8 +207,7 @@ impl<F: Drop, R: Drop, L: Drop> Board<F, R, L> {
     {
         self.stack.free(frame);
         self.frames -= 1;
-        self.answer(alloc, place.parent, place.call, reply)?;
-        Ok(())
+        self.answer(alloc, place.parent, place.call, reply)
     }
 
     // Carries out a step of an open frame whose local is out.
@@ -244,8 +228,7 @@ impl<F: Drop, R: Drop, L: Drop> Board<F, R, L> {
     {
         match step {
             Step::Wind(winds, local) => {
-                self.wind_and_keep(alloc, wiring, frame, place, winds, local)?;
-                Ok(())
+                self.wind_and_keep(alloc, wiring, frame, place, winds, local)
             }
             Step::Wait(local) => {
                 self.keep_waiting(frame, place, local)?;

@@ -1,8 +1,8 @@
 use Rattle.std.proofs.Common.{subst}
+use Rattle.std.proofs.lemmas.Result.{IfOk-weaker}
 use Rattle.frame_driver.specs.Machine.{IsCarried, IsCut}
 use Rattle.frame_driver.proofs.Entering.{out_frame, out_leads, out_home, resume_kept, resume_home, resume_own, resume_there, resume_slot, resume_may}
 use Rattle.frame_driver.proofs.Leading.{leads_then}
-use Rattle.frame_driver.proofs.Looping.{handed_on}
 use Rattle.frame_driver.proofs.board.Board.resume.Goals as goal
 
 pub take_out-local-requires : goal.take_out-local-requires
@@ -27,15 +27,15 @@ pub carry-requires-clause-may : goal.carry-requires-clause-may
 carry-requires-clause-may g c = resume_may _ c.args.wiring.now c.requires.fits c.args.self.now c.args.frame c.args.slot c.args.reply c.requires.sound _ _ c.take_out-local.ensures.stood _ c.take_out-local.ensures.out c.in_ok-step.step c.in_ok-step.ensures.step
 
 pub returns-clause-resumed : goal.returns-clause-resumed
-returns-clause-resumed g c = record {
+returns-clause-resumed g c = IfOk-weaker c.carry.result _ _ (λ _ carried. record {
   place = c.take_out-local.result.0;
   local = c.take_out-local.result.1;
   home = resume_home _ c.args.wiring.now c.requires.fits c.args.self.now c.args.frame c.args.slot c.args.reply c.requires.sound _ _ c.take_out-local.ensures.stood;
   stood = c.take_out-local.ensures.stood;
   step = c.in_ok-step.step;
   steps = record { lawful = c.in_ok-step.ensures.step; made = c.in_ok-step.ensures.made };
-  carried = subst (λ b. IsCarried c.args.wiring.now c.args.frame c.take_out-local.result.0 b c.in_ok-step.step c.carry.new.self) c.take_out-local.ensures.out c.in_ok-carry.ensures.carried;
-}
+  carried = subst (λ b. IsCarried c.args.wiring.now c.args.frame c.take_out-local.result.0 b c.in_ok-step.step c.carry.new.self) c.take_out-local.ensures.out carried;
+}) c.carry.ensures.carried
 
 pub returns-in_err-step-clause-leads : goal.returns-in_err-step-clause-leads
 returns-in_err-step-clause-leads g c = out_leads _ c.args.wiring.now c.requires.fits c.args.self.now c.args.frame c.take_out-local.result.0 c.take_out-local.result.1 (resume_home _ c.args.wiring.now c.requires.fits c.args.self.now c.args.frame c.args.slot c.args.reply c.requires.sound _ _ c.take_out-local.ensures.stood) c.take_out-local.ensures.stood _ c.take_out-local.ensures.out
@@ -43,16 +43,13 @@ returns-in_err-step-clause-leads g c = out_leads _ c.args.wiring.now c.requires.
 pub returns-clause-leads : goal.returns-clause-leads
 returns-clause-leads g c = leads_then c.args.self.now _ c.carry.new.self (out_leads _ c.args.wiring.now c.requires.fits c.args.self.now c.args.frame c.take_out-local.result.0 c.take_out-local.result.1 (resume_home _ c.args.wiring.now c.requires.fits c.args.self.now c.args.frame c.args.slot c.args.reply c.requires.sound _ _ c.take_out-local.ensures.stood) c.take_out-local.ensures.stood _ c.take_out-local.ensures.out) c.carry.ensures.leads
 
-pub returns-in_err-carry-clause-leads : goal.returns-in_err-carry-clause-leads
-returns-in_err-carry-clause-leads g c = leads_then c.args.self.now _ c.carry.new.self (out_leads _ c.args.wiring.now c.requires.fits c.args.self.now c.args.frame c.take_out-local.result.0 c.take_out-local.result.1 (resume_home _ c.args.wiring.now c.requires.fits c.args.self.now c.args.frame c.args.slot c.args.reply c.requires.sound _ _ c.take_out-local.ensures.stood) c.take_out-local.ensures.stood _ c.take_out-local.ensures.out) c.carry.ensures.leads
-
-pub returns-in_err-carry-clause-winds : goal.returns-in_err-carry-clause-winds
-returns-in_err-carry-clause-winds g c = λ e. record {
+pub returns-clause-winds : goal.returns-clause-winds
+returns-clause-winds g c = λ e. record {
   place = c.take_out-local.result.0;
   local = c.take_out-local.result.1;
   home = resume_home _ c.args.wiring.now c.requires.fits c.args.self.now c.args.frame c.args.slot c.args.reply c.requires.sound _ _ c.take_out-local.ensures.stood;
   stood = c.take_out-local.ensures.stood;
   step = c.in_ok-step.step;
   steps = record { lawful = c.in_ok-step.ensures.step; made = c.in_ok-step.ensures.made };
-  carried = subst (λ b. IsCut c.args.wiring.now c.args.frame c.take_out-local.result.0 b c.in_ok-step.step c.carry.new.self) c.take_out-local.ensures.out (c.in_err-carry.ensures.winds (handed_on c.from_residual-in_err-carry.result c.in_err-carry.field-0.0 _ c.from_residual-in_err-carry.ensures.1 e));
+  carried = subst (λ b. IsCut c.args.wiring.now c.args.frame c.take_out-local.result.0 b c.in_ok-step.step c.carry.new.self) c.take_out-local.ensures.out (c.carry.ensures.winds e);
 }
