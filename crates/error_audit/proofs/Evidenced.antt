@@ -18,7 +18,7 @@ use Rattle.error_audit.specs.Evidence.{HaveNumbers}
 use Rattle.error_audit.specs.IoCauses.{AreTables, IsPlain}
 use Rattle.error_audit.specs.Opened.{openings_of, openings_to}
 use Rattle.log_audit.specs.declared.call_graphs.CallAt.{CallAt}
-use Rattle.error_audit.specs.declared.io_causes.Tables.{Tables}
+use Rattle.error_audit.specs.declared.tables.Tables.{Tables}
 use Rattle.log_audit.proofs.Callings.{call_is}
 use Rattle.error_audit.proofs.Different.{all_at}
 use Rattle.error_audit.proofs.Openings.{number_is, same_to_brick}

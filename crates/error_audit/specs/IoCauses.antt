@@ -8,7 +8,7 @@ use Rattle.mount_log.specs.declared.logs.Log.{Log}
 use Rattle.log_audit.specs.CallGraphs.{calls_from}
 use Rattle.error_audit.specs.LockTable.{HaveLocks}
 use Rattle.error_audit.specs.Opened.{openings_of, AreByBrick}
-use Rattle.error_audit.specs.declared.io_causes.Tables.{Tables}
+use Rattle.error_audit.specs.declared.tables.Tables.{Tables}
 
 pub record AreTables (script : Script) (log : Log) (tables : Tables) : Type 0 where
   pub calls : tables.calls.items ≡ calls_from 0 1 log.events

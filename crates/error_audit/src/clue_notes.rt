@@ -211,11 +211,7 @@ fn note_sent(alloc: Global, clues: &mut Clues, log: &Log) -> Result<(), AllocErr
 /// # Errors
 /// Out of memory.
 pub fn clues_of(alloc: Global, log: &Log) -> Result<Clues, AllocError> {
-    let mut clues = Clues {
-        ends: Vec::new(alloc),
-        replies: Vec::new(alloc),
-        marks: BTreeMap::new(alloc),
-    };
+    let mut clues = Clues::new(alloc);
     let done = clues.find(alloc, log);
     done.and(Ok(clues))
 }

@@ -1,7 +1,7 @@
 //! Bricks that differ from one another, as many as an I/O error needs.
 ghost use Rattle.std.specs.Prelude.{◌≡◌, ◌++◌, ◌==◌, ◌+◌, ◌-◌, ◌≤◌, [], ◌∷◌, true, map, length, IfOk};
 ghost use Rattle.std.specs.List.{IsDistinct};
-ghost use Rattle.mount_log.specs.Causes.{brick_of};
+ghost use Rattle.mount_log.specs.Causes.{brick_of, AreEnough};
 
 use fop_types::SetPlan;
 use std::alloc::{AllocError, Global};
@@ -18,11 +18,8 @@ fn push_new(bricks: &mut Vec<u8>, brick: u8) -> Result<bool, AllocError>
     Ok(true)
 }
 
-/// The bricks of these losses more, each of which is none of the others. It is false where one of them is.
-///
-/// # Errors
-/// Out of memory.
-pub fn push_lost(bricks: &mut Vec<u8>, lost: &[(u8, u32)]) -> Result<bool, AllocError>
+// The bricks of these losses more, each of which is none of the others. It is false where one of them is.
+fn push_lost(bricks: &mut Vec<u8>, lost: &[(u8, u32)]) -> Result<bool, AllocError>
     ensures pushed { IfOk result (λ yes. yes ≡ true → bricks.new.items ≡ bricks.old.items ++ map brick_of lost.now) }
     ensures differ { IfOk result (λ yes. yes ≡ true → IsDistinct ◌==◌ bricks.old.items → IsDistinct ◌==◌ bricks.new.items) }
 {
@@ -34,11 +31,8 @@ pub fn push_lost(bricks: &mut Vec<u8>, lost: &[(u8, u32)]) -> Result<bool, Alloc
     Ok(true)
 }
 
-/// The bricks of these faults more, each of which is none of the others. It is false where one of them is.
-///
-/// # Errors
-/// Out of memory.
-pub fn push_failed(bricks: &mut Vec<u8>, faults: &[(u8, u64)]) -> Result<bool, AllocError>
+// The bricks of these faults more, each of which is none of the others. It is false where one of them is.
+fn push_failed(bricks: &mut Vec<u8>, faults: &[(u8, u64)]) -> Result<bool, AllocError>
     ensures pushed { IfOk result (λ yes. yes ≡ true → bricks.new.items ≡ bricks.old.items ++ map brick_of faults.now) }
     ensures differ { IfOk result (λ yes. yes ≡ true → IsDistinct ◌==◌ bricks.old.items → IsDistinct ◌==◌ bricks.new.items) }
 {
@@ -50,9 +44,31 @@ pub fn push_failed(bricks: &mut Vec<u8>, faults: &[(u8, u64)]) -> Result<bool, A
     Ok(true)
 }
 
-/// Whether without so many bricks a set has no quorum.
-pub fn are_enough(plan: &SetPlan, bricks: &[u8]) -> bool
+// Whether without so many bricks a set has no quorum.
+fn are_enough(plan: &SetPlan, bricks: &[u8]) -> bool
     ensures { result ≡ true → length plan.now.bricks - plan.now.q + 1 ≤ length bricks.now }
 {
     plan.bricks.len().saturating_sub(plan.q as usize) < bricks.len()
+}
+
+/// Whether the bricks of these faults and losses differ from one another, and the others are no quorum of the set.
+///
+/// # Errors
+/// Out of memory.
+pub fn has_enough(
+    alloc: Global,
+    plan: &SetPlan,
+    faults: &[(u8, u64)],
+    lost: &[(u8, u32)],
+) -> Result<bool, AllocError>
+    ensures { IfOk result (λ yes. yes ≡ true → AreEnough plan.now (map brick_of faults.now ++ map brick_of lost.now)) }
+{
+    let mut bricks = Vec::new(alloc);
+    if !push_failed(&mut bricks, faults)? {
+        return Ok(false);
+    }
+    if !push_lost(&mut bricks, lost)? {
+        return Ok(false);
+    }
+    Ok(are_enough(plan, bricks.as_slice()))
 }

@@ -4,6 +4,7 @@ use crate::brick_replies::ReplyAt;
 use crate::connections::Opening;
 use crate::losses::{End, Loss, Span};
 use fop_types::Cell;
+use std::alloc::Global;
 use std::collections::BTreeMap;
 
 /// A reply of a brick to a call: the brick, the place in its journal, and where the reply is.
@@ -24,6 +25,15 @@ pub struct Clues {
 }
 
 impl Clues {
+    /// No clues. It allocates nothing.
+    pub fn new(alloc: Global) -> Clues {
+        Clues {
+            ends: Vec::new(alloc),
+            replies: Vec::new(alloc),
+            marks: BTreeMap::new(alloc),
+        }
+    }
+
     /// The replies to a call that were found.
     pub fn of(&self, call: u32) -> &[Found] {
         match self.replies.get(call as usize) {

@@ -9,49 +9,19 @@ ghost use Rattle.error_audit.specs.IoCauses.{AreTables, IsPlain};
 ghost use Rattle.error_audit.specs.LockTable.{HaveLocks};
 
 use crate::brick_replies::is_faulted;
-use crate::clue_notes::clues_of;
-use crate::connections::{Opening, by_brick, openings_at, openings_of};
-use crate::enough::{are_enough, push_failed, push_lost};
-use crate::evidence::{Clues, Found, find_loss};
-use crate::locks::{LockAt, locks_of};
+use crate::connections::openings_at;
+use crate::enough::has_enough;
+use crate::evidence::{Found, find_loss};
 use crate::losses::{Span, is_lost};
 use crate::splits::is_split;
+use crate::tables::{Tables, tables_of};
 use fop_types::{Answer, IoError, SetPlan};
 use graph_build::Plan;
-use log_audit::call_graphs::{CallAt, call_at, calls_of, graphs_of, set_of};
+use log_audit::call_graphs::{call_at, set_of};
 use mount_log::{Log, ReplyLine};
 use script_lang::Script;
 use std::alloc::{AllocError, Global};
 use wire_messages::messages_read_back;
-
-/// What is looked up in a log: its calls, the volfiles of its graphs, the connections that were opened, the locks of each
-/// call, and clues to where the evidence is.
-#[derive(Drop)]
-pub struct Tables {
-    pub calls: Vec<CallAt>,
-    pub volfiles: Vec<u8>,
-    pub openings: Vec<Vec<Opening>>,
-    pub locks: Vec<Vec<LockAt>>,
-    pub clues: Clues,
-}
-
-fn tables_of(alloc: Global, script: &Script, log: &Log) -> Result<Tables, AllocError>
-    ensures { IfOk result (AreTables script.now log.now) }
-{
-    let calls = calls_of(alloc, log.events.as_slice())?;
-    let volfiles = graphs_of(alloc, script, log)?;
-    let all = openings_of(alloc, log.sent.as_slice())?;
-    let openings = by_brick(alloc, all.as_slice())?;
-    let locks = locks_of(alloc, log, calls.len().saturating_add(1))?;
-    let clues = clues_of(alloc, log)?;
-    Ok(Tables {
-        calls,
-        volfiles,
-        openings,
-        locks,
-        clues,
-    })
-}
 
 // ---- lost quorum
 
@@ -111,8 +81,7 @@ fn is_quorum_lost(
     requires since { span.since ≡ submitted_at log.now reply.now.call }
     ensures { IfOk result (λ yes. yes ≡ true → IsQuorumLost log.now plan.now reply.now.call reply.now.event lost.now) }
 {
-    let mut bricks = Vec::new(alloc);
-    if !push_lost(&mut bricks, lost)? || !are_enough(plan, bricks.as_slice()) {
+    if !has_enough(alloc, plan, &[], lost)? {
         return Ok(false);
     }
     let yes = are_lost(alloc, log, tables, plan, reply, span, lost)?;
@@ -181,11 +150,7 @@ fn is_fault(
     requires since { span.since ≡ submitted_at log.now reply.now.call }
     ensures { IfOk result (λ yes. yes ≡ true → IsFault log.now plan.now reply.now.call reply.now.event faults.now lost.now) }
 {
-    let mut bricks = Vec::new(alloc);
-    if !is_some(faults) || !push_failed(&mut bricks, faults)? {
-        return Ok(false);
-    }
-    if !push_lost(&mut bricks, lost)? || !are_enough(plan, bricks.as_slice()) {
+    if !is_some(faults) || !has_enough(alloc, plan, faults, lost)? {
         return Ok(false);
     }
     if !are_faulted(alloc, log, plan, reply, tables.clues.of(reply.call), faults)? {
@@ -410,6 +375,21 @@ fn have_none(script: &Script, plans: &[Plan], log: &Log) -> bool
     are_plain(log.replies.as_slice())
 }
 
+fn all_caused(
+    alloc: Global,
+    script: &Script,
+    plans: &[Plan],
+    log: &Log,
+    tables: &Tables,
+) -> Result<bool, AllocError>
+    requires { AreTables script.now log.now tables.now }
+    ensures { IfOk result (λ yes. yes ≡ true → AreCaused script.now plans.now log.now) }
+{
+    let replies = log.replies.as_slice();
+    let yes = are_caused(alloc, script, plans, log, tables, replies)?;
+    Ok(yes)
+}
+
 /// Whether each reply that is an I/O error has its cause: bricks that were lost to the call's graph, bricks that answered a
 /// request of the call by a fault, or rows that bricks showed in its last lock phase, by which there is no source. `plans` are
 /// those of the script's volfiles.
@@ -428,7 +408,7 @@ pub fn io_errors_are_caused(
         return Ok(true);
     }
     let tables = tables_of(alloc, script, log)?;
-    let replies = log.replies.as_slice();
-    let yes = are_caused(alloc, script, plans, log, &tables, replies)?;
-    Ok(yes)
+    let yes = all_caused(alloc, script, plans, log, &tables);
+    drop(tables);
+    yes
 }

@@ -29,6 +29,7 @@ mod sources;
 mod split_clues;
 mod split_rows;
 mod splits;
+mod tables;
 mod wanted_winds;
 
 pub use io_causes::io_errors_are_caused;

@@ -1,5 +1,5 @@
 //! Whether a call was answered by the rows of its last lock phase, where they leave no source.
-ghost use Rattle.std.specs.Prelude.{◌≡◌, ◌≤◌, true, is_some, map, IfOk};
+ghost use Rattle.std.specs.Prelude.{◌≡◌, ◌≤◌, true, is_some, length, map, IfOk};
 ghost use Rattle.std.specs.List.{AllZip, count_by};
 ghost use Rattle.mount_log.specs.Causes.{HasShown, IsSplit};
 ghost use Rattle.mount_log.specs.Connections.{graph_of_call};
@@ -7,14 +7,15 @@ ghost use Rattle.mount_log.specs.Locks.{IsLastPhase};
 ghost use Rattle.mount_log.specs.Submissions.{submitted_at};
 ghost use Rattle.error_audit.specs.Evidence.{HaveNumbers};
 ghost use Rattle.error_audit.specs.LockTable.{HaveLocks};
+ghost use Rattle.error_audit.specs.Showing.{IsSized};
 
 use crate::grants::{LockPhase, shown_in};
-use crate::io_causes::Tables;
 use crate::lock_phases::is_last_phase;
 use crate::losses::Span;
 use crate::sources::{has_no_source, is_sized};
 use crate::split_clues::{find_phase, places_of};
 use crate::split_rows::are_rows;
+use crate::tables::Tables;
 use fop_types::{Row, Seq, SetPlan, SplitRow};
 use mount_log::{Log, ReplyLine};
 use std::alloc::{AllocError, Global};
@@ -23,6 +24,34 @@ fn are_quorum(plan: &SetPlan, shown: &[Option<Seq<Row>>]) -> bool
     ensures { result ≡ true → plan.now.q ≤ count_by is_some shown.now }
 {
     plan.q as usize <= shown.iter().filter(|one| one.is_some()).count()
+}
+
+// Whether by what the bricks of a set showed of the cells at some places these rows are answered, and leave no source.
+fn is_answered_at(
+    alloc: Global,
+    log: &Log,
+    tables: &Tables,
+    plan: &SetPlan,
+    reply: &ReplyLine,
+    phase: &LockPhase,
+    shown: &[Option<Seq<Row>>],
+    rows: &[SplitRow],
+    places: &[usize],
+) -> Result<bool, AllocError>
+    requires phase { IsLastPhase log.now plan.now reply.now.call phase.now.from }
+    requires shown { AllZip (HasShown log.now plan.now reply.now.call reply.now.event phase.now.from phase.now.cells) plan.now.bricks shown.now }
+    requires sized { IsSized (length plan.now.bricks) plan.now.q }
+    requires quorum { plan.now.q ≤ count_by is_some shown.now }
+    ensures { IfOk result (λ yes. yes ≡ true → IsSplit log.now plan.now reply.now.call reply.now.event rows.now) }
+{
+    let _ = reply;
+    let cells = phase.cells.as_slice();
+    if !are_rows(alloc, rows, plan.bricks.as_slice(), shown, cells, places)? {
+        return Ok(false);
+    }
+    let marks = tables.clues.marks_of(cells);
+    let yes = has_no_source(alloc, log, plan, phase, shown, places, marks)?;
+    Ok(yes)
 }
 
 // Whether by what the bricks of a set showed these rows are answered, and leave no source.
@@ -43,21 +72,20 @@ fn is_answered(
     if !is_sized(plan) || !are_quorum(plan, shown) {
         return Ok(false);
     }
-    let cells = phase.cells.as_slice();
-    let places = places_of(alloc, rows, cells)?;
-    if !are_rows(
+    let places = places_of(alloc, rows, phase.cells.as_slice())?;
+    let yes = is_answered_at(
         alloc,
-        rows,
-        plan.bricks.as_slice(),
+        log,
+        tables,
+        plan,
+        reply,
+        phase,
         shown,
-        cells,
+        rows,
         places.as_slice(),
-    )? {
-        return Ok(false);
-    }
-    let marks = tables.clues.marks_of(cells);
-    let yes = has_no_source(alloc, log, plan, phase, shown, places.as_slice(), marks)?;
-    Ok(yes)
+    );
+    drop(places);
+    yes
 }
 
 // Whether these are the rows of a lock phase, and leave no source.

@@ -29,23 +29,31 @@ fn highest_call(replies: &[ReplyLine]) -> usize {
     highest
 }
 
+fn none_wanted(alloc: Global, calls: usize) -> Result<Vec<bool>, AllocError> {
+    let mut wanted = Vec::new(alloc);
+    for _ in 0..calls {
+        wanted.push(false)?;
+    }
+    Ok(wanted)
+}
+
+fn want(wanted: &mut Vec<bool>, reply: &ReplyLine) {
+    if !has_replies(&reply.answer) {
+        return;
+    }
+    if let Some(call) = wanted.get_mut(reply.call as usize) {
+        *call = true;
+    }
+}
+
 /// Whether replies to each call are looked for.
 ///
 /// # Errors
 /// Out of memory.
 pub fn wanted_calls(alloc: Global, replies: &[ReplyLine]) -> Result<Vec<bool>, AllocError> {
-    let mut wanted = Vec::new(alloc);
-    for _ in 0..highest_call(replies) {
-        wanted.push(false)?;
-    }
-    wanted.push(false)?;
+    let mut wanted = none_wanted(alloc, highest_call(replies).saturating_add(1))?;
     for reply in replies {
-        if !has_replies(&reply.answer) {
-            continue;
-        }
-        if let Some(call) = wanted.get_mut(reply.call as usize) {
-            *call = true;
-        }
+        want(&mut wanted, reply);
     }
     Ok(wanted)
 }

@@ -1,4 +1,4 @@
-//! Whether what was sent to connect and disconnect graphs, and for controls, is exactly what has a cause.
+//! Whether what was sent to connect and disconnect graphs, and for controls, has a cause, and what is due was sent.
 ghost use Rattle.std.specs.Prelude.{◌≡◌, true, IfOk};
 ghost use Rattle.mount_log.specs.Connects.{ConnectsAreCaused};
 ghost use Rattle.log_audit.specs.Heads.{heads_of};

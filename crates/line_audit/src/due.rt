@@ -1,5 +1,5 @@
 //! Which connections are due to be opened in an event, and which to end.
-ghost use Rattle.std.specs.Prelude.{◌≡◌, ◌-◌, ◌||◌, true, false, option_copied, slice_get};
+ghost use Rattle.std.specs.Prelude.{◌≡◌, ◌-◌, ◌||◌, true, false, slice_get};
 ghost use Rattle.std.specs.List.{list_any};
 ghost use Rattle.mount_log.specs.Connects.{has_brick, IsEndIn};
 ghost use Rattle.mount_log.specs.Ties.{IsNumberOf};
@@ -9,6 +9,7 @@ use crate::effects::{Effect, cut_as, is_started, is_switched, opened_as};
 use crate::known::Known;
 use crate::links::has_link;
 use crate::tied_ends::is_number_of;
+use crate::tied_replies::wind_at;
 use fop_types::SetPlan;
 use graph_build::Plan;
 use log_audit::call_graphs::plan_of;
@@ -165,12 +166,6 @@ fn is_end(line: &WindLine, wind: u64, graph: u32, number: u64) -> bool
         return false;
     }
     is_number_of(line.wind, wind)
-}
-
-fn wind_at(log: &Log, place: usize) -> Option<&WindLine>
-    ensures { option_copied result ≡ slice_get log.now.winds place }
-{
-    log.winds.as_slice().get(place)
 }
 
 fn ends_at(log: &Log, place: usize, wind: u64, graph: u32, number: u64) -> bool

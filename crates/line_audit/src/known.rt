@@ -3,6 +3,7 @@ ghost use Rattle.std.specs.Prelude.{◌≡◌, [], OnOk, IfOk};
 ghost use Rattle.line_audit.specs.Linked.{links_after, without_number, closed_after};
 
 use crate::effects::Effect;
+use crate::keeping::keep_unless;
 use crate::lines_sent::Item;
 use crate::links::{Link, pass_links};
 use std::alloc::{AllocError, Global};
@@ -20,10 +21,7 @@ fn without_number(alloc: Global, numbers: &[u8], number: u8) -> Result<Vec<u8>, 
 {
     let mut kept = Vec::new(alloc);
     for one in numbers {
-        if *one == number {
-            continue;
-        }
-        kept.push(*one)?;
+        keep_unless(&mut kept, *one == number, *one)?;
     }
     Ok(kept)
 }

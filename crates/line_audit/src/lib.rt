@@ -1,10 +1,12 @@
-//! Audits of the lines of a log: whether replies, winds and requests are tied to calls, events and graphs, and connections
-//! and controls were sent exactly where they have a cause.
+//! Audits of the lines of a log: whether replies, winds and requests are tied to calls, events and graphs, connections and
+//! controls were sent for a cause, and those that were due were sent.
 //!
 //! ```text
 //!   lines_are_tied        all lines              replies, winds and requests are of their calls, events and graphs
-//!   connects_are_caused   what was sent, plans   connections and controls are sent exactly where they have a cause
+//!   connects_are_caused   what was sent, plans   connections and controls are sent for a cause, and where they are due
 //! ```
+//!
+//! Where a brick answers Gone, or a graph ends, a Disconnect has a cause, but none is asked for.
 //!
 //! Each goes through the log a fixed number of times. As each audit of `log_audit`, it knows nothing of how the log came
 //! about: true says that its definition holds of the log; false alone says nothing, and an audit may ask for more than its
@@ -18,6 +20,7 @@ mod due;
 mod effects;
 mod event_links;
 mod in_time;
+mod keeping;
 mod known;
 mod last_uses;
 mod lines_sent;

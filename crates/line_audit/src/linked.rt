@@ -1,5 +1,5 @@
-//! Whether graphs connect and disconnect in each event exactly as they are to.
-ghost use Rattle.std.specs.Prelude.{◌≡◌, ◌<◌, ◌≤◌, ◌+◌, ℕ, [], true, length, map, option_copied, slice_get, IfOk, IfSome};
+//! Whether in each event graphs connect where they are to, and disconnect for a cause.
+ghost use Rattle.std.specs.Prelude.{◌≡◌, ◌<◌, ◌≤◌, ◌+◌, ℕ, [], true, length, map, IfOk, IfSome};
 ghost use Rattle.wire_messages.specs.Messages.{MessagesReadBack};
 ghost use Rattle.log_audit.specs.Heads.{heads_of};
 ghost use Rattle.line_audit.specs.Linked.{items_of, in_event, AreByEvent, IsEffectAt, IsKnown, AreGraphTables, IsLinked, AreLinked};
@@ -11,9 +11,10 @@ use crate::known::Known;
 use crate::last_uses::last_uses;
 use crate::lines_sent::{Item, by_event, items_at};
 use graph_build::Plan;
+use log_audit::by_place::event_at;
 use log_audit::call_graphs::graphs_of;
 use log_audit::heads::{Head, head_at};
-use mount_log::{HubEvent, Log};
+use mount_log::Log;
 use script_lang::Script;
 use std::alloc::{AllocError, Global};
 use wire_messages::messages_read_back;
@@ -92,12 +93,6 @@ fn passes(
     Ok(true)
 }
 
-fn event_in(log: &Log, k: usize) -> Option<&HubEvent>
-    ensures { option_copied result ≡ slice_get log.now.events k }
-{
-    log.events.as_slice().get(k)
-}
-
 fn effect_at(log: &Log, heads: &[Head], k: usize) -> Option<Effect>
     requires { heads.now ≡ heads_of log.now.events }
     ensures { IfSome result (λ e. IsEffectAt log.now k e) }
@@ -105,7 +100,7 @@ fn effect_at(log: &Log, heads: &[Head], k: usize) -> Option<Effect>
     let Some(head) = head_at(heads, k) else {
         return None;
     };
-    match event_in(log, k) {
+    match event_at(log, k) {
         Some(event) => Some(effect_of(event, head)),
         None => None,
     }
@@ -196,7 +191,7 @@ fn all_pass(
     Ok(true)
 }
 
-/// Whether graphs connect and disconnect in each event exactly as they are to.
+/// Whether in each event graphs connect exactly where they are to, and disconnect for a cause, and where they are cut.
 ///
 /// # Errors
 /// Out of memory.

@@ -1,8 +1,9 @@
 //! The connections that are open.
-ghost use Rattle.std.specs.Prelude.{◌≡◌, OnOk, IfOk};
+ghost use Rattle.std.specs.Prelude.{◌≡◌, ◌==◌, ◌&&◌, OnOk, IfOk};
 ghost use Rattle.line_audit.specs.Linked.{has_link, without_brick, without_link, closed_by, dropped_as, dropped, added_as, added, links_after, all_cut};
 
 use crate::effects::Effect;
+use crate::keeping::keep_unless;
 use crate::lines_sent::{Item, What, has_disconnect};
 use std::alloc::{AllocError, Global};
 
@@ -11,6 +12,13 @@ use std::alloc::{AllocError, Global};
 pub struct Link {
     pub graph: u32,
     pub brick: u8,
+}
+
+// Whether a connection is the graph's to the brick.
+fn is_of(link: &Link, graph: u32, brick: u8) -> bool
+    ensures { result ≡ ((link.now.graph == graph) && (link.now.brick == brick)) }
+{
+    link.graph == graph && link.brick == brick
 }
 
 /// Whether a graph has an open connection to a brick.
@@ -30,10 +38,7 @@ fn without_brick(alloc: Global, links: &[Link], brick: u8) -> Result<Vec<Link>, 
 {
     let mut kept = Vec::new(alloc);
     for link in links {
-        if link.brick == brick {
-            continue;
-        }
-        kept.push(*link)?;
+        keep_unless(&mut kept, link.brick == brick, *link)?;
     }
     Ok(kept)
 }
@@ -48,10 +53,7 @@ fn without_link(
 {
     let mut kept = Vec::new(alloc);
     for link in links {
-        if link.graph == graph && link.brick == brick {
-            continue;
-        }
-        kept.push(*link)?;
+        keep_unless(&mut kept, is_of(link, graph, brick), *link)?;
     }
     Ok(kept)
 }

@@ -10,8 +10,9 @@ use std::collections::BTreeMap;
 use wire_messages::{Message, input_of};
 use xlator_law::WindNo;
 
-/// For each reply the place of the end of a wind of its call, and for each call that of its reply; for each line that was sent, if it is a request, the place of
-/// its wind's opening and where that ends; and, by the place of the opening, where the request is and the open before it.
+/// For each reply the place of the end of a wind of its call, and for each call that of its reply; for each line that was sent,
+/// if it is a request, the place of its wind's opening and where that ends; and, by the place of the opening, where the request
+/// is and the open before it.
 #[derive(Drop)]
 pub struct TieNotes {
     pub ends: Vec<usize>,

@@ -50,8 +50,8 @@ fn lines_tie(
 }
 
 /// Whether the lines of a log are tied to its events and to one another: numbers of events rise, replies are to their calls,
-/// winds are of their calls' graphs, each request has its wind, and that its end. It is false, too, where a session submits more lines than
-/// it has. `heads` are those of the log's events.
+/// winds are of their calls' graphs, each request has its wind, and that its end. It is false, too, where a session submits more
+/// lines than it has. `heads` are those of the log's events.
 ///
 /// # Errors
 /// Out of memory.

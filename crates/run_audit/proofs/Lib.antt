@@ -8,3 +8,4 @@ pub mod Timing
 pub mod Sending
 pub mod Running
 pub mod Numbering
+pub mod Pushing

@@ -44,6 +44,10 @@ abbrev pub due_from : ℕ → List Head → List ℕ
 due_from number [] = []
 due_from number (head ∷ heads) = if is_due_head head.said then number ∷ due_from (number + 1) heads else due_from (number + 1) heads
 
+-- nothing is known but the answers of heals and switches
+abbrev pub with_answers : List ℕ → Numbers
+with_answers answered = record { replied = []; internal = []; answered = answered; owed = []; arrived = []; opened = []; ended = [] }
+
 -- the numbers of events of a log
 pub record AreNumbers (log : Log) (numbers : Numbers) : Type 0 where
   pub replied : numbers.replied ≡ map (λ r. r.event) log.replies

@@ -1,9 +1,9 @@
 //! The numbers of the events in which something was done, in order.
-ghost use Rattle.std.specs.Prelude.{◌≡◌, true, map, IfOk};
+ghost use Rattle.std.specs.Prelude.{◌≡◌, ◌++◌, ◌∷◌, ℕ, List, true, map, IfOk, OnOk, if◌then◌else◌};
 ghost use Rattle.mount_log.specs.Phases.{is_internal, begins_internal, internal_from, has_output, is_owed, owed_in, arrived_from, opened_in, ended_in};
 ghost use Rattle.wire_messages.specs.Messages.{input_in};
 ghost use Rattle.log_audit.specs.Heads.{heads_of};
-ghost use Rattle.run_audit.specs.Counting.{does_rise, due_from, is_due_head, AreNumbers, DoAllRise};
+ghost use Rattle.run_audit.specs.Counting.{does_rise, due_from, is_due_head, with_answers, AreNumbers, DoAllRise};
 
 use fop_types::{Input, Seq};
 use log_audit::heads::{Head, Said};
@@ -25,22 +25,56 @@ pub struct Numbers {
     pub ended: Seq<u64>,
 }
 
-fn replied_in(alloc: Global, replies: &[ReplyLine]) -> Result<Vec<u64>, AllocError>
-    ensures { IfOk result (λ numbers. numbers.items ≡ map (λ r. r.event) replies.now) }
+impl Numbers {
+    // The answers of heals and switches are known, and nothing else.
+    fn new(alloc: Global, answered: Seq<u64>) -> Numbers
+        ensures { result ≡ with_answers answered }
+    {
+        Numbers {
+            replied: Seq::new(alloc),
+            internal: Seq::new(alloc),
+            answered,
+            owed: Seq::new(alloc),
+            arrived: Seq::new(alloc),
+            opened: Seq::new(alloc),
+            ended: Seq::new(alloc),
+        }
+    }
+
+    // Adds all others.
+    fn note(&mut self, alloc: Global, log: &Log, heads: &[Head]) -> Result<(), AllocError>
+        requires none { self.old ≡ with_answers log.now.answered }
+        requires heads { heads.now ≡ heads_of log.now.events }
+        ensures { OnOk result (AreNumbers log.now self.new) }
+    {
+        add_replied(&mut self.replied, log.replies.as_slice())?;
+        add_internal(&mut self.internal, log.events.as_slice())?;
+        add_owed(alloc, &mut self.owed, log.sent.as_slice())?;
+        add_arrivals(&mut self.arrived, log, heads)?;
+        add_opened(&mut self.opened, log.winds.as_slice())?;
+        add_ended(&mut self.ended, log.winds.as_slice())?;
+        Ok(())
+    }
+}
+
+// Puts a number behind others, if it is to be there.
+fn push_if(numbers: &mut Seq<u64>, yes: bool, number: u64) -> Result<(), AllocError>
+    ensures { OnOk result ((rest : List ℕ) → numbers.new ++ rest ≡ numbers.old ++ (if yes then number ∷ rest else rest)) }
 {
-    let mut numbers = Vec::new(alloc);
+    if !yes {
+        return Ok(());
+    }
+    numbers.push(number)?;
+    Ok(())
+}
+
+fn add_replied(numbers: &mut Seq<u64>, replies: &[ReplyLine]) -> Result<(), AllocError>
+    ensures { OnOk result (numbers.new ≡ numbers.old ++ map (λ r. r.event) replies.now) }
+{
     for reply in replies {
         numbers.push(reply.event)?;
     }
-    Ok(numbers)
-}
-
-fn copied(alloc: Global, all: &[u64]) -> Result<Vec<u64>, AllocError>
-    ensures { IfOk result (λ numbers. numbers.items ≡ all.now) }
-{
-    let mut numbers = Vec::new(alloc);
-    numbers.extend_from_slice(all)?;
-    Ok(numbers)
+    Ok(())
 }
 
 // ---- heals and switches
@@ -64,16 +98,13 @@ fn begins_internal(event: &HubEvent) -> bool
     }
 }
 
-fn internal_in(alloc: Global, events: &[HubEvent]) -> Result<Vec<u64>, AllocError>
-    ensures { IfOk result (λ numbers. numbers.items ≡ internal_from 1 events.now) }
+fn add_internal(numbers: &mut Seq<u64>, events: &[HubEvent]) -> Result<(), AllocError>
+    ensures { OnOk result (numbers.new ≡ numbers.old ++ internal_from 1 events.now) }
 {
-    let mut numbers = Vec::new(alloc);
     for k in 0..events.len() {
-        if begins_internal(&events[k]) {
-            numbers.push(k as u64 + 1)?;
-        }
+        push_if(numbers, begins_internal(&events[k]), k as u64 + 1)?;
     }
-    Ok(numbers)
+    Ok(())
 }
 
 // ---- outputs
@@ -89,10 +120,10 @@ fn has_output(input: &Input) -> bool
     }
 }
 
-fn is_owed(alloc: Global, bytes: &[u8]) -> Result<bool, AllocError>
-    ensures { IfOk result (λ yes. yes ≡ is_owed (input_in bytes.now)) }
+fn is_owed(alloc: Global, line: &SentLine) -> Result<bool, AllocError>
+    ensures { IfOk result (λ yes. yes ≡ is_owed (input_in line.now.bytes)) }
 {
-    match input_of(alloc, bytes)? {
+    match input_of(alloc, line.bytes.as_slice())? {
         Message::Whole(input) => {
             let owed = has_output(&input);
             drop(input);
@@ -102,16 +133,14 @@ fn is_owed(alloc: Global, bytes: &[u8]) -> Result<bool, AllocError>
     }
 }
 
-fn owed_by(alloc: Global, sent: &[SentLine]) -> Result<Vec<u64>, AllocError>
-    ensures { IfOk result (λ numbers. numbers.items ≡ owed_in sent.now) }
+fn add_owed(alloc: Global, numbers: &mut Seq<u64>, sent: &[SentLine]) -> Result<(), AllocError>
+    ensures { OnOk result (numbers.new ≡ numbers.old ++ owed_in sent.now) }
 {
-    let mut numbers = Vec::new(alloc);
     for line in sent {
-        if is_owed(alloc, line.bytes.as_slice())? {
-            numbers.push(line.event)?;
-        }
+        let owed = is_owed(alloc, line)?;
+        push_if(numbers, owed, line.event)?;
     }
-    Ok(numbers)
+    Ok(())
 }
 
 fn is_due(said: Said) -> bool
@@ -123,52 +152,43 @@ fn is_due(said: Said) -> bool
     }
 }
 
-fn arrived_in(alloc: Global, heads: &[Head]) -> Result<Vec<u64>, AllocError>
-    ensures { IfOk result (λ numbers. numbers.items ≡ due_from 1 heads.now) }
+fn add_due(numbers: &mut Seq<u64>, heads: &[Head]) -> Result<(), AllocError>
+    ensures { OnOk result (numbers.new ≡ numbers.old ++ due_from 1 heads.now) }
 {
-    let mut numbers = Vec::new(alloc);
     for k in 0..heads.len() {
-        if is_due(heads[k].said) {
-            numbers.push(k as u64 + 1)?;
-        }
+        push_if(numbers, is_due(heads[k].said), k as u64 + 1)?;
     }
-    Ok(numbers)
+    Ok(())
 }
 
-// The events in which such outputs arrived, where these are the heads of what arrives in the log's events.
-fn arrivals_of(alloc: Global, log: &Log, heads: &[Head]) -> Result<Vec<u64>, AllocError>
+// Adds the events in which such outputs arrived, where these are the heads of what arrives in the log's events.
+fn add_arrivals(numbers: &mut Seq<u64>, log: &Log, heads: &[Head]) -> Result<(), AllocError>
     requires { heads.now ≡ heads_of log.now.events }
-    ensures { IfOk result (λ numbers. numbers.items ≡ arrived_from 1 log.now.events) }
+    ensures { OnOk result (numbers.new ≡ numbers.old ++ arrived_from 1 log.now.events) }
 {
     let _ = log;
-    let numbers = arrived_in(alloc, heads)?;
-    Ok(numbers)
+    add_due(numbers, heads)?;
+    Ok(())
 }
 
 // ---- winds
 
-fn opened_by(alloc: Global, winds: &[WindLine]) -> Result<Vec<u64>, AllocError>
-    ensures { IfOk result (λ numbers. numbers.items ≡ opened_in winds.now) }
+fn add_opened(numbers: &mut Seq<u64>, winds: &[WindLine]) -> Result<(), AllocError>
+    ensures { OnOk result (numbers.new ≡ numbers.old ++ opened_in winds.now) }
 {
-    let mut numbers = Vec::new(alloc);
     for line in winds {
-        if line.opened {
-            numbers.push(line.event)?;
-        }
+        push_if(numbers, line.opened, line.event)?;
     }
-    Ok(numbers)
+    Ok(())
 }
 
-fn ended_by(alloc: Global, winds: &[WindLine]) -> Result<Vec<u64>, AllocError>
-    ensures { IfOk result (λ numbers. numbers.items ≡ ended_in winds.now) }
+fn add_ended(numbers: &mut Seq<u64>, winds: &[WindLine]) -> Result<(), AllocError>
+    ensures { OnOk result (numbers.new ≡ numbers.old ++ ended_in winds.now) }
 {
-    let mut numbers = Vec::new(alloc);
     for line in winds {
-        if !line.opened {
-            numbers.push(line.event)?;
-        }
+        push_if(numbers, !line.opened, line.event)?;
     }
-    Ok(numbers)
+    Ok(())
 }
 
 // ---- all
@@ -181,22 +201,10 @@ pub fn numbers_of(alloc: Global, log: &Log, heads: &[Head]) -> Result<Numbers, A
     requires { heads.now ≡ heads_of log.now.events }
     ensures { IfOk result (λ numbers. AreNumbers log.now numbers) }
 {
-    let replied = Seq::from_vec(replied_in(alloc, log.replies.as_slice())?);
-    let internal = Seq::from_vec(internal_in(alloc, log.events.as_slice())?);
-    let answered = Seq::from_vec(copied(alloc, log.answered.as_slice())?);
-    let owed = Seq::from_vec(owed_by(alloc, log.sent.as_slice())?);
-    let arrived = Seq::from_vec(arrivals_of(alloc, log, heads)?);
-    let opened = Seq::from_vec(opened_by(alloc, log.winds.as_slice())?);
-    let ended = Seq::from_vec(ended_by(alloc, log.winds.as_slice())?);
-    Ok(Numbers {
-        replied,
-        internal,
-        answered,
-        owed,
-        arrived,
-        opened,
-        ended,
-    })
+    let answered = log.answered.copy(alloc)?;
+    let mut numbers = Numbers::new(alloc, answered);
+    let done = numbers.note(alloc, log, heads);
+    done.and(Ok(numbers))
 }
 
 fn do_not_fall(numbers: &[u64]) -> bool

@@ -6,10 +6,11 @@ ghost use Rattle.mount_log.specs.Follows.{RunOf, FollowsScript};
 ghost use Rattle.log_audit.specs.Armed.{AreAllArmed};
 ghost use Rattle.log_audit.specs.Heads.{heads_of};
 ghost use Rattle.run_audit.specs.CallPhases.{AreOneByOne, AreInPhases, AreAnsweredIn, HaveCalls};
-ghost use Rattle.run_audit.specs.Controlled.{AreOfControls, AreCarriedOut, AreTables};
+ghost use Rattle.run_audit.specs.Controlled.{AreOfControls, ArePhasesCarried, AreCarriedOut, AreTables};
 ghost use Rattle.run_audit.specs.Counting.{AreNumbers, DoAllRise, AreSettled};
 ghost use Rattle.run_audit.specs.Noted.{AreRising};
 ghost use Rattle.run_audit.specs.Numbered.{AreNth};
+ghost use Rattle.run_audit.specs.Timed.{AreAllTimely};
 
 use crate::acts::acts_are_of_controls;
 use crate::alone::{are_one_by_one, reply_places};
@@ -128,6 +129,28 @@ fn acts_are_right(script: &Script, log: &Log, numbers: &Numbers, notes: &RunNote
     acts_are_of_controls(script, log, notes)
 }
 
+// Whether controls were carried out as the notes say, in their moments, by what is looked up of what was sent.
+fn are_carried(
+    alloc: Global,
+    script: &Script,
+    log: &Log,
+    tables: &SentTables,
+    numbers: &Numbers,
+    notes: &RunNotes,
+) -> Result<bool, AllocError>
+    requires tables { AreTables notes.now.ended log.now tables.now }
+    requires numbers { AreNumbers log.now numbers.now }
+    requires rise { DoAllRise numbers.now }
+    ensures timely { IfOk result (λ yes. yes ≡ true → AreAllTimely script.now log.now notes.now) }
+    ensures phases { IfOk result (λ yes. yes ≡ true → ArePhasesCarried script.now log.now tables.now notes.now) }
+{
+    if !are_timely(script, log, tables, numbers, notes) {
+        return Ok(false);
+    }
+    let yes = phases_are_carried(alloc, script, log, tables, notes)?;
+    Ok(yes)
+}
+
 // Whether controls were carried out as the notes say, in their moments, and there are no other actions.
 fn controls_are_carried(
     alloc: Global,
@@ -150,11 +173,8 @@ fn controls_are_carried(
     let Some(tables) = sent_tables(alloc, log, notes)? else {
         return Ok(false);
     };
-    if !are_timely(script, log, &tables, numbers, notes) {
-        drop(tables);
-        return Ok(false);
-    }
-    let yes = phases_are_carried(alloc, script, log, &tables, notes)?;
+    let yes = are_carried(alloc, script, log, &tables, numbers, notes)?;
+    drop(tables);
     Ok(yes)
 }
 

@@ -8,8 +8,8 @@ returns c = λ yes. record {
   acts = c.acts_are_right.ensures.acts c.if-not-acts_are_right.false;
   tables = c.in-Some.tables;
   are = subst (λ o. IfSome o (λ tables. AreTables c.args.notes.now.ended c.args.log.now tables)) c.in-Some.is c.in_ok-tables.ensures;
-  phases = c.in_ok-yes.ensures yes;
-  timely = c.are_timely.ensures c.if-not-are_timely.false;
+  phases = c.in_ok-yes.ensures.phases yes;
+  timely = c.in_ok-yes.ensures.timely yes;
   sent = c.in_ok-lines_are_sent_for.ensures c.if-not-branch.false;
   answered = c.acts_are_right.ensures.answered c.if-not-acts_are_right.false;
 }

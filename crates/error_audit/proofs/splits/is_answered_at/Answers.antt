@@ -1,7 +1,7 @@
 use Rattle.std.proofs.Common.{◌≡◌}
 use Rattle.std.proofs.lemmas.Slice.Zip.{AllZip-long}
 use Rattle.mount_log.specs.Causes.{HasShown}
-use Rattle.error_audit.proofs.splits.is_answered.Goals as goal
+use Rattle.error_audit.proofs.splits.is_answered_at.Goals as goal
 
 pub has_no_source-requires-clause-places : goal.has_no_source-requires-clause-places
 has_no_source-requires-clause-places c =

@@ -4,7 +4,7 @@ use Rattle.std.specs.List.{AllByRecursion}
 use Rattle.mount_log.specs.Causes.{IsCaused}
 use Rattle.mount_log.specs.declared.logs.ReplyLine.{ReplyLine}
 use Rattle.error_audit.proofs.Evidenced.{all_caused}
-use Rattle.error_audit.proofs.io_causes.io_errors_are_caused.Goals as goal
+use Rattle.error_audit.proofs.io_causes.all_caused.Goals as goal
 
 pub returns : goal.returns
 returns c = λ yes.

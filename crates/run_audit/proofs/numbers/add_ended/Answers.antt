@@ -1,0 +1,11 @@
+use Rattle.std.proofs.Common.{◌∙◌, ◌+◌, ◌++◌, drop}
+use Rattle.mount_log.specs.Phases.{ended_in}
+use Rattle.log_audit.proofs.Lists.{grown}
+use Rattle.run_audit.proofs.Pushing.{flipped}
+use Rattle.run_audit.proofs.numbers.add_ended.Goals as goal
+
+pub loop-line-preserved : goal.loop-line-preserved
+loop-line-preserved c =
+    let rest = ended_in (drop (c.loop-line.line-index + 1) c.args.winds.now) in
+    grown ended_in c.args.winds.now c.loop-line.line-index _ c.loop-line.numbers c.push_if.new.numbers rest (c.args.numbers.now ++ ended_in c.args.winds.now)
+    c.loop-line-test.true (c.in_ok-push_if.ensures rest ∙ flipped c.loop-line.numbers rest _ _) c.loop-line.invariant
