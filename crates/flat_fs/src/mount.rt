@@ -170,16 +170,9 @@ impl Parts {
         let index = session as usize;
         let drawn = Gfid { hi: 0, lo };
         let reply = serve(alloc, &mut self.files, &self.sessions[index], drawn, call)?;
-        match self.sessions[index].after_answer(call, reply.file, &reply.answer) {
-            Ok(()) => {
-                self.made = made;
-                Ok(reply.answer)
-            }
-            Err(error) => {
-                drop(reply);
-                Err(error)
-            }
-        }
+        self.sessions[index].after_answer(call, reply.file, &reply.answer)?;
+        self.made = made;
+        Ok(reply.answer)
     }
 }
 

@@ -1,6 +1,7 @@
-ghost use Rattle.std.specs.Prelude.{◌≡◌, OnOk, IfOk};
+ghost use Rattle.std.specs.Prelude.{◌≡◌, OnOk, IfOk, MatchOption};
 ghost use Rattle.fop_types.specs.Files.{names_at};
-ghost use Rattle.fop_types.specs.Flat.{flat, flat_answer, flat_after, answer_in, files_in, is_same_name as is_same_name_of, with_name, without_name};
+ghost use Rattle.fop_types.specs.Flat.{flat, flat_answer, flat_after, answer_in, files_in, done as done_with, is_same_name as is_same_name_of, with_name, without_name};
+ghost use Rattle.fop_types.specs.Flat.Outcome.{Answers};
 ghost use Rattle.fop_types.specs.Names.{item_named};
 ghost use Rattle.flat_fs.specs.Outcomes.{is_accepted, moved_file, moved_child, names_directory};
 
@@ -46,7 +47,29 @@ impl FlatFs {
         self.edit(alloc, target, Edit::PutItem(moved))
     }
 
+    // The answer of a rename that changes nothing.
     #[tactic(auto, using(crate::proofs::Outcomes::replaceable_is))]
+    fn unmoved(
+        &self,
+        parent: Gfid,
+        name: &[u8],
+        target: Gfid,
+        new_name: &[u8],
+    ) -> Option<FlatAnswer>
+        ensures { (moved : Item) → moved.name ≡ new_name.now → MatchOption result (moved_file self.now parent name.now target moved ≡ done_with (with_name (without_name self.now parent name.now) target moved)) (λ answer. moved_file self.now parent name.now target moved ≡ Answers answer) }
+    {
+        if let Some(error) = self.entry_error(target, new_name) {
+            return Some(refused(error));
+        }
+        if self.is_directory_name(target, new_name) {
+            return Some(refused(AppError::Eisdir));
+        }
+        if is_same_name(parent, name, target, new_name) {
+            return Some(done());
+        }
+        None
+    }
+
     fn rename_file(
         &mut self,
         alloc: Global,
@@ -58,17 +81,17 @@ impl FlatFs {
         ensures answer { IfOk result (λ a. a ≡ answer_in (moved_file self.old parent name target moved)) }
         ensures files { OnOk result (self.new ≡ files_in (moved_file self.old parent name target moved) self.old) }
     {
-        if let Some(error) = self.entry_error(target, moved.name.as_slice()) {
-            return Ok(refused(error));
+        match self.unmoved(parent, name.as_slice(), target, moved.name.as_slice()) {
+            Some(answer) => {
+                drop(name);
+                drop(moved);
+                Ok(answer)
+            }
+            None => {
+                self.move_name(alloc, parent, name, target, moved)?;
+                Ok(done())
+            }
         }
-        if self.is_directory_name(target, moved.name.as_slice()) {
-            return Ok(refused(AppError::Eisdir));
-        }
-        if is_same_name(parent, name.as_slice(), target, moved.name.as_slice()) {
-            return Ok(done());
-        }
-        self.move_name(alloc, parent, name, target, moved)?;
-        Ok(done())
     }
 
     fn rename_child(
