@@ -48,12 +48,12 @@ long (logged.Arm brick p count a) rest = omega arith
 -- ---- the table of calls
 
 -- the graphs of the calls so far, with those of one event more
-pub graphs_next : (graphs after : List ℕ) (graph step : ℕ) (e : HubEvent) (es : List HubEvent) (all : List ℕ) → ((rest : List ℕ) → after ++ rest ≡ graphs ++ submitted_in graph e rest)
-    → ((rest : List ℕ) → length (switched_by e rest) ≡ step + length rest) → graphs ++ graphs_from graph (e ∷ es) ≡ all → after ++ graphs_from (graph + step) es ≡ all
-graphs_next graphs after graph step e es all added counted so_far =
+pub graphs_next : (graphs after : List ℕ) (graph step : ℕ) (e : HubEvent) (es : List HubEvent) → ((rest : List ℕ) → after ++ rest ≡ graphs ++ submitted_in graph e rest)
+    → ((rest : List ℕ) → length (switched_by e rest) ≡ step + length rest) → after ++ graphs_from (graph + step) es ≡ graphs ++ graphs_from graph (e ∷ es)
+graphs_next graphs after graph step e es added counted =
     let one = counted [] in
     let same : graph + step ≡ graph + length (switched_by e []) = omega (arith, one) in
-    added (graphs_from (graph + step) es) ∙ ap (λ (n : ℕ). graphs ++ submitted_in graph e (graphs_from n es)) same ∙ so_far
+    added (graphs_from (graph + step) es) ∙ ap (λ (n : ℕ). graphs ++ submitted_in graph e (graphs_from n es)) same
 
 -- ---- the graph of each call
 

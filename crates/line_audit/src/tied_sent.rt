@@ -7,11 +7,12 @@ ghost use Rattle.line_audit.specs.Tied.{IsTied, AreRequestsTied};
 
 use crate::tied_ends::{EndedAt, is_message_ended};
 use crate::tied_requests::{SentFor, is_message_tied};
+use fop_types::Input;
 use log_audit::by_place::line_at;
 use log_audit::heads::Head;
 use mount_log::{Log, SentLine};
 use std::alloc::{AllocError, Global};
-use wire_messages::input_of;
+use wire_messages::{Message, input_of};
 
 fn place_of(openings: &[usize], k: usize) -> usize {
     match openings.get(k) {
@@ -30,6 +31,29 @@ fn ended_at(ended: &[EndedAt], k: usize) -> EndedAt {
     }
 }
 
+// Whether what a line was read as is tied to its wind, and that ends.
+fn is_read_tied(
+    alloc: Global,
+    log: &Log,
+    heads: &[Head],
+    all: &[SentFor],
+    place: usize,
+    ended: EndedAt,
+    k: usize,
+    line: &SentLine,
+    message: &Message<Input>,
+) -> Result<bool, AllocError>
+    requires { heads.now ≡ heads_of log.now.events }
+    ensures tied { IfOk result (λ yes. yes ≡ true → IsTied log.now all.now k line.now.event message.now) }
+    ensures ended { IfOk result (λ yes. yes ≡ true → IsEnded log.now line.now.brick message.now) }
+{
+    if !is_message_tied(log, all, place, k, line.event, message) {
+        return Ok(false);
+    }
+    let yes = is_message_ended(alloc, log, heads, ended, line.brick, message)?;
+    Ok(yes)
+}
+
 fn is_line_tied(
     alloc: Global,
     log: &Log,
@@ -45,12 +69,9 @@ fn is_line_tied(
     ensures ended { IfOk result (λ yes. yes ≡ true → IsEnded log.now line.now.brick (input_in line.now.bytes)) }
 {
     let message = input_of(alloc, line.bytes.as_slice())?;
-    if !is_message_tied(log, all, place, k, line.event, &message) {
-        drop(message);
-        return Ok(false);
-    }
-    let yes = is_message_ended(alloc, log, heads, ended, line.brick, &message)?;
+    let found = is_read_tied(alloc, log, heads, all, place, ended, k, line, &message);
     drop(message);
+    let yes = found?;
     Ok(yes)
 }
 

@@ -1,12 +1,12 @@
 //! Whether the lines of a log are tied to its events.
 ghost use Rattle.std.specs.Prelude.{◌≡◌, true, IfOk};
 ghost use Rattle.script_lang.specs.Accepted.{IsAccepted};
-ghost use Rattle.mount_log.specs.Ties.{AreTied};
+ghost use Rattle.mount_log.specs.Ties.{AreTied, NumbersRise};
 ghost use Rattle.log_audit.specs.Heads.{heads_of};
 ghost use Rattle.line_audit.specs.Tied.{AreLinesTied};
 
 use crate::in_time::all_numbers_rise;
-use crate::tie_notes::tie_notes_of;
+use crate::tie_notes::{TieNotes, tie_notes_of};
 use crate::tied_replies::replies_are_tied;
 use crate::tied_sent::requests_are_tied;
 use crate::tied_winds::winds_are_tied;
@@ -16,20 +16,18 @@ use mount_log::Log;
 use script_lang::Script;
 use std::alloc::{AllocError, Global};
 
-// Whether the lines are tied to one another and to the calls.
-fn lines_tie(
+// Whether the lines are tied to one another and to the calls, where the notes say.
+fn notes_tie(
     alloc: Global,
     log: &Log,
     heads: &[Head],
     calls: &[CallMade],
+    notes: &TieNotes,
 ) -> Result<bool, AllocError>
-    requires { heads.now ≡ heads_of log.now.events }
+    requires numbers { NumbersRise log.now }
+    requires heads { heads.now ≡ heads_of log.now.events }
     ensures { IfOk result (λ yes. yes ≡ true → AreLinesTied log.now calls.now) }
 {
-    if !all_numbers_rise(log) {
-        return Ok(false);
-    }
-    let notes = tie_notes_of(alloc, log)?;
     if !winds_are_tied(log, calls, notes.replied.as_slice()) {
         return Ok(false);
     }
@@ -47,6 +45,25 @@ fn lines_tie(
         sent_for,
     )?;
     Ok(yes)
+}
+
+// Whether the lines are tied to one another and to the calls.
+fn lines_tie(
+    alloc: Global,
+    log: &Log,
+    heads: &[Head],
+    calls: &[CallMade],
+) -> Result<bool, AllocError>
+    requires { heads.now ≡ heads_of log.now.events }
+    ensures { IfOk result (λ yes. yes ≡ true → AreLinesTied log.now calls.now) }
+{
+    if !all_numbers_rise(log) {
+        return Ok(false);
+    }
+    let notes = tie_notes_of(alloc, log)?;
+    let yes = notes_tie(alloc, log, heads, calls, &notes);
+    drop(notes);
+    yes
 }
 
 /// Whether the lines of a log are tied to its events and to one another: numbers of events rise, replies are to their calls,

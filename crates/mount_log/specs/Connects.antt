@@ -1,5 +1,7 @@
--- What is sent to connect graphs to bricks, to disconnect them, and for controls: exactly what has a cause, and all that has
--- one. Event 0 is the hub's making. The field calls a graph drained once nothing of it is left; the hub then disconnects it.
+-- What is sent to connect graphs to bricks, to disconnect them, and for controls. Each Connect, Disconnect, Down and Up has a
+-- cause. Each Connect that is due is sent, each cut disconnects, and each action that has an input sends it; where a brick answers
+-- Gone, or a graph ends, a Disconnect has a cause, but none is asked for. Event 0 is the hub's making. The field calls a graph
+-- drained once nothing of it is left; the hub then disconnects it.
 use Rattle.std.specs.Prelude.{◌≡◌, ℕ, ◌+◌, ◌-◌, ◌<◌, ◌≤◌, ◌==◌, nat_lt, zero, suc, Bool, true, false, ◌&&◌, ◌||◌, not, ◌⊎◌, List, [], ◌∷◌, Option, None, Some, length, slice_get, take, if◌then◌else◌}
 use Rattle.std.specs.List.{list_any}
 use Rattle.fop_types.specs.declared.jobs.SetPlan.{SetPlan}

@@ -1,8 +1,8 @@
-use Rattle.line_audit.proofs.ties.lines_tie.Goals as goal
+use Rattle.line_audit.proofs.ties.notes_tie.Goals as goal
 
 pub returns : goal.returns
 returns c = λ yes. record {
-  numbers = c.all_numbers_rise.ensures c.if-not-all_numbers_rise.false;
+  numbers = c.requires.numbers;
   replies = c.replies_are_tied.ensures c.if-not-replies_are_tied.false;
   winds = c.winds_are_tied.ensures c.if-not-winds_are_tied.false;
   all = c.as_slice-sent_for.result.now;
