@@ -20,7 +20,7 @@ use std::mem;
 
 /// What a judge says: the report is lawful; or the number of the first entry that is no change of the flat file system; or,
 /// where all are, that of the first call that is not answered as it answers.
-#[derive(Clone, Copy, PartialEq, Eq)]
+#[derive(Clone, Copy)]
 pub enum Verdict {
     Lawful,
     Entry(u32),

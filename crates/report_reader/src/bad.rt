@@ -2,7 +2,7 @@ use std::alloc::AllocError;
 
 /// Why bytes were not read as a report: they are none, and `line` is the first that is in no report after the lines before
 /// it, from 1; or out of memory. Numbers of lines stay at 4294967295.
-#[derive(Clone, Copy, PartialEq, Eq)]
+#[derive(Clone, Copy)]
 pub enum ReportError {
     At { line: u32 },
     Mem,
