@@ -1,6 +1,7 @@
 -- Copies were made: each copy that the log has is of a cell whose content a brick of a set answered to a fetch, which is sound by
--- the rows that the copy names, and which the sink, another brick of the set, replaced by just this content: its replacement was sent in the event in which that answer
--- arrived, for a wind of the same call, and confirmed by the event of the copy. No two copies have the same replacement.
+-- the rows that the copy names, and which the sink, another brick of the set, replaced by just this content: its replacement was
+-- sent in the event in which that answer arrived, for a wind of the same call, and confirmed by the event of the copy. No two
+-- copies have the same replacement.
 use Rattle.std.specs.Prelude.{◌≡◌, ◌≢◌, ℕ, ◌+◌, ◌-◌, ◌<◌, ◌==◌, List, [], ◌∷◌, Option, None, Some, Contains, length, map, slice_get, if◌then◌else◌}
 use Rattle.fop_types.specs.declared.answers.SplitRow.{SplitRow}
 use Rattle.fop_types.specs.declared.contents.Content.{Content as Held}
