@@ -5,7 +5,7 @@ use Rattle.std.specs.List.{AllByRecursion}
 use Rattle.std.proofs.lemmas.List.{length_push}
 use Rattle.volfile.specs.Volumes.{IsVolfile}
 use Rattle.script_lang.specs.Accepted.{IsAccepted, IsVolfileLine}
-use Rattle.script_lang.specs.declared.scripts.BrickLine.{BrickLine}
+use Rattle.volfile.specs.declared.brick_lines.BrickLine.{BrickLine}
 use Rattle.script_lang.specs.declared.scripts.NamedVolfile.{NamedVolfile}
 use Rattle.script_lang.specs.declared.scripts.Script.{Script}
 use Rattle.graph_build.specs.NodeLaw.{PlansHaveNodes}

@@ -12,10 +12,10 @@ use crate::refusals::Refusal;
 use fop_types::Seq;
 use graph_build::{Plan, PlanError, build, follows, plans_have_nodes, plans_have_sets};
 use script_lang::{
-    Action, BrickLine, ControlLine, NamedVolfile, Phase, Script, ScriptError, ScriptKind, parse,
+    Action, ControlLine, NamedVolfile, Phase, Script, ScriptError, ScriptKind, parse,
 };
 use std::alloc::Global;
-use volfile::Volfile;
+use volfile::{BrickLine, Volfile};
 
 /// A text as it was accepted: its script, with the plan of each of its volfiles in order.
 #[derive(Drop)]
