@@ -1,8 +1,9 @@
--- In reading order: the log; lines of a script; submissions and replies; the graphs of a run; winds; the procedure of a
--- In reading order: the log; lines of a script; submissions and replies; the graphs of a run; winds; the procedure of a
--- request; events by their numbers; the turns of sessions; phases; what is armed; controls; when a log follows its script;
--- connections; locks; causes of I/O errors; how lines are tied to events; what is sent to connect graphs and for controls.
+-- In reading order: the log; the scripts that are run; lines of a script; submissions and replies; the graphs of a run; winds;
+-- the procedure of a request; events by their numbers; the turns of sessions; phases; what is armed; controls; when a log
+-- follows its script; connections; locks; causes of I/O errors; how lines are tied to events; what is sent to connect graphs
+-- and for controls.
 pub mod Logs
+pub mod Scripts
 pub mod Lines
 pub mod Submissions
 pub mod Graphs

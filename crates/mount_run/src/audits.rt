@@ -1,6 +1,6 @@
 //! Whether what a run has left is as a run promises.
 ghost use Rattle.std.specs.Prelude.{◌≡◌, true, length, IfOk, IfSome};
-ghost use Rattle.graph_build.specs.Scripts.{IsScript};
+ghost use Rattle.mount_log.specs.Scripts.{IsScript};
 ghost use Rattle.mount_log.specs.Causes.{AreCaused};
 ghost use Rattle.mount_log.specs.Connects.{ConnectsAreCaused};
 ghost use Rattle.mount_log.specs.Follows.{FollowsScript, IsFinished};

@@ -14,7 +14,7 @@ use Rattle.graph_build.specs.Plans.{planned}
 use Rattle.graph_build.specs.declared.plans.Plan.{Plan}
 use Rattle.graph_build.specs.declared.errors.PlanError.{PlanError}
 use Rattle.graph_build.specs.declared.errors.PlanError.TheVariants as fault
-use Rattle.graph_build.specs.Scripts.{IsPlanOver, IsScript}
+use Rattle.mount_log.specs.Scripts.{IsPlanOver, IsScript}
 use Rattle.script_commands.specs.Plans.{plan_then, plans_of}
 use Rattle.script_commands.specs.declared.refusals.Refusal.{Refusal}
 

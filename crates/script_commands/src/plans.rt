@@ -1,7 +1,7 @@
 ghost use Rattle.std.specs.Prelude.{◌≡◌, ◌≤◌, [], Ok, Err, length, IfOk, OnOk, IsErrOf};
 ghost use Rattle.std.specs.List.{All};
 ghost use Rattle.script_lang.specs.Accepted.{IsAccepted as KeepsLimits};
-ghost use Rattle.graph_build.specs.Scripts.{IsScript};
+ghost use Rattle.mount_log.specs.Scripts.{IsScript};
 ghost use Rattle.script_commands.specs.Limits.{IsSmall};
 ghost use Rattle.script_commands.specs.Plans.{after_action, after_controls, after_phases, switched, plans_of, volume_line as line_of_volume, with_plans, accepted};
 ghost use Rattle.script_commands.specs.declared.readings.NotRead.TheVariants as not_read;
