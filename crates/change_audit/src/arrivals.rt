@@ -4,7 +4,7 @@ ghost use Rattle.wire_xdr.specs.WireText.{output_text};
 ghost use Rattle.mount_log.specs.declared.logs.HubEvent.TheVariants.{Arrive};
 
 use fop_types::Output;
-use log_audit::by_place::event_at;
+use mount_log::by_place::event_at;
 use mount_log::{HubEvent, Log};
 use std::alloc::{AllocError, Global};
 use wire_messages::{Message, output_of};

@@ -5,8 +5,8 @@ ghost use Rattle.change_audit.specs.CallGraphs.{submitted_in, graphs_from, AreGr
 
 use fop_types::{Seq, SetPlan};
 use graph_build::Plan;
-use log_audit::call_graphs::{graphs_of, plan_of, set_of};
-use log_audit::switches::switch_in;
+use mount_log::call_graphs::{graphs_of, plan_of, set_of};
+use mount_log::switches::switch_in;
 use mount_log::{HubEvent, Log};
 use script_lang::Script;
 use std::alloc::{AllocError, Global};

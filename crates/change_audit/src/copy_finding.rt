@@ -5,7 +5,7 @@ use crate::finding::{Confirmed, Opening, confirmed_in, openings_of};
 use crate::journals::{input_at, whole_input};
 use brick_machine::Brick;
 use fop_types::{BrickRep, BrickReq, Cell, CopyRecord, DoneArm, Input, OutKind, Output, Proc};
-use log_audit::by_place::event_at;
+use mount_log::by_place::event_at;
 use mount_log::requests::is_request_of;
 use mount_log::{HubEvent, Log};
 use std::alloc::{AllocError, Global};

@@ -13,7 +13,7 @@ use crate::finding::{Opening, openings_of};
 use crate::index_requests::is_asked;
 use brick_machine::Brick;
 use fop_types::{BrickRep, Cell, DoneArm, OutKind, Output};
-use log_audit::by_place::event_at;
+use mount_log::by_place::event_at;
 use mount_log::{HubEvent, Log};
 use std::alloc::{AllocError, Global};
 use std::collections::BTreeMap;

@@ -13,13 +13,13 @@ use Rattle.mount_log.specs.Connections.{graph_of_call}
 use Rattle.mount_log.specs.Graphs.{volfiles_of}
 use Rattle.mount_log.specs.declared.logs.Log.{Log}
 use Rattle.mount_log.specs.declared.logs.ReplyLine.{ReplyLine}
-use Rattle.log_audit.specs.CallGraphs.{call_at, IsCallAt}
+use Rattle.mount_log.specs.CallGraphs.{call_at, IsCallAt}
 use Rattle.error_audit.specs.Evidence.{HaveNumbers}
 use Rattle.error_audit.specs.IoCauses.{AreTables, IsPlain}
 use Rattle.error_audit.specs.Opened.{openings_of, openings_to}
-use Rattle.log_audit.specs.declared.call_graphs.CallAt.{CallAt}
+use Rattle.mount_log.specs.declared.call_graphs.CallAt.{CallAt}
 use Rattle.error_audit.specs.declared.tables.Tables.{Tables}
-use Rattle.log_audit.proofs.Callings.{call_is}
+use Rattle.mount_log.proofs.Callings.{call_is}
 use Rattle.error_audit.proofs.Different.{all_at}
 use Rattle.error_audit.proofs.Openings.{number_is, same_to_brick}
 

@@ -25,7 +25,7 @@ use Rattle.error_audit.specs.Evidence.{IsSentTo, HasNumbers, IsArrived, IsFaultO
 use Rattle.error_audit.specs.Opened.{openings_to}
 use Rattle.error_audit.specs.declared.connections.Opening.{Opening}
 use Rattle.error_audit.proofs.Different.{behind}
-use Rattle.log_audit.proofs.Lists.{lists_same}
+use Rattle.mount_log.proofs.Lists.{lists_same}
 
 -- a line is among those that were sent
 pub sent_at : (log : Log) (k number brick : ℕ) (x : Input) (line : SentLine) → slice_get log.sent k ≡ Some line → IsSentTo number brick x line → was_sent log number brick x ≡ true

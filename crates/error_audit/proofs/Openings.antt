@@ -18,8 +18,8 @@ use Rattle.mount_log.specs.declared.logs.Log.{Log}
 use Rattle.mount_log.specs.declared.logs.SentLine.{SentLine}
 use Rattle.error_audit.specs.Opened.{opening_of, opened_in, openings_of, is_opening, openings_to, to_brick, openings_at, IsPut, AreByBrick}
 use Rattle.error_audit.specs.declared.connections.Opening.{Opening}
-use Rattle.log_audit.proofs.Bools.{both, same_bool, and_true, and_false}
-use Rattle.log_audit.proofs.Lists.{lists_same, same_list}
+use Rattle.mount_log.proofs.Bools.{both, same_bool, and_true, and_false}
+use Rattle.mount_log.proofs.Lists.{lists_same, same_list}
 
 abbrev one : Bool → ℕ
 one b = if b then 1 else 0

@@ -5,7 +5,7 @@ use Rattle.fop_types.specs.declared.answers.Answer.TheVariants as answer
 use Rattle.script_lang.specs.declared.scripts.Script.{Script}
 use Rattle.mount_log.specs.Graphs.{volfiles_of}
 use Rattle.mount_log.specs.declared.logs.Log.{Log}
-use Rattle.log_audit.specs.CallGraphs.{calls_from}
+use Rattle.mount_log.specs.CallGraphs.{calls_from}
 use Rattle.error_audit.specs.LockTable.{HaveLocks}
 use Rattle.error_audit.specs.Opened.{openings_of, AreByBrick}
 use Rattle.error_audit.specs.declared.tables.Tables.{Tables}

@@ -8,7 +8,7 @@ ghost use Rattle.error_audit.specs.Evidence.{IsArrived, IsFaultOf};
 
 use crate::losses::has_brick;
 use fop_types::{BrickRep, OutKind, Output, SetPlan};
-use log_audit::by_place::event_at;
+use mount_log::by_place::event_at;
 use mount_log::{HubEvent, Log, ReplyLine, WindLine};
 use std::alloc::{AllocError, Global};
 use wire_messages::{Message, output_of};

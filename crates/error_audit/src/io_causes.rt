@@ -17,7 +17,7 @@ use crate::splits::is_split;
 use crate::tables::{Tables, tables_of};
 use fop_types::{Answer, IoError, SetPlan};
 use graph_build::Plan;
-use log_audit::call_graphs::{call_at, set_of};
+use mount_log::call_graphs::{call_at, set_of};
 use mount_log::{Log, ReplyLine};
 use script_lang::Script;
 use std::alloc::{AllocError, Global};

@@ -9,7 +9,7 @@ ghost use Rattle.error_audit.specs.LockTable.{HaveLocks, AreBehind, IsBehind, Is
 use crate::cells::are_cells;
 use crate::locks::{LockAt, locks_at};
 use fop_types::{BrickReq, Cell, Input, SetPlan};
-use log_audit::by_place::line_at;
+use mount_log::by_place::line_at;
 use mount_log::{Log, SentLine};
 use std::alloc::{AllocError, Global};
 use wire_messages::{Message, input_of};

@@ -3,7 +3,7 @@ ghost use Rattle.std.specs.Prelude.{◌≡◌, ◌<◌, Contains, map, length, I
 ghost use Rattle.error_audit.specs.LockTable.{locks_at, AreKept, IsRequestNoted, IsInputNoted, IsLineNoted, HaveLocks};
 
 use fop_types::{BrickReq, Input};
-use log_audit::by_place::line_at;
+use mount_log::by_place::line_at;
 use mount_log::{Log, SentLine};
 use std::alloc::{AllocError, Global};
 use wire_messages::{Message, input_of};

@@ -11,7 +11,7 @@ ghost use Rattle.error_audit.specs.Opened.{openings_to};
 
 use crate::connections::{Opening, count_openings};
 use fop_types::{Input, OutKind, SetPlan};
-use log_audit::by_place::{event_at, line_at};
+use mount_log::by_place::{event_at, line_at};
 use mount_log::{HubEvent, Log, ReplyLine, SentLine};
 use std::alloc::{AllocError, Global};
 use wire_messages::{Message, input_of, output_of};

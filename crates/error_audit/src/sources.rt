@@ -13,7 +13,7 @@ use crate::losses::has_brick;
 use crate::split_rows::rows_of;
 use afr_changelog::{common_source, sound};
 use fop_types::{BrickReq, Cell, Input, Mask, Row, Seq, SetPlan};
-use log_audit::by_place::line_at;
+use mount_log::by_place::line_at;
 use mount_log::{Log, SentLine};
 use std::alloc::{AllocError, Global};
 use wire_messages::{Message, input_of};

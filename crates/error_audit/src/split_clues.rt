@@ -3,7 +3,7 @@
 use crate::grants::LockPhase;
 use crate::locks::LockAt;
 use fop_types::{BrickReq, Cell, Input, Seq, SplitRow};
-use log_audit::by_place::line_at;
+use mount_log::by_place::line_at;
 use mount_log::{Log, SentLine};
 use std::alloc::{AllocError, Global};
 use std::mem;

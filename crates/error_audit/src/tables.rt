@@ -7,8 +7,8 @@ use crate::clue_notes::clues_of;
 use crate::connections::{Opening, by_brick, openings_of};
 use crate::evidence::Clues;
 use crate::locks::{LockAt, locks_of};
-use log_audit::call_graphs::{CallAt, calls_of, graphs_of};
 use mount_log::Log;
+use mount_log::call_graphs::{CallAt, calls_of, graphs_of};
 use script_lang::Script;
 use std::alloc::{AllocError, Global};
 

@@ -7,7 +7,7 @@ use Rattle.volfile.specs.Volumes.{AreVolumes}
 use Rattle.volfile.specs.declared.volumes.Volume.{Volume}
 use Rattle.volfile.proofs.WellRead.{ok_same, parsed_whole}
 use Rattle.volfile.proofs.Alike.{each_volume}
-use Rattle.script_lang.specs.declared.scripts.BrickLine.{BrickLine}
+use Rattle.volfile.specs.declared.brick_lines.BrickLine.{BrickLine}
 use Rattle.graph_build.specs.PlanRules.{or_zero, has_place, bottom_in, bottom_at, is_used, infos_from, unused_from}
 use Rattle.graph_build.specs.Plans.{is_distribute, distributed, bottoms_at, sets_under, sets_of, members_as, members_in, members_of, brick_in, brick_as, bricks_at, set_at, sets_from, number_from, node, tops_at, nodes_from, is_alone, plan_if, plan_from, planned}
 use Rattle.graph_build.specs.NodeLaw.{kind_at, IsPath, LeadTo, IsNode, MayBeBelow, AreNodes, PlansHaveNodes}

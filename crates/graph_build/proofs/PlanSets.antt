@@ -12,7 +12,7 @@ use Rattle.volfile.specs.declared.volumes.Volume.{Volume}
 use Rattle.volfile.proofs.Places.{same_word, word_itself, place_push}
 use Rattle.volfile.proofs.WellRead.{not_false, ok_same, parsed_whole}
 use Rattle.volfile.proofs.Alike.{each_volume}
-use Rattle.script_lang.specs.declared.scripts.BrickLine.{BrickLine}
+use Rattle.volfile.specs.declared.brick_lines.BrickLine.{BrickLine}
 use Rattle.graph_build.specs.PlanRules.{no_tree, joined_info, gathered, is_nested, bottom_in, bottom_at, places_of, infos_from, is_used, unused_from}
 use Rattle.graph_build.specs.Plans.{is_distribute, distributed, bottoms_at, sets_under, members_as, members_in, members_of, name_in, names_at, brick_as, brick_in, bricks_at, set_at, sets_from, plan_if, plan_from, planned}
 use Rattle.graph_build.specs.PlanLaw.{IsSet, AreSetsFrom, AreSets, PlansHaveSets}

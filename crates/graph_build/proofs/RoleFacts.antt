@@ -10,7 +10,7 @@ use Rattle.volfile.specs.declared.volumes.OptionLine.{OptionLine}
 use Rattle.volfile.specs.declared.volumes.Volume.{Volume}
 use Rattle.volfile.specs.Options.{last_value}
 use Rattle.volfile.proofs.WellRead.{past, chosen, ok_same, not_false}
-use Rattle.script_lang.specs.declared.scripts.BrickLine.{BrickLine}
+use Rattle.volfile.specs.declared.brick_lines.BrickLine.{BrickLine}
 use Rattle.graph_build.specs.VolumeRules.{is_pass, is_other, is_given, is_bad_replica, is_not_auto, brick_at, brick_named, brick_of, size_of, within_pages, pages_in, pages_given, pages_of}
 use Rattle.graph_build.specs.PlanRules.{is_taken, client_of, replicate_of, cache_of, where_counted, role_of}
 use Rattle.graph_build.specs.declared.infos.Info.{Info}

@@ -12,7 +12,7 @@ use Rattle.volfile.specs.VolfileText.{is_defined}
 use Rattle.volfile.specs.Volumes.{IsBlock, AreVolumes}
 use Rattle.volfile.specs.declared.volumes.Volume.{Volume}
 use Rattle.volfile.proofs.WellRead.{past, ok_same}
-use Rattle.script_lang.specs.declared.scripts.BrickLine.{BrickLine}
+use Rattle.volfile.specs.declared.brick_lines.BrickLine.{BrickLine}
 use Rattle.graph_build.specs.PlanRules.{or_zero, places_of, repeats, is_used, no_tree, gathered, grown, is_nested, bottom_of, role_of, info_as, info_of, known_then, infos_from}
 use Rattle.graph_build.specs.declared.errors.PlanKind.{PlanKind}
 use Rattle.graph_build.specs.declared.infos.Info.{Info}

@@ -5,7 +5,7 @@ use Rattle.std.specs.List.{AllByRecursion, slice_get}
 use Rattle.std.proofs.lemmas.Bool.Decides.{nat_tests}
 use Rattle.volfile.specs.Volumes.{IsBlock}
 use Rattle.volfile.specs.declared.volumes.Volume.{Volume}
-use Rattle.script_lang.specs.declared.scripts.BrickLine.{BrickLine}
+use Rattle.volfile.specs.declared.brick_lines.BrickLine.{BrickLine}
 use Rattle.graph_build.specs.PlanRules.{has_place, places_of, no_tree, joined, joined_info, gathered, grown, first_bottom, bottom_of, is_used}
 use Rattle.graph_build.specs.declared.infos.Tree.{Tree}
 use Rattle.graph_build.specs.declared.infos.Info.{Info}

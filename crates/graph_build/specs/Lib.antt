@@ -5,5 +5,4 @@ pub mod NodeLaw
 pub mod PlanLaw
 pub mod PlanRules
 pub mod Plans
-pub mod Scripts
 pub mod VolumeRules

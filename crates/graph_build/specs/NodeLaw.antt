@@ -6,7 +6,7 @@ use Rattle.std.specs.Prelude.{◌≡◌, ◌≤◌, ◌<◌, ⊤, ℕ, ◌+◌, 
 use Rattle.std.specs.Option.{option_map}
 use Rattle.volfile.specs.Volumes.{IsVolfile}
 use Rattle.volfile.specs.declared.volumes.Volfile.{Volfile}
-use Rattle.script_lang.specs.declared.scripts.BrickLine.{BrickLine}
+use Rattle.volfile.specs.declared.brick_lines.BrickLine.{BrickLine}
 use Rattle.fop_types.specs.declared.jobs.SetPlan.{SetPlan}
 use Rattle.graph_build.specs.Plans.{planned}
 use Rattle.graph_build.specs.declared.plans.NodeKind.{NodeKind}

@@ -5,7 +5,7 @@ use Rattle.std.specs.List.{AllByRecursion, IsDistinct}
 use Rattle.volfile.specs.TextLines.{is_text, is_name}
 use Rattle.volfile.specs.Volumes.{IsVolfile}
 use Rattle.volfile.specs.declared.volumes.Volfile.{Volfile}
-use Rattle.script_lang.specs.declared.scripts.BrickLine.{BrickLine}
+use Rattle.volfile.specs.declared.brick_lines.BrickLine.{BrickLine}
 use Rattle.graph_build.specs.Plans.{planned}
 use Rattle.graph_build.specs.declared.plans.Plan.{Plan}
 use Rattle.fop_types.specs.declared.jobs.SetPlan.{SetPlan}

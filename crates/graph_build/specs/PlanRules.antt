@@ -7,7 +7,7 @@ use Rattle.volfile.specs.TextLines.{is_text}
 use Rattle.volfile.specs.VolumeNames.{place_of}
 use Rattle.volfile.specs.declared.volumes.Volume.{Volume}
 use Rattle.graph_build.specs.VolumeRules.{is_pass, is_bad_replica, is_not_auto, brick_of, pages_of}
-use Rattle.script_lang.specs.declared.scripts.BrickLine.{BrickLine}
+use Rattle.volfile.specs.declared.brick_lines.BrickLine.{BrickLine}
 use Rattle.graph_build.specs.declared.errors.PlanError.{PlanError}
 use Rattle.graph_build.specs.declared.errors.PlanError.TheVariants.{At}
 use Rattle.graph_build.specs.declared.errors.PlanKind.{PlanKind}

@@ -6,7 +6,7 @@ use Rattle.std.specs.Prelude.{ℕ, ◌+◌, ◌-◌, ◌/◌, ◌==◌, Bool, tr
 use Rattle.std.specs.List.{slice_get}
 use Rattle.volfile.specs.declared.volumes.Volume.{Volume}
 use Rattle.graph_build.specs.PlanRules.{bottom_at, infos_from, unused_from, or_zero}
-use Rattle.script_lang.specs.declared.scripts.BrickLine.{BrickLine}
+use Rattle.volfile.specs.declared.brick_lines.BrickLine.{BrickLine}
 use Rattle.graph_build.specs.declared.errors.PlanError.{PlanError}
 use Rattle.graph_build.specs.declared.errors.PlanError.TheVariants.{At}
 use Rattle.graph_build.specs.declared.errors.PlanKind.TheVariants.{Unused}

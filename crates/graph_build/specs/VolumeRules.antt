@@ -6,7 +6,7 @@ use Rattle.xl_base.specs.Words.{decimal_of, fitting}
 use Rattle.volfile.specs.TextLines.{is_text}
 use Rattle.volfile.specs.Options.{last_value}
 use Rattle.volfile.specs.declared.volumes.OptionLine.{OptionLine}
-use Rattle.script_lang.specs.declared.scripts.BrickLine.{BrickLine}
+use Rattle.volfile.specs.declared.brick_lines.BrickLine.{BrickLine}
 
 -- the types that hand fops through
 abbrev pub pass_types : List (List ℕ)

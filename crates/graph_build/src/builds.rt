@@ -13,9 +13,8 @@ use crate::plans::Plan;
 use crate::sets::{distributed, sets_at, sets_of};
 use crate::volumes::known_of;
 use fop_types::Seq;
-use script_lang::BrickLine;
 use std::alloc::{AllocError, Global};
-use volfile::{Volfile, Volume};
+use volfile::{BrickLine, Volfile, Volume};
 
 /// The plan of a volfile over these bricks. The volfile has at most 256 volumes, as one that
 /// [`volfile::parse`] gives, and there are at most 60 bricks.

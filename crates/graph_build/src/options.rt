@@ -3,8 +3,7 @@ ghost use Rattle.volfile.specs.Options.{last_value};
 ghost use Rattle.volfile.specs.TextLines.{is_text};
 ghost use Rattle.graph_build.specs.VolumeRules.{brick_at as brick_at_of, brick_of as brick_of_options, is_bad_replica as is_bad, is_given as is_given_of, is_not_auto as is_other_quorum, is_one_of as is_one_of_words, is_other as is_other_word, is_pass as is_pass_type, pages_of as pages_of_options, scaled as scaled_by, size_of as size_of_text, size_with as size_with_unit, within_pages as within_limits, pages_in};
 
-use script_lang::BrickLine;
-use volfile::{Volume, is_same, option_value};
+use volfile::{BrickLine, Volume, is_same, option_value};
 use xl_base::decimal;
 
 // Whether a type hands fops through.

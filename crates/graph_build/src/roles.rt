@@ -5,8 +5,7 @@ use crate::errors::PlanKind;
 use crate::infos::Role;
 use crate::known::Known;
 use crate::options::{brick_of, is_bad_replica, is_not_auto, is_pass, pages_of};
-use script_lang::BrickLine;
-use volfile::{Volume, is_same};
+use volfile::{BrickLine, Volume, is_same};
 
 // What a volume is, or the rule of its type that does not hold of it.
 #[tactic(auto, unfolding(crate::specs::PlanRules::role_of))]

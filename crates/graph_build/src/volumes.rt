@@ -9,9 +9,8 @@ use crate::errors::{PlanError, PlanKind};
 use crate::known::Known;
 use crate::places::places;
 use crate::roles::role_of;
-use script_lang::BrickLine;
 use std::alloc::{AllocError, Global};
-use volfile::{Volume, VolumeNames};
+use volfile::{BrickLine, Volume, VolumeNames};
 
 // What is known of all volumes.
 pub(crate) fn known_of(

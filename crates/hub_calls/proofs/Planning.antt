@@ -5,7 +5,7 @@ use Rattle.std.specs.List.{AllByRecursion}
 use Rattle.graph_build.specs.declared.plans.Plan.{Plan}
 use Rattle.script_lang.specs.declared.scripts.Script.{Script}
 use Rattle.graph_nodes.specs.Plans.{IsPlan}
-use Rattle.graph_build.specs.Scripts.{IsPlanOver, IsScript}
+use Rattle.mount_log.specs.Scripts.{IsPlanOver, IsScript}
 
 each_plan : (bricks : ℕ) (plans : List Plan) → AllByRecursion (IsPlanOver bricks) plans → AllByRecursion IsPlan plans
 each_plan bricks [] all = tt

@@ -1,7 +1,7 @@
 ghost use Rattle.std.specs.Prelude.{◌≡◌, false, true, None, Some, OnOk, IfOk, IfErr};
 ghost use Rattle.hub_tables.specs.Arming.{is_armable};
 ghost use Rattle.hub_calls.specs.Hubs.{StaysStopped};
-ghost use Rattle.graph_build.specs.Scripts.{IsScript};
+ghost use Rattle.mount_log.specs.Scripts.{IsScript};
 ghost use Rattle.script_lang.specs.Accepted.{IsAccepted};
 
 use crate::parts::Parts;

@@ -1,7 +1,7 @@
 //! The script that a hub runs, with the plans of its volfiles.
 ghost use Rattle.std.specs.Prelude.{◌≡◌, IfSome};
 ghost use Rattle.graph_nodes.specs.Plans.{IsPlan};
-ghost use Rattle.graph_build.specs.Scripts.{IsScript};
+ghost use Rattle.mount_log.specs.Scripts.{IsScript};
 
 use fop_types::Seq;
 use graph_build::Plan;

@@ -1,4 +1,4 @@
-ghost use Rattle.graph_build.specs.Scripts.{IsScript};
+ghost use Rattle.mount_log.specs.Scripts.{IsScript};
 
 use crate::desk::{Desk, Ended};
 use crate::gate::Gate;

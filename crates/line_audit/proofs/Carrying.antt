@@ -28,8 +28,8 @@ use Rattle.mount_log.specs.declared.logs.SentLine.{SentLine}
 use Rattle.line_audit.specs.Caused.{IsSentFor, WasSentFor, IsActionCarried, AreCarried, IsCaused, AreCaused}
 use Rattle.line_audit.specs.Linked.{what_of, IsConnectDue, IsLineDue, AreLinked}
 use Rattle.line_audit.proofs.Linking.{at_line}
-use Rattle.log_audit.proofs.Bools.{both, same_bool}
-use Rattle.log_audit.proofs.Lists.{lists_same, same_list}
+use Rattle.mount_log.proofs.Bools.{both, same_bool}
+use Rattle.mount_log.proofs.Lists.{lists_same, same_list}
 
 by_pair : (log : Log) (number : ℕ) (p q : ℕ × Input) → Some p ≡ Some q → was_sent log number p.0 p.1 ≡ true → was_sent log number q.0 q.1 ≡ true
 by_pair log number p q is sent = subst (λ (r : ℕ × Input). was_sent log number r.0 r.1 ≡ true) (some_is p q is) sent where

@@ -18,7 +18,7 @@ use Rattle.mount_log.specs.Procedures.{proc_in}
 use Rattle.mount_log.specs.declared.logs.HubEvent.{HubEvent}
 use Rattle.mount_log.specs.declared.logs.Log.{Log}
 use Rattle.mount_log.specs.declared.logs.SentLine.{SentLine}
-use Rattle.log_audit.specs.Switches.{event_of}
+use Rattle.mount_log.specs.Switches.{event_of}
 use Rattle.line_audit.specs.Caused.{IsBeforeRequest, IsInputCaused, IsCaused}
 use Rattle.log_audit.specs.Armed.{AreArmedFrom}
 use Rattle.log_audit.specs.declared.armed_lines.ArmedLines.{ArmedLines}

@@ -18,16 +18,16 @@ use Rattle.mount_log.specs.Graphs.{switches_in, switched_by}
 use Rattle.mount_log.specs.declared.logs.HubEvent.{HubEvent}
 use Rattle.mount_log.specs.declared.logs.HubEvent.TheVariants as logged
 use Rattle.mount_log.specs.declared.logs.Log.{Log}
-use Rattle.log_audit.specs.Heads.{reply_head, kind_head, head_in}
-use Rattle.log_audit.specs.declared.heads.Said.{Said}
-use Rattle.log_audit.specs.declared.heads.Said.TheVariants as said
+use Rattle.mount_log.specs.Heads.{reply_head, kind_head, head_in}
+use Rattle.mount_log.specs.declared.heads.Said.{Said}
+use Rattle.mount_log.specs.declared.heads.Said.TheVariants as said
 use Rattle.line_audit.specs.Linked.{arrives, effect_of, is_started, is_switched, opened_as, closed_as, cut_as, newest_after, IsGoneAs}
 use Rattle.line_audit.specs.declared.due.Moment.{Moment}
 use Rattle.line_audit.specs.declared.effects.Effect.{Effect}
 use Rattle.line_audit.specs.declared.effects.Effect.TheVariants as effect
-use Rattle.log_audit.proofs.Lists.{take_next}
-use Rattle.log_audit.proofs.Switching.{switches_push}
-use Rattle.log_audit.proofs.Bools.{and_true, and_false}
+use Rattle.mount_log.proofs.Lists.{take_next}
+use Rattle.mount_log.proofs.Switching.{switches_push}
+use Rattle.mount_log.proofs.Bools.{and_true, and_false}
 
 -- what arrives has one of these effects
 module _ (P : Effect → Type 0) (brick : ℕ) (other : P effect.Other) (opened : P (effect.Opened brick)) (closed : P (effect.Closed brick)) (gone : (wind : ℕ) → P (effect.Gone brick wind)) where

@@ -18,10 +18,10 @@ use Rattle.mount_log.specs.declared.logs.HubEvent.{HubEvent}
 use Rattle.mount_log.specs.declared.logs.HubEvent.TheVariants as logged
 use Rattle.mount_log.specs.declared.logs.Log.{Log}
 use Rattle.mount_log.specs.declared.logs.WindLine.{WindLine}
-use Rattle.log_audit.specs.Heads.{reply_head, kind_head, head_in, head_of, heads_of}
-use Rattle.log_audit.specs.Switches.{event_of}
-use Rattle.log_audit.specs.declared.heads.Head.{Head}
-use Rattle.log_audit.proofs.Heading.{head_is}
+use Rattle.mount_log.specs.Heads.{reply_head, kind_head, head_in, head_of, heads_of}
+use Rattle.mount_log.specs.Switches.{event_of}
+use Rattle.mount_log.specs.declared.heads.Head.{Head}
+use Rattle.mount_log.proofs.Heading.{head_is}
 use Rattle.line_audit.specs.Ended.{head_by, SaysEnd, IsEndEvent, SaysDisconnect, IsDisconnectAt, IsEndingOf}
 use Rattle.line_audit.proofs.Causing.{event_there}
 

@@ -10,10 +10,10 @@ use Rattle.mount_log.specs.Connects.{is_wind_behind, is_reply_behind}
 use Rattle.mount_log.specs.declared.logs.Log.{Log}
 use Rattle.mount_log.specs.declared.logs.ReplyLine.{ReplyLine}
 use Rattle.mount_log.specs.declared.logs.WindLine.{WindLine}
-use Rattle.log_audit.specs.CallGraphs.{calls_from, call_at}
+use Rattle.mount_log.specs.CallGraphs.{calls_from, call_at}
 use Rattle.line_audit.specs.Linked.{until_at, IsNoted, AreZeros, AreWindsNoted, AreUsesNoted}
-use Rattle.log_audit.specs.declared.call_graphs.CallAt.{CallAt}
-use Rattle.log_audit.proofs.Callings.{call_is}
+use Rattle.mount_log.specs.declared.call_graphs.CallAt.{CallAt}
+use Rattle.mount_log.proofs.Callings.{call_is}
 
 pub zero_more : (until : List ℕ) → AreZeros until → AreZeros (until ++ 0 ∷ [])
 zero_more [] are zero = refl

@@ -22,8 +22,8 @@ use Rattle.line_audit.specs.Linked.{what_in, what_of, item_of, items_of, in_even
 use Rattle.line_audit.specs.declared.lines_sent.Item.{Item}
 use Rattle.line_audit.specs.declared.lines_sent.What.{What}
 use Rattle.line_audit.specs.declared.lines_sent.What.TheVariants as what
-use Rattle.log_audit.proofs.Lists.{take_next, same_list, lists_same}
-use Rattle.log_audit.proofs.Bools.{same_bool}
+use Rattle.mount_log.proofs.Lists.{take_next, same_list, lists_same}
+use Rattle.mount_log.proofs.Bools.{same_bool}
 
 -- ---- what is among the items of an event
 

@@ -19,7 +19,7 @@ use Rattle.line_audit.specs.declared.lines_sent.What.TheVariants as what
 use Rattle.line_audit.specs.declared.links.Link.{Link}
 use Rattle.line_audit.proofs.Effecting.{closes_is, opens_is, newest_next}
 use Rattle.line_audit.proofs.Linking.{connect_sent, disconnect_sent}
-use Rattle.log_audit.proofs.Bools.{and_true, and_false, both}
+use Rattle.mount_log.proofs.Bools.{and_true, and_false, both}
 
 -- ---- links
 

@@ -18,12 +18,12 @@ use Rattle.mount_log.specs.declared.logs.ReplyLine.{ReplyLine}
 use Rattle.mount_log.specs.declared.logs.WindLine.{WindLine}
 use Rattle.line_audit.specs.Ended.{IsEnded}
 use Rattle.log_audit.specs.Called.{IsCallAt, AreCalls, call_by}
-use Rattle.log_audit.specs.Switches.{IsCounted}
+use Rattle.mount_log.specs.Switches.{IsCounted}
 use Rattle.line_audit.specs.Tied.{IsReplyFound, IsWindOf, IsWindFound, IsTied, AreLinesTied, request_at, open_at}
 use Rattle.log_audit.specs.declared.calls_made.CallMade.{CallMade}
-use Rattle.log_audit.specs.declared.switches.Switched.{Switched}
+use Rattle.mount_log.specs.declared.switches.Switched.{Switched}
 use Rattle.line_audit.specs.declared.tied_requests.SentFor.{SentFor}
-use Rattle.log_audit.proofs.Lists.{each_next}
+use Rattle.mount_log.proofs.Lists.{each_next}
 use Rattle.log_audit.proofs.Calling.{by_number, event_is}
 
 -- ---- a line more

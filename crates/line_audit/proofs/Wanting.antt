@@ -30,7 +30,7 @@ use Rattle.line_audit.specs.declared.lines_sent.Item.{Item}
 use Rattle.line_audit.specs.declared.links.Link.{Link}
 use Rattle.line_audit.proofs.Effecting.{opens_is, switch_is, none_starts, newest_next, cut_is, cuts_it, gone_is}
 use Rattle.line_audit.proofs.Linking.{connect_sent, connect_times, disconnect_sent, at_line}
-use Rattle.log_audit.proofs.Bools.{both}
+use Rattle.mount_log.proofs.Bools.{both}
 
 and_same : (a a' b b' : Bool) → a ≡ a' → b ≡ b' → (a && b) ≡ (a' && b')
 and_same a a' b b' p q = cc

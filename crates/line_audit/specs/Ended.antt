@@ -12,10 +12,10 @@ use Rattle.mount_log.specs.declared.logs.HubEvent.TheVariants as logged
 use Rattle.mount_log.specs.declared.logs.Log.{Log}
 use Rattle.mount_log.specs.declared.logs.SentLine.{SentLine}
 use Rattle.mount_log.specs.declared.logs.WindLine.{WindLine}
-use Rattle.log_audit.specs.Heads.{head_in}
-use Rattle.log_audit.specs.declared.heads.Head.{Head}
-use Rattle.log_audit.specs.declared.heads.Said.{Said}
-use Rattle.log_audit.specs.declared.heads.Said.TheVariants as said
+use Rattle.mount_log.specs.Heads.{head_in}
+use Rattle.mount_log.specs.declared.heads.Head.{Head}
+use Rattle.mount_log.specs.declared.heads.Said.{Said}
+use Rattle.mount_log.specs.declared.heads.Said.TheVariants as said
 
 -- ---- by an output
 

@@ -24,9 +24,9 @@ use Rattle.mount_log.specs.declared.logs.Log.{Log}
 use Rattle.mount_log.specs.declared.logs.ReplyLine.{ReplyLine}
 use Rattle.mount_log.specs.declared.logs.SentLine.{SentLine}
 use Rattle.mount_log.specs.declared.logs.WindLine.{WindLine}
-use Rattle.log_audit.specs.Heads.{head_in}
-use Rattle.log_audit.specs.declared.heads.Said.{Said}
-use Rattle.log_audit.specs.declared.heads.Said.TheVariants as said
+use Rattle.mount_log.specs.Heads.{head_in}
+use Rattle.mount_log.specs.declared.heads.Said.{Said}
+use Rattle.mount_log.specs.declared.heads.Said.TheVariants as said
 use Rattle.line_audit.specs.declared.effects.Effect.{Effect}
 use Rattle.line_audit.specs.declared.effects.Effect.TheVariants as effect
 use Rattle.line_audit.specs.declared.lines_sent.Item.{Item}

@@ -13,8 +13,8 @@ ghost use Rattle.line_audit.specs.Caused.{IsBeforeRequest, IsInputCaused, IsCaus
 
 use fop_types::Input;
 use log_audit::armed_lines::{ArmedLines, armed_at, none_armed};
-use log_audit::by_number::event_at;
-use log_audit::by_place::line_at;
+use mount_log::by_number::event_at;
+use mount_log::by_place::line_at;
 use mount_log::requests::is_request;
 use mount_log::{HubEvent, Log, SentLine};
 use script_lang::Action;

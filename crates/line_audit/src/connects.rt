@@ -1,14 +1,14 @@
 //! Whether what was sent to connect and disconnect graphs, and for controls, has a cause, and what is due was sent.
 ghost use Rattle.std.specs.Prelude.{◌≡◌, true, IfOk};
 ghost use Rattle.mount_log.specs.Connects.{ConnectsAreCaused};
-ghost use Rattle.log_audit.specs.Heads.{heads_of};
+ghost use Rattle.mount_log.specs.Heads.{heads_of};
 
 use crate::causes::lines_are_caused;
 use crate::downs::downs_are_carried;
 use crate::linked::are_linked;
 use graph_build::Plan;
-use log_audit::heads::Head;
 use mount_log::Log;
+use mount_log::heads::Head;
 use script_lang::Script;
 use std::alloc::{AllocError, Global};
 use wire_messages::messages_read_back;

@@ -4,7 +4,7 @@ ghost use Rattle.fop_types.specs.declared.messages.Input.TheVariants as input;
 ghost use Rattle.line_audit.specs.Caused.{IsFor, IsTextFor, IsSentFor, WasSentFor, IsActionCarried, IsEventCarried, AreCarried};
 
 use fop_types::{Input, Proc};
-use log_audit::by_place::{event_at, line_at};
+use mount_log::by_place::{event_at, line_at};
 use mount_log::{HubEvent, Log, SentLine};
 use script_lang::Action;
 use std::alloc::{AllocError, Global};

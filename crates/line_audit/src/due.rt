@@ -12,7 +12,7 @@ use crate::tied_ends::is_number_of;
 use crate::tied_replies::wind_at;
 use fop_types::SetPlan;
 use graph_build::Plan;
-use log_audit::call_graphs::plan_of;
+use mount_log::call_graphs::plan_of;
 use mount_log::{Log, WindLine};
 
 /// An event's number and effect, and the newest graph behind it. The hub's making has the number 0.

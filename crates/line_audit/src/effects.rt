@@ -1,10 +1,10 @@
 //! What an event does to connections.
 ghost use Rattle.std.specs.Prelude.{◌≡◌, IfSome};
-ghost use Rattle.log_audit.specs.Heads.{head_of};
+ghost use Rattle.mount_log.specs.Heads.{head_of};
 ghost use Rattle.line_audit.specs.Linked.{arrives, acts, effect_of, is_started, is_switched, opened_as, closed_as, cut_as, newest_after};
 
-use log_audit::heads::{Head, Said};
 use mount_log::HubEvent;
+use mount_log::heads::{Head, Said};
 use script_lang::Action;
 
 /// What an event does to connections: it is the hub's making, which is none; it switches to another volfile; a brick opens or

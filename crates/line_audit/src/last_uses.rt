@@ -2,10 +2,10 @@
 ghost use Rattle.std.specs.Prelude.{◌≡◌, true, IfOk, IfSome};
 ghost use Rattle.mount_log.specs.Connections.{graph_of_call};
 ghost use Rattle.mount_log.specs.declared.logs.Log.{Log};
-ghost use Rattle.log_audit.specs.CallGraphs.{calls_from};
+ghost use Rattle.mount_log.specs.CallGraphs.{calls_from};
 ghost use Rattle.line_audit.specs.Linked.{IsNoted, AreZeros, AreWindsNoted, AreUsesNoted};
 
-use log_audit::call_graphs::{CallAt, call_at, calls_of};
+use mount_log::call_graphs::{CallAt, call_at, calls_of};
 use mount_log::{Log, ReplyLine, WindLine};
 use std::alloc::{AllocError, Global};
 

@@ -4,7 +4,7 @@ ghost use Rattle.wire_messages.specs.Messages.{input_in};
 ghost use Rattle.line_audit.specs.Linked.{what_in, what_of, item_of, items_of, items_at, IsPutIn, AreByEvent, connects, disconnects, has_connect, has_disconnect, count_connects};
 
 use fop_types::Input;
-use log_audit::by_place::line_at;
+use mount_log::by_place::line_at;
 use mount_log::{Log, SentLine};
 use std::alloc::{AllocError, Global};
 use wire_messages::{Message, input_of};

@@ -1,7 +1,7 @@
 //! Whether in each event graphs connect where they are to, and disconnect for a cause.
 ghost use Rattle.std.specs.Prelude.{◌≡◌, ◌<◌, ◌≤◌, ◌+◌, ℕ, [], true, length, map, IfOk, IfSome};
 ghost use Rattle.wire_messages.specs.Messages.{MessagesReadBack};
-ghost use Rattle.log_audit.specs.Heads.{heads_of};
+ghost use Rattle.mount_log.specs.Heads.{heads_of};
 ghost use Rattle.line_audit.specs.Linked.{items_of, in_event, AreByEvent, IsEffectAt, IsKnown, AreGraphTables, IsLinked, AreLinked};
 
 use crate::due::{GraphTables, Moment};
@@ -11,10 +11,10 @@ use crate::known::Known;
 use crate::last_uses::last_uses;
 use crate::lines_sent::{Item, by_event, items_at};
 use graph_build::Plan;
-use log_audit::by_place::event_at;
-use log_audit::call_graphs::graphs_of;
-use log_audit::heads::{Head, head_at};
 use mount_log::Log;
+use mount_log::by_place::event_at;
+use mount_log::call_graphs::graphs_of;
+use mount_log::heads::{Head, head_at};
 use script_lang::Script;
 use std::alloc::{AllocError, Global};
 use wire_messages::messages_read_back;

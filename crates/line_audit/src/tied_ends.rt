@@ -3,15 +3,15 @@ ghost use Rattle.std.specs.Prelude.{◌≡◌, Some, true, IfOk, option_copied, 
 ghost use Rattle.fop_types.specs.declared.messages.Input.TheVariants as input;
 ghost use Rattle.wire_messages.specs.Messages.{input_in};
 ghost use Rattle.mount_log.specs.Ties.{IsNumberOf, IsEndedBy, HasEnd};
-ghost use Rattle.log_audit.specs.Heads.{head_of, heads_of};
+ghost use Rattle.mount_log.specs.Heads.{head_of, heads_of};
 ghost use Rattle.line_audit.specs.Ended.{head_by, SaysEnd, IsEndEvent, SaysDisconnect, IsDisconnect, IsDisconnectAt, IsEndingOf, IsInputEnded, IsEnded};
 
 use crate::tied_replies::wind_at;
 use crate::tied_requests::is_number_of_open;
 use fop_types::Input;
-use log_audit::by_number::event_at;
-use log_audit::by_place::line_at;
-use log_audit::heads::{Head, Said, head_at};
+use mount_log::by_number::event_at;
+use mount_log::by_place::line_at;
+use mount_log::heads::{Head, Said, head_at};
 use mount_log::{HubEvent, Log, SentLine, WindLine};
 use std::alloc::{AllocError, Global};
 use wire_messages::{Message, input_of};

@@ -8,8 +8,8 @@ ghost use Rattle.mount_log.specs.declared.logs.HubEvent.TheVariants as logged;
 ghost use Rattle.line_audit.specs.Tied.{IsReplyOf, AreRepliesTied};
 
 use fop_types::Answer;
-use log_audit::by_number::event_at;
 use log_audit::calls_made::{CallMade, call_of};
+use mount_log::by_number::event_at;
 use mount_log::{HubEvent, Log, ReplyLine, WindLine};
 
 /// The wind line at this place.

@@ -1,15 +1,15 @@
 //! Whether what was sent is tied to winds, and these end.
 ghost use Rattle.std.specs.Prelude.{◌≡◌, true, IfOk};
 ghost use Rattle.wire_messages.specs.Messages.{input_in};
-ghost use Rattle.log_audit.specs.Heads.{heads_of};
+ghost use Rattle.mount_log.specs.Heads.{heads_of};
 ghost use Rattle.line_audit.specs.Ended.{IsEnded, AreEnded};
 ghost use Rattle.line_audit.specs.Tied.{IsTied, AreRequestsTied};
 
 use crate::tied_ends::{EndedAt, is_message_ended};
 use crate::tied_requests::{SentFor, is_message_tied};
 use fop_types::Input;
-use log_audit::by_place::line_at;
-use log_audit::heads::Head;
+use mount_log::by_place::line_at;
+use mount_log::heads::Head;
 use mount_log::{Log, SentLine};
 use std::alloc::{AllocError, Global};
 use wire_messages::{Message, input_of};

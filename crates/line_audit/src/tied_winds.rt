@@ -5,7 +5,7 @@ ghost use Rattle.line_audit.specs.Tied.{IsWindOf, AreWindsTied};
 
 use crate::tied_replies::{place_for, reply_at, wind_at};
 use log_audit::calls_made::{CallMade, call_of};
-use log_audit::switches::{Switched, passed_to};
+use mount_log::switches::{Switched, passed_to};
 use mount_log::{Log, ReplyLine, WindLine};
 
 // Whether the graph was made by an event, where its events were passed.

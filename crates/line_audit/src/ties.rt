@@ -2,7 +2,7 @@
 ghost use Rattle.std.specs.Prelude.{◌≡◌, true, IfOk};
 ghost use Rattle.script_lang.specs.Accepted.{IsAccepted};
 ghost use Rattle.mount_log.specs.Ties.{AreTied, NumbersRise};
-ghost use Rattle.log_audit.specs.Heads.{heads_of};
+ghost use Rattle.mount_log.specs.Heads.{heads_of};
 ghost use Rattle.line_audit.specs.Tied.{AreLinesTied};
 
 use crate::in_time::all_numbers_rise;
@@ -11,8 +11,8 @@ use crate::tied_replies::replies_are_tied;
 use crate::tied_sent::requests_are_tied;
 use crate::tied_winds::winds_are_tied;
 use log_audit::calls_made::{CallMade, calls_made};
-use log_audit::heads::Head;
 use mount_log::Log;
+use mount_log::heads::Head;
 use script_lang::Script;
 use std::alloc::{AllocError, Global};
 

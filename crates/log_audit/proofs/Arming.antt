@@ -11,7 +11,7 @@ use Rattle.mount_log.specs.Follows.{AreArmable, IsArmedLine}
 use Rattle.mount_log.specs.declared.logs.SentLine.{SentLine}
 use Rattle.log_audit.specs.Armed.{IsArmable, AreArmedFrom, AreAllArmed}
 use Rattle.log_audit.specs.declared.armed_lines.ArmedLines.{ArmedLines}
-use Rattle.log_audit.proofs.Lists.{each_next, each_push}
+use Rattle.mount_log.proofs.Lists.{each_next, each_push}
 
 pub armable : (bytes : List ℕ) (message : Message Input) → IsSaid IsInputOf input_text bytes message → IsArmable message → AreArmable bytes
 armable bytes (Whole x) said can = record { sent = x; can = can; text = said.1 }

@@ -12,12 +12,12 @@ use Rattle.mount_log.specs.declared.logs.HubEvent.{HubEvent}
 use Rattle.mount_log.specs.declared.logs.HubEvent.TheVariants as logged
 use Rattle.mount_log.specs.declared.logs.Log.{Log}
 use Rattle.mount_log.specs.declared.places.LineAt.{LineAt}
-use Rattle.log_audit.specs.Switches.{IsCounted}
+use Rattle.mount_log.specs.Switches.{IsCounted}
 use Rattle.log_audit.specs.Called.{IsCallAt, AreCalls, AreGathered, call_by}
 use Rattle.log_audit.specs.Submitted.{HaveLeft}
 use Rattle.log_audit.specs.declared.calls_made.CallMade.{CallMade}
-use Rattle.log_audit.specs.declared.switches.Switched.{Switched}
-use Rattle.log_audit.proofs.Lists.{each_push, take_next}
+use Rattle.mount_log.specs.declared.switches.Switched.{Switched}
+use Rattle.mount_log.proofs.Lists.{each_push, take_next}
 use Rattle.log_audit.proofs.Submitting.{its_next, left_submit, left_other, submits_none}
 
 submits_push : (es : List HubEvent) (e : HubEvent) → submits_in (es ++ e ∷ []) ≡ submits_in es + is_submit e

@@ -9,7 +9,7 @@ use Rattle.mount_log.specs.declared.logs.HubEvent.{HubEvent}
 use Rattle.mount_log.specs.declared.logs.SentLine.{SentLine}
 use Rattle.log_audit.specs.Arriving.{IsTimely, AreTimely, IsLow}
 use Rattle.log_audit.specs.declared.timely.Passed.{Passed}
-use Rattle.log_audit.proofs.Counts.{was_there, is_last}
+use Rattle.mount_log.proofs.Items.{was_there, is_last}
 
 abbrev one : Bool → ℕ
 one b = if b then 1 else 0

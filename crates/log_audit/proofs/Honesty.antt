@@ -21,7 +21,8 @@ use Rattle.mount_log.specs.Arrivals.{inputs_to, arrivals_from, arrival_from, sen
 use Rattle.mount_log.specs.declared.logs.HubEvent.{HubEvent}
 use Rattle.mount_log.specs.declared.logs.HubEvent.TheVariants as logged
 use Rattle.mount_log.specs.declared.logs.Log.{Log}
-use Rattle.log_audit.specs.Arriving.{IsEncodedOutput, BringsOutput, BringOutputs, AreTimely, CountsAtMost}
+use Rattle.mount_log.specs.Outputs.{IsEncodedOutput, BringsOutput, BringOutputs}
+use Rattle.log_audit.specs.Arriving.{AreTimely, CountsAtMost}
 use Rattle.log_audit.specs.Honest.{IsOfBrick, IsFrom, ArrivedFrom, HasHonestArrivals, HasJournals}
 
 module _ {X : Type 0} where

@@ -1,8 +1,5 @@
 pub mod Heading
-pub mod FirstUnits
-pub mod Bools
 pub mod Counts
-pub mod Lists
 pub mod Steps
 pub mod Balanced
 pub mod Prefixes
@@ -12,6 +9,4 @@ pub mod Submitting
 pub mod Seen
 pub mod Endings
 pub mod Arming
-pub mod Switching
 pub mod Calling
-pub mod Callings

@@ -9,7 +9,8 @@ use Rattle.mount_log.specs.declared.logs.WindLine.{WindLine}
 use Rattle.log_audit.specs.Slots.{slot_at, step, opening_of, is_end_of, Takes}
 use Rattle.log_audit.specs.Agreeing.{IsLast, IsOther, Agrees, Agree}
 use Rattle.log_audit.specs.declared.slots.Turn.{Turn}
-use Rattle.log_audit.proofs.Counts.{opens, finishes, opened_push, ended_push, get_later, get_last, was_there, is_last}
+use Rattle.mount_log.proofs.Items.{get_later, get_last, was_there, is_last}
+use Rattle.log_audit.proofs.Counts.{opens, finishes, opened_push, ended_push}
 
 -- ---- tests
 

@@ -13,7 +13,7 @@ use Rattle.mount_log.specs.declared.logs.HubEvent.TheVariants as logged
 use Rattle.mount_log.specs.declared.logs.Log.{Log}
 use Rattle.mount_log.specs.declared.places.LineAt.{LineAt}
 use Rattle.log_audit.specs.Submitted.{HasNumber, AreNext, HaveLeft}
-use Rattle.log_audit.proofs.Counts.{was_there, is_last}
+use Rattle.mount_log.proofs.Items.{was_there, is_last}
 
 submits_push : (session : ℕ) (es : List HubEvent) (e : HubEvent) → submits_of session (es ++ e ∷ []) ≡ submits_of session es + is_submit_of session e
 submits_push session [] e = let n = is_submit_of session e in let z : n + 0 ≡ 0 + n = omega arith in z

@@ -1,9 +1,7 @@
--- Arrivals that are the encodings of outputs; and those that are timely: each output counts no more inputs than were sent to
--- its brick before it arrived. Events are numbered from 1.
+-- Arrivals that are timely: each output counts no more inputs than were sent to its brick before it arrived. Events are numbered
+-- from 1.
 use Rattle.std.specs.Prelude.{◌≡◌, ℕ, ◌+◌, ◌≤◌, List, Some, slice_get, take}
-use Rattle.std.specs.List.{AllByRecursion}
 use Rattle.fop_types.specs.declared.messages.Output.{Output}
-use Rattle.wire_xdr.specs.WireText.{output_text, IsOutput}
 use Rattle.wire_messages.specs.Messages.{output_in}
 use Rattle.wire_messages.specs.declared.messages.Message.{Message}
 use Rattle.wire_messages.specs.declared.messages.Message.TheVariants.{Whole, Wrong}
@@ -12,24 +10,6 @@ use Rattle.mount_log.specs.declared.logs.HubEvent.{HubEvent}
 use Rattle.mount_log.specs.declared.logs.HubEvent.TheVariants as logged
 use Rattle.mount_log.specs.declared.logs.SentLine.{SentLine}
 use Rattle.log_audit.specs.declared.timely.Passed.{Passed}
-
-pub record IsEncodedOutput (bytes : List ℕ) : Type 0 where
-  pub output : Output
-  pub legal : IsOutput output
-  pub encoded : bytes ≡ output_text output
-
--- what arrives in the event is the encoding of an output
-abbrev pub BringsOutput : HubEvent → Type 0
-BringsOutput (logged.Arrive brick bytes) = IsEncodedOutput bytes
-BringsOutput (logged.Submit session line) = Unit {0}
-BringsOutput (logged.Run graph task) = Unit {0}
-BringsOutput (logged.Act a) = Unit {0}
-BringsOutput (logged.Arm at p count a) = Unit {0}
-
-abbrev pub BringOutputs : List HubEvent → Type 0
-BringOutputs events = AllByRecursion BringsOutput events
-
--- ---- timely arrivals
 
 -- the output counts at most so many inputs
 abbrev pub CountsAtMost : Message Output → ℕ → Type 0

@@ -8,10 +8,10 @@ use Rattle.wire_messages.specs.declared.messages.Message.TheVariants.{Whole}
 use Rattle.brick_machine.specs.Journal.{Journal}
 use Rattle.brick_machine.specs.Machine.{texts_of}
 use Rattle.mount_log.specs.Arrivals.{inputs_to, arrivals_from, sent_before}
+use Rattle.mount_log.specs.Outputs.{BringOutputs}
 use Rattle.mount_log.specs.declared.logs.HubEvent.{HubEvent}
 use Rattle.mount_log.specs.declared.logs.HubEvent.TheVariants as logged
 use Rattle.mount_log.specs.declared.logs.Log.{Log}
-use Rattle.log_audit.specs.Arriving.{BringOutputs}
 
 -- what the log says of one brick
 pub record IsOfBrick (log : Log) (brick : ℕ) (b : Journal) : Type 0 where

@@ -3,8 +3,8 @@ ghost use Rattle.std.specs.Prelude.{◌≡◌, IfOk, IfSome, option_copied, slic
 ghost use Rattle.script_lang.specs.Accepted.{IsAccepted};
 ghost use Rattle.log_audit.specs.Called.{AreCalls, call_by};
 
-use crate::by_place::event_at;
-use crate::switches::{Switched, passed_to};
+use mount_log::by_place::event_at;
+use mount_log::switches::{Switched, passed_to};
 use mount_log::{HubEvent, Log, lines_of_sessions, take_line};
 use script_lang::Script;
 use std::alloc::{AllocError, Global};

@@ -1,14 +1,14 @@
 //! Whether what arrived is what the bricks make of what was sent to them.
 ghost use Rattle.std.specs.Prelude.{◌≡◌, true};
 ghost use Rattle.log_audit.specs.Arriving.{AreTimely};
-ghost use Rattle.log_audit.specs.Heads.{heads_of};
+ghost use Rattle.mount_log.specs.Heads.{heads_of};
 ghost use Rattle.log_audit.specs.Honest.{IsOfBrick, IsFrom, ArrivedFrom, HasHonestArrivals, HasJournals};
 ghost use Rattle.std.specs.List.{AllByRecursion};
 
 use crate::bricks::{are_few, was_put_out, was_sent};
-use crate::heads::Head;
 use crate::timely::are_timely;
 use brick_machine::{Brick, outputs_are_encoded, outputs_are_in_order};
+use mount_log::heads::Head;
 use mount_log::{HubEvent, Log};
 
 // Whether what arrives in an event comes from one of so many bricks.

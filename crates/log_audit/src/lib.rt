@@ -1,4 +1,4 @@
-//! Audits of the winds, submissions, replies and arrivals of a log; and what the other audits look up in one.
+//! Audits of the winds, submissions, replies and arrivals of a log; and what other audits look up in one.
 //!
 //! ```text
 //!   winds_are_balanced     the winds              each was opened once and ended once
@@ -11,32 +11,25 @@
 //!                          heads of what arrived
 //! ```
 //!
-//! `heads` reads how an output begins, once for all audits that need no more of it: they take the heads from their caller.
-//! What arrived must be outputs then, so `arrivals_are_outputs` comes first.
+//! What arrived must be outputs where its heads are read (`heads` of `mount_log`), so `arrivals_are_outputs` comes first.
 //!
 //! Each audit goes through the log a fixed number of times, those of arrivals once more for each brick. It knows nothing of
 //! how the log came about. True says that its definition holds of the log; false alone says nothing: an audit may ask for
 //! more than its definition, where every log of a run has it. A program calls them before it writes a report.
 //!
-//! `run_audit`, `line_audit`, `error_audit`, `change_audit` and `read_audit` have the other audits. What several of them look up
-//! in a log is here, in the modules that are public: events and lines by their numbers and places, the calls that were submitted
-//! and their graphs, switches so far, the procedure of a request, and lines that can be armed.
+//! `run_audit`, `line_audit`, `error_audit`, `change_audit` and `read_audit` have the other audits. What `run_audit` and
+//! `line_audit` look up in a log is here, in the modules that are public: the calls that were submitted, with their lines, and
+//! lines that can be armed. What most audits look up is in `mount_log`.
 #![tactic(auto)]
 
 pub mod armed_lines;
 mod bricks;
-pub mod by_number;
-pub mod by_place;
-pub mod call_graphs;
 pub mod calls_made;
 mod ended;
 mod finished;
-mod first_units;
-pub mod heads;
 mod honest;
 mod slots;
 mod submits;
-pub mod switches;
 mod timely;
 mod winds;
 

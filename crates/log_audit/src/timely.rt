@@ -3,9 +3,9 @@ ghost use Rattle.std.specs.Prelude.{◌≡◌, ◌≤◌, ◌==◌, ℕ, List, t
 ghost use Rattle.mount_log.specs.declared.logs.SentLine.{SentLine as Line};
 ghost use Rattle.mount_log.specs.Arrivals.{sent_before};
 ghost use Rattle.log_audit.specs.Arriving.{IsTimely, AreTimely, IsLow};
-ghost use Rattle.log_audit.specs.Heads.{head_of, heads_of};
+ghost use Rattle.mount_log.specs.Heads.{head_of, heads_of};
 
-use crate::heads::{Head, head_at};
+use mount_log::heads::{Head, head_at};
 use mount_log::{HubEvent, SentLine};
 
 /// How many lines were passed, and how many of them were sent to a brick.

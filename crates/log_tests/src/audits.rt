@@ -4,12 +4,12 @@ ghost use Rattle.script_lang.specs.Accepted.{IsAccepted};
 use brick_machine::Brick;
 use graph_build::Plan;
 use line_audit::connects_are_caused;
-use log_audit::heads::heads_of;
 use log_audit::{
     arrivals_are_honest, arrivals_are_outputs, is_finished, submits_are_in_order,
     winds_are_balanced, winds_are_once,
 };
 use mount_log::Log;
+use mount_log::heads::heads_of;
 use script_lang::Script;
 use std::alloc::{AllocError, Global};
 

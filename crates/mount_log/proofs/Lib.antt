@@ -1,3 +1,9 @@
 pub mod Items
 pub mod SessionLines
 pub mod Sessions
+pub mod Bools
+pub mod Lists
+pub mod Heading
+pub mod FirstUnits
+pub mod Switching
+pub mod Callings

@@ -1,8 +1,10 @@
--- In reading order: the log; lines of a script; submissions and replies; the graphs of a run; winds; the procedure of a
--- In reading order: the log; lines of a script; submissions and replies; the graphs of a run; winds; the procedure of a
--- request; events by their numbers; the turns of sessions; phases; what is armed; controls; when a log follows its script;
--- connections; locks; causes of I/O errors; how lines are tied to events; what is sent to connect graphs and for controls.
+-- In reading order: the log; the scripts that are run; lines of a script; submissions and replies; the graphs of a run; winds;
+-- the procedure of a request; events by their numbers; the turns of sessions; phases; what is armed; controls; when a log
+-- follows its script; connections; locks; causes of I/O errors; how lines are tied to events; what is sent to connect graphs
+-- and for controls. Then what the functions that look things up go by: arrivals that are outputs; heads of what arrives, and by
+-- its first units; switches so far; the graphs of calls.
 pub mod Logs
+pub mod Scripts
 pub mod Lines
 pub mod Submissions
 pub mod Graphs
@@ -20,3 +22,8 @@ pub mod Locks
 pub mod Causes
 pub mod Ties
 pub mod Connects
+pub mod Outputs
+pub mod Heads
+pub mod FirstUnits
+pub mod Switches
+pub mod CallGraphs

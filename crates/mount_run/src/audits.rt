@@ -1,13 +1,13 @@
 //! Whether what a run has left is as a run promises.
 ghost use Rattle.std.specs.Prelude.{◌≡◌, true, length, IfOk, IfSome};
-ghost use Rattle.graph_build.specs.Scripts.{IsScript};
+ghost use Rattle.mount_log.specs.Scripts.{IsScript};
 ghost use Rattle.mount_log.specs.Causes.{AreCaused};
 ghost use Rattle.mount_log.specs.Connects.{ConnectsAreCaused};
 ghost use Rattle.mount_log.specs.Follows.{FollowsScript, IsFinished};
 ghost use Rattle.mount_log.specs.Ties.{AreTied};
 ghost use Rattle.mount_log.specs.Winds.{WindsAreBalanced};
 ghost use Rattle.script_lang.specs.Accepted.{IsAccepted};
-ghost use Rattle.log_audit.specs.Heads.{heads_of};
+ghost use Rattle.mount_log.specs.Heads.{heads_of};
 ghost use Rattle.log_audit.specs.Honest.{ArrivedFrom, HasHonestArrivals};
 ghost use Rattle.change_audit.specs.Copied.{CopiesAreMade};
 ghost use Rattle.change_audit.specs.Listed.{SkipsAreListed};
@@ -21,12 +21,12 @@ use error_audit::io_errors_are_caused;
 use graph_build::Plan;
 use hub_calls::Rack;
 use line_audit::{connects_are_caused, lines_are_tied};
-use log_audit::heads::{Head, heads_of};
 use log_audit::{
     arrivals_are_honest, arrivals_are_outputs, is_finished, winds_are_balanced, winds_are_once,
 };
 use log_replay::one_file_system;
 use mount_log::Log;
+use mount_log::heads::{Head, heads_of};
 use read_audit::{answers_are_read, names_are_read};
 use run_audit::follows_script;
 use run_report::opened_in;

@@ -1,6 +1,6 @@
 //! A script that a number generates, which is run and summed up.
 ghost use Rattle.std.specs.Prelude.{◌≡◌, ◌<◌, ◌-◌, ◌^◌, None, IfOk, IfSome, IfNone, IsErrOf};
-ghost use Rattle.graph_build.specs.Scripts.{IsScript};
+ghost use Rattle.mount_log.specs.Scripts.{IsScript};
 ghost use Rattle.run_report.specs.Summaries.{summary_text};
 ghost use Rattle.mount_run.specs.Headline.{IsLawfulRun};
 ghost use Rattle.mount_run.specs.Outcomes.{empty_rack, IsRunStatus, IsStopped, IsSummedUp, IsSummedUpShort, Generated, GeneratedUnwritten, WindsRanOut};

@@ -1,6 +1,6 @@
 //! A script that is run by threads.
 ghost use Rattle.std.specs.Prelude.{◌≡◌, ◌<◌, ◌-◌, ◌^◌};
-ghost use Rattle.graph_build.specs.Scripts.{IsScript};
+ghost use Rattle.mount_log.specs.Scripts.{IsScript};
 ghost use Rattle.mount_run.specs.Outcomes.{IsRunStatus, IsWritten, IsCutShort, IsStopped};
 
 use crate::running::report_left;

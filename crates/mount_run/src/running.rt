@@ -1,6 +1,6 @@
 //! A script that is run in one thread, and the report of what a run left.
 ghost use Rattle.std.specs.Prelude.{◌≡◌, ◌<◌, ◌≤◌, ◌-◌, ◌^◌, length, IfOk, IfSome, IfNone, IsErrOf};
-ghost use Rattle.graph_build.specs.Scripts.{IsScript};
+ghost use Rattle.mount_log.specs.Scripts.{IsScript};
 ghost use Rattle.mount_log.specs.Graphs.{volfiles_of as volfiles_in};
 ghost use Rattle.report_text.specs.ReportText.{report_text};
 ghost use Rattle.run_report.specs.Reports.{AreFewWinds, report_of as report_of_log};

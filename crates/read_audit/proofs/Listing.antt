@@ -18,7 +18,7 @@ use Rattle.brick_machine.specs.Journal.{Journal}
 use Rattle.mount_log.specs.Causes.{plan_of_volfile}
 use Rattle.mount_log.specs.Connections.{graph_of_call}
 use Rattle.mount_log.specs.declared.logs.Log.{Log}
-use Rattle.log_audit.proofs.Lists.{each_push}
+use Rattle.mount_log.proofs.Lists.{each_push}
 use Rattle.change_audit.proofs.Items.{all_next}
 use Rattle.change_audit.specs.CallGraphs.{AreGraphsOf}
 use Rattle.change_audit.specs.declared.call_graphs.CallGraphs.{CallGraphs}

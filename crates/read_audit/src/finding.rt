@@ -5,7 +5,7 @@ use brick_machine::Brick;
 use change_audit::finding::{Opening, openings_of};
 use change_audit::journals::{input_at, whole_input};
 use fop_types::{BrickReq, Cell, Input, Proc, Seq};
-use log_audit::heads::{Head, Said, head_at};
+use mount_log::heads::{Head, Said, head_at};
 use mount_log::requests::is_request_of;
 use mount_log::{HubEvent, Log};
 use std::alloc::{AllocError, Global};

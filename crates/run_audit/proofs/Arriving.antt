@@ -12,8 +12,8 @@ use Rattle.wire_messages.specs.declared.messages.Message.TheVariants.{Whole, Wro
 use Rattle.mount_log.specs.Phases.{is_due, says_due, brings_due, arrived_from}
 use Rattle.mount_log.specs.declared.logs.HubEvent.{HubEvent}
 use Rattle.mount_log.specs.declared.logs.HubEvent.TheVariants as logged
-use Rattle.log_audit.specs.Heads.{reply_head, kind_head, head_in, head_of, heads_of}
-use Rattle.log_audit.specs.declared.heads.Head.{Head}
+use Rattle.mount_log.specs.Heads.{reply_head, kind_head, head_in, head_of, heads_of}
+use Rattle.mount_log.specs.declared.heads.Head.{Head}
 use Rattle.run_audit.specs.Counting.{is_due_head, due_from}
 
 reply_due : (wind : ℕ) (r : BrickRep) → is_due_head (reply_head wind r) ≡ is_due (out.Reply wind r)

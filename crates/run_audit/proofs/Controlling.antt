@@ -27,7 +27,7 @@ use Rattle.run_audit.specs.Controlled.{Says, SendsAction, IsSentFor, IsCarriedSo
 use Rattle.run_audit.specs.declared.carried.SentTables.{SentTables}
 use Rattle.run_audit.specs.declared.run_notes.Carried.{Carried}
 use Rattle.run_audit.specs.declared.run_notes.RunNotes.{RunNotes}
-use Rattle.log_audit.proofs.Lists.{each_next}
+use Rattle.mount_log.proofs.Lists.{each_next}
 
 pub sends : (action : Action) (bytes : List ℕ) (message : Message Input) → IsSaid IsInputOf input_text bytes message → Says action message → SendsAction action bytes
 sends action bytes (Whole x) said is = record { sent = x; is_input = is; text = said.1 }

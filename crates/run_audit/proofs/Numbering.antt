@@ -3,15 +3,14 @@ use Rattle.std.proofs.Common.{◌≡◌, refl, sym, ap, subst, ◌∙◌, arith}
 use Rattle.std.specs.Prelude.{ℕ, zero, suc, ◌≢◌, ◌<◌, ◌≤◌, ◌+◌, ◌*◌, ◌==◌, ◌&&◌, nat_lt, Bool, true, false, List, [], ◌∷◌, ◌++◌, Option, None, Some, length, slice_get, slice_set, take, if◌then◌else◌}
 use Rattle.std.proofs.lemmas.Bool.{ltb-true, ltb-false, eqb-true, eqb-false, false_from_ne_true, true_from_ne_false}
 use Rattle.std.proofs.lemmas.List.{length-append}
-use Rattle.mount_log.proofs.Items.{some_is, at_set, beside_set}
+use Rattle.mount_log.proofs.Items.{some_is, at_set, beside_set, was_there, is_last}
 use Rattle.mount_log.specs.Arms.{is_rank, is_request_since, requests_since}
 use Rattle.mount_log.specs.Procedures.{rank_in}
 use Rattle.mount_log.specs.declared.logs.SentLine.{SentLine}
 use Rattle.run_audit.specs.Noted.{ended_at, begun, AreRising, IsWithin}
 use Rattle.run_audit.specs.Numbered.{held, cell_of, AreZero, HaveCounts, IsOneMore, IsCountedBy, IsCounted, IsNthOf, AreNth}
 use Rattle.run_audit.specs.declared.nth_requests.PhaseCount.{PhaseCount}
-use Rattle.log_audit.proofs.Lists.{take_next, each_push}
-use Rattle.log_audit.proofs.Counts.{was_there, is_last}
+use Rattle.mount_log.proofs.Lists.{take_next, each_push}
 use Rattle.run_audit.proofs.Phased.{begun_behind, same_phase}
 
 -- ---- tests

@@ -5,9 +5,9 @@ use Rattle.script_lang.specs.declared.scripts.Script.{Script}
 use Rattle.mount_log.specs.Phases.{internal_from, owed_in, arrived_from, opened_in, ended_in, HasNothingElse}
 use Rattle.mount_log.specs.Submissions.{count_below}
 use Rattle.mount_log.specs.declared.logs.Log.{Log}
-use Rattle.log_audit.specs.declared.heads.Head.{Head}
-use Rattle.log_audit.specs.declared.heads.Said.{Said}
-use Rattle.log_audit.specs.declared.heads.Said.TheVariants as said
+use Rattle.mount_log.specs.declared.heads.Head.{Head}
+use Rattle.mount_log.specs.declared.heads.Said.{Said}
+use Rattle.mount_log.specs.declared.heads.Said.TheVariants as said
 use Rattle.run_audit.specs.Noted.{ended_at}
 use Rattle.run_audit.specs.declared.numbers.Numbers.{Numbers}
 

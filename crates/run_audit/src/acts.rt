@@ -8,7 +8,7 @@ ghost use Rattle.run_audit.specs.Controlled.{IsOfControl, AreOfControls};
 use crate::carried::is_same;
 use crate::run_notes::{Carried, ControlAt, RunNotes, control_of};
 use fop_types::Proc;
-use log_audit::by_place::event_at;
+use mount_log::by_place::event_at;
 use mount_log::{HubEvent, Log};
 use script_lang::{Action, ControlLine, Script, When};
 

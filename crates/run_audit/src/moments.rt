@@ -16,7 +16,7 @@ use crate::numbers::Numbers;
 use crate::run_notes::{Carried, ControlAt, RunNotes, control_of, phase_at};
 use crate::settled::{are_as_many, is_settled};
 use fop_types::Proc;
-use log_audit::by_place::line_at;
+use mount_log::by_place::line_at;
 use mount_log::requests::is_request_of;
 use mount_log::{Log, SentLine};
 use script_lang::{ControlLine, Script, When};

@@ -2,11 +2,11 @@
 ghost use Rattle.std.specs.Prelude.{◌≡◌, ◌++◌, ◌∷◌, ℕ, List, true, map, IfOk, OnOk, if◌then◌else◌};
 ghost use Rattle.mount_log.specs.Phases.{is_internal, begins_internal, internal_from, has_output, is_owed, owed_in, arrived_from, opened_in, ended_in};
 ghost use Rattle.wire_messages.specs.Messages.{input_in};
-ghost use Rattle.log_audit.specs.Heads.{heads_of};
+ghost use Rattle.mount_log.specs.Heads.{heads_of};
 ghost use Rattle.run_audit.specs.Counting.{does_rise, due_from, is_due_head, with_answers, AreNumbers, DoAllRise};
 
 use fop_types::{Input, Seq};
-use log_audit::heads::{Head, Said};
+use mount_log::heads::{Head, Said};
 use mount_log::{HubEvent, Log, ReplyLine, SentLine, WindLine};
 use script_lang::Action;
 use std::alloc::{AllocError, Global};

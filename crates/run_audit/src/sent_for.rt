@@ -11,7 +11,7 @@ use crate::acts::sent_of;
 use crate::carried::is_act;
 use crate::run_notes::{ControlAt, RunNotes, control_of};
 use fop_types::Input;
-use log_audit::by_place::line_at;
+use mount_log::by_place::line_at;
 use mount_log::{Log, SentLine};
 use script_lang::{Action, Script};
 use std::alloc::{AllocError, Global};

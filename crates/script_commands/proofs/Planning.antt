@@ -5,7 +5,7 @@ use Rattle.std.specs.List.{AllByRecursion}
 use Rattle.std.proofs.lemmas.List.{length_push}
 use Rattle.volfile.specs.Volumes.{IsVolfile}
 use Rattle.script_lang.specs.Accepted.{IsAccepted, IsVolfileLine}
-use Rattle.script_lang.specs.declared.scripts.BrickLine.{BrickLine}
+use Rattle.volfile.specs.declared.brick_lines.BrickLine.{BrickLine}
 use Rattle.script_lang.specs.declared.scripts.NamedVolfile.{NamedVolfile}
 use Rattle.script_lang.specs.declared.scripts.Script.{Script}
 use Rattle.graph_build.specs.NodeLaw.{PlansHaveNodes}
@@ -14,7 +14,7 @@ use Rattle.graph_build.specs.Plans.{planned}
 use Rattle.graph_build.specs.declared.plans.Plan.{Plan}
 use Rattle.graph_build.specs.declared.errors.PlanError.{PlanError}
 use Rattle.graph_build.specs.declared.errors.PlanError.TheVariants as fault
-use Rattle.graph_build.specs.Scripts.{IsPlanOver, IsScript}
+use Rattle.mount_log.specs.Scripts.{IsPlanOver, IsScript}
 use Rattle.script_commands.specs.Plans.{plan_then, plans_of}
 use Rattle.script_commands.specs.declared.refusals.Refusal.{Refusal}
 

@@ -8,7 +8,7 @@ use Rattle.script_lang.specs.declared.errors.ScriptError.{ScriptError}
 use Rattle.script_lang.specs.declared.errors.ScriptError.TheVariants as error
 use Rattle.script_lang.specs.declared.errors.ScriptKind.TheVariants.{TooLong, NotFollowing}
 use Rattle.script_lang.specs.declared.scripts.Script.{Script}
-use Rattle.script_lang.specs.declared.scripts.BrickLine.{BrickLine}
+use Rattle.volfile.specs.declared.brick_lines.BrickLine.{BrickLine}
 use Rattle.script_lang.specs.declared.scripts.NamedVolfile.{NamedVolfile}
 use Rattle.script_lang.specs.declared.scripts.Phase.{Phase}
 use Rattle.script_lang.specs.declared.scripts.ControlLine.{ControlLine}

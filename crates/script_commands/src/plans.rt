@@ -1,7 +1,7 @@
 ghost use Rattle.std.specs.Prelude.{◌≡◌, ◌≤◌, [], Ok, Err, length, IfOk, OnOk, IsErrOf};
 ghost use Rattle.std.specs.List.{All};
 ghost use Rattle.script_lang.specs.Accepted.{IsAccepted as KeepsLimits};
-ghost use Rattle.graph_build.specs.Scripts.{IsScript};
+ghost use Rattle.mount_log.specs.Scripts.{IsScript};
 ghost use Rattle.script_commands.specs.Limits.{IsSmall};
 ghost use Rattle.script_commands.specs.Plans.{after_action, after_controls, after_phases, switched, plans_of, volume_line as line_of_volume, with_plans, accepted};
 ghost use Rattle.script_commands.specs.declared.readings.NotRead.TheVariants as not_read;
@@ -12,10 +12,10 @@ use crate::refusals::Refusal;
 use fop_types::Seq;
 use graph_build::{Plan, PlanError, build, follows, plans_have_nodes, plans_have_sets};
 use script_lang::{
-    Action, BrickLine, ControlLine, NamedVolfile, Phase, Script, ScriptError, ScriptKind, parse,
+    Action, ControlLine, NamedVolfile, Phase, Script, ScriptError, ScriptKind, parse,
 };
 use std::alloc::Global;
-use volfile::Volfile;
+use volfile::{BrickLine, Volfile};
 
 /// A text as it was accepted: its script, with the plan of each of its volfiles in order.
 #[derive(Drop)]

@@ -1,5 +1,5 @@
 ghost use Rattle.std.specs.Prelude.{◌≡◌, ◌<◌, ◌≤◌, ◌-◌, ◌^◌, Ok, Err, length, IfOk, IfErr, IsErrOf};
-ghost use Rattle.graph_build.specs.Scripts.{IsScript};
+ghost use Rattle.mount_log.specs.Scripts.{IsScript};
 ghost use Rattle.script_commands.specs.Plans.{accepted};
 ghost use Rattle.script_commands.specs.Readings.{IsRead, IsAccepted, IsRefused};
 ghost use Rattle.script_commands.specs.declared.readings.NotRead.TheVariants as not_read;

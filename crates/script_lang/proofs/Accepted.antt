@@ -30,7 +30,7 @@ use Rattle.script_lang.specs.declared.drafts.Reading.{Reading}
 use Rattle.script_lang.specs.declared.drafts.Reading.TheVariants.{InScript, InVolfile}
 use Rattle.script_lang.specs.declared.scripts.Action.{Action}
 use Rattle.script_lang.specs.declared.scripts.When.{When}
-use Rattle.script_lang.specs.declared.scripts.BrickLine.{BrickLine}
+use Rattle.volfile.specs.declared.brick_lines.BrickLine.{BrickLine}
 use Rattle.script_lang.specs.declared.scripts.NamedVolfile.{NamedVolfile}
 use Rattle.script_lang.specs.declared.scripts.CallLine.{CallLine}
 use Rattle.script_lang.specs.declared.scripts.ControlLine.{ControlLine}

@@ -14,7 +14,7 @@ use Rattle.script_lang.specs.declared.errors.ScriptKind.{ScriptKind}
 use Rattle.script_lang.specs.declared.scripts.Action.{Action}
 use Rattle.script_lang.specs.declared.scripts.Action.TheVariants.{Up, Cut, Heal, Switch}
 use Rattle.script_lang.specs.declared.scripts.When.{When}
-use Rattle.script_lang.specs.declared.scripts.BrickLine.{BrickLine}
+use Rattle.volfile.specs.declared.brick_lines.BrickLine.{BrickLine}
 use Rattle.script_lang.specs.declared.scripts.NamedVolfile.{NamedVolfile}
 use Rattle.script_lang.proofs.Gives.{Gives, Finds, gives, refuses, finds, none, either, past, only_if, one_of, found_if}
 use Rattle.script_lang.proofs.WordBounds.{number_found}

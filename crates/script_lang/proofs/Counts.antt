@@ -5,7 +5,7 @@ use Rattle.script_lang.specs.ControlText.{action_at, no_action, before_at, after
 use Rattle.script_lang.specs.StatementText.{brick_read, call_read}
 use Rattle.script_lang.specs.declared.drafts.Draft.{Draft}
 use Rattle.script_lang.specs.declared.errors.ScriptKind.TheVariants.{WordCount}
-use Rattle.script_lang.specs.declared.scripts.BrickLine.{BrickLine}
+use Rattle.volfile.specs.declared.brick_lines.BrickLine.{BrickLine}
 use Rattle.script_lang.specs.declared.scripts.NamedVolfile.{NamedVolfile}
 
 module _ {A : Type 0} (f : A → List ℕ) where

@@ -12,7 +12,7 @@ use Rattle.script_lang.specs.declared.scripts.Action.{Action}
 use Rattle.script_lang.specs.declared.scripts.Action.TheVariants.{Down, Up, Cut, Fault, Heal, Switch}
 use Rattle.script_lang.specs.declared.scripts.When.{When}
 use Rattle.script_lang.specs.declared.scripts.When.TheVariants.{Now, Before, After}
-use Rattle.script_lang.specs.declared.scripts.BrickLine.{BrickLine}
+use Rattle.volfile.specs.declared.brick_lines.BrickLine.{BrickLine}
 use Rattle.script_lang.specs.declared.scripts.NamedVolfile.{NamedVolfile}
 use Rattle.script_lang.specs.declared.scripts.CallLine.{CallLine}
 use Rattle.script_lang.specs.declared.scripts.ControlLine.{ControlLine}

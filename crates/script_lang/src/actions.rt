@@ -4,8 +4,9 @@ ghost use Rattle.script_lang.specs.ControlText.{action_at, action_of_one, action
 use crate::errors::ScriptKind;
 use crate::few::Few;
 use crate::places::{both, brick_of, fault_proc_of, nth_request_of, served_of, volfile_of};
-use crate::scripts::{Action, BrickLine, NamedVolfile};
+use crate::scripts::{Action, NamedVolfile};
 use crate::words::is_word;
+use volfile::BrickLine;
 
 // The action that a word and the words behind it name.
 pub(crate) fn action_of(

@@ -5,8 +5,9 @@ use crate::actions::action_of;
 use crate::errors::ScriptKind;
 use crate::few::Few;
 use crate::places::{Request, both, request_of};
-use crate::scripts::{Action, BrickLine, NamedVolfile, When};
+use crate::scripts::{Action, NamedVolfile, When};
 use crate::words::is_word;
+use volfile::BrickLine;
 
 // What the words behind `control` say: when, and what.
 pub(crate) fn control_of(

@@ -1,9 +1,9 @@
 ghost use Rattle.std.specs.Prelude.{◌≡◌};
 
 use crate::few::{Few, Named};
-use crate::scripts::{BrickLine, CallLine, ControlLine, NamedVolfile, Phase};
+use crate::scripts::{CallLine, ControlLine, NamedVolfile, Phase};
 use fop_types::Seq;
-use volfile::VolfileReader;
+use volfile::{BrickLine, VolfileReader};
 
 // Which part of the script was begun last: its bricks, its volfiles, the `start`, or its phases.
 #[derive(Clone, Copy)]

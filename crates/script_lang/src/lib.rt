@@ -50,4 +50,4 @@ mod words;
 pub use errors::{ScriptError, ScriptKind};
 pub use laws::accepted_scripts_keep_limits;
 pub use parses::parse;
-pub use scripts::{Action, BrickLine, CallLine, ControlLine, NamedVolfile, Phase, Script, When};
+pub use scripts::{Action, CallLine, ControlLine, NamedVolfile, Phase, Script, When};

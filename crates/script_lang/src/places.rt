@@ -4,10 +4,10 @@ ghost use Rattle.script_lang.specs.ControlText.{both as both_of, brick_at, defin
 use crate::errors::ScriptKind;
 use crate::few::Few;
 use crate::numbers::number_of;
-use crate::scripts::{BrickLine, NamedVolfile};
+use crate::scripts::NamedVolfile;
 use crate::words::{is_word, proc_of};
 use fop_types::Proc;
-use volfile::is_name;
+use volfile::{BrickLine, is_name};
 
 // A request of a procedure, by its number among those of the procedure in the phase.
 #[derive(Clone, Copy)]

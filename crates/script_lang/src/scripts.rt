@@ -1,13 +1,5 @@
 use fop_types::{Call, Proc, Seq};
-use volfile::Volfile;
-
-/// A brick: its name in the script, and the host and path by which volumes name it.
-#[derive(Drop)]
-pub struct BrickLine {
-    pub name: Seq<u8>,
-    pub host: Seq<u8>,
-    pub path: Seq<u8>,
-}
+use volfile::{BrickLine, Volfile};
 
 /// A line that makes a call. `session` is the number of the line's session, from 0, in the order in which
 /// `do` lines first name them.

@@ -7,12 +7,11 @@ use crate::drafts::{Draft, Inside, Part};
 use crate::errors::ScriptKind;
 use crate::phase_lines::{add_call, add_control, with_phase};
 use crate::places::volfile_of;
-use crate::scripts::BrickLine;
 use crate::words::is_word;
 use fop_types::Seq;
 use std::alloc::{AllocError, Global};
 use std::mem;
-use volfile::{VolfileReader, is_name, is_visible_word};
+use volfile::{BrickLine, VolfileReader, is_name, is_visible_word};
 
 // Why a line is refused, if it is.
 pub(crate) type Refused = Result<Option<ScriptKind>, AllocError>;

@@ -2,11 +2,10 @@ ghost use Rattle.std.specs.Prelude.{◌≤◌, length, IfOk};
 
 use fop_types::Seq;
 use graph_build::{NodeKind, NodePlan, Plan, PlanError, PlanKind, SetPlan, build, follows};
-use script_lang::BrickLine;
 use std::alloc::{AllocError, Global};
 use std::process::Abort;
 use std::test::Fail;
-use volfile::parse;
+use volfile::{BrickLine, parse};
 
 // ---- volfiles over clients c0, c1 .. of the bricks at h0, h1 ..
 fn brick(alloc: Global, host: &[u8]) -> Result<BrickLine, AllocError> {

@@ -16,11 +16,13 @@
 //! [`parse`] reads a whole text by [`VolfileReader`], which takes it line by line, as a script does with
 //! the volfiles inside it. [`print`] writes a volfile in its one form, and [`parse`] of that gives the
 //! same volumes but for line numbers. [`first_line`], [`words`], [`is_name`] and [`is_visible_word`] are
-//! what the script's grammar shares with this one.
+//! what the script's grammar shares with this one. A script's [`BrickLine`]s are the bricks that the
+//! clients of a volfile name.
 //!
 //! With n bytes of text reading takes time of the order n log v, where v is the number of volumes.
 #![tactic(auto)]
 
+mod brick_lines;
 mod comments;
 mod cuts;
 mod defined;
@@ -35,6 +37,7 @@ mod readers;
 mod statements;
 mod volumes;
 
+pub use brick_lines::BrickLine;
 pub use cuts::{first_line, len_to, line_after, words};
 pub use errors::{VolError, VolKind};
 pub use forms::{is_name, is_same, is_text_byte, is_visible_word};

@@ -1,5 +1,5 @@
 use Rattle.std.proofs.Common.{refl, ◌+◌, drop, arith}
-use Rattle.log_audit.proofs.Lists.{grown_by}
+use Rattle.mount_log.proofs.Lists.{grown_by}
 use Rattle.change_audit.specs.CallGraphs.{graphs_from}
 use Rattle.change_audit.proofs.Graphs.{graphs_next}
 use Rattle.change_audit.proofs.call_graphs.graphs_of_calls.Goals as goal

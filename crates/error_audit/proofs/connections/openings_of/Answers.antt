@@ -1,7 +1,7 @@
 use Rattle.std.proofs.Common.{refl, ap, ◌∙◌, ◌+◌, ◌++◌, drop}
 use Rattle.std.specs.Prelude.{List}
 use Rattle.std.proofs.lemmas.List.{append_assoc}
-use Rattle.log_audit.proofs.Lists.{grown_by}
+use Rattle.mount_log.proofs.Lists.{grown_by}
 use Rattle.error_audit.specs.Opened.{openings_of}
 use Rattle.error_audit.specs.declared.connections.Opening.{Opening}
 use Rattle.error_audit.proofs.connections.openings_of.Goals as goal

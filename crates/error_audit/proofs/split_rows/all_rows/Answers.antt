@@ -3,7 +3,7 @@ use Rattle.std.specs.Prelude.{List}
 use Rattle.std.proofs.lemmas.List.{append_assoc}
 use Rattle.fop_types.specs.declared.answers.SplitRow.{SplitRow}
 use Rattle.mount_log.specs.Causes.{all_rows}
-use Rattle.log_audit.proofs.Lists.{grown}
+use Rattle.mount_log.proofs.Lists.{grown}
 use Rattle.error_audit.proofs.split_rows.all_rows.Goals as goal
 
 pub loop-place-preserved : goal.loop-place-preserved

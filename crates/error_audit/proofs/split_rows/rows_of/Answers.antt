@@ -3,7 +3,7 @@ use Rattle.std.specs.Prelude.{List, Option, ◌∷◌}
 use Rattle.std.proofs.lemmas.List.{append_assoc}
 use Rattle.fop_types.specs.declared.contents.Row.{Row}
 use Rattle.mount_log.specs.Causes.{rows_of}
-use Rattle.log_audit.proofs.Lists.{grown_by}
+use Rattle.mount_log.proofs.Lists.{grown_by}
 use Rattle.error_audit.proofs.split_rows.rows_of.Goals as goal
 
 pub loop-one-preserved : goal.loop-one-preserved

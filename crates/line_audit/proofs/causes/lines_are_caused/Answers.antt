@@ -4,7 +4,7 @@ use Rattle.std.proofs.lemmas.Option.{slice_get_within}
 use Rattle.wire_messages.specs.Messages.{input_in}
 use Rattle.mount_log.specs.declared.logs.SentLine.{SentLine}
 use Rattle.line_audit.specs.Caused.{IsCaused}
-use Rattle.log_audit.proofs.Lists.{each_next}
+use Rattle.mount_log.proofs.Lists.{each_next}
 use Rattle.log_audit.proofs.Arming.{armed_later}
 use Rattle.line_audit.proofs.causes.lines_are_caused.Goals as goal
 

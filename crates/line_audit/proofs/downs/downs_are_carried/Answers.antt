@@ -3,7 +3,7 @@ use Rattle.std.specs.Prelude.{ℕ, ◌+◌, length, slice_get}
 use Rattle.std.proofs.lemmas.Option.{slice_get_within}
 use Rattle.mount_log.specs.declared.logs.HubEvent.{HubEvent}
 use Rattle.line_audit.specs.Caused.{IsEventCarried}
-use Rattle.log_audit.proofs.Lists.{each_next}
+use Rattle.mount_log.proofs.Lists.{each_next}
 use Rattle.line_audit.proofs.downs.downs_are_carried.Goals as goal
 
 pub loop-k-preserved : goal.loop-k-preserved

@@ -1,5 +1,5 @@
 use Rattle.std.proofs.Common.{◌≡◌, sym}
-use Rattle.log_audit.proofs.Heading.{head_is}
+use Rattle.mount_log.proofs.Heading.{head_is}
 use Rattle.line_audit.proofs.linked.effect_at.Goals as goal
 
 pub effect_of-requires : goal.effect_of-requires

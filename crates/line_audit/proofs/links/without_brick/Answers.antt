@@ -1,5 +1,5 @@
 use Rattle.std.proofs.Common.{◌+◌, drop}
-use Rattle.log_audit.proofs.Lists.{grown}
+use Rattle.mount_log.proofs.Lists.{grown}
 use Rattle.line_audit.specs.Linked.{without_brick}
 use Rattle.line_audit.proofs.links.without_brick.Goals as goal
 

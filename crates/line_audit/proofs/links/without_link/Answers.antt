@@ -1,6 +1,6 @@
 use Rattle.std.proofs.Common.{◌≡◌, ap, ◌∙◌, ◌+◌, ◌++◌, drop}
 use Rattle.std.specs.Prelude.{Bool, List, ◌∷◌, if◌then◌else◌}
-use Rattle.log_audit.proofs.Lists.{grown}
+use Rattle.mount_log.proofs.Lists.{grown}
 use Rattle.line_audit.specs.Linked.{without_link}
 use Rattle.line_audit.proofs.links.without_link.Goals as goal
 

@@ -5,7 +5,7 @@ use Rattle.wire_messages.specs.Messages.{input_in}
 use Rattle.mount_log.specs.declared.logs.SentLine.{SentLine}
 use Rattle.line_audit.specs.Ended.{IsEnded}
 use Rattle.line_audit.specs.Tied.{IsTied}
-use Rattle.log_audit.proofs.Lists.{each_next}
+use Rattle.mount_log.proofs.Lists.{each_next}
 use Rattle.line_audit.proofs.tied_sent.requests_are_tied.Goals as goal
 
 pub loop-k-preserved : goal.loop-k-preserved

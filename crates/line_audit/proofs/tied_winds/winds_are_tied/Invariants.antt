@@ -1,6 +1,6 @@
 use Rattle.std.specs.Prelude.{ℕ, ◌≡◌, ◌<◌, Some, slice_get}
 use Rattle.mount_log.specs.declared.logs.WindLine.{WindLine}
-use Rattle.log_audit.specs.Switches.{IsCounted}
+use Rattle.mount_log.specs.Switches.{IsCounted}
 use Rattle.line_audit.specs.Tied.{IsWindFound}
 use Rattle.line_audit.proofs.tied_winds.winds_are_tied.Given as goal
 

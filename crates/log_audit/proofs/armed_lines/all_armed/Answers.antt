@@ -3,7 +3,7 @@ use Rattle.std.specs.Prelude.{List, length}
 use Rattle.log_audit.specs.Armed.{AreAllArmed}
 use Rattle.log_audit.specs.declared.armed_lines.ArmedLines.{ArmedLines}
 use Rattle.log_audit.proofs.Arming.{armed_later, armed_push}
-use Rattle.log_audit.proofs.Lists.{one_longer}
+use Rattle.mount_log.proofs.Lists.{one_longer}
 use Rattle.log_audit.proofs.armed_lines.all_armed.Goals as goal
 
 pub loop-at-preserved : goal.loop-at-preserved

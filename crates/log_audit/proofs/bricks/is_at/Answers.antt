@@ -1,7 +1,7 @@
 use Rattle.std.proofs.Common.{◌≡◌, sym, ap, ◌∙◌}
 use Rattle.std.specs.Prelude.{Some}
 use Rattle.std.proofs.lemmas.Option.{slice_get-get_or}
-use Rattle.log_audit.proofs.Lists.{same_list}
+use Rattle.mount_log.proofs.Lists.{same_list}
 use Rattle.log_audit.proofs.bricks.is_at.Goals as goal
 
 pub returns-in-Some : goal.returns-in-Some

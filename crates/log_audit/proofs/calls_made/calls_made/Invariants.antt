@@ -1,5 +1,5 @@
 use Rattle.std.proofs.Common.{map}
-use Rattle.log_audit.specs.Switches.{IsCounted}
+use Rattle.mount_log.specs.Switches.{IsCounted}
 use Rattle.log_audit.specs.Called.{AreGathered}
 use Rattle.log_audit.proofs.calls_made.calls_made.Given as goal
 

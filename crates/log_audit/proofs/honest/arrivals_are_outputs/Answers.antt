@@ -4,7 +4,7 @@ use Rattle.std.specs.List.{AllByRecursion}
 use Rattle.std.proofs.lemmas.Option.{slice_get-get_or}
 use Rattle.brick_machine.specs.Journal.{Journal}
 use Rattle.log_audit.specs.Honest.{IsFrom, IsOfBrick}
-use Rattle.log_audit.proofs.Lists.{each_next}
+use Rattle.mount_log.proofs.Lists.{each_next}
 use Rattle.log_audit.proofs.Honesty.{arrived, journals}
 use Rattle.log_audit.proofs.honest.arrivals_are_outputs.Goals as goal
 

@@ -2,7 +2,7 @@ use Rattle.std.proofs.Common.{◌≡◌, sym, ap, ◌∙◌, arith}
 use Rattle.std.specs.Prelude.{Some, slice_get, ◌+◌, ◌<◌, ◌≤◌, length}
 use Rattle.std.proofs.lemmas.List.{length-take-le}
 use Rattle.std.proofs.lemmas.Option.{slice_get-get_or}
-use Rattle.log_audit.proofs.Heading.{head_is}
+use Rattle.mount_log.proofs.Heading.{head_is}
 use Rattle.log_audit.proofs.Earlier.{timely_next, counted}
 use Rattle.log_audit.proofs.timely.are_timely.Goals as goal
 

@@ -3,7 +3,7 @@ use Rattle.std.specs.Prelude.{ℕ, ◌+◌, length, slice_get}
 use Rattle.std.proofs.lemmas.Option.{slice_get_within}
 use Rattle.mount_log.specs.declared.logs.HubEvent.{HubEvent}
 use Rattle.run_audit.specs.Controlled.{IsOfControl}
-use Rattle.log_audit.proofs.Lists.{each_next}
+use Rattle.mount_log.proofs.Lists.{each_next}
 use Rattle.run_audit.proofs.acts.acts_are_of_controls.Goals as goal
 
 pub loop-k-preserved : goal.loop-k-preserved

@@ -3,7 +3,7 @@ use Rattle.std.specs.Prelude.{ℕ, ◌+◌, ◌-◌, length, slice_get}
 use Rattle.std.proofs.lemmas.Option.{slice_get_within}
 use Rattle.run_audit.specs.CallPhases.{AreReplied}
 use Rattle.log_audit.specs.declared.calls_made.CallMade.{CallMade}
-use Rattle.log_audit.proofs.Lists.{each_next, got}
+use Rattle.mount_log.proofs.Lists.{each_next, got}
 use Rattle.run_audit.proofs.alone.are_one_by_one.Goals as goal
 
 pub loop-n-preserved : goal.loop-n-preserved

@@ -3,7 +3,7 @@ use Rattle.std.specs.Prelude.{ℕ, ◌+◌, length, slice_get}
 use Rattle.std.proofs.lemmas.Option.{slice_get_within}
 use Rattle.mount_log.specs.declared.logs.ReplyLine.{ReplyLine}
 use Rattle.run_audit.specs.CallPhases.{IsAnsweredIn}
-use Rattle.log_audit.proofs.Lists.{each_next, got}
+use Rattle.mount_log.proofs.Lists.{each_next, got}
 use Rattle.run_audit.proofs.call_phases.are_answered_in.Goals as goal
 
 pub loop-k-preserved : goal.loop-k-preserved

@@ -2,7 +2,7 @@ use Rattle.std.proofs.Common.{◌≡◌, ◌<◌, ◌≤◌, sym, arith}
 use Rattle.std.specs.Prelude.{ℕ, ◌+◌, length, slice_get}
 use Rattle.std.proofs.lemmas.Option.{slice_get_within}
 use Rattle.run_audit.proofs.Controlling.{control_next}
-use Rattle.log_audit.proofs.Lists.{got}
+use Rattle.mount_log.proofs.Lists.{got}
 use Rattle.run_audit.proofs.carried.are_controls_carried.Goals as goal
 
 pub loop-at-preserved : goal.loop-at-preserved

@@ -2,7 +2,7 @@ use Rattle.std.proofs.Common.{◌≡◌, ◌<◌, ◌≤◌, sym, subst, arith}
 use Rattle.std.specs.Prelude.{ℕ}
 use Rattle.run_audit.specs.Controlled.{Passes}
 use Rattle.run_audit.proofs.Controlling.{next_so_far, all_in_turn}
-use Rattle.log_audit.proofs.Lists.{got}
+use Rattle.mount_log.proofs.Lists.{got}
 use Rattle.run_audit.proofs.carried.are_in_turn.Goals as goal
 
 pub loop-at-preserved : goal.loop-at-preserved

@@ -3,7 +3,7 @@ use Rattle.std.specs.Prelude.{ℕ, Option, slice_get}
 use Rattle.script_lang.specs.declared.scripts.ControlLine.{ControlLine}
 use Rattle.run_audit.specs.InLine.{IsApart}
 use Rattle.run_audit.specs.Noted.{sent_in}
-use Rattle.log_audit.proofs.Lists.{each_next, got}
+use Rattle.mount_log.proofs.Lists.{each_next, got}
 use Rattle.run_audit.proofs.in_line.are_apart.Goals as goal
 
 pub loop-i-preserved : goal.loop-i-preserved

@@ -3,7 +3,7 @@ use Rattle.std.specs.Prelude.{ℕ, ◌+◌, length, slice_get}
 use Rattle.std.proofs.lemmas.Option.{slice_get_within}
 use Rattle.script_lang.specs.declared.scripts.ControlLine.{ControlLine}
 use Rattle.run_audit.specs.InLine.{AreApart}
-use Rattle.log_audit.proofs.Lists.{each_next, got}
+use Rattle.mount_log.proofs.Lists.{each_next, got}
 use Rattle.run_audit.proofs.in_line.are_in_line.Goals as goal
 
 pub loop-j-preserved : goal.loop-j-preserved

@@ -4,7 +4,7 @@ use Rattle.std.proofs.lemmas.Option.{slice_get_within}
 use Rattle.script_lang.specs.declared.scripts.ControlLine.{ControlLine}
 use Rattle.script_lang.specs.declared.scripts.Phase.{Phase}
 use Rattle.run_audit.specs.Timed.{ArePhaseTimely}
-use Rattle.log_audit.proofs.Lists.{each_next}
+use Rattle.mount_log.proofs.Lists.{each_next}
 use Rattle.run_audit.proofs.moments.are_timely.Goals as goal
 
 pub loop-k-preserved : goal.loop-k-preserved

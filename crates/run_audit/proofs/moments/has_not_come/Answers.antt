@@ -4,7 +4,7 @@ use Rattle.std.proofs.lemmas.Option.{slice_get_within}
 use Rattle.mount_log.specs.Controls.{IsRequestOf}
 use Rattle.mount_log.specs.declared.logs.SentLine.{SentLine}
 use Rattle.run_audit.specs.Noted.{begun}
-use Rattle.log_audit.proofs.Lists.{each_next}
+use Rattle.mount_log.proofs.Lists.{each_next}
 use Rattle.run_audit.proofs.moments.has_not_come.Goals as goal
 
 pub loop-k-preserved : goal.loop-k-preserved

@@ -2,7 +2,7 @@ use Rattle.std.proofs.Common.{◌≡◌, sym, subst}
 use Rattle.std.specs.Prelude.{Option}
 use Rattle.run_audit.specs.Timed.{IsHowTimely}
 use Rattle.run_audit.specs.declared.run_notes.Carried.{Carried}
-use Rattle.log_audit.proofs.Lists.{got}
+use Rattle.mount_log.proofs.Lists.{got}
 use Rattle.run_audit.proofs.moments.is_how_timely.Goals as goal
 
 pub returns-in-Some : goal.returns-in-Some

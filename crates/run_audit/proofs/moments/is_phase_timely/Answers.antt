@@ -4,7 +4,7 @@ use Rattle.std.proofs.lemmas.Option.{slice_get_within}
 use Rattle.script_lang.specs.declared.scripts.ControlLine.{ControlLine}
 use Rattle.run_audit.specs.Timed.{IsHowTimely}
 use Rattle.run_audit.specs.declared.run_notes.Carried.{Carried}
-use Rattle.log_audit.proofs.Lists.{each_next, got}
+use Rattle.mount_log.proofs.Lists.{each_next, got}
 use Rattle.run_audit.proofs.moments.is_phase_timely.Goals as goal
 
 pub loop-at-preserved : goal.loop-at-preserved

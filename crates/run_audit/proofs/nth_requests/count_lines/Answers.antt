@@ -1,7 +1,7 @@
 use Rattle.std.proofs.Common.{◌≡◌, ◌<◌, ◌≤◌, sym, subst, arith}
 use Rattle.std.specs.Prelude.{ℕ, List, ◌+◌, length, take}
 use Rattle.run_audit.specs.Numbered.{HaveCounts, AreNth}
-use Rattle.log_audit.proofs.Lists.{got}
+use Rattle.mount_log.proofs.Lists.{got}
 use Rattle.run_audit.proofs.Numbering.{line_next}
 use Rattle.run_audit.proofs.nth_requests.count_lines.Goals as goal
 

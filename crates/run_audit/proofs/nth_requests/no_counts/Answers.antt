@@ -2,7 +2,7 @@ use Rattle.std.proofs.Common.{◌≡◌, sym, ap, subst, ◌∙◌}
 use Rattle.std.specs.Prelude.{List, length}
 use Rattle.run_audit.specs.Numbered.{AreZero}
 use Rattle.run_audit.specs.declared.nth_requests.PhaseCount.{PhaseCount}
-use Rattle.log_audit.proofs.Lists.{one_longer}
+use Rattle.mount_log.proofs.Lists.{one_longer}
 use Rattle.run_audit.proofs.Numbering.{zero_more}
 use Rattle.run_audit.proofs.nth_requests.no_counts.Goals as goal
 

@@ -1,5 +1,5 @@
 use Rattle.std.proofs.Common.{◌∙◌, ◌+◌, ◌++◌, drop}
-use Rattle.log_audit.proofs.Lists.{grown}
+use Rattle.mount_log.proofs.Lists.{grown}
 use Rattle.run_audit.specs.Counting.{due_from}
 use Rattle.run_audit.proofs.Pushing.{same_test}
 use Rattle.run_audit.proofs.numbers.add_due.Goals as goal

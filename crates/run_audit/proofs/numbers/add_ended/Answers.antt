@@ -1,6 +1,6 @@
 use Rattle.std.proofs.Common.{◌∙◌, ◌+◌, ◌++◌, drop}
 use Rattle.mount_log.specs.Phases.{ended_in}
-use Rattle.log_audit.proofs.Lists.{grown}
+use Rattle.mount_log.proofs.Lists.{grown}
 use Rattle.run_audit.proofs.Pushing.{flipped}
 use Rattle.run_audit.proofs.numbers.add_ended.Goals as goal
 

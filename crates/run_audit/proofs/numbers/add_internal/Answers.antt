@@ -1,6 +1,6 @@
 use Rattle.std.proofs.Common.{refl, ◌∙◌, ◌+◌, ◌++◌, drop}
 use Rattle.mount_log.specs.Phases.{internal_from}
-use Rattle.log_audit.proofs.Lists.{grown_by}
+use Rattle.mount_log.proofs.Lists.{grown_by}
 use Rattle.run_audit.proofs.Pushing.{same_test}
 use Rattle.run_audit.proofs.numbers.add_internal.Goals as goal
 

@@ -1,7 +1,7 @@
 use Rattle.std.proofs.Common.{refl, ap, ◌∙◌, ◌+◌, ◌++◌, drop, map, append_assoc}
 use Rattle.std.specs.Prelude.{ℕ, List, [], ◌∷◌}
 use Rattle.mount_log.specs.declared.logs.ReplyLine.{ReplyLine}
-use Rattle.log_audit.proofs.Lists.{grown_by}
+use Rattle.mount_log.proofs.Lists.{grown_by}
 use Rattle.run_audit.proofs.numbers.add_replied.Goals as goal
 
 pub loop-reply-preserved : goal.loop-reply-preserved

@@ -1,0 +1,9 @@
+use Rattle.std.proofs.Common.{◌-◌, length}
+use Rattle.mount_log.specs.Switches.{IsCounted}
+use Rattle.mount_log.proofs.switches.count_to.Given as goal
+
+abbrev pub invariant-loop-now : goal.invariant-loop-now
+invariant-loop-now l = IsCounted l.events l.now
+
+abbrev pub decreases-loop-now : goal.decreases-loop-now
+decreases-loop-now l = length l.events - l.now.next
