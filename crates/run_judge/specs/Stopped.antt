@@ -1,10 +1,10 @@
--- A run that stopped, and its script was not run to its end.
+-- A run that stopped before its script's end.
+use Rattle.std.specs.Prelude.{List}
+use Rattle.script_lang.specs.declared.scripts.Script.{Script}
 use Rattle.brick_machine.specs.Journal.{Journal}
-use Rattle.log_audit.specs.Honest.{HasHonestArrivals}
 use Rattle.mount_log.specs.Winds.{WindsAreOnce, NoWindIsLeft}
 use Rattle.mount_log.specs.declared.logs.Log.{Log}
-use Rattle.script_lang.specs.declared.scripts.Script.{Script}
-use Rattle.std.specs.Prelude.{List}
+use Rattle.log_audit.specs.Honest.{HasHonestArrivals}
 use Rattle.run_judge.specs.Headline.{AreBricksOf}
 
 -- a run that needed a further wind where none was left: its log and its bricks

@@ -2,14 +2,15 @@
 //! or the line that sums it up.
 //!
 //! ```text
-//!   script, plans ─┐              ┌── audits of the log ──► None, or the text
-//!                  ├─ is_lawful ──┤
-//!   log, bricks ───┘              └── report_of, print; or summary_line
-//!                  └─ has_stopped: did the run need a wind too many?
+//!   script, plans ─┐                         ┌─ no ──► None
+//!                  ├─ is_lawful: all audits ─┤
+//!   log, bricks ───┘                         └─ yes ─► the text, by lawful_report or lawful_summary
 //! ```
 //!
+//! Of a run that stopped before its script's end [`has_stopped`] says whether it needed a wind where none was left.
+//!
 //! It knows no hub and no graph, and trusts neither: whoever has run the script, in one thread or by several, hands in what is
-//! left. The definitions of the headline are here; who writes the text, and with which status, is `mount_run`'s.
+//! left. The definitions of the headline are here; `mount_run` writes the text and gives the status.
 #![tactic(auto)]
 
 mod audits;
