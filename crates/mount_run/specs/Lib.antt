@@ -1,3 +1,2 @@
--- In reading order: the headline; the statuses.
-pub mod Headline
+-- The statuses.
 pub mod Outcomes

@@ -6,8 +6,6 @@ use Rattle.xl_base.specs.Writes.{WrotePrefix}
 use Rattle.graph_build.specs.declared.plans.Plan.{Plan}
 use Rattle.script_lang.specs.declared.scripts.Script.{Script}
 use Rattle.mount_log.specs.Logs.{empty_log}
-use Rattle.mount_log.specs.Winds.{WindsAreOnce, NoWindIsLeft}
-use Rattle.log_audit.specs.Honest.{HasHonestArrivals}
 use Rattle.hub_calls.specs.declared.racks.Rack.{Rack}
 use Rattle.report_text.specs.ReportText.{report_text}
 use Rattle.run_report.specs.Reports.{report_of}
@@ -21,7 +19,8 @@ use Rattle.script_commands.specs.declared.commands.Command.{Command}
 use Rattle.script_commands.specs.declared.commands.Command.TheVariants.{Check, Run, Mount, Generate, Replay}
 use Rattle.script_commands.specs.declared.plans.Accepted.{Accepted}
 use Rattle.script_commands.specs.declared.refusals.Refusal.{Refusal}
-use Rattle.mount_run.specs.Headline.{Headline, IsLawfulRun, AreBricksOf}
+use Rattle.run_judge.specs.Headline.{Headline, IsLawfulRun}
+use Rattle.run_judge.specs.Stopped.{IsStopped}
 
 -- a rack before a run: no bricks, and an empty log
 abbrev pub empty_rack : Rack
@@ -35,27 +34,20 @@ text_of script plans rack = report_text (report_of script plans rack.log)
 
 -- the script was run, and its report was written: the whole of it, or a prefix and not all
 pub record IsWritten (script : Script) (plans : List Plan) (taken taken_after : Option (List ℕ)) (rack : Rack) : Type 0 where
-  pub run : IsLawfulRun script plans rack
+  pub run : IsLawfulRun script plans rack.log rack.bricks
   pub wrote : Appends taken taken_after (text_of script plans rack)
 
 pub record IsCutShort (script : Script) (plans : List Plan) (taken taken_after : Option (List ℕ)) (rack : Rack) : Type 0 where
-  pub run : IsLawfulRun script plans rack
+  pub run : IsLawfulRun script plans rack.log rack.bricks
   pub wrote : WrotePrefix taken taken_after (text_of script plans rack)
-
--- a run that needed a further wind where none was left: the rack has its log and its bricks
-pub record IsStopped (script : Script) (rack : Rack) : Type 0 where
-  pub none_left : NoWindIsLeft rack.log.winds
-  pub once : WindsAreOnce rack.log.winds
-  pub honest : HasHonestArrivals rack.log
-  pub bricks : AreBricksOf script rack.log rack.bricks
 
 -- the script was run, and the line that sums the run up was written: the whole of it, or a prefix and not all
 pub record IsSummedUp (script : Script) (plans : List Plan) (number : ℕ) (taken taken_after : Option (List ℕ)) (rack : Rack) : Type 0 where
-  pub run : IsLawfulRun script plans rack
+  pub run : IsLawfulRun script plans rack.log rack.bricks
   pub wrote : Appends taken taken_after (summary_text number rack.log)
 
 pub record IsSummedUpShort (script : Script) (plans : List Plan) (number : ℕ) (taken taken_after : Option (List ℕ)) (rack : Rack) : Type 0 where
-  pub run : IsLawfulRun script plans rack
+  pub run : IsLawfulRun script plans rack.log rack.bricks
   pub wrote : WrotePrefix taken taken_after (summary_text number rack.log)
 
 -- the statuses of a script that is run
@@ -72,7 +64,7 @@ pub record Ran (known taken taken_after : Option (List ℕ)) (rack : Rack) : Typ
   pub text : List ℕ
   pub report : List ℕ
   pub read : IsRead known text
-  pub headline : Headline text report rack
+  pub headline : Headline text report rack.log rack.bricks
   pub wrote : Appends taken taken_after report
 
 -- a script was checked, and its one line was written
@@ -145,7 +137,7 @@ pub record WindsRanOut (known : Option (List ℕ)) (rack : Rack) : Type 0 where
   pub read : Accepted
   pub is_text : IsRead known text
   pub accepted_as : accepted text ≡ Ok read
-  pub stopped : IsStopped read.script rack
+  pub stopped : IsStopped read.script rack.log rack.bricks
 
 -- only a run needs winds, and of a generated one the text is the program's own
 abbrev pub RanOutOfWinds : Option Command → Option (List ℕ) → Rack → Type 0
@@ -162,7 +154,7 @@ pub record RanUnwritten (known taken taken_after : Option (List ℕ)) (rack : Ra
   pub text : List ℕ
   pub report : List ℕ
   pub read : IsRead known text
-  pub headline : Headline text report rack
+  pub headline : Headline text report rack.log rack.bricks
   pub wrote : WrotePrefix taken taken_after report
 
 pub record CheckedUnwritten (known taken taken_after : Option (List ℕ)) (rack : Rack) : Type 0 where

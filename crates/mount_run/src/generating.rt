@@ -2,16 +2,16 @@
 ghost use Rattle.std.specs.Prelude.{◌≡◌, ◌<◌, ◌-◌, ◌^◌, None, IfOk, IfSome, IfNone, IsErrOf};
 ghost use Rattle.mount_log.specs.Scripts.{IsScript};
 ghost use Rattle.run_report.specs.Summaries.{summary_text};
-ghost use Rattle.mount_run.specs.Headline.{IsLawfulRun};
-ghost use Rattle.mount_run.specs.Outcomes.{empty_rack, IsRunStatus, IsStopped, IsSummedUp, IsSummedUpShort, Generated, GeneratedUnwritten, WindsRanOut};
+ghost use Rattle.run_judge.specs.Headline.{IsLawfulRun};
+ghost use Rattle.run_judge.specs.Stopped.{IsStopped};
+ghost use Rattle.mount_run.specs.Outcomes.{empty_rack, IsRunStatus, IsSummedUp, IsSummedUpShort, Generated, GeneratedUnwritten, WindsRanOut};
 
-use crate::audits::is_lawful;
 use crate::racks::{put_left, stopped};
 use crate::running::world_of;
 use fop_types::Seq;
 use graph_build::Plan;
 use hub_calls::Rack;
-use run_report::summary_line;
+use run_judge::lawful_summary;
 use script_commands::{Accepted, Draws, NotRead, accept, generated, write};
 use script_lang::Script;
 use std::alloc::{AllocError, Global};
@@ -81,7 +81,7 @@ fn generate_read<K: Sink>(
     ensures write_fault { result ≡ 4 → (K.faults sink.old < K.faults sink.new) × IsSummedUpShort read.script read.plans number (K.taken sink.old) (K.taken sink.new) rack.new }
     ensures memory { result ≡ 5 → (sink.new ≡ sink.old) × (rack.new ≡ rack.old) }
     ensures unlawful { result ≡ 6 → (sink.new ≡ sink.old) × (rack.new ≡ rack.old) }
-    ensures winds { result ≡ 7 → (sink.new ≡ sink.old) × IsStopped read.script rack.new }
+    ensures winds { result ≡ 7 → (sink.new ≡ sink.old) × IsStopped read.script rack.new.log rack.new.bricks }
 {
     let Accepted { script, plans } = read;
     match run_generated(alloc, script, plans, number, rack) {
@@ -100,10 +100,10 @@ fn run_generated(
     rack: &mut Rack,
 ) -> Result<Option<Vec<u8>>, Stop>
     requires { IsScript script plans }
-    ensures ran { IfOk result (λ o. IfSome o (λ line. IsLawfulRun script plans rack.new)) }
+    ensures ran { IfOk result (λ o. IfSome o (λ line. IsLawfulRun script plans rack.new.log rack.new.bricks)) }
     ensures line { IfOk result (λ o. IfSome o (λ line. line.items ≡ summary_text number rack.new.log)) }
     ensures unlawful { IfOk result (λ o. IfNone o (rack.new ≡ rack.old)) }
-    ensures winds { IsErrOf result Stop.Winds → IsStopped script rack.new }
+    ensures winds { IsErrOf result Stop.Winds → IsStopped script rack.new.log rack.new.bricks }
     ensures memory { IsErrOf result Stop.Mem → rack.new ≡ rack.old }
 {
     let mut world = world_of(alloc, script, plans)?;
@@ -123,36 +123,24 @@ fn line_left(
     rack: &mut Rack,
 ) -> Result<Option<Vec<u8>>, Stop>
     requires { IsScript script.now plans.now }
-    ensures ran { IfOk result (λ o. IfSome o (λ line. IsLawfulRun script.now plans.now rack.new)) }
+    ensures ran { IfOk result (λ o. IfSome o (λ line. IsLawfulRun script.now plans.now rack.new.log rack.new.bricks)) }
     ensures line { IfOk result (λ o. IfSome o (λ line. line.items ≡ summary_text number rack.new.log)) }
     ensures unlawful { IfOk result (λ o. IfNone o (rack.new ≡ rack.old)) }
-    ensures winds { IsErrOf result Stop.Winds → IsStopped script.now rack.new }
+    ensures winds { IsErrOf result Stop.Winds → IsStopped script.now rack.new.log rack.new.bricks }
     ensures memory { IsErrOf result Stop.Mem → rack.new ≡ rack.old }
 {
     match ran {
         Ok(()) => {
-            let made = summed_up(alloc, number, script, plans, &left);
+            let made = lawful_summary(
+                alloc,
+                number,
+                script,
+                plans,
+                &left.log,
+                left.bricks.as_slice(),
+            );
             put_left(made, left, rack)
         }
         Err(stop) => stopped(alloc, script, left, stop, rack),
     }
-}
-
-// The line that sums up what a run left; `None` where it fails an audit.
-fn summed_up(
-    alloc: Global,
-    number: u64,
-    script: &Script,
-    plans: &[Plan],
-    left: &Rack,
-) -> Result<Option<Vec<u8>>, AllocError>
-    requires { IsScript script.now plans.now }
-    ensures ran { IfOk result (λ o. IfSome o (λ line. IsLawfulRun script.now plans.now left.now)) }
-    ensures line { IfOk result (λ o. IfSome o (λ line. line.items ≡ summary_text number left.now.log)) }
-{
-    if !is_lawful(alloc, script, plans, left)? {
-        return Ok(None);
-    }
-    let line = summary_line(alloc, number, &left.log)?;
-    Ok(Some(line))
 }

@@ -3,9 +3,9 @@
 //! that it makes; `replay` judges a script with its report.
 //!
 //! ```text
-//! standard input ── read_script ── World or threads ── is_lawful ── report_of ── print ── standard output
-//!                       │    │        hub and bricks,      │
-//!              grammar, plans │        event by event   audits of the log
+//! standard input ── read_script ── World or threads ── lawful_report ── standard output
+//!                       │    │        hub and bricks,       │
+//!              grammar, plans │        event by event    run_judge: audits of the log, then its report
 //!                          Refusal
 //! ```
 //!
@@ -13,7 +13,6 @@
 //! looks at the first word, and explains a status other than 0 on standard error.
 #![tactic(auto)]
 
-mod audits;
 mod generating;
 mod mains;
 mod mounting;

@@ -1,7 +1,8 @@
 //! A script that is run by threads.
 ghost use Rattle.std.specs.Prelude.{◌≡◌, ◌<◌, ◌-◌, ◌^◌};
 ghost use Rattle.mount_log.specs.Scripts.{IsScript};
-ghost use Rattle.mount_run.specs.Outcomes.{IsRunStatus, IsWritten, IsCutShort, IsStopped};
+ghost use Rattle.run_judge.specs.Stopped.{IsStopped};
+ghost use Rattle.mount_run.specs.Outcomes.{IsRunStatus, IsWritten, IsCutShort};
 
 use crate::running::report_left;
 use hub_calls::Rack;
@@ -32,7 +33,7 @@ pub fn mount_read<R: Threads + Wait + Sync, K: Sink>(
     ensures write_fault { result ≡ 4 → (K.faults sink.old < K.faults sink.new) × IsCutShort again.script again.plans (K.taken sink.old) (K.taken sink.new) rack.new }
     ensures memory { result ≡ 5 → (sink.new ≡ sink.old) × (rack.new ≡ rack.old) }
     ensures unlawful { result ≡ 6 → (sink.new ≡ sink.old) × (rack.new ≡ rack.old) }
-    ensures winds { result ≡ 7 → (sink.new ≡ sink.old) × IsStopped again.script rack.new }
+    ensures winds { result ≡ 7 → (sink.new ≡ sink.old) × IsStopped again.script rack.new.log rack.new.bricks }
 {
     let Accepted { script, plans } = read;
     let mut left = Rack::new(alloc);

@@ -1,9 +1,9 @@
 //! What a run left, and the rack that it goes into.
 ghost use Rattle.std.specs.Prelude.{◌≡◌, None, Ok, Err, IfOk, OnErr, IfSome, IfNone, IsErrOf};
-ghost use Rattle.mount_run.specs.Outcomes.{IsStopped};
+ghost use Rattle.run_judge.specs.Stopped.{IsStopped};
 
-use crate::audits::has_stopped;
 use hub_calls::Rack;
+use run_judge::has_stopped;
 use script_lang::Script;
 use std::alloc::{AllocError, Global};
 use std::mem;
@@ -46,7 +46,7 @@ pub fn stopped(
     rack: &mut Rack,
 ) -> Result<Option<Vec<u8>>, Stop>
     ensures unlawful { IfOk result (λ o. (o ≡ None) × (rack.new ≡ rack.old)) }
-    ensures winds { IsErrOf result Stop.Winds → IsStopped script.now rack.new }
+    ensures winds { IsErrOf result Stop.Winds → IsStopped script.now rack.new.log rack.new.bricks }
     ensures memory { IsErrOf result Stop.Mem → rack.new ≡ rack.old }
 {
     match stop {
@@ -54,7 +54,7 @@ pub fn stopped(
             drop(left);
             Err(Stop::Mem)
         }
-        Stop::Winds => match has_stopped(alloc, script, &left) {
+        Stop::Winds => match has_stopped(alloc, script, &left.log, left.bricks.as_slice()) {
             Ok(true) => {
                 drop(mem::replace(rack, left));
                 Err(Stop::Winds)

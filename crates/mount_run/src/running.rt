@@ -1,20 +1,15 @@
 //! A script that is run in one thread, and the report of what a run left.
-ghost use Rattle.std.specs.Prelude.{◌≡◌, ◌<◌, ◌≤◌, ◌-◌, ◌^◌, length, IfOk, IfSome, IfNone, IsErrOf};
+ghost use Rattle.std.specs.Prelude.{◌≡◌, ◌<◌, ◌-◌, ◌^◌, IfOk, IfSome, IfNone, IsErrOf};
 ghost use Rattle.mount_log.specs.Scripts.{IsScript};
-ghost use Rattle.mount_log.specs.Graphs.{volfiles_of as volfiles_in};
-ghost use Rattle.report_text.specs.ReportText.{report_text};
-ghost use Rattle.run_report.specs.Reports.{AreFewWinds, report_of as report_of_log};
-ghost use Rattle.mount_run.specs.Headline.{IsLawfulRun};
-ghost use Rattle.mount_run.specs.Outcomes.{text_of, IsRunStatus, IsWritten, IsCutShort, IsStopped};
+ghost use Rattle.run_judge.specs.Headline.{IsLawfulRun};
+ghost use Rattle.run_judge.specs.Stopped.{IsStopped};
+ghost use Rattle.mount_run.specs.Outcomes.{text_of, IsRunStatus, IsWritten, IsCutShort};
 
-use crate::audits::is_lawful;
 use crate::racks::{put_left, stopped};
 use fop_types::Seq;
 use graph_build::Plan;
 use hub_calls::Rack;
-use mount_log::Log;
-use report_text::print;
-use run_report::{has_report, report_of};
+use run_judge::lawful_report;
 use script_commands::{Accepted, write};
 use script_lang::Script;
 use std::alloc::{AllocError, Global};
@@ -37,7 +32,7 @@ pub fn run_read<K: Sink>(
     ensures write_fault { result ≡ 4 → (K.faults sink.old < K.faults sink.new) × IsCutShort read.script read.plans (K.taken sink.old) (K.taken sink.new) rack.new }
     ensures memory { result ≡ 5 → (sink.new ≡ sink.old) × (rack.new ≡ rack.old) }
     ensures unlawful { result ≡ 6 → (sink.new ≡ sink.old) × (rack.new ≡ rack.old) }
-    ensures winds { result ≡ 7 → (sink.new ≡ sink.old) × IsStopped read.script rack.new }
+    ensures winds { result ≡ 7 → (sink.new ≡ sink.old) × IsStopped read.script rack.new.log rack.new.bricks }
 {
     let Accepted { script, plans } = read;
     match run_script(alloc, script, plans, seed, rack) {
@@ -58,10 +53,10 @@ fn run_script(
     rack: &mut Rack,
 ) -> Result<Option<Vec<u8>>, Stop>
     requires { IsScript script plans }
-    ensures ran { IfOk result (λ o. IfSome o (λ report. IsLawfulRun script plans rack.new)) }
+    ensures ran { IfOk result (λ o. IfSome o (λ report. IsLawfulRun script plans rack.new.log rack.new.bricks)) }
     ensures report { IfOk result (λ o. IfSome o (λ report. report.items ≡ text_of script plans rack.new)) }
     ensures unlawful { IfOk result (λ o. IfNone o (rack.new ≡ rack.old)) }
-    ensures winds { IsErrOf result Stop.Winds → IsStopped script rack.new }
+    ensures winds { IsErrOf result Stop.Winds → IsStopped script rack.new.log rack.new.bricks }
     ensures memory { IsErrOf result Stop.Mem → rack.new ≡ rack.old }
 {
     let mut world = world_of(alloc, script, plans)?;
@@ -92,44 +87,17 @@ pub fn report_left(
     rack: &mut Rack,
 ) -> Result<Option<Vec<u8>>, Stop>
     requires { IsScript script.now plans.now }
-    ensures ran { IfOk result (λ o. IfSome o (λ report. IsLawfulRun script.now plans.now rack.new)) }
+    ensures ran { IfOk result (λ o. IfSome o (λ report. IsLawfulRun script.now plans.now rack.new.log rack.new.bricks)) }
     ensures report { IfOk result (λ o. IfSome o (λ report. report.items ≡ text_of script.now plans.now rack.new)) }
     ensures unlawful { IfOk result (λ o. IfNone o (rack.new ≡ rack.old)) }
-    ensures winds { IsErrOf result Stop.Winds → IsStopped script.now rack.new }
+    ensures winds { IsErrOf result Stop.Winds → IsStopped script.now rack.new.log rack.new.bricks }
     ensures memory { IsErrOf result Stop.Mem → rack.new ≡ rack.old }
 {
     match ran {
         Ok(()) => {
-            let made = judged(alloc, script, plans, &left);
+            let made = lawful_report(alloc, script, plans, &left.log, left.bricks.as_slice());
             put_left(made, left, rack)
         }
         Err(stop) => stopped(alloc, script, left, stop, rack),
     }
-}
-
-// The report of what a run left; `None` where it fails an audit.
-fn judged(
-    alloc: Global,
-    script: &Script,
-    plans: &[Plan],
-    left: &Rack,
-) -> Result<Option<Vec<u8>>, AllocError>
-    requires { IsScript script.now plans.now }
-    ensures ran { IfOk result (λ o. IfSome o (λ report. IsLawfulRun script.now plans.now left.now)) }
-    ensures report { IfOk result (λ o. IfSome o (λ report. report.items ≡ text_of script.now plans.now left.now)) }
-{
-    if !has_report(&left.log) || !is_lawful(alloc, script, plans, left)? {
-        return Ok(None);
-    }
-    let text = report(alloc, script, plans, &left.log)?;
-    Ok(Some(text))
-}
-
-fn report(alloc: Global, script: &Script, plans: &[Plan], log: &Log) -> Result<Vec<u8>, AllocError>
-    requires winds { AreFewWinds log.now.winds }
-    requires graphs { length (volfiles_in script.now log.now) ≤ 4294967294 }
-    ensures { IfOk result (λ text. text.items ≡ report_text (report_of_log script.now plans.now log.now)) }
-{
-    let report = report_of(alloc, script, plans, log)?;
-    print(alloc, &report)
 }

@@ -7,7 +7,6 @@ use Rattle.graph_build.specs.declared.plans.Plan.{Plan}
 use Rattle.script_lang.specs.declared.scripts.Script.{Script}
 use Rattle.brick_machine.specs.Journal.{Journal}
 use Rattle.mount_log.specs.declared.logs.Log.{Log}
-use Rattle.hub_calls.specs.declared.racks.Rack.{Rack}
 use Rattle.report_text.specs.ReportText.{report_text}
 use Rattle.log_audit.specs.Honest.{HasHonestArrivals, HasJournals}
 use Rattle.log_replay.specs.Judged.{IsOneFileSystem}
@@ -32,38 +31,38 @@ pub record AreBricksOf (script : Script) (log : Log) (bricks : List Journal) : T
 
 -- there are operations of the history's entries by which the replies are those of one plain file system, and by which each
 -- acknowledged change is on a quorum of bricks
-pub record HasFiles (script : Script) (plans : List Plan) (rack : Rack) : Type 0 where
+pub record HasFiles (script : Script) (plans : List Plan) (log : Log) (bricks : List Journal) : Type 0 where
   pub ops : List FlatOp
-  pub files : IsOneFileSystem script rack.log ops
-  pub borne : AreBorne script plans rack.log rack.bricks ops
+  pub files : IsOneFileSystem script log ops
+  pub borne : AreBorne script plans log bricks ops
 
 -- a run of a script with the plans of its volfiles: its log and its bricks
-pub record IsLawfulRun (script : Script) (plans : List Plan) (rack : Rack) : Type 0 where
+pub record IsLawfulRun (script : Script) (plans : List Plan) (log : Log) (bricks : List Journal) : Type 0 where
   -- the log follows the script and is finished, what arrived in it is what the bricks made, connections have their causes, and
   -- replies, winds and requests are of their calls, events and graphs
-  pub follows : FollowsScript script rack.log
-  pub finished : IsFinished script rack.log
-  pub honest : HasHonestArrivals rack.log
-  pub connections : ConnectsAreCaused script plans rack.log
-  pub ties : AreTied rack.log
-  pub bricks : AreBricksOf script rack.log rack.bricks
+  pub follows : FollowsScript script log
+  pub finished : IsFinished script log
+  pub honest : HasHonestArrivals log
+  pub connections : ConnectsAreCaused script plans log
+  pub ties : AreTied log
+  pub all_bricks : AreBricksOf script log bricks
   -- one legal history, lawful replies, each acknowledged change on a quorum of bricks, each I/O error with its cause
-  pub files : HasFiles script plans rack
-  pub causes : AreCaused script plans rack.log
+  pub files : HasFiles script plans log bricks
+  pub causes : AreCaused script plans log
   -- what each stat, getattr, and read of a graph without an io-cache shows a brick had answered, after a quorum had granted locks
-  pub reads : AnswersAreRead script plans rack.log rack.bricks
+  pub reads : AnswersAreRead script plans log bricks
   -- and so the names that calls which were answered well have looked up, and those that lists show
-  pub names : NamesAreRead script plans rack.log rack.bricks
+  pub names : NamesAreRead script plans log bricks
   -- each copy by a replacement of its own, which the sink confirmed, by what the source had answered; each skip of a cell that
   -- a brick had listed
-  pub copies : CopiesAreMade script plans rack.log rack.bricks
-  pub skips : SkipsAreListed rack.log rack.bricks
+  pub copies : CopiesAreMade script plans log bricks
+  pub skips : SkipsAreListed log bricks
   -- balanced winds
-  pub winds : WindsAreBalanced rack.log.winds
+  pub winds : WindsAreBalanced log.winds
 
 -- the text is accepted, its script was run lawfully, and the bytes are the report of the run's log
-pub record Headline (text report : List ℕ) (rack : Rack) : Type 0 where
+pub record Headline (text report : List ℕ) (log : Log) (bricks : List Journal) : Type 0 where
   pub read : Accepted
   pub accepted_as : accepted text ≡ Ok read
-  pub run : IsLawfulRun read.script read.plans rack
-  pub written : report ≡ report_text (report_of read.script read.plans rack.log)
+  pub run : IsLawfulRun read.script read.plans log bricks
+  pub written : report ≡ report_text (report_of read.script read.plans log)

@@ -11,15 +11,15 @@ ghost use Rattle.mount_log.specs.Heads.{heads_of};
 ghost use Rattle.log_audit.specs.Honest.{ArrivedFrom, HasHonestArrivals};
 ghost use Rattle.change_audit.specs.Copied.{CopiesAreMade};
 ghost use Rattle.change_audit.specs.Listed.{SkipsAreListed};
-ghost use Rattle.mount_run.specs.Headline.{AreBricksOf, HasFiles, IsLawfulRun};
-ghost use Rattle.mount_run.specs.Outcomes.{IsStopped};
 ghost use Rattle.read_audit.specs.Names.{NamesAreRead};
 ghost use Rattle.read_audit.specs.Read.{AnswersAreRead};
+ghost use Rattle.run_judge.specs.Headline.{AreBricksOf, HasFiles, IsLawfulRun};
+ghost use Rattle.run_judge.specs.Stopped.{IsStopped};
 
+use brick_machine::Brick;
 use change_audit::{changes_are_borne, copies_are_made, skips_are_listed};
 use error_audit::io_errors_are_caused;
 use graph_build::Plan;
-use hub_calls::Rack;
 use line_audit::{connects_are_caused, lines_are_tied};
 use log_audit::{
     arrivals_are_honest, arrivals_are_outputs, is_finished, winds_are_balanced, winds_are_once,
@@ -47,14 +47,14 @@ fn follows(alloc: Global, script: &Script, log: &Log, heads: &[Head]) -> Result<
 }
 
 // Whether there is a brick for each of the script's, each with what the log says of it.
-fn are_bricks(script: &Script, left: &Rack) -> bool
-    ensures bricks { result ≡ true → AreBricksOf script.now left.now.log left.now.bricks }
-    ensures arrived { result ≡ true → ArrivedFrom left.now.bricks left.now.log.events }
+fn are_bricks(script: &Script, log: &Log, bricks: &[Brick]) -> bool
+    ensures bricks { result ≡ true → AreBricksOf script.now log.now bricks.now }
+    ensures arrived { result ≡ true → ArrivedFrom bricks.now log.now.events }
 {
-    if left.bricks.len() != script.bricks.len() {
+    if bricks.len() != script.bricks.len() {
         return false;
     }
-    arrivals_are_outputs(&left.log, left.bricks.as_slice())
+    arrivals_are_outputs(log, bricks)
 }
 
 // Whether the replies are those of one plain file system, and each acknowledged change is on a quorum of bricks.
@@ -62,21 +62,15 @@ fn has_files(
     alloc: Global,
     script: &Script,
     plans: &[Plan],
-    left: &Rack,
+    log: &Log,
+    bricks: &[Brick],
 ) -> Result<bool, AllocError>
     requires { IsAccepted script.now }
-    ensures { IfOk result (λ yes. yes ≡ true → HasFiles script.now plans.now left.now) }
+    ensures { IfOk result (λ yes. yes ≡ true → HasFiles script.now plans.now log.now bricks.now) }
 {
-    match one_file_system(alloc, script, &left.log)? {
+    match one_file_system(alloc, script, log)? {
         None => Ok(false),
-        Some(ops) => changes_are_borne(
-            alloc,
-            script,
-            plans,
-            &left.log,
-            left.bricks.as_slice(),
-            ops.as_slice(),
-        ),
+        Some(ops) => changes_are_borne(alloc, script, plans, log, bricks, ops.as_slice()),
     }
 }
 
@@ -85,15 +79,16 @@ fn has_heals(
     alloc: Global,
     script: &Script,
     plans: &[Plan],
-    left: &Rack,
+    log: &Log,
+    bricks: &[Brick],
 ) -> Result<bool, AllocError>
-    ensures copies { IfOk result (λ yes. yes ≡ true → CopiesAreMade script.now plans.now left.now.log left.now.bricks) }
-    ensures skips { IfOk result (λ yes. yes ≡ true → SkipsAreListed left.now.log left.now.bricks) }
+    ensures copies { IfOk result (λ yes. yes ≡ true → CopiesAreMade script.now plans.now log.now bricks.now) }
+    ensures skips { IfOk result (λ yes. yes ≡ true → SkipsAreListed log.now bricks.now) }
 {
-    if !copies_are_made(alloc, script, plans, &left.log, left.bricks.as_slice())? {
+    if !copies_are_made(alloc, script, plans, log, bricks)? {
         return Ok(false);
     }
-    skips_are_listed(alloc, &left.log, left.bricks.as_slice())
+    skips_are_listed(alloc, log, bricks)
 }
 
 // Whether winds, connections and I/O errors are as they should be.
@@ -143,18 +138,18 @@ fn are_read(
     alloc: Global,
     script: &Script,
     plans: &[Plan],
-    left: &Rack,
+    log: &Log,
+    bricks: &[Brick],
     heads: &[Head],
 ) -> Result<bool, AllocError>
     requires { IsAccepted script.now }
-    ensures reads { IfOk result (λ yes. yes ≡ true → AnswersAreRead script.now plans.now left.now.log left.now.bricks) }
-    ensures names { IfOk result (λ yes. yes ≡ true → NamesAreRead script.now plans.now left.now.log left.now.bricks) }
+    ensures reads { IfOk result (λ yes. yes ≡ true → AnswersAreRead script.now plans.now log.now bricks.now) }
+    ensures names { IfOk result (λ yes. yes ≡ true → NamesAreRead script.now plans.now log.now bricks.now) }
 {
-    let bricks = left.bricks.as_slice();
-    if !answers_are_read(alloc, script, plans, &left.log, bricks, heads)? {
+    if !answers_are_read(alloc, script, plans, log, bricks, heads)? {
         return Ok(false);
     }
-    let yes = names_are_read(alloc, script, plans, &left.log, bricks, heads)?;
+    let yes = names_are_read(alloc, script, plans, log, bricks, heads)?;
     Ok(yes)
 }
 
@@ -163,22 +158,22 @@ fn is_from_bricks(
     alloc: Global,
     script: &Script,
     plans: &[Plan],
-    left: &Rack,
+    log: &Log,
+    bricks: &[Brick],
     heads: &[Head],
 ) -> Result<bool, AllocError>
     requires accepted { IsAccepted script.now }
-    requires heads { heads.now ≡ heads_of left.now.log.events }
-    requires bricks { AreBricksOf script.now left.now.log left.now.bricks }
-    requires arrived { ArrivedFrom left.now.bricks left.now.log.events }
-    ensures honest { IfOk result (λ yes. yes ≡ true → HasHonestArrivals left.now.log) }
-    ensures reads { IfOk result (λ yes. yes ≡ true → AnswersAreRead script.now plans.now left.now.log left.now.bricks) }
-    ensures names { IfOk result (λ yes. yes ≡ true → NamesAreRead script.now plans.now left.now.log left.now.bricks) }
+    requires heads { heads.now ≡ heads_of log.now.events }
+    requires bricks { AreBricksOf script.now log.now bricks.now }
+    requires arrived { ArrivedFrom bricks.now log.now.events }
+    ensures honest { IfOk result (λ yes. yes ≡ true → HasHonestArrivals log.now) }
+    ensures reads { IfOk result (λ yes. yes ≡ true → AnswersAreRead script.now plans.now log.now bricks.now) }
+    ensures names { IfOk result (λ yes. yes ≡ true → NamesAreRead script.now plans.now log.now bricks.now) }
 {
-    let bricks = left.bricks.as_slice();
-    if !arrivals_are_honest(&left.log, heads, bricks) {
+    if !arrivals_are_honest(log, heads, bricks) {
         return Ok(false);
     }
-    are_read(alloc, script, plans, left, heads)
+    are_read(alloc, script, plans, log, bricks, heads)
 }
 
 // Whether all but the files is as a run promises. How each output begins that arrived is read once for all of it.
@@ -186,31 +181,32 @@ fn has_course(
     alloc: Global,
     script: &Script,
     plans: &[Plan],
-    left: &Rack,
+    log: &Log,
+    bricks: &[Brick],
 ) -> Result<bool, AllocError>
     requires { IsAccepted script.now }
-    ensures follows { IfOk result (λ yes. yes ≡ true → FollowsScript script.now left.now.log) }
-    ensures finished { IfOk result (λ yes. yes ≡ true → IsFinished script.now left.now.log) }
-    ensures honest { IfOk result (λ yes. yes ≡ true → HasHonestArrivals left.now.log) }
-    ensures bricks { IfOk result (λ yes. yes ≡ true → AreBricksOf script.now left.now.log left.now.bricks) }
-    ensures reads { IfOk result (λ yes. yes ≡ true → AnswersAreRead script.now plans.now left.now.log left.now.bricks) }
-    ensures names { IfOk result (λ yes. yes ≡ true → NamesAreRead script.now plans.now left.now.log left.now.bricks) }
-    ensures ties { IfOk result (λ yes. yes ≡ true → AreTied left.now.log) }
-    ensures winds { IfOk result (λ yes. yes ≡ true → WindsAreBalanced left.now.log.winds) }
-    ensures connections { IfOk result (λ yes. yes ≡ true → ConnectsAreCaused script.now plans.now left.now.log) }
-    ensures causes { IfOk result (λ yes. yes ≡ true → AreCaused script.now plans.now left.now.log) }
+    ensures follows { IfOk result (λ yes. yes ≡ true → FollowsScript script.now log.now) }
+    ensures finished { IfOk result (λ yes. yes ≡ true → IsFinished script.now log.now) }
+    ensures honest { IfOk result (λ yes. yes ≡ true → HasHonestArrivals log.now) }
+    ensures bricks { IfOk result (λ yes. yes ≡ true → AreBricksOf script.now log.now bricks.now) }
+    ensures reads { IfOk result (λ yes. yes ≡ true → AnswersAreRead script.now plans.now log.now bricks.now) }
+    ensures names { IfOk result (λ yes. yes ≡ true → NamesAreRead script.now plans.now log.now bricks.now) }
+    ensures ties { IfOk result (λ yes. yes ≡ true → AreTied log.now) }
+    ensures winds { IfOk result (λ yes. yes ≡ true → WindsAreBalanced log.now.winds) }
+    ensures connections { IfOk result (λ yes. yes ≡ true → ConnectsAreCaused script.now plans.now log.now) }
+    ensures causes { IfOk result (λ yes. yes ≡ true → AreCaused script.now plans.now log.now) }
 {
-    if !are_bricks(script, left) {
+    if !are_bricks(script, log, bricks) {
         return Ok(false);
     }
-    let heads = heads_of(alloc, left.log.events.as_slice())?;
-    if !follows(alloc, script, &left.log, heads.as_slice())? {
+    let heads = heads_of(alloc, log.events.as_slice())?;
+    if !follows(alloc, script, log, heads.as_slice())? {
         return Ok(false);
     }
-    if !is_from_bricks(alloc, script, plans, left, heads.as_slice())? {
+    if !is_from_bricks(alloc, script, plans, log, bricks, heads.as_slice())? {
         return Ok(false);
     }
-    let yes = is_sound(alloc, script, plans, &left.log, heads.as_slice())?;
+    let yes = is_sound(alloc, script, plans, log, heads.as_slice())?;
     Ok(yes)
 }
 
@@ -227,18 +223,19 @@ pub fn is_lawful(
     alloc: Global,
     script: &Script,
     plans: &[Plan],
-    left: &Rack,
+    log: &Log,
+    bricks: &[Brick],
 ) -> Result<bool, AllocError>
     requires { IsScript script.now plans.now }
-    ensures { IfOk result (λ yes. yes ≡ true → IsLawfulRun script.now plans.now left.now) }
+    ensures { IfOk result (λ yes. yes ≡ true → IsLawfulRun script.now plans.now log.now bricks.now) }
 {
-    if !has_course(alloc, script, plans, left)? {
+    if !has_course(alloc, script, plans, log, bricks)? {
         return Ok(false);
     }
-    if !has_heals(alloc, script, plans, left)? {
+    if !has_heals(alloc, script, plans, log, bricks)? {
         return Ok(false);
     }
-    let yes = has_files(alloc, script, plans, left)?;
+    let yes = has_files(alloc, script, plans, log, bricks)?;
     Ok(yes)
 }
 
@@ -246,17 +243,21 @@ pub fn is_lawful(
 ///
 /// # Errors
 /// Out of memory.
-pub fn has_stopped(alloc: Global, script: &Script, left: &Rack) -> Result<bool, AllocError>
-    ensures { IfOk result (λ yes. yes ≡ true → IsStopped script.now left.now) }
+pub fn has_stopped(
+    alloc: Global,
+    script: &Script,
+    log: &Log,
+    bricks: &[Brick],
+) -> Result<bool, AllocError>
+    ensures { IfOk result (λ yes. yes ≡ true → IsStopped script.now log.now bricks.now) }
 {
-    let winds = left.log.winds.as_slice();
+    let winds = log.winds.as_slice();
     if opened_in(winds) != 4294967295 || !winds_are_once(alloc, winds)? {
         return Ok(false);
     }
-    if !are_bricks(script, left) {
+    if !are_bricks(script, log, bricks) {
         return Ok(false);
     }
-    let heads = heads_of(alloc, left.log.events.as_slice())?;
-    let bricks = left.bricks.as_slice();
-    Ok(arrivals_are_honest(&left.log, heads.as_slice(), bricks))
+    let heads = heads_of(alloc, log.events.as_slice())?;
+    Ok(arrivals_are_honest(log, heads.as_slice(), bricks))
 }

@@ -1,4 +1,4 @@
-use Rattle.mount_run.proofs.audits.has_course.Goals as goal
+use Rattle.run_judge.proofs.audits.has_course.Goals as goal
 
 pub returns-clause-names : goal.returns-clause-names
 returns-clause-names c = λ _. c.in_ok-is_from_bricks.ensures.names c.if-not-branch-2.false

@@ -1,4 +1,4 @@
-use Rattle.mount_run.proofs.audits.is_lawful.Goals as goal
+use Rattle.run_judge.proofs.audits.is_lawful.Goals as goal
 
 pub returns : goal.returns
 returns c = λ yes. record {
@@ -7,7 +7,7 @@ returns c = λ yes. record {
   honest = c.in_ok-has_course.ensures.honest c.if-not-branch.false;
   connections = c.in_ok-has_course.ensures.connections c.if-not-branch.false;
   ties = c.in_ok-has_course.ensures.ties c.if-not-branch.false;
-  bricks = c.in_ok-has_course.ensures.bricks c.if-not-branch.false;
+  all_bricks = c.in_ok-has_course.ensures.bricks c.if-not-branch.false;
   files = c.in_ok-yes.ensures yes;
   causes = c.in_ok-has_course.ensures.causes c.if-not-branch.false;
   reads = c.in_ok-has_course.ensures.reads c.if-not-branch.false;
