@@ -23,7 +23,7 @@
 //! What `read_audit` looks up as these audits do is here, in the modules that are public.
 #![tactic(auto)]
 
-mod acknowledged;
+pub mod acknowledged;
 mod answers;
 pub mod arrivals;
 pub mod bearers;
@@ -34,6 +34,7 @@ mod claims;
 mod copies;
 mod copy_finding;
 pub mod copy_requests;
+pub mod entries;
 pub mod finding;
 mod index_requests;
 pub mod journals;

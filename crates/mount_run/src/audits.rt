@@ -9,6 +9,7 @@ ghost use Rattle.mount_log.specs.Winds.{WindsAreBalanced};
 ghost use Rattle.script_lang.specs.Accepted.{IsAccepted};
 ghost use Rattle.log_audit.specs.Heads.{heads_of};
 ghost use Rattle.log_audit.specs.Honest.{ArrivedFrom, HasHonestArrivals};
+ghost use Rattle.log_replay.specs.Judged.{IsOneFileSystem};
 ghost use Rattle.change_audit.specs.Copied.{CopiesAreMade};
 ghost use Rattle.change_audit.specs.Listed.{SkipsAreListed};
 ghost use Rattle.mount_run.specs.Headline.{AreBricksOf, HasFiles, IsLawfulRun};
@@ -18,6 +19,7 @@ ghost use Rattle.read_audit.specs.Read.{AnswersAreRead};
 
 use change_audit::{changes_are_borne, copies_are_made, skips_are_listed};
 use error_audit::io_errors_are_caused;
+use fop_types::FlatOp;
 use graph_build::Plan;
 use hub_calls::Rack;
 use line_audit::{connects_are_caused, lines_are_tied};
@@ -27,7 +29,7 @@ use log_audit::{
 };
 use log_replay::one_file_system;
 use mount_log::Log;
-use read_audit::{answers_are_read, names_are_read};
+use read_audit::{answers_are_read, names_are_read, sets_taken_from};
 use run_audit::follows_script;
 use run_report::opened_in;
 use script_lang::Script;
@@ -57,26 +59,44 @@ fn are_bricks(script: &Script, left: &Rack) -> bool
     arrivals_are_outputs(&left.log, left.bricks.as_slice())
 }
 
-// Whether the replies are those of one plain file system, and each acknowledged change is on a quorum of bricks.
+// Whether each acknowledged change, of entries with these operations, rests on names that were read, and is on a quorum of bricks.
+fn has_changes(
+    alloc: Global,
+    script: &Script,
+    plans: &[Plan],
+    left: &Rack,
+    heads: &[Head],
+    ops: &[FlatOp],
+) -> Result<bool, AllocError>
+    requires accepted { IsAccepted script.now }
+    requires files { IsOneFileSystem script.now left.now.log ops.now }
+    ensures { IfOk result (λ yes. yes ≡ true → HasFiles script.now plans.now left.now) }
+{
+    let bricks = left.bricks.as_slice();
+    let taken = sets_taken_from(alloc, script, plans, &left.log, bricks, heads, ops)?;
+    let Some(from) = taken else {
+        return Ok(false);
+    };
+    let from = from.as_slice();
+    let yes = changes_are_borne(alloc, script, plans, &left.log, bricks, ops, from)?;
+    Ok(yes)
+}
+
+// Whether the replies are those of one plain file system, and each acknowledged change rests on names that were read, and is on a
+// quorum of bricks.
 fn has_files(
     alloc: Global,
     script: &Script,
     plans: &[Plan],
     left: &Rack,
+    heads: &[Head],
 ) -> Result<bool, AllocError>
     requires { IsAccepted script.now }
     ensures { IfOk result (λ yes. yes ≡ true → HasFiles script.now plans.now left.now) }
 {
     match one_file_system(alloc, script, &left.log)? {
         None => Ok(false),
-        Some(ops) => changes_are_borne(
-            alloc,
-            script,
-            plans,
-            &left.log,
-            left.bricks.as_slice(),
-            ops.as_slice(),
-        ),
+        Some(ops) => has_changes(alloc, script, plans, left, heads, ops.as_slice()),
     }
 }
 
@@ -181,18 +201,21 @@ fn is_from_bricks(
     are_read(alloc, script, plans, left, heads)
 }
 
-// Whether all but the files is as a run promises. How each output begins that arrived is read once for all of it.
+// Whether all but the files and the heals is as a run promises.
 fn has_course(
     alloc: Global,
     script: &Script,
     plans: &[Plan],
     left: &Rack,
+    heads: &[Head],
 ) -> Result<bool, AllocError>
-    requires { IsAccepted script.now }
+    requires accepted { IsAccepted script.now }
+    requires heads { heads.now ≡ heads_of left.now.log.events }
+    requires bricks { AreBricksOf script.now left.now.log left.now.bricks }
+    requires arrived { ArrivedFrom left.now.bricks left.now.log.events }
     ensures follows { IfOk result (λ yes. yes ≡ true → FollowsScript script.now left.now.log) }
     ensures finished { IfOk result (λ yes. yes ≡ true → IsFinished script.now left.now.log) }
     ensures honest { IfOk result (λ yes. yes ≡ true → HasHonestArrivals left.now.log) }
-    ensures bricks { IfOk result (λ yes. yes ≡ true → AreBricksOf script.now left.now.log left.now.bricks) }
     ensures reads { IfOk result (λ yes. yes ≡ true → AnswersAreRead script.now plans.now left.now.log left.now.bricks) }
     ensures names { IfOk result (λ yes. yes ≡ true → NamesAreRead script.now plans.now left.now.log left.now.bricks) }
     ensures ties { IfOk result (λ yes. yes ≡ true → AreTied left.now.log) }
@@ -200,17 +223,13 @@ fn has_course(
     ensures connections { IfOk result (λ yes. yes ≡ true → ConnectsAreCaused script.now plans.now left.now.log) }
     ensures causes { IfOk result (λ yes. yes ≡ true → AreCaused script.now plans.now left.now.log) }
 {
-    if !are_bricks(script, left) {
+    if !follows(alloc, script, &left.log, heads)? {
         return Ok(false);
     }
-    let heads = heads_of(alloc, left.log.events.as_slice())?;
-    if !follows(alloc, script, &left.log, heads.as_slice())? {
+    if !is_from_bricks(alloc, script, plans, left, heads)? {
         return Ok(false);
     }
-    if !is_from_bricks(alloc, script, plans, left, heads.as_slice())? {
-        return Ok(false);
-    }
-    let yes = is_sound(alloc, script, plans, &left.log, heads.as_slice())?;
+    let yes = is_sound(alloc, script, plans, &left.log, heads)?;
     Ok(yes)
 }
 
@@ -218,8 +237,9 @@ fn has_course(
 /// carried out, each call has its reply, what arrived is what the bricks make of what was sent, what reads, stats, getattrs and
 /// lists show was read from bricks, and so were the names that calls which were answered well have looked up, replies, winds and
 /// requests are of their calls, events and graphs, connections and I/O errors have their causes, the winds are balanced, copies
-/// were made, skips were listed, the replies are those of one plain file system, and each acknowledged change is on a quorum of
-/// bricks.
+/// were made, skips were listed, the replies are those of one plain file system, and each acknowledged change works on what its
+/// call's path leads to, takes a name from the set on which the call had read it, and is on a quorum of bricks. How each output
+/// begins that arrived is read once for all of it.
 ///
 /// # Errors
 /// Out of memory.
@@ -232,13 +252,17 @@ pub fn is_lawful(
     requires { IsScript script.now plans.now }
     ensures { IfOk result (λ yes. yes ≡ true → IsLawfulRun script.now plans.now left.now) }
 {
-    if !has_course(alloc, script, plans, left)? {
+    if !are_bricks(script, left) {
+        return Ok(false);
+    }
+    let heads = heads_of(alloc, left.log.events.as_slice())?;
+    if !has_course(alloc, script, plans, left, heads.as_slice())? {
         return Ok(false);
     }
     if !has_heals(alloc, script, plans, left)? {
         return Ok(false);
     }
-    let yes = has_files(alloc, script, plans, left)?;
+    let yes = has_files(alloc, script, plans, left, heads.as_slice())?;
     Ok(yes)
 }
 

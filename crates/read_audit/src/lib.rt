@@ -45,6 +45,8 @@ mod replies;
 mod runs;
 mod showing;
 mod submissions;
+mod taken;
 
 pub use names::names_are_read;
 pub use replies::answers_are_read;
+pub use taken::sets_taken_from;
