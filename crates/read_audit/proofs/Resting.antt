@@ -26,6 +26,7 @@ use Rattle.read_audit.specs.Names.{IsStep, LeadsTo, LeadsToOne}
 use Rattle.read_audit.specs.Read.{IsFetched}
 use Rattle.read_audit.specs.Taken.{worked_on, moved_into, path_for, Reaches, IsNameTaken, IsTaken, RestsOnNames, EntriesRestOnNames}
 use Rattle.read_audit.specs.Taking.{RestsForCall, RestsInTime, EntryRests, FirstRest}
+use Rattle.read_audit.specs.declared.taken.TakenFrom.{TakenFrom}
 
 module _ (script : Script) (plans : List Plan) (log : Log) (bricks : List Journal) where
   -- ---- what was read by an event was read by each later one
@@ -103,6 +104,18 @@ module _ (script : Script) (plans : List Plan) (log : Log) (bricks : List Journa
 
   -- ---- one entry
 
+  pub reaches_by : (call number : ℕ) (path own : List (List ℕ)) (to object : Option Gfid) → path ≡ own → to ≡ object → Reaches script plans log bricks call number path to → Reaches script plans log bricks call number own object
+  reaches_by call number path own to object path_is to_is reaches =
+      subst (λ (o : Option Gfid). Reaches script plans log bricks call number own o) to_is (subst (λ (p : List (List ℕ)). Reaches script plans log bricks call number p to) path_is reaches)
+
+  pub name_is : (call number : ℕ) (dir : Gfid) (name : List ℕ) (found : Option Object) (object : Object) → found ≡ Some object → IfSome found (λ to. IsStep script plans log bricks call number dir name to)
+      → IsNameTaken script plans log bricks call number dir name (Some object.set)
+  name_is call number dir name found object is step = record {
+    object = object;
+    read = subst (λ (f : Option Object). IfSome f (λ to. IsStep script plans log bricks call number dir name to)) is step;
+    from_is = refl;
+  }
+
   pub rests_for : (calls : List Submission) (call number : ℕ) (made : Submission) (operation : FlatOp) (found : Option ℕ) → calls ≡ submissions_of script log → Some made ≡ call_numbered calls call
       → RestsOnNames script plans log bricks call number made.call operation found → RestsForCall script plans log bricks call number operation found
   rests_for calls call number made operation found are asked rests other is =
@@ -128,14 +141,18 @@ module _ (script : Script) (plans : List Plan) (log : Log) (bricks : List Journa
   pub none_rest : (ops : List FlatOp) (sets : List (Option ℕ)) → sets ≡ [] → FirstRest script plans log bricks ops 0 sets
   none_rest ops sets none = subst (λ (l : List (Option ℕ)). FirstRest script plans log bricks ops 0 l) (sym none) (record { long = refl; each = λ k set there. absurd cc })
 
-  pub rest_next : (ops : List FlatOp) (n : ℕ) (sets more : List (Option ℕ)) (set : Option ℕ) → more ≡ sets ++ set ∷ [] → EntryRests script plans log bricks ops n set
-      → FirstRest script plans log bricks ops n sets → FirstRest script plans log bricks ops (n + 1) more
-  rest_next ops n sets more set is rests so_far = record {
-    long = ap length is ∙ length_push sets set ∙ ap (λ (m : ℕ). m + 1) so_far.long;
+  pub rest_next : (ops : List FlatOp) (n : ℕ) (sets more : List (Option ℕ)) (found : Option TakenFrom) (from : TakenFrom) → more ≡ sets ++ from.set ∷ [] → found ≡ Some from
+      → IfSome found (λ f. EntryRests script plans log bricks ops n f.set) → FirstRest script plans log bricks ops n sets → FirstRest script plans log bricks ops (n + 1) more
+  rest_next ops n sets more found from is there rests so_far = record {
+    long = ap length is ∙ length_push sets from.set ∙ ap (λ (m : ℕ). m + 1) so_far.long;
     each =
         subst (λ (l : List (Option ℕ)). (k : ℕ) (s : Option ℕ) → slice_get l k ≡ Some s → EntryRests script plans log bricks ops k s) (sym is)
-        (each_push (λ (k : ℕ) (s : Option ℕ). EntryRests script plans log bricks ops k s) sets set (subst (λ (m : ℕ). EntryRests script plans log bricks ops m set) (sym so_far.long) rests) so_far.each);
-  }
+        (each_push (λ (k : ℕ) (s : Option ℕ). EntryRests script plans log bricks ops k s) sets from.set own so_far.each);
+  } where
+    own : EntryRests script plans log bricks ops (length sets) from.set
+    own =
+        subst (λ (m : ℕ). EntryRests script plans log bricks ops m from.set) (sym so_far.long)
+        (subst (λ (f : Option TakenFrom). IfSome f (λ x. EntryRests script plans log bricks ops n x.set)) there rests)
 
   pub all_rest : (ops : List FlatOp) (n : ℕ) (sets all : List (Option ℕ)) → length log.history ≤ n → all ≡ sets → FirstRest script plans log bricks ops n sets → EntriesRestOnNames script plans log bricks ops all
   all_rest ops n sets all le is rest =

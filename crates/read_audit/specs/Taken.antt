@@ -38,9 +38,13 @@ abbrev pub moved_into : FlatOp → Option Gfid
 moved_into (op.Rename parent name target new_name) = Some target
 moved_into other = None
 
--- the path that leads to what an operation of a call works on; a rename unlinks at its second path
+-- the path to the directory in which a call unlinks a name: a rename does so at its second path
+abbrev pub unlinking_path : Call → List (List ℕ)
+unlinking_path c = if is_rename c then second_path (looked_up c) else first_path (looked_up c)
+
+-- the path to what an operation of a call works on
 abbrev pub path_for : Call → FlatOp → List (List ℕ)
-path_for c (op.Unlink parent name) = if is_rename c then second_path (looked_up c) else first_path (looked_up c)
+path_for c (op.Unlink parent name) = unlinking_path c
 path_for c other = first_path (looked_up c)
 
 -- by names that the call has read by the event of this number, the path leads to this object, if there is one

@@ -1,14 +1,13 @@
 //! The sets from which changes take names, and whether changes work on what the paths of their calls lead to, by names that the calls
 //! have read.
-ghost use Rattle.std.specs.Prelude.{◌≡◌, true, Some, slice_get, IfOk, IfSome};
+ghost use Rattle.std.specs.Prelude.{◌≡◌, true, Some, IfOk, IfSome};
 ghost use Rattle.call_fops.specs.Walks.{second_path as second_of};
-ghost use Rattle.fop_types.specs.Calls.{Submission, call_numbered, looked_up};
-ghost use Rattle.fop_types.specs.declared.history.Entry.{Entry as Made};
+ghost use Rattle.fop_types.specs.Calls.{looked_up};
 ghost use Rattle.script_lang.specs.Accepted.{IsAccepted};
 ghost use Rattle.mount_log.specs.Connections.{graph_of_call};
 ghost use Rattle.mount_log.specs.Submissions.{submissions_of};
 ghost use Rattle.change_audit.specs.Acknowledged.{AreMarked};
-ghost use Rattle.read_audit.specs.Taken.{worked_on as worked_on_by, moved_into as moved_into_by, path_for as path_of, Reaches, IsNameTaken, IsTaken, RestsOnNames, EntriesRestOnNames};
+ghost use Rattle.read_audit.specs.Taken.{worked_on as worked_on_by, moved_into as moved_into_by, unlinking_path as unlinking_path_of, path_for as path_of, Reaches, IsNameTaken, IsTaken, RestsOnNames, EntriesRestOnNames};
 ghost use Rattle.read_audit.specs.Taking.{RestsForCall, RestsInTime, EntryRests, FirstRest};
 
 use crate::cells::is_gfid;
@@ -69,7 +68,7 @@ fn moved_into(operation: &FlatOp) -> Option<Gfid>
 
 // The path to the directory in which a call unlinks a name.
 fn unlinking_path(call: &Call) -> &[Seq<u8>]
-    ensures { (dir : Gfid) (name : List ℕ) → result.now ≡ path_of call.now (Unlink dir name) }
+    ensures { result.now ≡ unlinking_path_of call.now }
 {
     match call {
         Call::Rename { .. } => second_path(call),
@@ -138,11 +137,13 @@ fn are_reached(
     ensures moves { IfOk result (λ yes. yes ≡ true → Reaches run.now.script.now run.now.plans.now run.now.log.now run.now.bricks.now by.call by.number (second_of (looked_up call.now)) (moved_into_by operation.now)) }
 {
     let path = path_for(call, operation);
-    if !reaches(alloc, run, by, path, worked_on(operation))? {
+    let to = worked_on(operation);
+    if !reaches(alloc, run, by, path, to)? {
         return Ok(false);
     }
     let other = second_path(call);
-    let yes = reaches(alloc, run, by, other, moved_into(operation))?;
+    let into = moved_into(operation);
+    let yes = reaches(alloc, run, by, other, into)?;
     Ok(yes)
 }
 
@@ -215,7 +216,30 @@ fn rests_on(
     Ok(from)
 }
 
-// The same of a call by its number, by what it had read by the event of a number.
+// The same of a call by what it had read by the event of a number.
+fn rests_by(
+    alloc: Global,
+    run: &Run,
+    made: &Submitted,
+    call: u32,
+    number: u64,
+    operation: &FlatOp,
+) -> Result<Option<TakenFrom>, AllocError>
+    ensures { IfOk result (λ found. IfSome found (λ from. RestsOnNames run.now.script.now run.now.plans.now run.now.log.now run.now.bricks.now call number made.now.call operation.now from.set)) }
+{
+    let Some(graph) = call_graph(run, call) else {
+        return Ok(None);
+    };
+    let by = Replied {
+        call,
+        graph,
+        number,
+    };
+    let from = rests_on(alloc, run, by, made.call, operation)?;
+    Ok(from)
+}
+
+// The same of a call by its number.
 fn rests_for(
     alloc: Global,
     run: &Run,
@@ -227,18 +251,10 @@ fn rests_for(
     requires { calls.now ≡ submissions_of run.now.script.now run.now.log.now }
     ensures { IfOk result (λ found. IfSome found (λ from. RestsForCall run.now.script.now run.now.plans.now run.now.log.now run.now.bricks.now call number operation.now from.set)) }
 {
-    let Some(graph) = call_graph(run, call) else {
-        return Ok(None);
-    };
     let Some(made) = made_at(calls, call) else {
         return Ok(None);
     };
-    let by = Replied {
-        call,
-        graph,
-        number,
-    };
-    let from = rests_on(alloc, run, by, made.call, operation)?;
+    let from = rests_by(alloc, run, made, call, number, operation)?;
     Ok(from)
 }
 
