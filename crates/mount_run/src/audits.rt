@@ -77,8 +77,8 @@ fn has_changes(
     let Some(from) = taken else {
         return Ok(false);
     };
-    let from = from.as_slice();
-    let yes = changes_are_borne(alloc, script, plans, &left.log, bricks, ops, from)?;
+    let sets = from.as_slice();
+    let yes = changes_are_borne(alloc, script, plans, &left.log, bricks, ops, sets)?;
     Ok(yes)
 }
 

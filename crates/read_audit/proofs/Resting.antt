@@ -158,5 +158,5 @@ module _ (script : Script) (plans : List Plan) (log : Log) (bricks : List Journa
   all_rest ops n sets all le is rest =
       subst (λ (l : List (Option ℕ)). EntriesRestOnNames script plans log bricks ops l) (sym is)
       (λ k number entry operation made there op_there asked well.
-        let lt = slice_get_within log.history k entry there in let long = rest.long in
-        rest.each k (get_or sets k None) (slice_get-get_or sets k None (omega (arith, lt, le, long))) entry operation there op_there number well made asked)
+      let lt = slice_get_within log.history k entry there in let long = rest.long in
+      rest.each k (get_or sets k None) (slice_get-get_or sets k None (omega (arith, lt, le, long))) entry operation there op_there number well made asked)

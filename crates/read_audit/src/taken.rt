@@ -8,7 +8,7 @@ ghost use Rattle.mount_log.specs.Connections.{graph_of_call};
 ghost use Rattle.mount_log.specs.Submissions.{submissions_of};
 ghost use Rattle.change_audit.specs.Acknowledged.{AreMarked};
 ghost use Rattle.read_audit.specs.Taken.{worked_on as worked_on_by, moved_into as moved_into_by, unlinking_path as unlinking_path_of, path_for as path_of, Reaches, IsNameTaken, IsTaken, RestsOnNames, EntriesRestOnNames};
-ghost use Rattle.read_audit.specs.Taking.{RestsForCall, RestsInTime, EntryRests, FirstRest};
+ghost use Rattle.read_audit.specs.Taking.{RestsForCall, RestsInTime, EntryRests};
 
 use crate::cells::is_gfid;
 use crate::finding::find;
