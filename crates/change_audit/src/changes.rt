@@ -11,7 +11,7 @@ use crate::bearers::has_bearers;
 use crate::call_graphs::{CallGraphs, graph_of, set_in, set_with};
 use crate::candidates::Candidate;
 use crate::claims::Claims;
-use crate::entries::{entry_at, op_at};
+use crate::history::{entry_at, op_at};
 use crate::notes::{Notes, notes_of};
 use crate::placing::is_on_set;
 use brick_machine::Brick;

@@ -20,7 +20,7 @@ use brick_machine::Brick;
 use call_fops::{first_path, second_path};
 use change_audit::acknowledged::{answered_well, mark_of};
 use change_audit::call_graphs::call_graphs;
-use change_audit::entries::{entry_at, op_at};
+use change_audit::history::{entry_at, op_at};
 use fop_types::{Call, FlatOp, Gfid, Seq};
 use graph_build::Plan;
 use history_replay::Submitted;
