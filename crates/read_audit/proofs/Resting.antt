@@ -104,6 +104,10 @@ module _ (script : Script) (plans : List Plan) (log : Log) (bricks : List Journa
 
   -- ---- one entry
 
+  pub rests_is : (call number : ℕ) (c : Call) (operation : FlatOp) (from : Option ℕ) → Reaches script plans log bricks call number (path_for c operation) (worked_on operation)
+      → Reaches script plans log bricks call number (second_path (looked_up c)) (moved_into operation) → IsTaken script plans log bricks call number operation from → RestsOnNames script plans log bricks call number c operation from
+  rests_is call number c operation from works moves takes = record { works = works; moves = moves; takes = takes }
+
   pub reaches_by : (call number : ℕ) (path own : List (List ℕ)) (to object : Option Gfid) → path ≡ own → to ≡ object → Reaches script plans log bricks call number path to → Reaches script plans log bricks call number own object
   reaches_by call number path own to object path_is to_is reaches =
       subst (λ (o : Option Gfid). Reaches script plans log bricks call number own o) to_is (subst (λ (p : List (List ℕ)). Reaches script plans log bricks call number p to) path_is reaches)
