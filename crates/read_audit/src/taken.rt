@@ -2,7 +2,7 @@
 //! have read.
 ghost use Rattle.std.specs.Prelude.{◌≡◌, true, Some, IfOk, IfSome};
 ghost use Rattle.call_fops.specs.Walks.{second_path as second_of};
-ghost use Rattle.fop_types.specs.Calls.{looked_up};
+ghost use Rattle.fop_types.specs.Calls.{is_rename as is_rename_of, looked_up};
 ghost use Rattle.script_lang.specs.Accepted.{IsAccepted};
 ghost use Rattle.mount_log.specs.Connections.{graph_of_call};
 ghost use Rattle.mount_log.specs.Submissions.{submissions_of};
@@ -52,7 +52,13 @@ fn worked_on(operation: &FlatOp) -> Option<Gfid>
         FlatOp::Truncate { gfid, .. } => Some(*gfid),
         FlatOp::SetAttr { gfid, .. } => Some(*gfid),
         FlatOp::DelAttr { gfid, .. } => Some(*gfid),
-        _ => None,
+        FlatOp::Lookup { .. } => None,
+        FlatOp::Open { .. } => None,
+        FlatOp::Stat { .. } => None,
+        FlatOp::List { .. } => None,
+        FlatOp::GetAttr { .. } => None,
+        FlatOp::Read { .. } => None,
+        FlatOp::Write { .. } => None,
     }
 }
 
@@ -66,14 +72,23 @@ fn moved_into(operation: &FlatOp) -> Option<Gfid>
     }
 }
 
+fn is_rename(call: &Call) -> bool
+    ensures { result ≡ is_rename_of call.now }
+{
+    match call {
+        Call::Rename { .. } => true,
+        _ => false,
+    }
+}
+
 // The path to the directory in which a call unlinks a name.
 fn unlinking_path(call: &Call) -> &[Seq<u8>]
     ensures { result.now ≡ unlinking_path_of call.now }
 {
-    match call {
-        Call::Rename { .. } => second_path(call),
-        _ => first_path(call),
+    if is_rename(call) {
+        return second_path(call);
     }
+    first_path(call)
 }
 
 // The path that leads to what an operation of a call works on.
