@@ -19,12 +19,13 @@
 //!
 //! The locks and the fetches of each call are found by one pass over what arrived (`finding`), and the offsets of reads by one
 //! over the replies (`offsets`), without a contract. What was found is then checked where it is (`fetches`, `holders`, `quorums`,
-//! `lacking`, `readings`) and compared with the answer (`showing`, `objects`; of names `paths`, `directories`, `lists`) or with the
-//! operation (`taken`), and an audit's `true` rests on that alone: true says that each answer was read so; false says nothing. Script, plans, log, bricks and
-//! what was found are handed on as one `Run` (`runs`), with the call that has its reply (`readings`). No content is copied, and
-//! each audit decodes one once for a reply, but for names: a step of a path decodes those that the call has read of its directory,
-//! from the last on, until its name is there. With n events, winds, replies, locks and fetches an audit takes time of the order
-//! n log n, and of the bytes that are decoded: a step goes through the locks and the fetches of its directory in its own call alone.
+//! `lacking`, `readings`) and compared with the answer (`showing`, `objects`; of names `paths`, `directories`, `lists`) or with
+//! the operation (`works`, `taken`), and an audit's `true` rests on that alone: true says that each answer was read so; false
+//! says nothing. Script, plans, log, bricks and what was found are handed on as one `Run` (`runs`), with the call that has its
+//! reply (`readings`). No content is copied, and each audit decodes one once for a reply, but for names: a step of a path decodes
+//! those that the call has read of its directory, from the last on, until its name is there. With n events, winds, replies, locks
+//! and fetches an audit takes time of the order n log n, and of the bytes that are decoded: a step goes through the locks and the
+//! fetches of its directory in its own call alone.
 #![tactic(auto)]
 
 mod answers;
@@ -49,6 +50,7 @@ mod runs;
 mod showing;
 mod submissions;
 mod taken;
+mod works;
 
 pub use names::names_are_read;
 pub use replies::answers_are_read;

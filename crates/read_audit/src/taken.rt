@@ -1,23 +1,20 @@
 //! The sets from which changes take names, and whether changes work on what the paths of their calls lead to, by names that the calls
 //! have read.
-ghost use Rattle.std.specs.Prelude.{◌≡◌, true, Some, IfOk, IfSome};
-ghost use Rattle.call_fops.specs.Walks.{second_path as second_of};
-ghost use Rattle.fop_types.specs.Calls.{is_rename as is_rename_of, looked_up};
+ghost use Rattle.std.specs.Prelude.{◌≡◌, IfOk, IfSome};
 ghost use Rattle.script_lang.specs.Accepted.{IsAccepted};
 ghost use Rattle.mount_log.specs.Connections.{graph_of_call};
 ghost use Rattle.mount_log.specs.Submissions.{submissions_of};
 ghost use Rattle.change_audit.specs.Acknowledged.{AreMarked};
-ghost use Rattle.read_audit.specs.Taken.{worked_on as worked_on_by, moved_into as moved_into_by, unlinking_path as unlinking_path_of, path_for as path_of, Reaches, IsNameTaken, IsTaken, RestsOnNames, EntriesRestOnNames};
+ghost use Rattle.read_audit.specs.Taken.{IsNameTaken, IsTaken, RestsOnNames, EntriesRestOnNames};
 ghost use Rattle.read_audit.specs.Taking.{RestsForCall, RestsInTime, EntryRests};
 
-use crate::cells::is_gfid;
 use crate::finding::find;
-use crate::paths::{object_at, step};
+use crate::paths::step;
 use crate::readings::{Replied, call_graph};
 use crate::runs::Run;
 use crate::submissions::made_at;
+use crate::works::are_reached;
 use brick_machine::Brick;
-use call_fops::{first_path, second_path};
 use change_audit::acknowledged::{answered_well, mark_of};
 use change_audit::call_graphs::call_graphs;
 use change_audit::history::{entry_at, op_at};
@@ -34,132 +31,6 @@ use std::alloc::{AllocError, Global};
 #[derive(Clone, Copy)]
 pub struct TakenFrom {
     pub set: Option<u8>,
-}
-
-// ---- what a change works on
-
-// The object that an operation changes, or the directory of the name that it makes, drops or moves.
-fn worked_on(operation: &FlatOp) -> Option<Gfid>
-    ensures { result ≡ worked_on_by operation.now }
-{
-    match operation {
-        FlatOp::Mkdir { parent, .. } => Some(*parent),
-        FlatOp::Rmdir { parent, .. } => Some(*parent),
-        FlatOp::Create { parent, .. } => Some(*parent),
-        FlatOp::Unlink { parent, .. } => Some(*parent),
-        FlatOp::Rename { parent, .. } => Some(*parent),
-        FlatOp::Chmod { gfid, .. } => Some(*gfid),
-        FlatOp::Truncate { gfid, .. } => Some(*gfid),
-        FlatOp::SetAttr { gfid, .. } => Some(*gfid),
-        FlatOp::DelAttr { gfid, .. } => Some(*gfid),
-        FlatOp::Lookup { .. } => None,
-        FlatOp::Open { .. } => None,
-        FlatOp::Stat { .. } => None,
-        FlatOp::List { .. } => None,
-        FlatOp::GetAttr { .. } => None,
-        FlatOp::Read { .. } => None,
-        FlatOp::Write { .. } => None,
-    }
-}
-
-// The directory to which an operation moves a name.
-fn moved_into(operation: &FlatOp) -> Option<Gfid>
-    ensures { result ≡ moved_into_by operation.now }
-{
-    match operation {
-        FlatOp::Rename { target, .. } => Some(*target),
-        _ => None,
-    }
-}
-
-fn is_rename(call: &Call) -> bool
-    ensures { result ≡ is_rename_of call.now }
-{
-    match call {
-        Call::Rename { .. } => true,
-        _ => false,
-    }
-}
-
-// The path to the directory in which a call unlinks a name.
-fn unlinking_path(call: &Call) -> &[Seq<u8>]
-    ensures { result.now ≡ unlinking_path_of call.now }
-{
-    if is_rename(call) {
-        return second_path(call);
-    }
-    first_path(call)
-}
-
-// The path that leads to what an operation of a call works on.
-fn path_for<'a>(call: &'a Call, operation: &FlatOp) -> &'a [Seq<u8>]
-    ensures { result.now ≡ path_of call.now operation.now }
-{
-    match operation {
-        FlatOp::Unlink { .. } => unlinking_path(call),
-        _ => first_path(call),
-    }
-}
-
-// Whether a path leads to an object of this gfid.
-fn leads_to(
-    alloc: Global,
-    run: &Run,
-    by: Replied,
-    path: &[Seq<u8>],
-    gfid: Gfid,
-) -> Result<bool, AllocError>
-    requires { by.graph ≡ graph_of_call run.now.log.now by.call }
-    ensures { IfOk result (λ yes. yes ≡ true → Reaches run.now.script.now run.now.plans.now run.now.log.now run.now.bricks.now by.call by.number path.now (Some gfid)) }
-{
-    let reached = object_at(alloc, run, by, path)?;
-    match reached {
-        Some(object) => Ok(is_gfid(object.gfid, gfid)),
-        None => Ok(false),
-    }
-}
-
-// The same, if there is a gfid.
-fn reaches(
-    alloc: Global,
-    run: &Run,
-    by: Replied,
-    path: &[Seq<u8>],
-    to: Option<Gfid>,
-) -> Result<bool, AllocError>
-    requires { by.graph ≡ graph_of_call run.now.log.now by.call }
-    ensures { IfOk result (λ yes. yes ≡ true → Reaches run.now.script.now run.now.plans.now run.now.log.now run.now.bricks.now by.call by.number path.now to) }
-{
-    match to {
-        Some(gfid) => {
-            let yes = leads_to(alloc, run, by, path, gfid)?;
-            Ok(yes)
-        }
-        None => Ok(true),
-    }
-}
-
-// Whether the paths of a call lead to what its operation works on.
-fn are_reached(
-    alloc: Global,
-    run: &Run,
-    by: Replied,
-    call: &Call,
-    operation: &FlatOp,
-) -> Result<bool, AllocError>
-    requires { by.graph ≡ graph_of_call run.now.log.now by.call }
-    ensures works { IfOk result (λ yes. yes ≡ true → Reaches run.now.script.now run.now.plans.now run.now.log.now run.now.bricks.now by.call by.number (path_of call.now operation.now) (worked_on_by operation.now)) }
-    ensures moves { IfOk result (λ yes. yes ≡ true → Reaches run.now.script.now run.now.plans.now run.now.log.now run.now.bricks.now by.call by.number (second_of (looked_up call.now)) (moved_into_by operation.now)) }
-{
-    let path = path_for(call, operation);
-    let to = worked_on(operation);
-    if !reaches(alloc, run, by, path, to)? {
-        return Ok(false);
-    }
-    let other = second_path(call);
-    let into = moved_into(operation);
-    let yes = reaches(alloc, run, by, other, into)?;
-    Ok(yes)
 }
 
 // ---- the name that a change takes away

@@ -1,6 +1,6 @@
 use Rattle.fop_types.specs.declared.fops.Object.{Object}
 use Rattle.read_audit.proofs.Leading.{leads_to_one}
-use Rattle.read_audit.proofs.taken.leads_to.Goals as goal
+use Rattle.read_audit.proofs.works.leads_to.Goals as goal
 
 pub returns-in-Some : goal.returns-in-Some
 returns-in-Some c = λ yes.
