@@ -1,7 +1,7 @@
 //! Whether the paths of a call lead to what its changes work on, by names that the call has read.
 ghost use Rattle.std.specs.Prelude.{◌≡◌, true, Some, IfOk};
 ghost use Rattle.call_fops.specs.Walks.{second_path as second_of};
-ghost use Rattle.fop_types.specs.Calls.{is_rename as is_rename_of, looked_up};
+ghost use Rattle.fop_types.specs.Calls.{looked_up};
 ghost use Rattle.mount_log.specs.Connections.{graph_of_call};
 ghost use Rattle.read_audit.specs.Taken.{worked_on as worked_on_by, moved_into as moved_into_by, unlinking_path as unlinking_path_of, path_for as path_of, Reaches};
 
@@ -29,13 +29,7 @@ fn worked_on(operation: &FlatOp) -> Option<Gfid>
         FlatOp::Truncate { gfid, .. } => Some(*gfid),
         FlatOp::SetAttr { gfid, .. } => Some(*gfid),
         FlatOp::DelAttr { gfid, .. } => Some(*gfid),
-        FlatOp::Lookup { .. } => None,
-        FlatOp::Open { .. } => None,
-        FlatOp::Stat { .. } => None,
-        FlatOp::List { .. } => None,
-        FlatOp::GetAttr { .. } => None,
-        FlatOp::Read { .. } => None,
-        FlatOp::Write { .. } => None,
+        _ => None,
     }
 }
 
@@ -49,23 +43,14 @@ fn moved_into(operation: &FlatOp) -> Option<Gfid>
     }
 }
 
-fn is_rename(call: &Call) -> bool
-    ensures { result ≡ is_rename_of call.now }
-{
-    match call {
-        Call::Rename { .. } => true,
-        _ => false,
-    }
-}
-
 // The path to the directory in which a call unlinks a name.
 fn unlinking_path(call: &Call) -> &[Seq<u8>]
     ensures { result.now ≡ unlinking_path_of call.now }
 {
-    if is_rename(call) {
-        return second_path(call);
+    match call {
+        Call::Rename { .. } => second_path(call),
+        _ => first_path(call),
     }
-    first_path(call)
 }
 
 // The path that leads to what an operation of a call works on.
