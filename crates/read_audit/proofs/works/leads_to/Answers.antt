@@ -1,3 +1,4 @@
+use Rattle.std.proofs.Common.{◌≡◌}
 use Rattle.fop_types.specs.declared.fops.Object.{Object}
 use Rattle.read_audit.proofs.Leading.{leads_to_one}
 use Rattle.read_audit.proofs.works.leads_to.Goals as goal
