@@ -1,6 +1,6 @@
 -- The graph of a call is that of the table; the sets of new names.
 use Rattle.std.proofs.Common.{◌≡◌, sym, ap, subst, ◌∙◌, arith}
-use Rattle.std.specs.Prelude.{ℕ, zero, suc, ◌≤◌, ◌+◌, ◌-◌, List, [], ◌∷◌, ◌++◌, Some, length, take, slice_get}
+use Rattle.std.specs.Prelude.{ℕ, zero, suc, ◌≤◌, ◌+◌, ◌-◌, List, [], ◌∷◌, ◌++◌, Option, Some, length, take, slice_get, IfSome}
 use Rattle.fop_types.specs.declared.cells.Gfid.{Gfid}
 use Rattle.fop_types.specs.declared.flat.FlatOp.{FlatOp}
 use Rattle.fop_types.specs.declared.flat.FlatOp.TheVariants as flat
@@ -150,10 +150,10 @@ module _ (script : Script) (log : Log) (tables : CallGraphs) (are : AreGraphsOf 
   on_set plans ops (flat.Write gfid offset bytes) set is = tt
 
   -- a change of a call that the bricks of a set of its graph bear by the event of a number
-  pub borne : (plans : List Plan) (bricks : List Journal) (ops : List FlatOp) (call graph change number set : ℕ) (operation : FlatOp) (plan : SetPlan) → HasGraph tables call graph
-      → set_of_plan (plan_of_volfile plans (slice_get tables.volfiles (graph - 1))) set ≡ Some plan → IsOnSetByTable plans log tables ops operation set
-      → HasBearers log bricks plan call graph change number operation → IsBorne script plans log bricks ops call change number operation
-  borne plans bricks ops call graph change number set operation plan has set_is placed have =
+  pub borne : (plans : List Plan) (bricks : List Journal) (ops : List FlatOp) (call graph change number set : ℕ) (operation : FlatOp) (from : Option ℕ) (plan : SetPlan) → HasGraph tables call graph
+      → set_of_plan (plan_of_volfile plans (slice_get tables.volfiles (graph - 1))) set ≡ Some plan → IsOnSetByTable plans log tables ops operation set → IfSome from (λ one. set ≡ one)
+      → HasBearers log bricks plan call graph change number operation → IsBorne script plans log bricks ops call change number operation from
+  borne plans bricks ops call graph change number set operation from plan has set_is placed taken have =
       let same = graph_is call graph has in
       record {
         set = set;
@@ -162,6 +162,7 @@ module _ (script : Script) (log : Log) (tables : CallGraphs) (are : AreGraphsOf 
             ap (λ (vs : List ℕ). set_of_plan (plan_of_volfile plans (slice_get vs (graph_of_call log call - 1))) set) (sym are.volfiles)
             ∙ ap (λ (n : ℕ). set_of_plan (plan_of_volfile plans (slice_get tables.volfiles (n - 1))) set) (sym same) ∙ set_is;
         placed = on_set plans ops operation set placed;
+        taken = taken;
         op = have.op;
         op_is = have.op_is;
         bearers = have.bearers;

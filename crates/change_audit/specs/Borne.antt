@@ -1,8 +1,8 @@
 -- Acknowledged changes are on the bricks: each entry of a call that was answered well has a change of its own, and a quorum of
 -- the bricks of one set has answered Done to the store op of that change, which makes the entry, and then to its post, each of
 -- the call's graph and for a wind of the call. What they answered arrived by the event of the call's reply. Where the entry makes
--- an object, the set is that of its name.
-use Rattle.std.specs.Prelude.{◌≡◌, ℕ, ◌<◌, true, List, Some, Contains, slice_get}
+-- an object, the set is that of its name; where a list has a set for the entry, from which it takes a name, it is that one.
+use Rattle.std.specs.Prelude.{◌≡◌, ℕ, ◌<◌, true, List, Option, None, Some, Contains, get_or, slice_get, IfSome}
 use Rattle.dht_fops.specs.Answers.{change_of}
 use Rattle.fop_types.specs.Replies.{is_ok}
 use Rattle.fop_types.specs.declared.cells.Cell.{Cell}
@@ -48,13 +48,14 @@ pub record IsBearer (log : Log) (bricks : List Journal) (plan : SetPlan) (call g
   pub member : Contains plan.bricks brick
   pub borne : IsBorneBy log bricks call graph change number o brick
 
--- By the event of this number, a change of a call makes the operation, and a quorum of the bricks of one set bears it, that of the
--- name of the object which it makes, if it does.
-pub record IsBorne (script : Script) (plans : List Plan) (log : Log) (bricks : List Journal) (ops : List FlatOp) (call change number : ℕ) (operation : FlatOp) : Type 0 where
+-- By the event of this number, a change of a call makes the operation, and a quorum of the bricks of one set bears it: that of the
+-- name of the object which it makes, if it does, and the one from which it takes a name, if one is given.
+pub record IsBorne (script : Script) (plans : List Plan) (log : Log) (bricks : List Journal) (ops : List FlatOp) (call change number : ℕ) (operation : FlatOp) (from : Option ℕ) : Type 0 where
   pub set : ℕ
   pub plan : SetPlan
   pub plan_is : set_of_call script plans log call set ≡ Some plan
   pub placed : IsOnSet script plans log ops operation set
+  pub taken : IfSome from (λ one. set ≡ one)
   pub op : StoreOp
   pub op_is : change_of op ≡ Some operation
   pub bearers : List ℕ
@@ -70,14 +71,15 @@ pub record IsAcknowledged (log : Log) (call number : ℕ) : Type 0 where
   pub event_is : reply.event ≡ number
 
 -- a change that makes the operation by the event of this number, and is that of the entry at this place
-pub record HasChange (script : Script) (plans : List Plan) (log : Log) (bricks : List Journal) (ops : List FlatOp) (entry_of : ℕ → ℕ) (k call number : ℕ) (operation : FlatOp) : Type 0 where
+pub record HasChange (script : Script) (plans : List Plan) (log : Log) (bricks : List Journal) (ops : List FlatOp) (entry_of : ℕ → ℕ) (k call number : ℕ) (operation : FlatOp) (from : Option ℕ) : Type 0 where
   pub change : ℕ
   pub own : entry_of change ≡ k
-  pub borne : IsBorne script plans log bricks ops call change number operation
+  pub borne : IsBorne script plans log bricks ops call change number operation from
 
 -- Each change has the place of the entry that it makes, so no two entries have the same change; nor, as an op and its post name
--- their change, the same request. The number is that of the event of any reply by which the entry's call was answered well.
-pub record AreBorne (script : Script) (plans : List Plan) (log : Log) (bricks : List Journal) (ops : List FlatOp) : Type 0 where
+-- their change, the same request. The number is that of the event of any reply by which the entry's call was answered well. The
+-- list has for each entry the set from which it takes a name, or none.
+pub record AreBorne (script : Script) (plans : List Plan) (log : Log) (bricks : List Journal) (ops : List FlatOp) (from : List (Option ℕ)) : Type 0 where
   pub entry_of : ℕ → ℕ
   pub each : (k number : ℕ) (entry : Entry) (operation : FlatOp) → slice_get log.history k ≡ Some entry → slice_get ops k ≡ Some operation
-      → IsAcknowledged log entry.call number → HasChange script plans log bricks ops entry_of k entry.call number operation
+      → IsAcknowledged log entry.call number → HasChange script plans log bricks ops entry_of k entry.call number operation (get_or from k None)

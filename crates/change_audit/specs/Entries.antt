@@ -1,5 +1,5 @@
 -- What is found of one entry of the history.
-use Rattle.std.specs.Prelude.{◌≡◌, ℕ, List, Some, slice_get}
+use Rattle.std.specs.Prelude.{◌≡◌, ℕ, List, Option, None, Some, get_or, slice_get}
 use Rattle.fop_types.specs.declared.flat.FlatOp.{FlatOp}
 use Rattle.fop_types.specs.declared.history.Entry.{Entry}
 use Rattle.graph_build.specs.declared.plans.Plan.{Plan}
@@ -16,16 +16,18 @@ pub record AreNotesOf (script : Script) (log : Log) (notes : Notes) : Type 0 whe
   pub graphs : AreGraphsOf script log notes.graphs
   pub marks : AreMarked log.replies notes.marks
 
--- a change that makes the operation by the event of a number was taken for the entry at a place
-pub record IsClaimed (script : Script) (plans : List Plan) (log : Log) (bricks : List Journal) (ops : List FlatOp) (claims : List (ℕ × ℕ)) (k call number : ℕ) (operation : FlatOp) : Type 0 where
+-- a change that makes the operation by the event of a number, and takes a name from this set, if there is one, was taken for the
+-- entry at a place
+pub record IsClaimed (script : Script) (plans : List Plan) (log : Log) (bricks : List Journal) (ops : List FlatOp) (claims : List (ℕ × ℕ)) (k call number : ℕ) (operation : FlatOp) (from : Option ℕ) : Type 0 where
   pub change : ℕ
   pub claimed : claim_of claims change ≡ Some k
-  pub borne : IsBorne script plans log bricks ops call change number operation
+  pub borne : IsBorne script plans log bricks ops call change number operation from
 
 -- so by the event of each reply by which the call was answered well
-abbrev pub IsClaimedInTime : Script → List Plan → Log → List Journal → List FlatOp → List (ℕ × ℕ) → ℕ → ℕ → FlatOp → Type 0
-IsClaimedInTime script plans log bricks ops claims k call operation = (number : ℕ) → IsAcknowledged log call number → IsClaimed script plans log bricks ops claims k call number operation
+abbrev pub IsClaimedInTime : Script → List Plan → Log → List Journal → List FlatOp → List (ℕ × ℕ) → ℕ → ℕ → FlatOp → Option ℕ → Type 0
+IsClaimedInTime script plans log bricks ops claims k call operation from = (number : ℕ) → IsAcknowledged log call number → IsClaimed script plans log bricks ops claims k call number operation from
 
 -- the entry at a place has its change, if its call was answered well
-abbrev pub IsEntryClaimed : Script → List Plan → Log → List Journal → List FlatOp → List (ℕ × ℕ) → ℕ → Entry → Type 0
-IsEntryClaimed script plans log bricks ops claims k entry = (operation : FlatOp) → slice_get ops k ≡ Some operation → IsClaimedInTime script plans log bricks ops claims k entry.call operation
+abbrev pub IsEntryClaimed : Script → List Plan → Log → List Journal → List FlatOp → List (Option ℕ) → List (ℕ × ℕ) → ℕ → Entry → Type 0
+IsEntryClaimed script plans log bricks ops from claims k entry =
+    (operation : FlatOp) → slice_get ops k ≡ Some operation → IsClaimedInTime script plans log bricks ops claims k entry.call operation (get_or from k None)

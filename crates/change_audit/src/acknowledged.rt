@@ -69,7 +69,7 @@ fn mark(marks: &mut Vec<Option<u64>>, reply: &ReplyLine) -> bool
 ///
 /// # Errors
 /// Out of memory.
-pub(crate) fn answered_well(
+pub fn answered_well(
     alloc: Global,
     replies: &[ReplyLine],
     bound: usize,
@@ -86,7 +86,7 @@ pub(crate) fn answered_well(
 }
 
 /// The number of the event by which a call was answered well, if it was.
-pub(crate) fn mark_of(marks: &[Option<u64>], call: u32) -> Option<u64>
+pub fn mark_of(marks: &[Option<u64>], call: u32) -> Option<u64>
     ensures { result ≡ marked_as marks.now call }
 {
     match marks.get(call as usize) {

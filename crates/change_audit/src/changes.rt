@@ -1,5 +1,5 @@
 //! The audit.
-ghost use Rattle.std.specs.Prelude.{◌≡◌, true, Some, option_copied, slice_get, IfOk, IfSome};
+ghost use Rattle.std.specs.Prelude.{◌≡◌, true, None, Some, get_or, slice_get, IfOk, IfSome};
 ghost use Rattle.fop_types.specs.declared.history.Entry.{Entry as Made};
 ghost use Rattle.change_audit.specs.Borne.{IsBorne, AreBorne};
 ghost use Rattle.change_audit.specs.CallGraphs.{AreGraphsOf};
@@ -11,10 +11,11 @@ use crate::bearers::has_bearers;
 use crate::call_graphs::{CallGraphs, graph_of, set_in, set_with};
 use crate::candidates::Candidate;
 use crate::claims::Claims;
+use crate::history::{entry_at, op_at};
 use crate::notes::{Notes, notes_of};
 use crate::placing::is_on_set;
 use brick_machine::Brick;
-use fop_types::{Entry, FlatOp};
+use fop_types::FlatOp;
 use graph_build::Plan;
 use mount_log::Log;
 use script_lang::Script;
@@ -26,8 +27,18 @@ fn set_of(plans: &[Plan], graphs: &CallGraphs, graph: usize, change: &Candidate)
     set_with(plans, graphs, graph, first.brick)
 }
 
+// Whether a set is the one from which a name is taken, if one is given.
+fn is_from(from: Option<u8>, set: u8) -> bool
+    ensures { result ≡ true → IfSome from (λ one. set ≡ one) }
+{
+    match from {
+        Some(one) => set == one,
+        None => true,
+    }
+}
+
 // Whether the bricks of a set bear this change of a call by the event of a number, and it makes the operation, on the set of the
-// name of the object that this makes.
+// name of the object that this makes, or on the one from which it takes a name.
 fn is_borne(
     alloc: Global,
     script: &Script,
@@ -39,10 +50,11 @@ fn is_borne(
     call: u32,
     number: u64,
     operation: &FlatOp,
+    from: Option<u8>,
     change: &Candidate,
 ) -> Result<bool, AllocError>
     requires { AreGraphsOf script.now log.now notes.now.graphs }
-    ensures { IfOk result (λ yes. yes ≡ true → IsBorne script.now plans.now log.now bricks.now ops.now call change.now.change number operation.now) }
+    ensures { IfOk result (λ yes. yes ≡ true → IsBorne script.now plans.now log.now bricks.now ops.now call change.now.change number operation.now from) }
 {
     let graphs = &notes.graphs;
     let Some(graph) = graph_of(graphs, call) else {
@@ -54,6 +66,9 @@ fn is_borne(
     let Some(plan) = set_in(plans, graphs, graph, set) else {
         return Ok(false);
     };
+    if !is_from(from, set) {
+        return Ok(false);
+    }
     let makers = &notes.leads.makers;
     if !is_on_set(alloc, plans, log, graphs, ops, makers, operation, set)? {
         return Ok(false);
@@ -80,9 +95,10 @@ fn change_for(
     call: u32,
     number: u64,
     operation: &FlatOp,
+    from: Option<u8>,
 ) -> Result<Option<u64>, AllocError>
     requires { AreGraphsOf script.now log.now notes.now.graphs }
-    ensures { IfOk result (λ found. IfSome found (λ change. IsBorne script.now plans.now log.now bricks.now ops.now call change number operation.now)) }
+    ensures { IfOk result (λ found. IfSome found (λ change. IsBorne script.now plans.now log.now bricks.now ops.now call change number operation.now from)) }
 {
     let found = &notes.leads.found;
     for at in found.begin(call)..found.count() {
@@ -93,7 +109,7 @@ fn change_for(
             continue;
         }
         if is_borne(
-            alloc, script, plans, log, bricks, ops, notes, call, number, operation, change,
+            alloc, script, plans, log, bricks, ops, notes, call, number, operation, from, change,
         )? {
             return Ok(Some(change.change));
         }
@@ -115,13 +131,14 @@ fn take_change(
     call: u32,
     number: u64,
     operation: &FlatOp,
+    from: Option<u8>,
 ) -> Result<bool, AllocError>
     requires { AreGraphsOf script.now log.now notes.now.graphs }
-    ensures claimed { IfOk result (λ yes. yes ≡ true → IsClaimed script.now plans.now log.now bricks.now ops.now claims.new k call number operation.now) }
+    ensures claimed { IfOk result (λ yes. yes ≡ true → IsClaimed script.now plans.now log.now bricks.now ops.now claims.new k call number operation.now from) }
     ensures keeps { IfOk result (λ yes. KeepClaims claims.old claims.new) }
 {
     let found = change_for(
-        alloc, script, plans, log, bricks, ops, notes, claims, call, number, operation,
+        alloc, script, plans, log, bricks, ops, notes, claims, call, number, operation, from,
     )?;
     let Some(change) = found else {
         return Ok(false);
@@ -143,32 +160,29 @@ fn take_due(
     k: usize,
     call: u32,
     operation: &FlatOp,
+    from: Option<u8>,
 ) -> Result<bool, AllocError>
     requires { AreNotesOf script.now log.now notes.now }
-    ensures claimed { IfOk result (λ yes. yes ≡ true → IsClaimedInTime script.now plans.now log.now bricks.now ops.now claims.new k call operation.now) }
+    ensures claimed { IfOk result (λ yes. yes ≡ true → IsClaimedInTime script.now plans.now log.now bricks.now ops.now claims.new k call operation.now from) }
     ensures keeps { IfOk result (λ yes. KeepClaims claims.old claims.new) }
 {
     let Some(number) = mark_of(notes.marks.as_slice(), call) else {
         return Ok(true);
     };
     let yes = take_change(
-        alloc, script, plans, log, bricks, ops, notes, claims, k, call, number, operation,
+        alloc, script, plans, log, bricks, ops, notes, claims, k, call, number, operation, from,
     )?;
     Ok(yes)
 }
 
-/// The entry at a place of the history.
-pub(crate) fn entry_at(log: &Log, k: usize) -> Option<Entry>
-    ensures { result ≡ slice_get log.now.history k }
+// The set from which the entry at a place takes a name, if the list has one.
+fn set_at(from: &[Option<u8>], k: usize) -> Option<u8>
+    ensures { result ≡ get_or from.now k None }
 {
-    log.history.as_slice().get(k).copied()
-}
-
-/// The operation at a place.
-pub(crate) fn op_at(ops: &[FlatOp], k: usize) -> Option<&FlatOp>
-    ensures { option_copied result ≡ slice_get ops.now k }
-{
-    ops.get(k)
+    match from.get(k) {
+        Some(set) => *set,
+        None => None,
+    }
 }
 
 // Takes a change for the entry at a place, if its call was answered well.
@@ -179,12 +193,13 @@ fn take_entry(
     log: &Log,
     bricks: &[Brick],
     ops: &[FlatOp],
+    from: &[Option<u8>],
     notes: &Notes,
     claims: &mut Claims,
     k: usize,
 ) -> Result<bool, AllocError>
     requires { AreNotesOf script.now log.now notes.now }
-    ensures claimed { IfOk result (λ yes. yes ≡ true → (entry : Made) → slice_get log.now.history k ≡ Some entry → IsEntryClaimed script.now plans.now log.now bricks.now ops.now claims.new k entry) }
+    ensures claimed { IfOk result (λ yes. yes ≡ true → (entry : Made) → slice_get log.now.history k ≡ Some entry → IsEntryClaimed script.now plans.now log.now bricks.now ops.now from.now claims.new k entry) }
     ensures keeps { IfOk result (λ yes. KeepClaims claims.old claims.new) }
 {
     let Some(entry) = entry_at(log, k) else {
@@ -194,8 +209,9 @@ fn take_entry(
         return Ok(false);
     };
     let call = entry.call;
+    let set = set_at(from, k);
     let yes = take_due(
-        alloc, script, plans, log, bricks, ops, notes, claims, k, call, operation,
+        alloc, script, plans, log, bricks, ops, notes, claims, k, call, operation, set,
     )?;
     Ok(yes)
 }
@@ -208,10 +224,11 @@ fn are_borne(
     log: &Log,
     bricks: &[Brick],
     ops: &[FlatOp],
+    from: &[Option<u8>],
     notes: &Notes,
 ) -> Result<bool, AllocError>
     requires { AreNotesOf script.now log.now notes.now }
-    ensures { IfOk result (λ yes. yes ≡ true → AreBorne script.now plans.now log.now bricks.now ops.now) }
+    ensures { IfOk result (λ yes. yes ≡ true → AreBorne script.now plans.now log.now bricks.now ops.now from.now) }
 {
     let mut claims = Claims::new(alloc);
     for k in 0..log.history.len() {
@@ -222,6 +239,7 @@ fn are_borne(
             log,
             bricks,
             ops,
+            from,
             notes,
             &mut claims,
             k,
@@ -235,8 +253,9 @@ fn are_borne(
 /// Whether each entry of the history whose call was answered well has a change of its own on the bricks. A quorum of the bricks
 /// of one set have answered Done to the op of the change, which makes the entry's operation, and then to its post. Both were for
 /// winds of the call; the post was sent when the first answer had arrived, and the second arrived by the event of the call's
-/// reply. Where the operation makes an object, the set is that of its name. `ops` are the operations of the entries, in their
-/// order; where they are fewer than the entries, it is false.
+/// reply. Where the operation makes an object, the set is that of its name; where `from` has a set for the entry, from which it
+/// takes a name, it is that one. `ops` are the operations of the entries, in their order; where they are fewer than the entries, it
+/// is false.
 ///
 /// # Errors
 /// Out of memory.
@@ -247,12 +266,13 @@ pub fn changes_are_borne(
     log: &Log,
     bricks: &[Brick],
     ops: &[FlatOp],
+    from: &[Option<u8>],
 ) -> Result<bool, AllocError>
-    ensures { IfOk result (λ yes. yes ≡ true → AreBorne script.now plans.now log.now bricks.now ops.now) }
+    ensures { IfOk result (λ yes. yes ≡ true → AreBorne script.now plans.now log.now bricks.now ops.now from.now) }
 {
     match notes_of(alloc, script, log, bricks, ops)? {
         Some(notes) => {
-            let yes = are_borne(alloc, script, plans, log, bricks, ops, &notes);
+            let yes = are_borne(alloc, script, plans, log, bricks, ops, from, &notes);
             drop(notes);
             yes
         }

@@ -7,7 +7,8 @@
 //!
 //!   brick 0    journal .. Op 12 .. Post 12 ..   in the call's graph, on winds of the call
 //!   brick 2    journal .. Op 12 .. Post 12 ..   one change number, one store op, which makes the operation
-//!              a quorum of the bricks of one set; a new file's name on the set of its hash
+//!              a quorum of the bricks of one set; a new file's name on the set of its hash; a name that is taken away on the set
+//!              that is handed in for the entry
 //!   events     .. Op 12 is answered Done .. Post 12 goes out .. it is answered Done .. the call is answered
 //!
 //!   copies     cell, from brick 0 to brick 2, last change 12
@@ -23,7 +24,7 @@
 //! What `read_audit` looks up as these audits do is here, in the modules that are public.
 #![tactic(auto)]
 
-mod acknowledged;
+pub mod acknowledged;
 mod answers;
 pub mod arrivals;
 pub mod bearers;
@@ -35,6 +36,7 @@ mod copies;
 mod copy_finding;
 pub mod copy_requests;
 pub mod finding;
+pub mod history;
 mod index_requests;
 pub mod journals;
 mod listings;

@@ -6,7 +6,7 @@ ghost use Rattle.fop_types.specs.Cells.{root};
 ghost use Rattle.change_audit.specs.Placing.{MakesDir, HasTableSets, IsMadeByTable, IsSplitByTable, IsHashedByTable, IsOnSetByTable};
 
 use crate::call_graphs::{CallGraphs, graph_of, plan_in};
-use crate::changes::{entry_at, op_at};
+use crate::history::{entry_at, op_at};
 use crate::making::is_gfid;
 use dht_layout::even;
 use dht_linkto::hashed_set;

@@ -6,4 +6,5 @@ pub mod NoCopies
 pub mod Pages
 pub mod Reading
 pub mod Replying
+pub mod Resting
 pub mod Walking

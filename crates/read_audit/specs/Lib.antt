@@ -1,8 +1,10 @@
--- In reading order: what answers rest on; which objects they are of, and lists; then what the audit finds: one content, one answer,
--- one reply; one name.
+-- In reading order: what answers rest on; which objects they are of, and lists; what changes rest on; then what the audits find: one
+-- content, one answer, one reply; one name; one entry.
 pub mod Read
 pub mod Names
+pub mod Taken
 pub mod Fetching
 pub mod Showing
 pub mod Replying
 pub mod Naming
+pub mod Taking

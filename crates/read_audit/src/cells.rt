@@ -1,4 +1,4 @@
-//! The cells of an object, and its kind.
+//! The cells of an object; gfids and kinds.
 ghost use Rattle.std.specs.Prelude.{◌≡◌, true};
 ghost use Rattle.fop_types.specs.Cells.{data_cell as data_of, meta_cell as meta_of, names_cell as names_of};
 
@@ -29,6 +29,12 @@ pub(crate) fn names_cell(gfid: Gfid) -> Cell
         gfid,
         aspect: Aspect::Entry,
     }
+}
+
+pub(crate) fn is_gfid(gfid: Gfid, other: Gfid) -> bool
+    ensures { result ≡ true → gfid ≡ other }
+{
+    gfid == other
 }
 
 pub(crate) fn is_kind(kind: Kind, other: Kind) -> bool

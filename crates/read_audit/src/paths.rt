@@ -86,8 +86,11 @@ fn step_by(
     Ok(object_shown(&content, name, set))
 }
 
-// The object that a name of a directory means, by what the call has read of its names.
-fn step(
+/// The object that a name of a directory means, by what the call has read of its names.
+///
+/// # Errors
+/// Out of memory.
+pub(crate) fn step(
     alloc: Global,
     run: &Run,
     by: Replied,

@@ -1,7 +1,7 @@
 -- The headline: for every script, the replies written are those of one plain file system at the written places of one
 -- written history that holds each acknowledged change once; what a stat, a getattr, a list, or a read without an io-cache shows was
 -- read from bricks; an I/O error is written only with its cause, a copy only where it was made; and every wind is ended once.
-use Rattle.std.specs.Prelude.{◌≡◌, ℕ, List, Ok, length}
+use Rattle.std.specs.Prelude.{◌≡◌, ℕ, List, Option, Ok, length}
 use Rattle.fop_types.specs.declared.flat.FlatOp.{FlatOp}
 use Rattle.graph_build.specs.declared.plans.Plan.{Plan}
 use Rattle.script_lang.specs.declared.scripts.Script.{Script}
@@ -18,6 +18,7 @@ use Rattle.mount_log.specs.Connects.{ConnectsAreCaused}
 use Rattle.mount_log.specs.Follows.{FollowsScript, IsFinished}
 use Rattle.read_audit.specs.Names.{NamesAreRead}
 use Rattle.read_audit.specs.Read.{AnswersAreRead}
+use Rattle.read_audit.specs.Taken.{EntriesRestOnNames}
 use Rattle.run_report.specs.Reports.{report_of}
 use Rattle.mount_log.specs.Ties.{AreTied}
 use Rattle.mount_log.specs.Winds.{WindsAreBalanced}
@@ -29,12 +30,15 @@ pub record AreBricksOf (script : Script) (log : Log) (bricks : List Journal) : T
   pub many : length bricks ≡ length script.bricks
   pub journals : HasJournals log bricks
 
--- there are operations of the history's entries by which the replies are those of one plain file system, and by which each
--- acknowledged change is on a quorum of bricks
+-- There are operations of the history's entries by which the replies are those of one plain file system, and sets from which entries
+-- take names, so that each acknowledged change works on what its call's path leads to, by names that the call has read; takes a name
+-- from a set on which the call has read it; and is on a quorum of bricks.
 pub record HasFiles (script : Script) (plans : List Plan) (log : Log) (bricks : List Journal) : Type 0 where
   pub ops : List FlatOp
   pub files : IsOneFileSystem script log ops
-  pub borne : AreBorne script plans log bricks ops
+  pub from : List (Option ℕ)
+  pub names : EntriesRestOnNames script plans log bricks ops from
+  pub borne : AreBorne script plans log bricks ops from
 
 -- a run of a script with the plans of its volfiles: its log and its bricks
 pub record IsLawfulRun (script : Script) (plans : List Plan) (log : Log) (bricks : List Journal) : Type 0 where
@@ -46,7 +50,8 @@ pub record IsLawfulRun (script : Script) (plans : List Plan) (log : Log) (bricks
   pub connections : ConnectsAreCaused script plans log
   pub ties : AreTied log
   pub all_bricks : AreBricksOf script log bricks
-  -- one legal history, lawful replies, each acknowledged change on a quorum of bricks, each I/O error with its cause
+  -- one legal history, lawful replies, each acknowledged change on a quorum of bricks, by names that were read, each I/O error with
+  -- its cause
   pub files : HasFiles script plans log bricks
   pub causes : AreCaused script plans log
   -- what each stat, getattr, and read of a graph without an io-cache shows a brick had answered, after a quorum had granted locks

@@ -9,6 +9,7 @@ ghost use Rattle.mount_log.specs.Winds.{WindsAreBalanced};
 ghost use Rattle.script_lang.specs.Accepted.{IsAccepted};
 ghost use Rattle.mount_log.specs.Heads.{heads_of};
 ghost use Rattle.log_audit.specs.Honest.{ArrivedFrom, HasHonestArrivals};
+ghost use Rattle.log_replay.specs.Judged.{IsOneFileSystem};
 ghost use Rattle.change_audit.specs.Copied.{CopiesAreMade};
 ghost use Rattle.change_audit.specs.Listed.{SkipsAreListed};
 ghost use Rattle.read_audit.specs.Names.{NamesAreRead};
@@ -19,6 +20,7 @@ ghost use Rattle.run_judge.specs.Stopped.{IsStopped};
 use brick_machine::Brick;
 use change_audit::{changes_are_borne, copies_are_made, skips_are_listed};
 use error_audit::io_errors_are_caused;
+use fop_types::FlatOp;
 use graph_build::Plan;
 use line_audit::{connects_are_caused, lines_are_tied};
 use log_audit::{
@@ -27,7 +29,7 @@ use log_audit::{
 use log_replay::one_file_system;
 use mount_log::Log;
 use mount_log::heads::{Head, heads_of};
-use read_audit::{answers_are_read, names_are_read};
+use read_audit::{answers_are_read, names_are_read, sets_taken_from};
 use run_audit::follows_script;
 use run_report::opened_in;
 use script_lang::Script;
@@ -57,20 +59,45 @@ fn are_bricks(script: &Script, log: &Log, bricks: &[Brick]) -> bool
     arrivals_are_outputs(log, bricks)
 }
 
-// Whether the replies are those of one plain file system, and each acknowledged change is on a quorum of bricks.
+// Whether each acknowledged change, of entries with these operations, rests on names that were read, and is on a quorum of bricks.
+fn has_changes(
+    alloc: Global,
+    script: &Script,
+    plans: &[Plan],
+    log: &Log,
+    bricks: &[Brick],
+    heads: &[Head],
+    ops: &[FlatOp],
+) -> Result<bool, AllocError>
+    requires accepted { IsAccepted script.now }
+    requires files { IsOneFileSystem script.now log.now ops.now }
+    ensures { IfOk result (λ yes. yes ≡ true → HasFiles script.now plans.now log.now bricks.now) }
+{
+    let taken = sets_taken_from(alloc, script, plans, log, bricks, heads, ops)?;
+    let Some(from) = taken else {
+        return Ok(false);
+    };
+    let sets = from.as_slice();
+    let yes = changes_are_borne(alloc, script, plans, log, bricks, ops, sets)?;
+    Ok(yes)
+}
+
+// Whether the replies are those of one plain file system, and each acknowledged change rests on names that were read, and is on a
+// quorum of bricks.
 fn has_files(
     alloc: Global,
     script: &Script,
     plans: &[Plan],
     log: &Log,
     bricks: &[Brick],
+    heads: &[Head],
 ) -> Result<bool, AllocError>
     requires { IsAccepted script.now }
     ensures { IfOk result (λ yes. yes ≡ true → HasFiles script.now plans.now log.now bricks.now) }
 {
     match one_file_system(alloc, script, log)? {
         None => Ok(false),
-        Some(ops) => changes_are_borne(alloc, script, plans, log, bricks, ops.as_slice()),
+        Some(ops) => has_changes(alloc, script, plans, log, bricks, heads, ops.as_slice()),
     }
 }
 
@@ -176,19 +203,22 @@ fn is_from_bricks(
     are_read(alloc, script, plans, log, bricks, heads)
 }
 
-// Whether all but the files is as a run promises. How each output begins that arrived is read once for all of it.
+// Whether all but the files and the heals is as a run promises.
 fn has_course(
     alloc: Global,
     script: &Script,
     plans: &[Plan],
     log: &Log,
     bricks: &[Brick],
+    heads: &[Head],
 ) -> Result<bool, AllocError>
-    requires { IsAccepted script.now }
+    requires accepted { IsAccepted script.now }
+    requires heads { heads.now ≡ heads_of log.now.events }
+    requires bricks { AreBricksOf script.now log.now bricks.now }
+    requires arrived { ArrivedFrom bricks.now log.now.events }
     ensures follows { IfOk result (λ yes. yes ≡ true → FollowsScript script.now log.now) }
     ensures finished { IfOk result (λ yes. yes ≡ true → IsFinished script.now log.now) }
     ensures honest { IfOk result (λ yes. yes ≡ true → HasHonestArrivals log.now) }
-    ensures bricks { IfOk result (λ yes. yes ≡ true → AreBricksOf script.now log.now bricks.now) }
     ensures reads { IfOk result (λ yes. yes ≡ true → AnswersAreRead script.now plans.now log.now bricks.now) }
     ensures names { IfOk result (λ yes. yes ≡ true → NamesAreRead script.now plans.now log.now bricks.now) }
     ensures ties { IfOk result (λ yes. yes ≡ true → AreTied log.now) }
@@ -196,17 +226,13 @@ fn has_course(
     ensures connections { IfOk result (λ yes. yes ≡ true → ConnectsAreCaused script.now plans.now log.now) }
     ensures causes { IfOk result (λ yes. yes ≡ true → AreCaused script.now plans.now log.now) }
 {
-    if !are_bricks(script, log, bricks) {
+    if !follows(alloc, script, log, heads)? {
         return Ok(false);
     }
-    let heads = heads_of(alloc, log.events.as_slice())?;
-    if !follows(alloc, script, log, heads.as_slice())? {
+    if !is_from_bricks(alloc, script, plans, log, bricks, heads)? {
         return Ok(false);
     }
-    if !is_from_bricks(alloc, script, plans, log, bricks, heads.as_slice())? {
-        return Ok(false);
-    }
-    let yes = is_sound(alloc, script, plans, log, heads.as_slice())?;
+    let yes = is_sound(alloc, script, plans, log, heads)?;
     Ok(yes)
 }
 
@@ -214,8 +240,9 @@ fn has_course(
 /// carried out, each call has its reply, what arrived is what the bricks make of what was sent, what reads, stats, getattrs and
 /// lists show was read from bricks, and so were the names that calls which were answered well have looked up, replies, winds and
 /// requests are of their calls, events and graphs, connections and I/O errors have their causes, the winds are balanced, copies
-/// were made, skips were listed, the replies are those of one plain file system, and each acknowledged change is on a quorum of
-/// bricks.
+/// were made, skips were listed, the replies are those of one plain file system, and each acknowledged change works on what its
+/// call's path leads to, takes a name from the set on which the call had read it, and is on a quorum of bricks. How each output
+/// begins that arrived is read once for all of it.
 ///
 /// # Errors
 /// Out of memory.
@@ -229,13 +256,17 @@ pub fn is_lawful(
     requires { IsScript script.now plans.now }
     ensures { IfOk result (λ yes. yes ≡ true → IsLawfulRun script.now plans.now log.now bricks.now) }
 {
-    if !has_course(alloc, script, plans, log, bricks)? {
+    if !are_bricks(script, log, bricks) {
+        return Ok(false);
+    }
+    let heads = heads_of(alloc, log.events.as_slice())?;
+    if !has_course(alloc, script, plans, log, bricks, heads.as_slice())? {
         return Ok(false);
     }
     if !has_heals(alloc, script, plans, log, bricks)? {
         return Ok(false);
     }
-    let yes = has_files(alloc, script, plans, log, bricks)?;
+    let yes = has_files(alloc, script, plans, log, bricks, heads.as_slice())?;
     Ok(yes)
 }
 

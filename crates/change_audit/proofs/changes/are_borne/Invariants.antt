@@ -5,4 +5,4 @@ use Rattle.change_audit.specs.Entries.{IsEntryClaimed}
 use Rattle.change_audit.proofs.changes.are_borne.Given as goal
 
 abbrev pub invariant-loop-k : goal.invariant-loop-k
-invariant-loop-k l = (j : ℕ) (entry : Entry) → j < l.k → slice_get l.log.history j ≡ Some entry → IsEntryClaimed l.script l.plans l.log l.bricks l.ops l.claims j entry
+invariant-loop-k l = (j : ℕ) (entry : Entry) → j < l.k → slice_get l.log.history j ≡ Some entry → IsEntryClaimed l.script l.plans l.log l.bricks l.ops l.from l.claims j entry

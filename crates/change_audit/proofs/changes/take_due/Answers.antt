@@ -6,10 +6,10 @@ use Rattle.change_audit.proofs.changes.take_due.Goals as goal
 
 pub returns-in_default-clause-claimed : goal.returns-in_default-clause-claimed
 returns-in_default-clause-claimed c = λ _.
-    not_due c.args.script.now c.args.plans.now c.args.log.now c.args.bricks.now c.args.ops.now c.args.notes.now.marks c.args.claims.now c.args.k c.args.call c.args.operation.now c.requires.marks
+    not_due c.args.script.now c.args.plans.now c.args.log.now c.args.bricks.now c.args.ops.now c.args.notes.now.marks c.args.claims.now c.args.k c.args.call c.args.operation.now c.args.from c.requires.marks
     (ap (λ (m : List (Option ℕ)). mark_of m c.args.call) (sym c.as_slice.ensures) ∙ sym c.in_default.ensures)
 
 pub returns-clause-claimed : goal.returns-clause-claimed
 returns-clause-claimed c = λ yes.
     claimed_in_time c.args.script.now c.args.plans.now c.args.log.now c.args.bricks.now c.args.ops.now c.args.notes.now.marks c.take_change.new.claims c.args.k c.args.call c.in-Some.number
-    c.args.operation.now c.requires.marks (ap (λ (m : List (Option ℕ)). mark_of m c.args.call) (sym c.as_slice.ensures) ∙ sym c.in-Some.ensures) (c.in_ok-yes.ensures.claimed yes)
+    c.args.operation.now c.args.from c.requires.marks (ap (λ (m : List (Option ℕ)). mark_of m c.args.call) (sym c.as_slice.ensures) ∙ sym c.in-Some.ensures) (c.in_ok-yes.ensures.claimed yes)
