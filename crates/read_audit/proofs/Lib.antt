@@ -1,9 +1,12 @@
+pub mod ErrorReplies
 pub mod Fetching
 pub mod Leading
 pub mod Listing
+pub mod Missing
 pub mod NameReplies
 pub mod NoCopies
 pub mod Pages
+pub mod Reaching
 pub mod Reading
 pub mod Replying
 pub mod Walking
