@@ -13,6 +13,7 @@ ghost use Rattle.change_audit.specs.Copied.{CopiesAreMade};
 ghost use Rattle.change_audit.specs.Listed.{SkipsAreListed};
 ghost use Rattle.mount_run.specs.Headline.{AreBricksOf, HasFiles, IsLawfulRun};
 ghost use Rattle.mount_run.specs.Outcomes.{IsStopped};
+ghost use Rattle.read_audit.specs.Errors.{ErrorsAreRead};
 ghost use Rattle.read_audit.specs.Names.{NamesAreRead};
 ghost use Rattle.read_audit.specs.Read.{AnswersAreRead};
 
@@ -138,7 +139,8 @@ fn is_sound(
     has_causes(alloc, script, plans, log, heads)
 }
 
-// Whether what answers show was read from bricks, and so were the names that calls which were answered well have looked up.
+// Whether what answers show was read from bricks, and so were the names that calls which were answered well have looked up, and what
+// errors rest on.
 fn are_read(
     alloc: Global,
     script: &Script,
@@ -149,6 +151,7 @@ fn are_read(
     requires { IsAccepted script.now }
     ensures reads { IfOk result (λ yes. yes ≡ true → AnswersAreRead script.now plans.now left.now.log left.now.bricks) }
     ensures names { IfOk result (λ yes. yes ≡ true → NamesAreRead script.now plans.now left.now.log left.now.bricks) }
+    ensures errors { IfOk result (λ yes. yes ≡ true → ErrorsAreRead script.now plans.now left.now.log left.now.bricks) }
 {
     let bricks = left.bricks.as_slice();
     if !answers_are_read(alloc, script, plans, &left.log, bricks, heads)? {
@@ -173,6 +176,7 @@ fn is_from_bricks(
     ensures honest { IfOk result (λ yes. yes ≡ true → HasHonestArrivals left.now.log) }
     ensures reads { IfOk result (λ yes. yes ≡ true → AnswersAreRead script.now plans.now left.now.log left.now.bricks) }
     ensures names { IfOk result (λ yes. yes ≡ true → NamesAreRead script.now plans.now left.now.log left.now.bricks) }
+    ensures errors { IfOk result (λ yes. yes ≡ true → ErrorsAreRead script.now plans.now left.now.log left.now.bricks) }
 {
     let bricks = left.bricks.as_slice();
     if !arrivals_are_honest(&left.log, heads, bricks) {
@@ -195,6 +199,7 @@ fn has_course(
     ensures bricks { IfOk result (λ yes. yes ≡ true → AreBricksOf script.now left.now.log left.now.bricks) }
     ensures reads { IfOk result (λ yes. yes ≡ true → AnswersAreRead script.now plans.now left.now.log left.now.bricks) }
     ensures names { IfOk result (λ yes. yes ≡ true → NamesAreRead script.now plans.now left.now.log left.now.bricks) }
+    ensures errors { IfOk result (λ yes. yes ≡ true → ErrorsAreRead script.now plans.now left.now.log left.now.bricks) }
     ensures ties { IfOk result (λ yes. yes ≡ true → AreTied left.now.log) }
     ensures winds { IfOk result (λ yes. yes ≡ true → WindsAreBalanced left.now.log.winds) }
     ensures connections { IfOk result (λ yes. yes ≡ true → ConnectsAreCaused script.now plans.now left.now.log) }
@@ -216,10 +221,10 @@ fn has_course(
 
 /// Whether the log of a run, with its bricks, is as a run promises: sessions submit their lines in order, each control is
 /// carried out, each call has its reply, what arrived is what the bricks make of what was sent, what reads, stats, getattrs and
-/// lists show was read from bricks, and so were the names that calls which were answered well have looked up, replies, winds and
-/// requests are of their calls, events and graphs, connections and I/O errors have their causes, the winds are balanced, copies
-/// were made, skips were listed, the replies are those of one plain file system, and each acknowledged change is on a quorum of
-/// bricks.
+/// lists show was read from bricks, and so were the names that calls which were answered well have looked up, and what errors rest
+/// on, replies, winds and requests are of their calls, events and graphs, connections and I/O errors have their causes, the winds
+/// are balanced, copies were made, skips were listed, the replies are those of one plain file system, and each acknowledged change
+/// is on a quorum of bricks.
 ///
 /// # Errors
 /// Out of memory.

@@ -3,6 +3,7 @@ use Rattle.std.proofs.Common.{◌≡◌, refl, sym, ap, subst, ◌∙◌, arith}
 use Rattle.std.specs.Prelude.{ℕ, ◌+◌, ◌-◌, ◌<◌, ◌≤◌, nat_lt, Bool, true, false, List, Option, None, Some, length, slice_get, IfSome, MatchOption}
 use Rattle.std.proofs.lemmas.Bool.{ltb-true, ltb-false}
 use Rattle.dht_fops.specs.Objects.{home}
+use Rattle.dht_linkto.specs.Known.{is_no_object}
 use Rattle.fop_types.specs.Cells.{meta_cell, names_cell}
 use Rattle.fop_types.specs.declared.cells.Cell.{Cell}
 use Rattle.fop_types.specs.declared.cells.Gfid.{Gfid}
@@ -35,7 +36,7 @@ module _ (script : Script) (plans : List Plan) (log : Log) (bricks : List Journa
 
   pub not_on : (dir : Gfid) (name : List ℕ) (set : ℕ) (names : Option (List Item)) → IfSome names (λ items. ShowsNames script plans log bricks call number set dir items) → Lack names name → IsNotOn script plans log bricks call number dir name set
   not_on dir name set None shows lack = absurd lack
-  not_on dir name set (Some items) shows lack = record { items = items; shows = shows; none = lack }
+  not_on dir name set (Some items) shows lack = record { items = items; shows = shows; link = λ item is. subst (λ (o : Option Item). is_no_object o ≡ true) is lack }
 
   pub somewhere : (set : ℕ) (cell own : Cell) (content : Held) → cell ≡ own → IsFetched script plans log bricks call number set cell content → IsFetchedSomewhere script plans log bricks call number own content
   somewhere set cell own content same fetched = record { set = set; fetched = subst (λ (c : Cell). IsFetched script plans log bricks call number set c content) same fetched }

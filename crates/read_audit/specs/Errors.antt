@@ -3,11 +3,10 @@
 use Rattle.std.specs.Prelude.{◌≡◌, ◌⊎◌, ℕ, ◌<◌, ◌-◌, Bool, true, List, [], ◌∷◌, Option, None, Some, length, take, slice_get, MatchOption}
 use Rattle.call_fops.specs.Walks.{root_object}
 use Rattle.dht_fops.specs.Objects.{home}
-use Rattle.dht_linkto.specs.Known.{is_no_object}
 use Rattle.fop_types.specs.Calls.{Submission, call_numbered}
 use Rattle.fop_types.specs.Cells.{meta_cell, names_cell}
 use Rattle.fop_types.specs.Flat.{name_limit}
-use Rattle.fop_types.specs.Names.{item_named, attr_named, has_real_name}
+use Rattle.fop_types.specs.Names.{item_named, is_link, attr_named, has_real_name}
 use Rattle.fop_types.specs.Paths.{parent_parts}
 use Rattle.fop_types.specs.declared.answers.Answer.{Answer}
 use Rattle.fop_types.specs.declared.answers.Answer.TheVariants as answer
@@ -97,11 +96,11 @@ pub record IsShowing (script : Script) (plans : List Plan) (log : Log) (bricks :
   pub fetched : IsFetched script plans log bricks call number set (names_cell dir) (Names removed items)
   pub is : P removed items
 
--- a set has no file and no directory of this name in a directory
+-- a set has no file and no directory of this name in a directory: a link at most
 pub record IsNotOn (script : Script) (plans : List Plan) (log : Log) (bricks : List Journal) (call number : ℕ) (dir : Gfid) (name : List ℕ) (set : ℕ) : Type 0 where
   pub items : List Item
   pub shows : ShowsNames script plans log bricks call number set dir items
-  pub none : is_no_object (item_named items name) ≡ true
+  pub link : (item : Item) → item_named items name ≡ Some item → is_link item.kind ≡ true
 
 -- none of the sets of the call's graph has one
 pub record IsNowhere (script : Script) (plans : List Plan) (log : Log) (bricks : List Journal) (call number : ℕ) (dir : Gfid) (name : List ℕ) : Type 0 where
