@@ -105,7 +105,8 @@ fn are_due(alloc: Global, run: &Run, calls: &[Submitted]) -> Result<bool, AllocE
 
 /// Whether each call that was answered well has fetched names by its reply, each from a brick of a set of its graph after a quorum
 /// of the set had granted it locks: those on its paths, which lead from the root to one object; and those that a list shows, of each
-/// set of the graph but for one where a quorum had no copy; and whether what a stat or a getattr shows is that object's. `heads` are
+/// set of the graph but for one where a quorum had no copy; and whether what a stat or a getattr shows is that object's. And whether
+/// each call that was answered by an error but an I/O error has fetched so what the error rests on, if it needs a look. `heads` are
 /// those of the log's events: they guide the search alone.
 ///
 /// # Errors
