@@ -38,10 +38,12 @@ module _ (script : Script) (plans : List Plan) (log : Log) (bricks : List Journa
       subst (AllByRecursion (IsReached script plans log bricks call number path)) (sym more_is) (all_push (IsReached script plans log bricks call number path) all next so_far own) where
         longer : take (from.many + 1) path ≡ take from.many path ++ name ∷ []
         longer = take_more path from.many name lt ∙ ap (λ (n : List ℕ). take from.many path ++ n ∷ []) (sym read)
+
         led : LeadsTo script plans log bricks call number (take (from.many + 1) path) root_object object
         led =
             subst (λ (l : List (List ℕ)). LeadsTo script plans log bricks call number l root_object object) (sym longer)
             (leads_push (take from.many path) root_object from.object object name leads (subst (λ (f : Option Object). IfSome f (λ to. IsStep script plans log bricks call number from.object.gfid name to)) is step))
+
         own : IsReached script plans log bricks call number path next
         own = subst (λ (r : Reached). IsReached script plans log bricks call number path r) (sym next_is) led
 

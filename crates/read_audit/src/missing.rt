@@ -264,12 +264,7 @@ fn is_used_by(
 ///
 /// # Errors
 /// Out of memory.
-pub(crate) fn is_used(
-    alloc: Global,
-    run: &Run,
-    by: Replied,
-    dir: Gfid,
-) -> Result<bool, AllocError>
+pub(crate) fn is_used(alloc: Global, run: &Run, by: Replied, dir: Gfid) -> Result<bool, AllocError>
     requires { by.graph ≡ graph_of_call run.now.log.now by.call }
     ensures { IfOk result (λ yes. yes ≡ true → IsShowing run.now.script.now run.now.plans.now run.now.log.now run.now.bricks.now by.call by.number dir (λ removed items. has_real items ≡ true)) }
 {
