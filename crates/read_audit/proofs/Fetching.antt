@@ -27,7 +27,7 @@ holders_are log bricks plan call graph cells cell until source holders has diffe
   cells = cells;
   has = has;
   holders = holders;
-  quorum = record { differ = differ; enough = enough; each = each };
+  quorum = record { differ = differ; enough = enough; each = each; };
   among = among;
 }
 
