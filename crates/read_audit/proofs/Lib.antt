@@ -1,8 +1,8 @@
+pub mod Absent
 pub mod ErrorReplies
 pub mod Fetching
 pub mod Leading
 pub mod Listing
-pub mod Missing
 pub mod NameReplies
 pub mod NoCopies
 pub mod Pages

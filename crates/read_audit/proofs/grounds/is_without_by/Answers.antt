@@ -1,4 +1,4 @@
-use Rattle.read_audit.proofs.Missing.{without_attr}
+use Rattle.read_audit.proofs.Absent.{without_attr}
 use Rattle.read_audit.proofs.grounds.is_without_by.Goals as goal
 
 pub returns : goal.returns

@@ -1,6 +1,6 @@
 use Rattle.std.proofs.lemmas.Option.{IfSome_then}
 use Rattle.fop_types.specs.Cells.{names_cell}
-use Rattle.read_audit.proofs.Missing.{somewhere}
+use Rattle.read_audit.proofs.Absent.{somewhere}
 use Rattle.read_audit.proofs.missing.content_by.Goals as goal
 
 pub returns : goal.returns

@@ -1,4 +1,4 @@
-use Rattle.read_audit.proofs.Missing.{not_on}
+use Rattle.read_audit.proofs.Absent.{not_on}
 use Rattle.read_audit.proofs.missing.is_not_by.Goals as goal
 
 pub returns : goal.returns

@@ -1,4 +1,4 @@
-use Rattle.read_audit.proofs.Missing.{nowhere}
+use Rattle.read_audit.proofs.Absent.{nowhere}
 use Rattle.read_audit.proofs.missing.is_nowhere.Goals as goal
 
 pub returns : goal.returns

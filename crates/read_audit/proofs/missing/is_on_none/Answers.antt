@@ -1,6 +1,6 @@
 use Rattle.std.proofs.Common.{ℕ, arith}
 use Rattle.read_audit.specs.Errors.{IsNotOn}
-use Rattle.read_audit.proofs.Missing.{below_next}
+use Rattle.read_audit.proofs.Absent.{below_next}
 use Rattle.read_audit.proofs.missing.is_on_none.Goals as goal
 
 pub loop-set-preserved : goal.loop-set-preserved

@@ -2,7 +2,7 @@ use Rattle.std.proofs.Common.{◌≡◌}
 use Rattle.std.specs.Prelude.{Bool, true, List}
 use Rattle.fop_types.specs.Names.{has_real_name}
 use Rattle.fop_types.specs.declared.contents.Item.{Item}
-use Rattle.read_audit.proofs.Missing.{showing}
+use Rattle.read_audit.proofs.Absent.{showing}
 use Rattle.read_audit.proofs.missing.is_used_by.Goals as goal
 
 pub returns : goal.returns
