@@ -33,7 +33,7 @@ fn name_at(path: &[Seq<u8>], many: usize) -> Option<&Seq<u8>>
 }
 
 fn is_whole(next: Option<&Seq<u8>>) -> bool
-    ensures { result ≡ true → option_copied next ≡ None }
+    ensures { result ≡ true → option_copied next.entry ≡ None }
 {
     match next {
         Some(_) => false,
@@ -42,7 +42,7 @@ fn is_whole(next: Option<&Seq<u8>>) -> bool
 }
 
 fn is_too_long(next: Option<&Seq<u8>>) -> bool
-    ensures { result ≡ true → MatchOption (option_copied next) ⊥ (λ name. name_limit < length name) }
+    ensures { result ≡ true → MatchOption (option_copied next.entry) ⊥ (λ name. name_limit < length name) }
 {
     match next {
         Some(name) => NAME_LIMIT < name.len(),
@@ -52,14 +52,14 @@ fn is_too_long(next: Option<&Seq<u8>>) -> bool
 
 // Whether a path leads to a directory.
 fn is_directory(next: Option<&Seq<u8>>, object: Object) -> bool
-    ensures { result ≡ true → (option_copied next ≡ None) × (object.kind ≡ Dir) }
+    ensures { result ≡ true → (option_copied next.entry ≡ None) × (object.kind ≡ Dir) }
 {
     is_whole(next) && is_kind(object.kind, Kind::Dir)
 }
 
 // Whether a path leads to a file.
 fn is_file(next: Option<&Seq<u8>>, object: Object) -> bool
-    ensures { result ≡ true → (option_copied next ≡ None) × (object.kind ≡ File) }
+    ensures { result ≡ true → (option_copied next.entry ≡ None) × (object.kind ≡ File) }
 {
     is_whole(next) && is_kind(object.kind, Kind::File)
 }
@@ -147,7 +147,7 @@ fn is_no_data(
     object: Object,
 ) -> Result<bool, AllocError>
     requires { by.graph ≡ graph_of_call run.now.log.now by.call }
-    ensures { IfOk result (λ yes. yes ≡ true → (option_copied next ≡ None) × IsWithoutAttr run.now.script.now run.now.plans.now run.now.log.now run.now.bricks.now by.call by.number object (attr_in call.now)) }
+    ensures { IfOk result (λ yes. yes ≡ true → (option_copied next.entry ≡ None) × IsWithoutAttr run.now.script.now run.now.plans.now run.now.log.now run.now.bricks.now by.call by.number object (attr_in call.now)) }
 {
     if !is_whole(next) {
         return Ok(false);
@@ -166,7 +166,7 @@ fn is_not_empty(
     object: Object,
 ) -> Result<bool, AllocError>
     requires { by.graph ≡ graph_of_call run.now.log.now by.call }
-    ensures { IfOk result (λ yes. yes ≡ true → (option_copied next ≡ None) × IsShowing run.now.script.now run.now.plans.now run.now.log.now run.now.bricks.now by.call by.number object.gfid (λ removed items. has_real_name items ≡ true)) }
+    ensures { IfOk result (λ yes. yes ≡ true → (option_copied next.entry ≡ None) × IsShowing run.now.script.now run.now.plans.now run.now.log.now run.now.bricks.now by.call by.number object.gfid (λ removed items. has_real_name items ≡ true)) }
 {
     if !is_whole(next) {
         return Ok(false);
@@ -188,7 +188,7 @@ fn rests_on(
     object: Object,
 ) -> Result<bool, AllocError>
     requires { by.graph ≡ graph_of_call run.now.log.now by.call }
-    ensures { IfOk result (λ yes. yes ≡ true → RestsOn run.now.script.now run.now.plans.now run.now.log.now run.now.bricks.now by.call by.number call.now error (option_copied next) object) }
+    ensures { IfOk result (λ yes. yes ≡ true → RestsOn run.now.script.now run.now.plans.now run.now.log.now run.now.bricks.now by.call by.number call.now error (option_copied next.entry) object) }
 {
     match error {
         AppError::Enoent => is_missing(alloc, run, by, object.gfid, next),

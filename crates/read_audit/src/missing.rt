@@ -22,7 +22,7 @@ use std::alloc::{AllocError, Global};
 // ---- a name on the sets
 
 fn is_no_object(item: Option<&Item>) -> bool
-    ensures { result ≡ is_none (option_copied item) }
+    ensures { result ≡ is_none (option_copied item.entry) }
 {
     match item {
         None => true,
@@ -289,7 +289,7 @@ fn is_next_nowhere(
     next: Option<&Seq<u8>>,
 ) -> Result<bool, AllocError>
     requires { by.graph ≡ graph_of_call run.now.log.now by.call }
-    ensures { IfOk result (λ yes. yes ≡ true → MatchOption (option_copied next) ⊥ (IsNowhere run.now.script.now run.now.plans.now run.now.log.now run.now.bricks.now by.call by.number dir)) }
+    ensures { IfOk result (λ yes. yes ≡ true → MatchOption (option_copied next.entry) ⊥ (IsNowhere run.now.script.now run.now.plans.now run.now.log.now run.now.bricks.now by.call by.number dir)) }
 {
     match next {
         Some(name) => is_nowhere(alloc, run, by, dir, name.as_slice()),
@@ -309,7 +309,7 @@ pub(crate) fn is_missing(
     next: Option<&Seq<u8>>,
 ) -> Result<bool, AllocError>
     requires { by.graph ≡ graph_of_call run.now.log.now by.call }
-    ensures { IfOk result (λ yes. yes ≡ true → IsMissing run.now.script.now run.now.plans.now run.now.log.now run.now.bricks.now by.call by.number dir (option_copied next)) }
+    ensures { IfOk result (λ yes. yes ≡ true → IsMissing run.now.script.now run.now.plans.now run.now.log.now run.now.bricks.now by.call by.number dir (option_copied next.entry)) }
 {
     if is_removed(alloc, run, by, dir)? {
         return Ok(true);
