@@ -47,9 +47,9 @@ module _ (script : Script) (plans : List Plan) (log : Log) (bricks : List Journa
         own : IsReached script plans log bricks call number path next
         own = subst (λ (r : Reached). IsReached script plans log bricks call number path r) (sym next_is) led
 
-  pub reached_is : (path : List (List ℕ)) (all : List Reached) (k : ℕ) (found : Option Reached) (reached : Reached) → found ≡ slice_get all k → found ≡ Some reached → AllByRecursion (IsReached script plans log bricks call number path) all
+  pub reached_is : (path : List (List ℕ)) (all slice : List Reached) (k : ℕ) (found : Option Reached) (reached : Reached) → slice ≡ all → found ≡ slice_get slice k → found ≡ Some reached → AllByRecursion (IsReached script plans log bricks call number path) all
       → IsReached script plans log bricks call number path reached
-  reached_is path all k found reached there is so_far = all_at (IsReached script plans log bricks call number path) all k reached (sym there ∙ is) so_far
+  reached_is path all slice k found reached same there is so_far = all_at (IsReached script plans log bricks call number path) all k reached (sym (there ∙ ap (λ (l : List Reached). slice_get l k) same) ∙ is) so_far
 
   pub none_reached : (path : List (List ℕ)) (first : Reached) (all : List Reached) (root : Object) → root ≡ root_object → first ≡ record { many = 0; object = root } → all ≡ first ∷ [] → AllByRecursion (IsReached script plans log bricks call number path) all
   none_reached path first all root root_is is all_is =

@@ -191,15 +191,24 @@ fn rests_on(
     ensures { IfOk result (λ yes. yes ≡ true → RestsOn run.now.script.now run.now.plans.now run.now.log.now run.now.bricks.now by.call by.number call.now error (option_copied next.entry) object) }
 {
     match error {
-        AppError::Enoent => is_missing(alloc, run, by, object.gfid, next),
+        AppError::Enoent => {
+            let yes = is_missing(alloc, run, by, object.gfid, next)?;
+            Ok(yes)
+        }
         AppError::Enotdir => Ok(is_kind(object.kind, Kind::File)),
         AppError::Enametoolong => Ok(is_too_long(next)),
         AppError::Eexist => Ok(is_whole(next)),
         AppError::Eisdir => Ok(is_directory(next, object)),
         AppError::Eopnotsupp => Ok(is_directory(next, object)),
         AppError::Efbig => Ok(is_file(next, object)),
-        AppError::Enotempty => is_not_empty(alloc, run, by, next, object),
-        AppError::Enodata => is_no_data(alloc, run, by, call, next, object),
+        AppError::Enotempty => {
+            let yes = is_not_empty(alloc, run, by, next, object)?;
+            Ok(yes)
+        }
+        AppError::Enodata => {
+            let yes = is_no_data(alloc, run, by, call, next, object)?;
+            Ok(yes)
+        }
         AppError::Ebadf => Ok(true),
         AppError::Ebusy => Ok(true),
         AppError::Einval => Ok(true),

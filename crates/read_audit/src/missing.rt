@@ -292,7 +292,10 @@ fn is_next_nowhere(
     ensures { IfOk result (λ yes. yes ≡ true → MatchOption (option_copied next.entry) ⊥ (IsNowhere run.now.script.now run.now.plans.now run.now.log.now run.now.bricks.now by.call by.number dir)) }
 {
     match next {
-        Some(name) => is_nowhere(alloc, run, by, dir, name.as_slice()),
+        Some(name) => {
+            let yes = is_nowhere(alloc, run, by, dir, name.as_slice())?;
+            Ok(yes)
+        }
         None => Ok(false),
     }
 }
