@@ -51,9 +51,9 @@ module _ (script : Script) (plans : List Plan) (log : Log) (bricks : List Journa
       → IsReached script plans log bricks call number path reached
   reached_is path all slice k found reached same there is so_far = all_at (IsReached script plans log bricks call number path) all k reached (sym (there ∙ ap (λ (l : List Reached). slice_get l k) same) ∙ is) so_far
 
-  pub none_reached : (path : List (List ℕ)) (first : Reached) (all : List Reached) (root : Object) → root ≡ root_object → first ≡ record { many = 0; object = root } → all ≡ first ∷ [] → AllByRecursion (IsReached script plans log bricks call number path) all
-  none_reached path first all root root_is is all_is =
-      subst (AllByRecursion (IsReached script plans log bricks call number path)) (sym all_is)
+  pub none_reached : (path : List (List ℕ)) (first : Reached) (none all : List Reached) (root : Object) → root ≡ root_object → first ≡ record { many = 0; object = root } → none ≡ [] → all ≡ none ++ first ∷ [] → AllByRecursion (IsReached script plans log bricks call number path) all
+  none_reached path first none all root root_is is none_is all_is =
+      subst (AllByRecursion (IsReached script plans log bricks call number path)) (sym (all_is ∙ ap (λ (l : List Reached). l ++ first ∷ []) none_is))
       (subst (λ (r : Reached). IsReached script plans log bricks call number path r) (sym is) (sym root_is), tt)
 
   -- ---- where an error rests
