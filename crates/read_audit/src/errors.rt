@@ -1,7 +1,6 @@
 //! The audit of errors: whether what each error rests on was read, on one of its call's paths.
 ghost use Rattle.std.specs.Prelude.{◌≡◌, true, Some, slice_get, IfOk};
 ghost use Rattle.std.specs.Option.{option_copied};
-ghost use Rattle.fop_types.specs.Paths.{parent_parts};
 ghost use Rattle.mount_log.specs.Connections.{graph_of_call};
 ghost use Rattle.mount_log.specs.Submissions.{submissions_of};
 ghost use Rattle.mount_log.specs.declared.logs.ReplyLine.{ReplyLine as Line};

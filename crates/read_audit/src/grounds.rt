@@ -1,8 +1,6 @@
 //! Whether the error that a call was answered rests on an object to which names of a path lead, by what the call has read.
 ghost use Rattle.std.specs.Prelude.{◌≡◌, ◌<◌, true, None, length, slice_get, IfOk, MatchOption};
 ghost use Rattle.std.specs.Option.{option_copied};
-ghost use Rattle.dht_fops.specs.Objects.{home as home_of};
-ghost use Rattle.fop_types.specs.Cells.{meta_cell as meta_of};
 ghost use Rattle.fop_types.specs.Flat.{name_limit};
 ghost use Rattle.fop_types.specs.Names.{attr_named, has_real_name};
 ghost use Rattle.fop_types.specs.declared.cells.Kind.TheVariants.{Dir, File};
