@@ -1,6 +1,6 @@
 -- Names that are nowhere, and what else is read of directories and objects.
 use Rattle.std.proofs.Common.{◌≡◌, refl, sym, ap, subst, ◌∙◌, arith}
-use Rattle.std.specs.Prelude.{ℕ, ◌+◌, ◌-◌, ◌<◌, ◌≤◌, nat_lt, Bool, true, false, List, Option, None, Some, length, slice_get, IfSome, MatchOption}
+use Rattle.std.specs.Prelude.{ℕ, ◌+◌, ◌-◌, ◌<◌, nat_lt, Bool, true, false, List, Option, None, Some, length, slice_get, IfSome}
 use Rattle.std.proofs.lemmas.Bool.{ltb-true, ltb-false}
 use Rattle.dht_fops.specs.Objects.{home}
 use Rattle.dht_linkto.specs.Known.{is_no_object}
