@@ -1,9 +1,12 @@
+pub mod Absent
+pub mod ErrorReplies
 pub mod Fetching
 pub mod Leading
 pub mod Listing
 pub mod NameReplies
 pub mod NoCopies
 pub mod Pages
+pub mod Reaching
 pub mod Reading
 pub mod Replying
 pub mod Resting

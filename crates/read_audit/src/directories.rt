@@ -34,8 +34,11 @@ fn items_in(content: Content) -> Option<Seq<Item>>
     }
 }
 
-// The names that a set has of a directory, by the answer to a fetch of them.
-fn names_by(
+/// The names that a set has of a directory, by the answer to a fetch of them.
+///
+/// # Errors
+/// Out of memory.
+pub(crate) fn names_by(
     alloc: Global,
     run: &Run,
     by: Replied,
@@ -83,8 +86,11 @@ fn names_shown(
     Ok(None)
 }
 
-// No names, where a set has no copy of a directory.
-fn no_names(
+/// No names, where a set has no copy of a directory.
+///
+/// # Errors
+/// Out of memory.
+pub(crate) fn no_names(
     alloc: Global,
     run: &Run,
     by: Replied,
@@ -143,8 +149,8 @@ fn names_over(
     Ok(Some(Seq::from_vec(lists)))
 }
 
-// How many sets a graph has.
-fn sets_of(plan: &Plan) -> Option<u8>
+/// How many sets a graph has.
+pub(crate) fn sets_of(plan: &Plan) -> Option<u8>
     ensures { IfSome result (λ sets. sets ≡ length plan.now.sets) }
 {
     match u8::try_from(plan.sets.len()) {

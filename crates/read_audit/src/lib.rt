@@ -1,7 +1,7 @@
-//! The audit of answers: whether what a stat, a getattr, a list, or a read without an io-cache showed, and the names that a call
-//! which was answered well has looked up, were in what bricks answered to fetches of the call, after a quorum of a set had granted
-//! it locks. Whether the locks still stood then is not asked. And the sets from which such calls take names, as they had read them,
-//! if their changes work on what their paths lead to.
+//! The audit of answers: whether what a stat, a getattr, a list, or a read without an io-cache showed, the names that a call which
+//! was answered well has looked up, and what an error but an I/O error rests on, were in what bricks answered to fetches of the
+//! call, after a quorum of a set had granted it locks. Whether the locks still stood then is not asked. And the sets from which
+//! calls that were answered well take names, as they had read them, if their changes work on what their paths lead to.
 //!
 //! ```text
 //!   replies    call 7 was answered Bytes        its call, by log_replay::calls_in; its graph, by change_audit::call_graphs
@@ -14,16 +14,18 @@
 //!   answer     the part of the content from an offset; its size and the mode; the value of an attribute; the names of a
 //!              directory on all sets
 //!
+//!   error      the path, as far as it leads, and there a file, a directory, or a name that no set has
 //!   history    entry k: call 7                  its operation: on file 9, or on a name of directory 2, which one set shows
 //! ```
 //!
 //! The locks and the fetches of each call are found by one pass over what arrived (`finding`), and the offsets of reads by one
 //! over the replies (`offsets`), without a contract. What was found is then checked where it is (`fetches`, `holders`, `quorums`,
-//! `lacking`, `readings`) and compared with the answer (`showing`, `objects`; of names `paths`, `directories`, `lists`) or with
-//! the operation (`works`, `taken`), and an audit's `true` rests on that alone: true says that each answer was read so; false
-//! says nothing. Script, plans, log, bricks and what was found are handed on as one `Run` (`runs`), with the call that has its
-//! reply (`readings`). No content is copied, and each audit decodes one once for a reply, but for names: a step of a path decodes
-//! those that the call has read of its directory, from the last on, until its name is there. With n events, winds, replies, locks
+//! `lacking`, `readings`) and compared with the answer (`showing`, `objects`; of names `paths`, `directories`, `lists`; of errors
+//! `reached`, `missing`, `grounds`) or with the operation (`works`, `taken`), and an audit's `true` rests on that alone: true says
+//! that each answer was read so; false says nothing. Script, plans, log, bricks and what was found are handed on as one `Run`
+//! (`runs`), with the call that has its reply (`readings`). No content is copied, and each audit decodes one once for a reply, but
+//! for names: a step of a path decodes those that the call has read of its directory, from the last on, until its name is there; of
+//! an error each step decodes all of them, and what the error says of a directory once more. With n events, winds, replies, locks
 //! and fetches an audit takes time of the order n log n, and of the bytes that are decoded: a step goes through the locks and the
 //! fetches of its directory in its own call alone.
 #![tactic(auto)]
@@ -31,19 +33,23 @@
 mod answers;
 mod cells;
 mod directories;
+mod errors;
 mod fetches;
 mod finding;
 mod found;
+mod grounds;
 mod holders;
 mod keeping;
 mod lacking;
 mod lists;
+mod missing;
 mod names;
 mod naming;
 mod objects;
 mod offsets;
 mod paths;
 mod quorums;
+mod reached;
 mod readings;
 mod replies;
 mod runs;

@@ -4,9 +4,11 @@ ghost use Rattle.fop_types.specs.Replies.{is_ok as is_well};
 ghost use Rattle.script_lang.specs.Accepted.{IsAccepted};
 ghost use Rattle.mount_log.specs.Submissions.{submissions_of};
 ghost use Rattle.mount_log.specs.declared.logs.ReplyLine.{ReplyLine as Line};
+ghost use Rattle.read_audit.specs.Errors.{ErrorsAreRead};
 ghost use Rattle.read_audit.specs.Names.{IsNamed, NamesAreRead};
 ghost use Rattle.read_audit.specs.Naming.{IsNameDue};
 
+use crate::errors::errors_are_read;
 use crate::finding::find;
 use crate::naming::is_named;
 use crate::readings::{Replied, call_graph};
@@ -103,7 +105,8 @@ fn are_due(alloc: Global, run: &Run, calls: &[Submitted]) -> Result<bool, AllocE
 
 /// Whether each call that was answered well has fetched names by its reply, each from a brick of a set of its graph after a quorum
 /// of the set had granted it locks: those on its paths, which lead from the root to one object; and those that a list shows, of each
-/// set of the graph but for one where a quorum had no copy; and whether what a stat or a getattr shows is that object's. `heads` are
+/// set of the graph but for one where a quorum had no copy; and whether what a stat or a getattr shows is that object's. And whether
+/// each call that was answered by an error but an I/O error has fetched so what the error rests on, if it needs a look. `heads` are
 /// those of the log's events: they guide the search alone.
 ///
 /// # Errors
@@ -117,7 +120,8 @@ pub fn names_are_read(
     heads: &[Head],
 ) -> Result<bool, AllocError>
     requires { IsAccepted script.now }
-    ensures { IfOk result (λ yes. yes ≡ true → NamesAreRead script.now plans.now log.now bricks.now) }
+    ensures names { IfOk result (λ yes. yes ≡ true → NamesAreRead script.now plans.now log.now bricks.now) }
+    ensures errors { IfOk result (λ yes. yes ≡ true → ErrorsAreRead script.now plans.now log.now bricks.now) }
 {
     let Some(calls) = calls_in(alloc, script, log.events.as_slice())? else {
         return Ok(false);
@@ -132,6 +136,10 @@ pub fn names_are_read(
         graphs: &graphs,
         found: &found,
     };
-    let yes = are_due(alloc, &run, calls.calls.as_slice())?;
+    let made = calls.calls.as_slice();
+    if !are_due(alloc, &run, made)? {
+        return Ok(false);
+    }
+    let yes = errors_are_read(alloc, &run, made)?;
     Ok(yes)
 }

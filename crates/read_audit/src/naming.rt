@@ -20,8 +20,8 @@ use std::alloc::{AllocError, Global};
 
 // ---- the object
 
-// The set of an object's metadata.
-fn home(object: Object) -> u8
+/// The set of an object's metadata.
+pub(crate) fn home(object: Object) -> u8
     ensures { result ≡ home_of object }
 {
     match object.kind {

@@ -63,8 +63,11 @@ fn object_shown(content: &Content, name: &Seq<u8>, set: u8) -> Option<Object>
 
 // ---- one step
 
-// The object that a name of a directory means, by the answer to a fetch of its names.
-fn step_by(
+/// The object that a name of a directory means, by the answer to a fetch of its names.
+///
+/// # Errors
+/// Out of memory.
+pub(crate) fn step_by(
     alloc: Global,
     run: &Run,
     by: Replied,
@@ -115,7 +118,8 @@ pub(crate) fn step(
 
 // ---- a path
 
-fn root() -> Object
+/// The root.
+pub(crate) fn root() -> Object
     ensures { result ≡ root_object }
 {
     Object {

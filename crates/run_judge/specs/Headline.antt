@@ -16,6 +16,7 @@ use Rattle.change_audit.specs.Listed.{SkipsAreListed}
 use Rattle.mount_log.specs.Causes.{AreCaused}
 use Rattle.mount_log.specs.Connects.{ConnectsAreCaused}
 use Rattle.mount_log.specs.Follows.{FollowsScript, IsFinished}
+use Rattle.read_audit.specs.Errors.{ErrorsAreRead}
 use Rattle.read_audit.specs.Names.{NamesAreRead}
 use Rattle.read_audit.specs.Read.{AnswersAreRead}
 use Rattle.read_audit.specs.Taken.{EntriesRestOnNames}
@@ -58,6 +59,8 @@ pub record IsLawfulRun (script : Script) (plans : List Plan) (log : Log) (bricks
   pub reads : AnswersAreRead script plans log bricks
   -- and so the names that calls which were answered well have looked up, and those that lists show
   pub names : NamesAreRead script plans log bricks
+  -- and so what errors rest on, other than I/O errors
+  pub errors : ErrorsAreRead script plans log bricks
   -- each copy by a replacement of its own, which the sink confirmed, by what the source had answered; each skip of a cell that
   -- a brick had listed
   pub copies : CopiesAreMade script plans log bricks

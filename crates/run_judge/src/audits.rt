@@ -12,6 +12,7 @@ ghost use Rattle.log_audit.specs.Honest.{ArrivedFrom, HasHonestArrivals};
 ghost use Rattle.log_replay.specs.Judged.{IsOneFileSystem};
 ghost use Rattle.change_audit.specs.Copied.{CopiesAreMade};
 ghost use Rattle.change_audit.specs.Listed.{SkipsAreListed};
+ghost use Rattle.read_audit.specs.Errors.{ErrorsAreRead};
 ghost use Rattle.read_audit.specs.Names.{NamesAreRead};
 ghost use Rattle.read_audit.specs.Read.{AnswersAreRead};
 ghost use Rattle.run_judge.specs.Headline.{AreBricksOf, HasFiles, IsLawfulRun};
@@ -160,7 +161,8 @@ fn is_sound(
     has_causes(alloc, script, plans, log, heads)
 }
 
-// Whether what answers show was read from bricks, and so were the names that calls which were answered well have looked up.
+// Whether what answers show was read from bricks, and so were the names that calls which were answered well have looked up, and what
+// errors rest on.
 fn are_read(
     alloc: Global,
     script: &Script,
@@ -172,6 +174,7 @@ fn are_read(
     requires { IsAccepted script.now }
     ensures reads { IfOk result (λ yes. yes ≡ true → AnswersAreRead script.now plans.now log.now bricks.now) }
     ensures names { IfOk result (λ yes. yes ≡ true → NamesAreRead script.now plans.now log.now bricks.now) }
+    ensures errors { IfOk result (λ yes. yes ≡ true → ErrorsAreRead script.now plans.now log.now bricks.now) }
 {
     if !answers_are_read(alloc, script, plans, log, bricks, heads)? {
         return Ok(false);
@@ -196,6 +199,7 @@ fn is_from_bricks(
     ensures honest { IfOk result (λ yes. yes ≡ true → HasHonestArrivals log.now) }
     ensures reads { IfOk result (λ yes. yes ≡ true → AnswersAreRead script.now plans.now log.now bricks.now) }
     ensures names { IfOk result (λ yes. yes ≡ true → NamesAreRead script.now plans.now log.now bricks.now) }
+    ensures errors { IfOk result (λ yes. yes ≡ true → ErrorsAreRead script.now plans.now log.now bricks.now) }
 {
     if !arrivals_are_honest(log, heads, bricks) {
         return Ok(false);
@@ -221,6 +225,7 @@ fn has_course(
     ensures honest { IfOk result (λ yes. yes ≡ true → HasHonestArrivals log.now) }
     ensures reads { IfOk result (λ yes. yes ≡ true → AnswersAreRead script.now plans.now log.now bricks.now) }
     ensures names { IfOk result (λ yes. yes ≡ true → NamesAreRead script.now plans.now log.now bricks.now) }
+    ensures errors { IfOk result (λ yes. yes ≡ true → ErrorsAreRead script.now plans.now log.now bricks.now) }
     ensures ties { IfOk result (λ yes. yes ≡ true → AreTied log.now) }
     ensures winds { IfOk result (λ yes. yes ≡ true → WindsAreBalanced log.now.winds) }
     ensures connections { IfOk result (λ yes. yes ≡ true → ConnectsAreCaused script.now plans.now log.now) }
@@ -236,13 +241,13 @@ fn has_course(
     Ok(yes)
 }
 
-/// Whether the log of a run, with its bricks, is as a run promises: sessions submit their lines in order, each control is
-/// carried out, each call has its reply, what arrived is what the bricks make of what was sent, what reads, stats, getattrs and
-/// lists show was read from bricks, and so were the names that calls which were answered well have looked up, replies, winds and
-/// requests are of their calls, events and graphs, connections and I/O errors have their causes, the winds are balanced, copies
-/// were made, skips were listed, the replies are those of one plain file system, and each acknowledged change works on what its
-/// call's path leads to, takes a name from the set on which the call had read it, and is on a quorum of bricks. How each output
-/// begins that arrived is read once for all of it.
+/// Whether the log of a run, with its bricks, is as a run promises: sessions submit their lines in order, each control is carried
+/// out, each call has its reply, what arrived is what the bricks make of what was sent, what reads, stats, getattrs and lists show
+/// was read from bricks, and so were the names that calls which were answered well have looked up, and what errors rest on,
+/// replies, winds and requests are of their calls, events and graphs, connections and I/O errors have their causes, the winds are
+/// balanced, copies were made, skips were listed, the replies are those of one plain file system, and each acknowledged change
+/// works on what its call's path leads to, takes a name from the set on which the call had read it, and is on a quorum of bricks.
+/// How each output begins that arrived is read once for all of it.
 ///
 /// # Errors
 /// Out of memory.

@@ -12,6 +12,7 @@ returns c = λ yes. record {
   causes = c.in_ok-has_course.ensures.causes c.if-not-branch.false;
   reads = c.in_ok-has_course.ensures.reads c.if-not-branch.false;
   names = c.in_ok-has_course.ensures.names c.if-not-branch.false;
+  errors = c.in_ok-has_course.ensures.errors c.if-not-branch.false;
   copies = c.in_ok-has_heals.ensures.copies c.if-not-branch-2.false;
   skips = c.in_ok-has_heals.ensures.skips c.if-not-branch-2.false;
   winds = c.in_ok-has_course.ensures.winds c.if-not-branch.false;

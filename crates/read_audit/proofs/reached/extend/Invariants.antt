@@ -1,0 +1,6 @@
+use Rattle.std.specs.List.{AllByRecursion}
+use Rattle.read_audit.specs.Erring.{IsReached}
+use Rattle.read_audit.proofs.reached.extend.Given as goal
+
+abbrev pub invariant-loop-at : goal.invariant-loop-at
+invariant-loop-at l = AllByRecursion (IsReached l.run.script.now l.run.plans.now l.run.log.now l.run.bricks.now l.by.call l.by.number l.path) l.all.items
