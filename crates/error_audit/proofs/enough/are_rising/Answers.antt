@@ -1,0 +1,5 @@
+use Rattle.error_audit.proofs.Different.{rising_of}
+use Rattle.error_audit.proofs.enough.are_rising.Goals as goal
+
+pub returns-2 : goal.returns-2
+returns-2 g c = λ yes. rising_of c.args.pairs.now ?
