@@ -40,9 +40,10 @@ distinct_more old new found x has same is none pushed d =
 pub rising_of : {N : Type 0} (pairs : List (ℕ × N)) → AllAdjacentBelow (λ (one next : ℕ × N). one.0 < next.0) pairs (length pairs) → IsStrictlyIncreasing (map (λ (pair : ℕ × N). pair.0) pairs)
 rising_of {N} [] each k lt = absurd (omega (arith, lt))
 rising_of {N} (p ∷ ps) each k lt =
-    let number : ℕ × N → ℕ = λ pair. pair.0 in
-    let long : k + 1 < length (p ∷ ps) = subst (λ (n : ℕ). k + 1 < n) (length-map (p ∷ ps) number) lt in
-    omega (arith, each k p long, get_or-map number (p ∷ ps) k p 0 (omega (arith, long)), get_or-map number (p ∷ ps) (k + 1) p 0 long)
+    let long : k + 1 < length (p ∷ ps) = subst (λ (n : ℕ). k + 1 < n) (length-map (p ∷ ps) (λ (pair : ℕ × N). pair.0)) lt in
+    let here : get_or (map (λ (pair : ℕ × N). pair.0) (p ∷ ps)) k 0 ≡ (get_or (p ∷ ps) k p).0 = get_or-map (λ (pair : ℕ × N). pair.0) (p ∷ ps) k p 0 (omega (arith, long)) in
+    let next : get_or (map (λ (pair : ℕ × N). pair.0) (p ∷ ps)) (k + 1) 0 ≡ (get_or (p ∷ ps) (k + 1) p).0 = get_or-map (λ (pair : ℕ × N). pair.0) (p ∷ ps) (k + 1) p 0 long in
+    omega (arith, each k p long, here, next)
 
 -- bricks that are enough
 pub enough_of : (plan : SetPlan) (start bricks found named : List ℕ) → start ≡ [] → bricks ≡ start ++ named → (IsDistinct ◌==◌ start → IsDistinct ◌==◌ bricks) → found ≡ bricks → length plan.bricks - plan.q + 1 ≤ length found
