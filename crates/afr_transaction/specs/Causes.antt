@@ -41,8 +41,8 @@ use Rattle.afr_transaction.specs.Txns.{alive, io_of}
 -- ---- the causes
 
 -- The cause of an error, by the job as it decided on it and the ledger. An error for lack of replicas lists each that is out,
--- with the mark with which it went out (`io_of`), also where no number is left or the history is full; a split lists the
--- rows that the reached replicas showed.
+-- by rising brick, with the mark with which it went out (`io_of`), also where no number is left or the history is full; a
+-- split lists the rows that the reached replicas showed.
 pub data IsCause (job : Txn) (ledger : State Cell) (error : IoError) : Type 0 where
   FewLeft : is_short job.outs job.size.n job.size.q ≡ true → error ≡ io_of job → IsCause job ledger error
   NoNumber : has_number ledger ≡ false → error ≡ io_of job → IsCause job ledger error

@@ -1,5 +1,6 @@
 -- A job under way: how it asks, how it ends, and the cause of an I/O error.
 use Rattle.std.specs.Prelude.{ℕ, ◌+◌, ◌==◌, nat_lt, Bool, true, false, not, List, [], ◌∷◌, Option, Some, None, slice_index, length, if◌then◌else◌}
+use Rattle.std.specs.List.{insert}
 use Rattle.fop_types.specs.declared.answers.IoError.{IoError}
 use Rattle.fop_types.specs.declared.answers.IoError.TheVariants as io
 use Rattle.fop_types.specs.declared.causes.SkipCause.{SkipCause}
@@ -49,19 +50,35 @@ kept turn ledger = (turn.0, (turn.1, ledger))
 abbrev pub unit_of : ℕ → ℕ
 unit_of mark = if nat_lt mark 4294967296 then mark else 4294967295
 
--- the bricks that are out and not by a fault, each with the number of its last connection when it was found to be out
+-- how many of the first pairs are of bricks below this one
+abbrev pub pairs_below : {N : Type 0} → ℕ → List (ℕ × N) → ℕ
+pairs_below brick [] = 0
+pairs_below brick (pair ∷ pairs) = if nat_lt pair.0 brick then pairs_below brick pairs + 1 else 0
+
+-- with a pair more, behind those of lower bricks
+abbrev pub put_pair : {N : Type 0} → ℕ × N → List (ℕ × N) → List (ℕ × N)
+put_pair pair pairs = insert pairs (pairs_below pair.0 pairs) pair
+
+-- with the brick of a replica that is out and not by a fault
+abbrev pub with_lost : List ℕ → Option Out → List (ℕ × ℕ) → List (ℕ × ℕ)
+with_lost bricks None pairs = pairs
+with_lost bricks (Some out) pairs = if out.fault then pairs else put_pair (slice_index bricks out.replica, unit_of out.mark) pairs
+
+-- The bricks that are out and not by a fault, by rising number, each with the number of its last connection when it was found
+-- to be out.
 abbrev pub lost_pairs : List ℕ → List (Option Out) → List (ℕ × ℕ)
 lost_pairs bricks [] = []
-lost_pairs bricks (None ∷ outs) = lost_pairs bricks outs
-lost_pairs bricks (Some out ∷ outs) =
-    if out.fault then lost_pairs bricks outs else (slice_index bricks out.replica, unit_of out.mark) ∷ lost_pairs bricks outs
+lost_pairs bricks (out ∷ outs) = with_lost bricks out (lost_pairs bricks outs)
 
--- the bricks that are out by a fault, each with the place of the request in its journal
+-- with the brick of a replica that is out by a fault
+abbrev pub with_fault : List ℕ → Option Out → List (ℕ × ℕ) → List (ℕ × ℕ)
+with_fault bricks None pairs = pairs
+with_fault bricks (Some out) pairs = if out.fault then put_pair (slice_index bricks out.replica, out.mark) pairs else pairs
+
+-- the bricks that are out by a fault, by rising number, each with the place of the request in its journal
 abbrev pub fault_pairs : List ℕ → List (Option Out) → List (ℕ × ℕ)
 fault_pairs bricks [] = []
-fault_pairs bricks (None ∷ outs) = fault_pairs bricks outs
-fault_pairs bricks (Some out ∷ outs) =
-    if out.fault then (slice_index bricks out.replica, out.mark) ∷ fault_pairs bricks outs else fault_pairs bricks outs
+fault_pairs bricks (out ∷ outs) = with_fault bricks out (fault_pairs bricks outs)
 
 -- a fault where a brick is out by one, else lost quorum
 abbrev pub io_by : ℕ → List (ℕ × ℕ) → List (ℕ × ℕ) → IoError

@@ -1,5 +1,5 @@
-ghost use Rattle.std.specs.Prelude.{◌≡◌, ◌++◌, ◌∷◌, [], IfOk, OnOk, slice_index};
-ghost use Rattle.afr_transaction.specs.Txns.{over, io_of, lost_pairs, fault_pairs, unit_of, failing, healing, ending};
+ghost use Rattle.std.specs.Prelude.{◌≡◌, ◌≤◌, length, IfOk, OnOk, slice_index};
+ghost use Rattle.afr_transaction.specs.Txns.{over, io_of, pairs_below, put_pair, with_lost, lost_pairs, with_fault, fault_pairs, unit_of, failing, healing, ending};
 
 use crate::need::Need;
 use crate::txn::{Txn, is_heal};
@@ -66,6 +66,34 @@ impl Txn {
     }
 }
 
+// ---- by rising brick
+
+// How many of the first pairs are of bricks below this one.
+fn pairs_below<N>(pairs: &[(u8, N)], brick: u8) -> usize
+    ensures below { result ≡ pairs_below brick pairs.now }
+    ensures few { result ≤ length pairs.now }
+{
+    let mut below = 0;
+    for pair in pairs {
+        if pair.0 >= brick {
+            return below;
+        }
+        below += 1;
+    }
+    below
+}
+
+// A pair more, behind those of lower bricks.
+fn put_pair<N: Copy>(list: &mut Vec<(u8, N)>, pair: (u8, N)) -> Result<(), AllocError>
+    ensures { OnOk result (list.new.items ≡ put_pair pair list.old.items) }
+{
+    let place = pairs_below(list.as_slice(), pair.0);
+    list.insert(place, pair)?;
+    Ok(())
+}
+
+// ---- the bricks that are out
+
 fn lost_bricks(
     alloc: Global,
     bricks: &[u8],
@@ -74,14 +102,14 @@ fn lost_bricks(
     ensures { IfOk result (λ list. list ≡ lost_pairs bricks.now outs.now) }
 {
     let mut list = Vec::new(alloc);
-    for out in outs {
-        push_lost(&mut list, bricks, out)?;
+    for k in (0..outs.len()).rev() {
+        put_lost(&mut list, bricks, &outs[k])?;
     }
     Ok(Seq::from_vec(list))
 }
 
-fn push_lost(list: &mut Vec<(u8, u32)>, bricks: &[u8], out: &Option<Out>) -> Result<(), AllocError>
-    ensures { OnOk result (list.new.items ≡ list.old.items ++ lost_pairs bricks.now (out.now ∷ [])) }
+fn put_lost(list: &mut Vec<(u8, u32)>, bricks: &[u8], out: &Option<Out>) -> Result<(), AllocError>
+    ensures { OnOk result (list.new.items ≡ with_lost bricks.now out.now list.old.items) }
 {
     let Some(out) = out else {
         return Ok(());
@@ -89,7 +117,7 @@ fn push_lost(list: &mut Vec<(u8, u32)>, bricks: &[u8], out: &Option<Out>) -> Res
     if out.fault {
         return Ok(());
     }
-    list.push((brick_of(bricks, out.replica), unit_of(out.mark)))?;
+    put_pair(list, (brick_of(bricks, out.replica), unit_of(out.mark)))?;
     Ok(())
 }
 
@@ -101,18 +129,14 @@ fn failed_bricks(
     ensures { IfOk result (λ list. list ≡ fault_pairs bricks.now outs.now) }
 {
     let mut list = Vec::new(alloc);
-    for out in outs {
-        push_failed(&mut list, bricks, out)?;
+    for k in (0..outs.len()).rev() {
+        put_failed(&mut list, bricks, &outs[k])?;
     }
     Ok(Seq::from_vec(list))
 }
 
-fn push_failed(
-    list: &mut Vec<(u8, u64)>,
-    bricks: &[u8],
-    out: &Option<Out>,
-) -> Result<(), AllocError>
-    ensures { OnOk result (list.new.items ≡ list.old.items ++ fault_pairs bricks.now (out.now ∷ [])) }
+fn put_failed(list: &mut Vec<(u8, u64)>, bricks: &[u8], out: &Option<Out>) -> Result<(), AllocError>
+    ensures { OnOk result (list.new.items ≡ with_fault bricks.now out.now list.old.items) }
 {
     let Some(out) = out else {
         return Ok(());
@@ -120,7 +144,7 @@ fn push_failed(
     if !out.fault {
         return Ok(());
     }
-    list.push((brick_of(bricks, out.replica), out.mark))?;
+    put_pair(list, (brick_of(bricks, out.replica), out.mark))?;
     Ok(())
 }
 

@@ -1,9 +1,10 @@
 -- Bricks that differ, with one more; and items of mapped lists.
 use Rattle.std.proofs.Common.{◌≡◌, refl, sym, ap, subst, ◌∙◌, arith, get_or}
 use Rattle.std.specs.Prelude.{ℕ, zero, suc, ◌≢◌, ◌+◌, ◌-◌, ◌<◌, ◌≤◌, ◌==◌, ◌||◌, Bool, true, false, List, [], ◌∷◌, ◌++◌, Option, None, Some, Contains, length, map, take, slice_get}
-use Rattle.std.specs.List.{AllByRecursion, IsDistinct, list_any}
+use Rattle.std.specs.List.{AllAdjacentBelow, AllByRecursion, IsDistinct, list_any}
+use Rattle.std.specs.List.Sorted.{IsStrictlyIncreasing}
 use Rattle.std.proofs.lemmas.Bool.{or_parts}
-use Rattle.std.proofs.lemmas.List.{append_assoc, map-append, take_more}
+use Rattle.std.proofs.lemmas.List.{append_assoc, get_or-map, length-map, map-append, take_more}
 use Rattle.fop_types.specs.declared.jobs.SetPlan.{SetPlan}
 use Rattle.mount_log.proofs.Items.{some_is}
 use Rattle.mount_log.specs.Causes.{AreEnough}
@@ -34,6 +35,15 @@ behind y xs x (k, lt, is) = (suc k, omega (arith, lt), is)
 pub distinct_more : (old new found : List ℕ) (x : ℕ) (has : Bool) → found ≡ old → has ≡ list_any (λ y. y == x) found → has ≡ false → new ≡ old ++ x ∷ [] → IsDistinct ◌==◌ old → IsDistinct ◌==◌ new
 distinct_more old new found x has same is none pushed d =
     subst (IsDistinct ◌==◌) (sym pushed) (distinct_push old x (ap (list_any (λ y. y == x)) (sym same) ∙ sym is ∙ none) d)
+
+-- the numbers of pairs rise where each is below the next one
+pub rising_of : {N : Type 0} (pairs : List (ℕ × N)) → AllAdjacentBelow (λ (one next : ℕ × N). one.0 < next.0) pairs (length pairs) → IsStrictlyIncreasing (map (λ (pair : ℕ × N). pair.0) pairs)
+rising_of {N} [] each k lt = absurd (omega (arith, lt))
+rising_of {N} (p ∷ ps) each k lt =
+    let long : k + 1 < length (p ∷ ps) = subst (λ (n : ℕ). k + 1 < n) (length-map (p ∷ ps) (λ (pair : ℕ × N). pair.0)) lt in
+    let here : get_or (map (λ (pair : ℕ × N). pair.0) (p ∷ ps)) k 0 ≡ (get_or (p ∷ ps) k p).0 = get_or-map (λ (pair : ℕ × N). pair.0) (p ∷ ps) k p 0 (omega (arith, long)) in
+    let next : get_or (map (λ (pair : ℕ × N). pair.0) (p ∷ ps)) (k + 1) 0 ≡ (get_or (p ∷ ps) (k + 1) p).0 = get_or-map (λ (pair : ℕ × N). pair.0) (p ∷ ps) (k + 1) p 0 long in
+    omega (arith, each k p long, here, next)
 
 -- bricks that are enough
 pub enough_of : (plan : SetPlan) (start bricks found named : List ℕ) → start ≡ [] → bricks ≡ start ++ named → (IsDistinct ◌==◌ start → IsDistinct ◌==◌ bricks) → found ≡ bricks → length plan.bricks - plan.q + 1 ≤ length found

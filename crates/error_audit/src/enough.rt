@@ -1,6 +1,7 @@
-//! Bricks that differ from one another, as many as an I/O error needs.
+//! Bricks that differ from one another, as many as an I/O error needs, and by rising number.
 ghost use Rattle.std.specs.Prelude.{◌≡◌, ◌++◌, ◌==◌, ◌+◌, ◌-◌, ◌≤◌, [], ◌∷◌, true, map, length, IfOk};
 ghost use Rattle.std.specs.List.{IsDistinct};
+ghost use Rattle.std.specs.List.Sorted.{IsStrictlyIncreasing};
 ghost use Rattle.mount_log.specs.Causes.{brick_of, AreEnough};
 
 use fop_types::SetPlan;
@@ -71,4 +72,16 @@ pub fn has_enough(
         return Ok(false);
     }
     Ok(are_enough(plan, bricks.as_slice()))
+}
+
+/// Whether each brick of these pairs is below the next one.
+pub fn are_rising<N>(pairs: &[(u8, N)]) -> bool
+    ensures { result ≡ true → IsStrictlyIncreasing (map (λ pair. pair.0) pairs.now) }
+{
+    for k in 1..pairs.len() {
+        if pairs[k - 1].0 >= pairs[k].0 {
+            return false;
+        }
+    }
+    true
 }

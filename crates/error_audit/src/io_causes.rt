@@ -10,7 +10,7 @@ ghost use Rattle.error_audit.specs.LockTable.{HaveLocks};
 
 use crate::brick_replies::is_faulted;
 use crate::connections::openings_at;
-use crate::enough::has_enough;
+use crate::enough::{are_rising, has_enough};
 use crate::evidence::{Found, find_loss};
 use crate::losses::{Span, is_lost};
 use crate::splits::is_split;
@@ -81,7 +81,7 @@ fn is_quorum_lost(
     requires since { span.since ≡ submitted_at log.now reply.now.call }
     ensures { IfOk result (λ yes. yes ≡ true → IsQuorumLost log.now plan.now reply.now.call reply.now.event lost.now) }
 {
-    if !has_enough(alloc, plan, &[], lost)? {
+    if !are_rising(lost) || !has_enough(alloc, plan, &[], lost)? {
         return Ok(false);
     }
     let yes = are_lost(alloc, log, tables, plan, reply, span, lost)?;
@@ -150,7 +150,10 @@ fn is_fault(
     requires since { span.since ≡ submitted_at log.now reply.now.call }
     ensures { IfOk result (λ yes. yes ≡ true → IsFault log.now plan.now reply.now.call reply.now.event faults.now lost.now) }
 {
-    if !is_some(faults) || !has_enough(alloc, plan, faults, lost)? {
+    if !is_some(faults) || !are_rising(faults) || !are_rising(lost) {
+        return Ok(false);
+    }
+    if !has_enough(alloc, plan, faults, lost)? {
         return Ok(false);
     }
     if !are_faulted(alloc, log, plan, reply, tables.clues.of(reply.call), faults)? {

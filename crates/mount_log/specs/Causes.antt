@@ -3,6 +3,7 @@
 -- in the call's last lock phase, by which there is no source.
 use Rattle.std.specs.Prelude.{◌≡◌, ◌≢◌, ℕ, ◌+◌, ◌-◌, ◌<◌, ◌≤◌, ◌==◌, ◌⊎◌, false, List, [], ◌∷◌, ◌++◌, Option, None, Some, Contains, is_some, length, map, slice_get, slice_index_or}
 use Rattle.std.specs.List.{AllByRecursion, AllZip, IsDistinct, count_by}
+use Rattle.std.specs.List.Sorted.{IsStrictlyIncreasing}
 use Rattle.fop_types.specs.declared.answers.Answer.{Answer}
 use Rattle.fop_types.specs.declared.answers.Answer.TheVariants as answer
 use Rattle.fop_types.specs.declared.answers.IoError.{IoError}
@@ -99,12 +100,15 @@ AreEnough plan bricks = IsDistinct ◌==◌ bricks × (length plan.bricks - plan
 
 pub record IsQuorumLost (log : Log) (plan : SetPlan) (call until : ℕ) (lost : List (ℕ × ℕ)) : Type 0 where
   pub each : AllByRecursion (IsLost log plan call until) lost
+  pub rising : IsStrictlyIncreasing (map brick_of lost)
   pub enough : AreEnough plan (map brick_of lost)
 
 pub record IsFault (log : Log) (plan : SetPlan) (call until : ℕ) (faults lost : List (ℕ × ℕ)) : Type 0 where
   pub some : faults ≢ []
   pub each_fault : AllByRecursion (IsFaulted log plan call until) faults
   pub each_lost : AllByRecursion (IsLost log plan call until) lost
+  pub rising_faults : IsStrictlyIncreasing (map brick_of faults)
+  pub rising_lost : IsStrictlyIncreasing (map brick_of lost)
   pub enough : AreEnough plan (map brick_of faults ++ map brick_of lost)
 
 -- ---- rows
