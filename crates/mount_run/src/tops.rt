@@ -16,7 +16,8 @@ use std::thread::Threads;
 use xl_base::{Sink, Source};
 
 /// Carries out a command on a script: `check` reads and plans it, and writes one line of what it has; `run SEED` runs it
-/// too, and writes its report.
+/// too, and writes its report; `replay` judges a script with its report behind it, and writes one line of the verdict; and
+/// `gen N` reads no script, but runs one that the program generates, and writes one line that sums the run up.
 ///
 /// The words are those after the program's name. The result is the status: 0 the command was carried out and its text was
 /// written; 1 the script is refused and its one fault line was written; 2 the words are no command, and nothing was read or
