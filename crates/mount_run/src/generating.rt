@@ -43,7 +43,8 @@ fn generated_by(alloc: Global, number: u64) -> Result<Vec<u8>, AllocError> {
     )
 }
 
-/// Runs the script that a number generates, with the number as its seed.
+/// Runs the script that a number generates, with the number as its seed. A text that is too long, or is refused, is answered
+/// by 6, as a run that fails an audit; that no number generates one is not proved.
 pub fn generate<K: Sink>(alloc: Global, number: u64, sink: &mut K, rack: &mut Rack) -> u8
     requires sink { K.faults sink.old < 2 ^ 64 - 1 }
     requires rack { rack.old ≡ empty_rack }
