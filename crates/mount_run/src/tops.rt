@@ -14,6 +14,7 @@ use script_commands::{
 use std::alloc::Global;
 use std::sync::Wait;
 use std::thread::Threads;
+use std::time::Clock;
 use xl_base::{Sink, Source};
 
 /// Carries out a command on a script: `check` reads and plans it, and writes one line of what it has; `run SEED` runs it
@@ -128,7 +129,7 @@ fn run<S: Source, K: Sink>(
 
 /// Carries out `mount WORKERS` on a script: it is run by one thread for each brick and so many that take the hub's turns.
 /// The result is the status, as for [`top`].
-pub fn top_mount<R: Threads + Wait + Sync, S: Source, K: Sink>(
+pub fn top_mount<R: Threads + Wait + Clock + Sync, S: Source, K: Sink>(
     rt: &R,
     alloc: Global,
     words: &[String],
