@@ -1,4 +1,4 @@
-ghost use Rattle.hub_calls.specs.Plans.{IsScript};
+ghost use Rattle.graph_build.specs.Scripts.{IsScript};
 
 use crate::links::Links;
 use brick_link::HubEnd;
