@@ -65,7 +65,7 @@ impl Graphs {
     ///
     /// # Errors
     /// Out of memory, now or in an earlier call. The graphs are spent.
-    pub fn make(&mut self, alloc: Global, plan: &Plan, number: u32) -> Result<bool, Stop>
+    pub fn make(&mut self, alloc: Global, plan: &Plan, number: u32) -> Result<bool, AllocError>
         requires { IsPlan plan.now }
         ensures inodes { self.new.inodes ≡ self.old.inodes }
         ensures history { self.new.history ≡ self.old.history }
@@ -74,7 +74,7 @@ impl Graphs {
         ensures err { OnErr result (IsSpentBy self.old self.new) }
     {
         if self.is_spent {
-            return Err(Stop::Mem);
+            return Err(AllocError);
         }
         self.is_spent = true;
         let made = make_in(alloc, &mut self.live, plan, number)?;

@@ -101,13 +101,13 @@ impl Parts {
     /// graph, if there is one.
     ///
     /// # Errors
-    /// As for `Hub::submit`.
+    /// Out of memory.
     pub(crate) fn make_graph(
         &mut self,
         alloc: Global,
         on: &Planned,
         volfile: u8,
-    ) -> Result<(), Stop> {
+    ) -> Result<(), AllocError> {
         if let Some(plan) = on.plan(volfile) {
             self.graphs.make(alloc, plan, volfile)?;
         }

@@ -12,7 +12,7 @@ use graph_build::Plan;
 use hub_tables::{Turned, may_be_armed};
 use mount_log::Log;
 use script_lang::{Action, Script};
-use std::alloc::Global;
+use std::alloc::{AllocError, Global};
 use std::collections::VecDeque;
 use std::marker::Model;
 use xlator_law::Stop;
@@ -38,7 +38,7 @@ impl Model for Hub {
 }
 
 // The parts of a hub that has made its first graph.
-fn begun(alloc: Global, on: &Planned) -> Result<Parts, Stop>
+fn begun(alloc: Global, on: &Planned) -> Result<Parts, AllocError>
     requires { IsAccepted on.now.script }
 {
     let mut parts = Parts::new(alloc, on)?;
@@ -53,7 +53,7 @@ impl Hub {
     ///
     /// # Errors
     /// Out of memory.
-    pub fn new(alloc: Global, script: Script, plans: Seq<Plan>) -> Result<Hub, Stop>
+    pub fn new(alloc: Global, script: Script, plans: Seq<Plan>) -> Result<Hub, AllocError>
         requires { IsScript script plans }
         ensures { IfOk result (λ h. h ≡ record { script = script; plans = plans; log = h.log; stop = None }) }
     {
@@ -64,9 +64,9 @@ impl Hub {
                 parts,
                 stop: None,
             }),
-            Err(stop) => {
+            Err(error) => {
                 drop(planned);
-                Err(stop)
+                Err(error)
             }
         }
     }

@@ -196,9 +196,9 @@ pub fn mount<R: Threads + Wait + Clock + Sync, G: Gate + Sync>(
                     let whole = go_on_alone(rt, alloc, &mut desk, posts.as_mut_slice(), gate);
                     leave(alloc, desk.into_ended(), posts, whole, rack)
                 }
-                Err(stop) => {
+                Err(_) => {
                     drop(posts);
-                    Err(stop)
+                    Err(Stop::Mem)
                 }
             }
         }

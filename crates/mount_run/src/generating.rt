@@ -7,7 +7,6 @@ ghost use Rattle.mount_run.specs.Outcomes.{empty_rack, IsRunStatus, IsStopped, I
 
 use crate::audits::is_lawful;
 use crate::racks::{put_left, stopped};
-use crate::running::world_of;
 use fop_types::Seq;
 use graph_build::Plan;
 use hub_calls::Rack;
@@ -15,7 +14,7 @@ use run_report::summary_line;
 use script_commands::{Accepted, Draws, NotRead, accept, generated, write};
 use script_lang::Script;
 use std::alloc::{AllocError, Global};
-use world_bricks::Schedule;
+use world_bricks::{Schedule, World};
 use xl_base::Sink;
 use xlator_law::Stop;
 
@@ -107,7 +106,7 @@ fn run_generated(
     ensures winds { IsErrOf result Stop.Winds → IsStopped script rack.new }
     ensures memory { IsErrOf result Stop.Mem → rack.new ≡ rack.old }
 {
-    let mut world = world_of(alloc, script, plans)?;
+    let mut world = World::new(alloc, script, plans)?;
     let ran = world.run(alloc, number);
     let (script, plans, left) = world.into_parts();
     line_left(alloc, number, &script, plans.as_slice(), ran, left, rack)
