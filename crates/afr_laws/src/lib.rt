@@ -1,6 +1,6 @@
 //! What every state of one set keeps, over every list of steps, proved from the machine of `afr_machine`. These are
-//! part of the facts by which a set of replicas is one atomic store; those of copies that were made, of contents and of
-//! decisions are not here yet.
+//! part of the facts by which a set of replicas is one atomic store; those of lock phases and of copies that were made are in
+//! `afr_soundness`, those of decisions in `afr_decisions`, and those of contents in `afr_contents`.
 //!
 //! ```text
 //!   rows by counts        who accuses whom, soundness, quorums

@@ -50,7 +50,7 @@ abbrev pub answer_of_fetch : Option Fetched → Answer
 answer_of_fetch None = Unfit
 answer_of_fetch (Some found) = Content found
 
--- what a request that is served is answered; a lock is answered when it is granted; fetch_many will have its place here
+-- what a request that is served is answered; a lock is answered when it is granted
 abbrev pub answer_of : Ask → Store → Answer
 answer_of (Lock shared cells) store = Rows (rows_of store)
 answer_of Unlock store = Done

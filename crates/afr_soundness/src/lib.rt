@@ -1,6 +1,6 @@
 //! What lock phases decide, whom they accuse, who stays free, and what copies carry, over every list of steps of one set of
-//! replicas. Proved from the machine of `afr_machine` and the facts of `afr_laws`. The facts of contents and of decisions
-//! are not here yet.
+//! replicas. Proved from the machine of `afr_machine` and the facts of `afr_laws`. The facts of decisions are in
+//! `afr_decisions`, and those of contents in `afr_contents`.
 //!
 //! ```text
 //!   lock phase ─ decides ─▶ a change ─ accuses ─▶ those outside who applied it, or outside the group

@@ -12,8 +12,8 @@ use Rattle.brick_machine.specs.Locking.{Served, gone_replies, graph_dropped}
 abbrev pub nothing : State → Served
 nothing s = record { state = s; outs = [] }
 
--- a Connect drops the graph's locks and descriptors, and connects it; it puts out the Gones, the grant_replies to others, and
--- Connected
+-- a Connect drops the graph's locks and descriptors, and connects it; it puts out the Gones, the replies of the locks
+-- that others are granted, and Connected
 abbrev pub connected_by : Served → ℕ → ℕ → Served
 connected_by dropped graph version = record {
   state = record (dropped.state) { graphs = with_graph dropped.state.graphs graph };
@@ -24,7 +24,8 @@ connected_by dropped graph version = record {
 abbrev pub connected : State → ℕ → ℕ → Served
 connected s graph version = if is_some s.down then nothing s else connected_by (graph_dropped s graph) graph version
 
--- a Disconnect drops the graph's locks and descriptors, and ends its connection; it puts out the Gones and the grant_replies
+-- a Disconnect drops the graph's locks and descriptors, and ends its connection; it puts out the Gones and the
+-- replies of the locks that others are granted
 abbrev pub disconnected_by : Served → ℕ → Served
 disconnected_by dropped graph = record {
   state = record (dropped.state) { graphs = without_graph dropped.state.graphs graph };

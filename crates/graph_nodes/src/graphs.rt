@@ -1,5 +1,5 @@
 //! The graphs of a mount by their numbers, with what they share.
-ghost use Rattle.std.specs.Prelude.{ℕ, ◌≡◌, ◌||◌, ◌&&◌, not, true, false, [], is_some, IfOk, OnOk, OnErr};
+ghost use Rattle.std.specs.Prelude.{ℕ, ◌≡◌, ◌||◌, ◌&&◌, not, true, false, [], None, is_some, IfOk, OnOk, OnErr};
 ghost use Rattle.std.specs.BTreeMap.{is_at};
 ghost use Rattle.std.specs.Ordering.{nat_cmp};
 ghost use Rattle.std.specs.FinMap as map;
@@ -61,20 +61,21 @@ impl Graphs {
         }
     }
 
-    /// Makes a graph of a plan that `build` gives, under this number. False comes where there is one of this number.
+    /// Makes a graph of a plan that `build` gives, under this number. False comes exactly where there is one of this number.
     ///
     /// # Errors
     /// Out of memory, now or in an earlier call. The graphs are spent.
-    pub fn make(&mut self, alloc: Global, plan: &Plan, number: u32) -> Result<bool, Stop>
+    pub fn make(&mut self, alloc: Global, plan: &Plan, number: u32) -> Result<bool, AllocError>
         requires { IsPlan plan.now }
         ensures inodes { self.new.inodes ≡ self.old.inodes }
         ensures history { self.new.history ≡ self.old.history }
         ensures ok { OnOk result ((self.old.spent ≡ false) × (self.new.spent ≡ false)) }
+        ensures made { IfOk result (λ made. made ≡ not (has self.old.numbers number)) }
         ensures numbers { OnOk result ((q : ℕ) → has self.new.numbers q ≡ (is_at (nat_cmp number) q || has self.old.numbers q)) }
         ensures err { OnErr result (IsSpentBy self.old self.new) }
     {
         if self.is_spent {
-            return Err(Stop::Mem);
+            return Err(AllocError);
         }
         self.is_spent = true;
         let made = make_in(alloc, &mut self.live, plan, number)?;
@@ -200,6 +201,7 @@ impl Graphs {
     /// As for [`Graphs::submit`].
     pub fn run_task(&mut self, alloc: Global, number: u32, task: u32) -> Result<Option<Moved>, Stop>
         ensures ok { OnOk result (KeepsMounted self.old self.new) }
+        ensures absent { has self.old.numbers number ≡ false → IfOk result (λ moved. moved ≡ None) }
         ensures err { OnErr result (IsSpentBy self.old self.new) }
     {
         if self.is_spent {
@@ -214,21 +216,24 @@ impl Graphs {
     /// A graph opens its next connection to a brick, whose number this gives. `None` comes too where the graph does not use
     /// the brick, or has an open connection to it, or has opened 4,294,967,295.
     pub fn connect(&mut self, number: u32, brick: u8) -> Option<u32>
-        ensures { self.new ≡ self.old }
+        ensures same { self.new ≡ self.old }
+        ensures absent { has self.old.numbers number ≡ false → result ≡ None }
     {
         connect_in(&mut self.live, number, brick)
     }
 
-    /// A graph drops the pages of a file. False comes where there is no such graph.
+    /// A graph drops the pages of a file. False comes exactly where there is no such graph.
     pub fn drop_pages(&mut self, number: u32, gfid: Gfid) -> bool
-        ensures { self.new ≡ self.old }
+        ensures same { self.new ≡ self.old }
+        ensures there { result ≡ has self.old.numbers number }
     {
         drop_pages_in(&mut self.live, number, gfid)
     }
 
-    /// A graph drops all its pages, and keeps none from now on. False comes where there is no such graph.
+    /// A graph drops all its pages, and keeps none from now on. False comes exactly where there is no such graph.
     pub fn retire(&mut self, number: u32) -> bool
-        ensures { self.new ≡ self.old }
+        ensures same { self.new ≡ self.old }
+        ensures there { result ≡ has self.old.numbers number }
     {
         retire_in(&mut self.live, number)
     }

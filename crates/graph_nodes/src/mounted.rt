@@ -1,5 +1,5 @@
 //! Calls of one graph among those of a mount: what they leave of the others.
-ghost use Rattle.std.specs.Prelude.{ℕ, ◌≡◌, ◌<◌, ◌||◌, ◌&&◌, not, true, length, is_some, IsSomeAnd, IfOk, OnOk, OnErr};
+ghost use Rattle.std.specs.Prelude.{ℕ, ◌≡◌, ◌<◌, ◌||◌, ◌&&◌, not, true, false, None, length, is_some, IsSomeAnd, IfOk, OnOk, OnErr};
 ghost use Rattle.std.specs.BTreeMap.{get, is_at, keys};
 ghost use Rattle.std.specs.Ordering.{nat_cmp};
 ghost use Rattle.fop_types.specs.Bounds.{IsFop, IsRep};
@@ -28,6 +28,7 @@ pub(crate) fn make_in(
 ) -> Result<bool, AllocError>
     requires plan { IsPlan plan.now }
     ensures live { OnOk result ((mount : Mount) → AllLive live.old mount → AllLive live.new mount) }
+    ensures made { IfOk result (λ made. made ≡ not (is_some (get nat_cmp live.old number))) }
     ensures numbers { OnOk result ((q : ℕ) → is_some (get nat_cmp live.new q) ≡ (is_at (nat_cmp number) q || is_some (get nat_cmp live.old q))) }
     ensures err { OnErr result (keys live.new ≡ keys live.old) }
 {
@@ -191,6 +192,7 @@ pub(crate) fn run_task_in(
 ) -> Result<Option<Moved>, Stop>
     requires live { AllLive live.old mount.old }
     ensures live { OnOk result (AllLive live.new mount.new) }
+    ensures absent { is_some (get nat_cmp live.old number) ≡ false → IfOk result (λ moved. moved ≡ None) }
     ensures numbers { keys live.new ≡ keys live.old }
     ensures inodes { mount.new.inodes ≡ mount.old.inodes }
 {
@@ -226,6 +228,7 @@ fn may_connect(graph: &Graph, brick: u8) -> bool
 /// A graph opens its next connection to a brick.
 pub(crate) fn connect_in(live: &mut BTreeMap<u32, Graph>, number: u32, brick: u8) -> Option<u32>
     ensures live { (mount : Mount) → AllLive live.old mount → AllLive live.new mount }
+    ensures absent { is_some (get nat_cmp live.old number) ≡ false → result ≡ None }
     ensures numbers { keys live.new ≡ keys live.old }
 {
     match live.get_mut(&number) {
@@ -244,6 +247,7 @@ fn drop_pages_of(graph: &mut Graph, gfid: Gfid)
 /// A graph drops the pages of a file. False comes where there is no such graph.
 pub(crate) fn drop_pages_in(live: &mut BTreeMap<u32, Graph>, number: u32, gfid: Gfid) -> bool
     ensures live { (mount : Mount) → AllLive live.old mount → AllLive live.new mount }
+    ensures there { result ≡ is_some (get nat_cmp live.old number) }
     ensures numbers { keys live.new ≡ keys live.old }
 {
     match live.get_mut(&number) {
@@ -265,6 +269,7 @@ fn retire_of(graph: &mut Graph)
 /// A graph drops its pages, and keeps none from now on. False comes where there is no such graph.
 pub(crate) fn retire_in(live: &mut BTreeMap<u32, Graph>, number: u32) -> bool
     ensures live { (mount : Mount) → AllLive live.old mount → AllLive live.new mount }
+    ensures there { result ≡ is_some (get nat_cmp live.old number) }
     ensures numbers { keys live.new ≡ keys live.old }
 {
     match live.get_mut(&number) {

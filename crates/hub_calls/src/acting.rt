@@ -1,4 +1,6 @@
 //! Moves of actions.
+ghost use Rattle.std.specs.Prelude.{◌≡◌, length};
+ghost use Rattle.hub_calls.specs.Hubs.{is_of_brick as of_brick};
 
 use crate::parts::Parts;
 use crate::planned::Planned;
@@ -6,26 +8,36 @@ use fop_types::{Fop, OpenFd, Proc, Seq};
 use graph_switch::{Reopen, reopen_list};
 use hub_tables::fd_number;
 use mount_log::HubEvent;
-use script_lang::Action;
+use script_lang::{Action, Script};
 use std::alloc::{AllocError, Global};
 use xlator_law::Stop;
 
-impl Parts {
-    /// Whether an action may be carried out: its brick or volfile is there, and a heal or a switch finds no internal
-    /// call without an answer.
-    pub(crate) fn may_act(&self, on: &Planned, action: Action) -> bool {
-        match action {
-            Action::Down(brick, _) => on.has_brick(brick),
-            Action::Up(brick) => on.has_brick(brick),
-            Action::Cut(brick) => on.has_brick(brick),
-            Action::Fault(brick, proc, number) => {
-                on.has_brick(brick) && proc != Proc::Unlock && number > 0
-            }
-            Action::Heal => self.internal.is_none(),
-            Action::Switch(volfile) => {
-                self.internal.is_none() && self.graphs.live.may_follow(on, volfile)
-            }
+/// Whether an action is of one of the script's bricks, and a fault of a request that may fail.
+pub(crate) fn is_of_brick(script: &Script, action: Action) -> bool
+    ensures { result ≡ of_brick (length script.now.bricks) action }
+{
+    let many = script.bricks.len();
+    match action {
+        Action::Down(brick, _) => (brick as usize) < many,
+        Action::Up(brick) => (brick as usize) < many,
+        Action::Cut(brick) => (brick as usize) < many,
+        Action::Fault(brick, proc, number) => {
+            (brick as usize) < many && proc != Proc::Unlock && number > 0
         }
+        Action::Heal => false,
+        Action::Switch(_) => false,
+    }
+}
+
+impl Parts {
+    /// Whether a heal may be carried out: no internal call is without an answer.
+    pub(crate) fn may_heal(&self) -> bool {
+        self.internal.is_none()
+    }
+
+    /// Whether a switch to a volfile may be carried out: no internal call is without an answer, and the plan may follow.
+    pub(crate) fn may_switch(&self, on: &Planned, volfile: u8) -> bool {
+        self.internal.is_none() && self.graphs.live.may_follow(on, volfile)
     }
 
     /// Whether the phase has nothing left but controls: its calls are answered, no internal call is under way, no task is
@@ -101,13 +113,13 @@ impl Parts {
     /// graph, if there is one.
     ///
     /// # Errors
-    /// As for `Hub::submit`.
+    /// Out of memory.
     pub(crate) fn make_graph(
         &mut self,
         alloc: Global,
         on: &Planned,
         volfile: u8,
-    ) -> Result<(), Stop> {
+    ) -> Result<(), AllocError> {
         if let Some(plan) = on.plan(volfile) {
             self.graphs.make(alloc, plan, volfile)?;
         }

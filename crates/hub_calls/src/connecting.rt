@@ -2,15 +2,20 @@
 
 use crate::parts::Parts;
 use crate::planned::Planned;
-use std::alloc::Global;
+use std::alloc::{AllocError, Global};
 use xlator_law::Stop;
 
 impl Parts {
     /// A graph opens its next connection to a brick that it uses. After number 4,294,967,295 it opens none.
     ///
     /// # Errors
-    /// As for `Hub::submit`.
-    pub(crate) fn connect(&mut self, alloc: Global, graph: u32, brick: u8) -> Result<(), Stop> {
+    /// Out of memory.
+    pub(crate) fn connect(
+        &mut self,
+        alloc: Global,
+        graph: u32,
+        brick: u8,
+    ) -> Result<(), AllocError> {
         if self.graphs.nodes.connect(graph, brick).is_some() {
             self.turn.send_connect(alloc, brick, graph)?;
         }
@@ -20,8 +25,8 @@ impl Parts {
     /// The newest graph opens a connection to each of its bricks that is not known to be closed.
     ///
     /// # Errors
-    /// As for `Hub::submit`.
-    pub(crate) fn connect_newest(&mut self, alloc: Global, on: &Planned) -> Result<(), Stop> {
+    /// Out of memory.
+    pub(crate) fn connect_newest(&mut self, alloc: Global, on: &Planned) -> Result<(), AllocError> {
         let graph = self.graphs.live.newest;
         for brick in 0..on.bricks() {
             if self.graphs.live.uses(graph, brick) && !self.turn.bricks.closed.has(brick) {

@@ -8,7 +8,6 @@ use graph_nodes::Graphs as NodeGraphs;
 use hub_tables::{SmallSet, bricks_of};
 use std::alloc::{AllocError, Global};
 use std::collections::BTreeMap;
-use xlator_law::Stop;
 
 /// Of a live graph the number of the volfile that it is made from, the bricks that it uses, and how many sets it has.
 #[derive(Clone, Copy)]
@@ -119,12 +118,12 @@ impl Graphs {
     /// Makes the next graph, from the plan of a volfile.
     ///
     /// # Errors
-    /// Out of memory.
-    pub(crate) fn make(&mut self, alloc: Global, plan: &Plan, volfile: u8) -> Result<(), Stop>
+    /// Out of memory. A graph after number 4,294,967,295 would be answered so too; `may_follow` lets none come.
+    pub(crate) fn make(&mut self, alloc: Global, plan: &Plan, volfile: u8) -> Result<(), AllocError>
         requires { IsPlan plan.now }
     {
         let Some(number) = self.live.newest.checked_add(1) else {
-            return Err(Stop::Mem);
+            return Err(AllocError);
         };
         self.nodes.make(alloc, plan, number)?;
         let made = LiveGraph {

@@ -1,9 +1,10 @@
-ghost use Rattle.std.specs.Prelude.{◌≡◌, false, true, None, Some, OnOk, IfOk, IfErr};
+ghost use Rattle.std.specs.Prelude.{◌≡◌, ◌&&◌, false, None, Some, length, OnOk, IfOk, IfErr};
 ghost use Rattle.hub_tables.specs.Arming.{is_armable};
-ghost use Rattle.hub_calls.specs.Hubs.{StaysStopped};
+ghost use Rattle.hub_calls.specs.Hubs.{StaysStopped, is_of_brick};
 ghost use Rattle.mount_log.specs.Scripts.{IsScript};
-ghost use Rattle.script_lang.specs.Accepted.{IsAccepted};
+ghost use Rattle.script_lang.specs.StatementText.{is_great_action};
 
+use crate::acting::is_of_brick;
 use crate::parts::Parts;
 use crate::planned::Planned;
 use bytes::Bytes;
@@ -12,7 +13,7 @@ use graph_build::Plan;
 use hub_tables::{Turned, may_be_armed};
 use mount_log::Log;
 use script_lang::{Action, Script};
-use std::alloc::Global;
+use std::alloc::{AllocError, Global};
 use std::collections::VecDeque;
 use std::marker::Model;
 use xlator_law::Stop;
@@ -37,15 +38,6 @@ impl Model for Hub {
     ghost view = { λ h. record { script = h.planned.script; plans = h.planned.plans; log = h.parts.log; stop = h.stop } };
 }
 
-// The parts of a hub that has made its first graph.
-fn begun(alloc: Global, on: &Planned) -> Result<Parts, Stop>
-    requires { IsAccepted on.now.script }
-{
-    let mut parts = Parts::new(alloc, on)?;
-    let began = parts.begin_script(alloc, on);
-    began.and(Ok(parts))
-}
-
 impl Hub {
     /// The hub at the start of a script, which is one that `script_lang::parse` gives, with the plan of each of its
     /// volfiles in order. The first graph is made, and its bricks are sent a Connect, with event number 0. Leading phases
@@ -53,20 +45,20 @@ impl Hub {
     ///
     /// # Errors
     /// Out of memory.
-    pub fn new(alloc: Global, script: Script, plans: Seq<Plan>) -> Result<Hub, Stop>
+    pub fn new(alloc: Global, script: Script, plans: Seq<Plan>) -> Result<Hub, AllocError>
         requires { IsScript script plans }
         ensures { IfOk result (λ h. h ≡ record { script = script; plans = plans; log = h.log; stop = None }) }
     {
         let planned = Planned::new(script, plans);
-        match begun(alloc, &planned) {
+        match Parts::begun(alloc, &planned) {
             Ok(parts) => Ok(Hub {
                 planned,
                 parts,
                 stop: None,
             }),
-            Err(stop) => {
+            Err(error) => {
                 drop(planned);
-                Err(stop)
+                Err(error)
             }
         }
     }
@@ -197,22 +189,34 @@ impl Hub {
         }
     }
 
+    // Whether an action may be carried out.
+    fn may_act(&self, action: Action) -> bool
+        ensures { is_great_action action ≡ false → result ≡ is_of_brick (length self.now.script.bricks) action }
+    {
+        match action {
+            Action::Heal => self.parts.may_heal(),
+            Action::Switch(volfile) => self.parts.may_switch(&self.planned, volfile),
+            _ => is_of_brick(self.script(), action),
+        }
+    }
+
     /// Carries an action out, and with it the control that [`Hub::first`], [`Hub::due`] or [`Hub::rest`] gives, where it
     /// has the same action. It is false, with nothing changed, exactly where the action is not possible: its brick or
-    /// volfile is not in the script, a fault is one of unlock or has the number 0, or a heal or a switch finds an
-    /// internal call without an answer or a plan that does not follow.
+    /// volfile is not in the script, a fault is one of unlock or has the number 0, a heal or a switch finds an internal
+    /// call without an answer, or a switch finds a plan that does not follow, or 4,294,967,294 graphs that were made.
     ///
     /// # Errors
     /// As for [`Hub::submit`].
     pub fn act(&mut self, alloc: Global, action: Action) -> Result<bool, Stop>
         ensures same { (self.new.script ≡ self.old.script) × (self.new.plans ≡ self.old.plans) }
         ensures unchanged { IfOk result (λ did. did ≡ false → self.new ≡ self.old) }
+        ensures of_brick { IfOk result (λ did. is_great_action action ≡ false → did ≡ is_of_brick (length self.old.script.bricks) action) }
         ensures spent { StaysStopped self.old.stop self.old self.new result }
         ensures goes { OnOk result (self.new.stop ≡ None) }
         ensures stops { IfErr result (λ s. self.new.stop ≡ Some s) }
     {
         self.check()?;
-        if !self.parts.may_act(&self.planned, action) {
+        if !self.may_act(action) {
             return Ok(false);
         }
         self.parts.open_event();
@@ -222,7 +226,8 @@ impl Hub {
     }
 
     /// Arms an action for a request that is sent to a brick in this phase: it is carried out directly before. It is
-    /// false, with nothing changed, exactly where the action is no Down and no fault of that brick.
+    /// false, with nothing changed, exactly where the action is no Down and no fault of that brick, the script has no such
+    /// brick, or the fault is one of unlock or has the number 0.
     ///
     /// # Errors
     /// As for [`Hub::submit`].
@@ -236,13 +241,13 @@ impl Hub {
     ) -> Result<bool, Stop>
         ensures same { (self.new.script ≡ self.old.script) × (self.new.plans ≡ self.old.plans) }
         ensures unchanged { IfOk result (λ did. did ≡ false → self.new ≡ self.old) }
-        ensures armable { IfOk result (λ did. did ≡ true → is_armable brick action ≡ true) }
+        ensures armable { IfOk result (λ did. did ≡ (is_armable brick action && is_of_brick (length self.old.script.bricks) action)) }
         ensures spent { StaysStopped self.old.stop self.old self.new result }
         ensures goes { OnOk result (self.new.stop ≡ None) }
         ensures stops { IfErr result (λ s. self.new.stop ≡ Some s) }
     {
         self.check()?;
-        if !may_be_armed(brick, action) || !self.parts.may_act(&self.planned, action) {
+        if !may_be_armed(brick, action) || !is_of_brick(self.script(), action) {
             return Ok(false);
         }
         self.parts.open_event();

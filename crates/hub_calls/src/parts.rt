@@ -35,7 +35,7 @@ impl Parts {
     ///
     /// # Errors
     /// Out of memory.
-    pub(crate) fn new(alloc: Global, on: &Planned) -> Result<Parts, AllocError>
+    fn new(alloc: Global, on: &Planned) -> Result<Parts, AllocError>
         requires { IsAccepted on.now.script }
     {
         let progress = Progress::new(alloc, on.script())?;
@@ -50,6 +50,18 @@ impl Parts {
             fds: FdTable::new(alloc),
             graphs: Graphs::new(alloc, on.root_sets()),
         })
+    }
+
+    /// The parts of a hub that has made its first graph.
+    ///
+    /// # Errors
+    /// Out of memory.
+    pub(crate) fn begun(alloc: Global, on: &Planned) -> Result<Parts, AllocError>
+        requires { IsAccepted on.now.script }
+    {
+        let mut parts = Parts::new(alloc, on)?;
+        let began = parts.begin_script(alloc, on);
+        began.and(Ok(parts))
     }
 
     /// The log of the whole events.

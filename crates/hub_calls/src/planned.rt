@@ -78,10 +78,6 @@ impl Planned {
         self.script.bricks.len().min(255) as u8
     }
 
-    pub(crate) fn has_brick(&self, brick: u8) -> bool {
-        (brick as usize) < self.script.bricks.len()
-    }
-
     pub(crate) fn has_phase(&self, phase: u32) -> bool {
         (phase as usize) < self.script.phases.len()
     }

@@ -22,12 +22,11 @@ impl Parts {
     ///
     /// # Errors
     /// Out of memory.
-    pub(crate) fn begin_script(&mut self, alloc: Global, on: &Planned) -> Result<(), Stop> {
+    pub(crate) fn begin_script(&mut self, alloc: Global, on: &Planned) -> Result<(), AllocError> {
         self.make_graph(alloc, on, on.script().start)?;
         self.log.add(alloc, &mut self.turn.lines)?;
         self.begin_phase(alloc, on)?;
-        self.move_on(alloc, on)?;
-        Ok(())
+        self.move_on(alloc, on)
     }
 
     /// Begins an event.

@@ -6,7 +6,7 @@ use fop_types::Seq;
 use graph_build::Plan;
 use hub_calls::{Due, Hub, Log, Turned};
 use script_lang::Script;
-use std::alloc::Global;
+use std::alloc::{AllocError, Global};
 use xlator_law::Stop;
 
 /// What the workers share under a lock: the hub, and its ends of the links.
@@ -36,7 +36,7 @@ impl Desk {
         script: Script,
         plans: Seq<Plan>,
         ends: Vec<HubEnd>,
-    ) -> Result<Desk, Stop>
+    ) -> Result<Desk, AllocError>
         requires { IsScript script plans }
     {
         let mut links = Links::new(alloc, ends);
@@ -50,15 +50,15 @@ impl Desk {
                 };
                 match sent {
                     Ok(()) => Ok(desk),
-                    Err(_) => {
+                    Err(error) => {
                         drop(desk);
-                        Err(Stop::Mem)
+                        Err(error)
                     }
                 }
             }
-            Err(stop) => {
+            Err(error) => {
                 drop(links);
-                Err(stop)
+                Err(error)
             }
         }
     }

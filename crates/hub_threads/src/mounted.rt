@@ -2,6 +2,7 @@ ghost use Rattle.mount_log.specs.Scripts.{IsScript};
 
 use crate::desk::{Desk, Ended};
 use crate::gate::Gate;
+use crate::idle::Idle;
 use crate::places::{Places, Post, bricks_of, places_of};
 use crate::side::BrickSide;
 use fop_types::Seq;
@@ -11,12 +12,14 @@ use script_lang::Script;
 use std::alloc::Global;
 use std::sync::atomic::{AtomicBool, Ordering};
 use std::sync::{Mutex, Wait};
-use std::thread::{Threads, yield_now};
+use std::thread::Threads;
+use std::time::Clock;
 use std::{mem, thread};
 use xlator_law::Stop;
 
 // Takes the hub's turns until the log is finished, or somebody stopped.
-fn work<R: Wait>(rt: &R, alloc: Global, desk: &Mutex<Desk>, ended: &AtomicBool) {
+fn work<R: Wait + Clock>(rt: &R, alloc: Global, desk: &Mutex<Desk>, ended: &AtomicBool) {
+    let mut idle = Idle::new();
     for _ in rt.forever() {
         if ended.load(Ordering::SeqCst) {
             return;
@@ -26,8 +29,10 @@ fn work<R: Wait>(rt: &R, alloc: Global, desk: &Mutex<Desk>, ended: &AtomicBool) 
             ended.store(true, Ordering::SeqCst);
             return;
         }
-        if !did {
-            yield_now();
+        if did {
+            idle.end();
+        } else {
+            idle.wait(rt);
         }
     }
 }
@@ -40,20 +45,21 @@ fn take_turn<R: Wait>(rt: &R, alloc: Global, desk: &Mutex<Desk>) -> (bool, bool)
 }
 
 // Serves a brick until the log is finished, or somebody stopped.
-fn own<R: Wait, G: Gate>(
+fn own<R: Wait + Clock, G: Gate>(
     rt: &R,
     alloc: Global,
     side: &mut BrickSide,
     gate: &G,
     ended: &AtomicBool,
 ) {
+    let mut idle = Idle::new();
     for _ in rt.forever() {
         if ended.load(Ordering::SeqCst) {
             return;
         }
         match side.turn(alloc, gate) {
-            Ok(true) => {}
-            Ok(false) => yield_now(),
+            Ok(true) => idle.end(),
+            Ok(false) => idle.wait(rt),
             Err(_) => {
                 ended.store(true, Ordering::SeqCst);
                 return;
@@ -94,7 +100,7 @@ pub struct Ran {
 }
 
 // A thread does what its post is.
-fn take_post<R: Wait, G: Gate>(
+fn take_post<R: Wait + Clock, G: Gate>(
     rt: &R,
     alloc: Global,
     post: &mut Post,
@@ -109,7 +115,7 @@ fn take_post<R: Wait, G: Gate>(
 }
 
 // Each post has a thread, until the log is finished or somebody stopped.
-fn run_threads<R: Threads + Wait + Sync, G: Gate + Sync>(
+fn run_threads<R: Threads + Wait + Clock + Sync, G: Gate + Sync>(
     rt: &R,
     alloc: Global,
     desk: Desk,
@@ -170,7 +176,7 @@ fn leave(
 ///
 /// # Errors
 /// `Winds` where a further wind was needed and 4,294,967,295 were opened, and the rack is filled; else out of memory.
-pub fn mount<R: Threads + Wait + Sync, G: Gate + Sync>(
+pub fn mount<R: Threads + Wait + Clock + Sync, G: Gate + Sync>(
     rt: &R,
     alloc: Global,
     script: Script,
@@ -190,9 +196,9 @@ pub fn mount<R: Threads + Wait + Sync, G: Gate + Sync>(
                     let whole = go_on_alone(rt, alloc, &mut desk, posts.as_mut_slice(), gate);
                     leave(alloc, desk.into_ended(), posts, whole, rack)
                 }
-                Err(stop) => {
+                Err(_) => {
                     drop(posts);
-                    Err(stop)
+                    Err(Stop::Mem)
                 }
             }
         }

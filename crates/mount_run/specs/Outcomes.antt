@@ -54,10 +54,18 @@ pub record IsSummedUpShort (script : Script) (plans : List Plan) (number : ℕ) 
 abbrev pub IsRunStatus : ℕ → Type 0
 IsRunStatus status = (status ≡ 0) ⊎ ((status ≡ 4) ⊎ ((status ≡ 5) ⊎ ((status ≡ 6) ⊎ (status ≡ 7))))
 
--- an audit refused what a run left: nothing was written
+-- nothing was written, and the rack is empty
 pub record IsHeldBack (taken taken_after : Option (List ℕ)) (rack : Rack) : Type 0 where
   pub nothing : taken_after ≡ taken
   pub empty : rack ≡ empty_rack
+
+-- the text is accepted, and what its run left was held back
+pub record RunHeldBack (known taken taken_after : Option (List ℕ)) (rack : Rack) : Type 0 where
+  pub text : List ℕ
+  pub read : Accepted
+  pub is_text : IsRead known text
+  pub accepted_as : accepted text ≡ Ok read
+  pub held_back : IsHeldBack taken taken_after rack
 
 -- a script was run, and its whole report was written
 pub record Ran (known taken taken_after : Option (List ℕ)) (rack : Rack) : Type 0 where
@@ -76,7 +84,8 @@ pub record Checked (known taken taken_after : Option (List ℕ)) (rack : Rack) :
   pub wrote : Appends taken taken_after (check_text read.script)
   pub empty : rack ≡ empty_rack
 
--- the script that a number generates was run, and the line that sums it up was written
+-- some accepted script was run, and the line that sums it up under this number was written; which script a number generates is
+-- not said
 pub record Generated (number : ℕ) (taken taken_after : Option (List ℕ)) (rack : Rack) : Type 0 where
   pub text : List ℕ
   pub read : Accepted
@@ -97,12 +106,13 @@ Succeeded (Some (Mount workers)) known taken taken_after rack = Ran known taken 
 Succeeded (Some (Generate number)) known taken taken_after rack = Generated number taken taken_after rack
 Succeeded (Some Replay) known taken taken_after rack = Judged 0 known taken taken_after rack
 
--- a replay judges a report unlawful; what a run left is held back where it fails an audit
+-- a replay judges a report unlawful; what a run left is held back where it fails an audit. Of `gen` it may be
+-- instead that the generated text is too long or refused; that it never is, is not proved.
 abbrev pub IsUnlawful : Option Command → Option (List ℕ) → Option (List ℕ) → Option (List ℕ) → Rack → Type 0
 IsUnlawful None known taken taken_after rack = ⊥
 IsUnlawful (Some Check) known taken taken_after rack = ⊥
-IsUnlawful (Some (Run seed)) known taken taken_after rack = IsHeldBack taken taken_after rack
-IsUnlawful (Some (Mount workers)) known taken taken_after rack = IsHeldBack taken taken_after rack
+IsUnlawful (Some (Run seed)) known taken taken_after rack = RunHeldBack known taken taken_after rack
+IsUnlawful (Some (Mount workers)) known taken taken_after rack = RunHeldBack known taken taken_after rack
 IsUnlawful (Some (Generate number)) known taken taken_after rack = IsHeldBack taken taken_after rack
 IsUnlawful (Some Replay) known taken taken_after rack = Judged 6 known taken taken_after rack
 

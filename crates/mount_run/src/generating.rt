@@ -7,7 +7,6 @@ ghost use Rattle.run_judge.specs.Stopped.{IsStopped};
 ghost use Rattle.mount_run.specs.Outcomes.{empty_rack, IsRunStatus, IsSummedUp, IsSummedUpShort, Generated, GeneratedUnwritten, WindsRanOut};
 
 use crate::racks::{put_left, stopped};
-use crate::running::world_of;
 use fop_types::Seq;
 use graph_build::Plan;
 use hub_calls::Rack;
@@ -15,7 +14,7 @@ use run_judge::lawful_summary;
 use script_commands::{Accepted, Draws, NotRead, accept, generated, write};
 use script_lang::Script;
 use std::alloc::{AllocError, Global};
-use world_bricks::Schedule;
+use world_bricks::{Schedule, World};
 use xl_base::Sink;
 use xlator_law::Stop;
 
@@ -43,7 +42,8 @@ fn generated_by(alloc: Global, number: u64) -> Result<Vec<u8>, AllocError> {
     )
 }
 
-/// Runs the script that a number generates, with the number as its seed.
+/// Runs the script that a number generates, with the number as its seed. A text that is too long, or is refused, is answered
+/// by 6, as a run that fails an audit; that no number generates one is not proved.
 pub fn generate<K: Sink>(alloc: Global, number: u64, sink: &mut K, rack: &mut Rack) -> u8
     requires sink { K.faults sink.old < 2 ^ 64 - 1 }
     requires rack { rack.old ≡ empty_rack }
@@ -106,7 +106,7 @@ fn run_generated(
     ensures winds { IsErrOf result Stop.Winds → IsStopped script rack.new.log rack.new.bricks }
     ensures memory { IsErrOf result Stop.Mem → rack.new ≡ rack.old }
 {
-    let mut world = world_of(alloc, script, plans)?;
+    let mut world = World::new(alloc, script, plans)?;
     let ran = world.run(alloc, number);
     let (script, plans, left) = world.into_parts();
     line_left(alloc, number, &script, plans.as_slice(), ran, left, rack)

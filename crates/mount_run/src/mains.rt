@@ -8,6 +8,7 @@ use script_commands::{HeadSink, Meaning, meaning_of};
 use std::rt::Env;
 use std::sync::Wait;
 use std::thread::Threads;
+use std::time::Clock;
 use std::{env, io, str};
 use xl_base::{StdSink, StdSource};
 
@@ -64,7 +65,9 @@ fn words<R: Env + AllocGlobal>(rt: &R) -> io::Result<Vec<String>> {
 }
 
 /// Carries out the command that the program's words name, and gives the status.
-pub fn start<R: Env + Input + Print + Eprint + AllocGlobal + Threads + Wait + Sync>(rt: &R) -> u8 {
+pub fn start<R: Env + Input + Print + Eprint + AllocGlobal + Threads + Wait + Clock + Sync>(
+    rt: &R,
+) -> u8 {
     match words(rt) {
         Ok(words) => choose(rt, words.as_slice()),
         Err(error) => {
@@ -79,7 +82,7 @@ pub fn start<R: Env + Input + Print + Eprint + AllocGlobal + Threads + Wait + Sy
 }
 
 // Looks at the first word only.
-fn choose<R: Input + Print + Eprint + AllocGlobal + Threads + Wait + Sync>(
+fn choose<R: Input + Print + Eprint + AllocGlobal + Threads + Wait + Clock + Sync>(
     rt: &R,
     words: &[String],
 ) -> u8 {
@@ -121,7 +124,7 @@ fn carry_out<R: Input + Print + Eprint + AllocGlobal>(rt: &R, words: &[String]) 
 }
 
 // The same by threads.
-fn carry_out_mount<R: Input + Print + Eprint + AllocGlobal + Threads + Wait + Sync>(
+fn carry_out_mount<R: Input + Print + Eprint + AllocGlobal + Threads + Wait + Clock + Sync>(
     rt: &R,
     words: &[String],
 ) -> u8

@@ -11,12 +11,13 @@ use script_commands::{Accepted, write};
 use std::alloc::Global;
 use std::sync::Wait;
 use std::thread::Threads;
+use std::time::Clock;
 use xl_base::Sink;
 use xlator_law::Stop;
 
 /// Runs a script by one thread for each brick and so many that take the hub's turns, and writes its report. The mount shows
 /// nobody its script, so it is here twice: for the threads, and for the audits of what they leave.
-pub fn mount_read<R: Threads + Wait + Sync, K: Sink>(
+pub fn mount_read<R: Threads + Wait + Clock + Sync, K: Sink>(
     rt: &R,
     alloc: Global,
     read: Accepted,

@@ -59,22 +59,10 @@ fn run_script(
     ensures winds { IsErrOf result Stop.Winds → IsStopped script rack.new.log rack.new.bricks }
     ensures memory { IsErrOf result Stop.Mem → rack.new ≡ rack.old }
 {
-    let mut world = world_of(alloc, script, plans)?;
+    let mut world = World::new(alloc, script, plans)?;
     let ran = world.run(alloc, seed);
     let (script, plans, left) = world.into_parts();
     report_left(alloc, &script, plans.as_slice(), ran, left, rack)
-}
-
-/// The world at the start of a script. Nothing winds there.
-pub fn world_of(alloc: Global, script: Script, plans: Seq<Plan>) -> Result<World, AllocError>
-    requires { IsScript script plans }
-    ensures script { IfOk result (λ w. w.script ≡ script) }
-    ensures plans { IfOk result (λ w. w.plans ≡ plans) }
-{
-    match World::new(alloc, script, plans) {
-        Ok(world) => Ok(world),
-        Err(_) => Err(AllocError),
-    }
 }
 
 /// What a run left goes into the rack, and its report is given, where it passes the audits.

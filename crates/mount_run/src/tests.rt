@@ -6,6 +6,7 @@ use std::process::Abort;
 use std::sync::Wait;
 use std::test::Fail;
 use std::thread::Threads;
+use std::time::Clock;
 use xl_base::{MemSink, MemSource};
 
 // A piece of a script, and how often it is there.
@@ -818,7 +819,7 @@ fn end_as_they_must(rt: &impl Abort, alloc: Global, rows: &[Row]) -> Result<(), 
 }
 
 fn end_by_threads(
-    rt: &(impl Abort + Threads + Wait + Sync),
+    rt: &(impl Abort + Threads + Wait + Clock + Sync),
     alloc: Global,
     rows: &[Row],
 ) -> Result<(), Fail> {

@@ -1,7 +1,8 @@
 ghost use Rattle.std.specs.Prelude.{◌≡◌, ◌<◌, ◌≤◌, ◌-◌, ◌^◌, ◌↔◌, ◌⊎◌, Some, None, map};
 ghost use Rattle.std.specs.String.{string_bytes};
 ghost use Rattle.script_commands.specs.Commands.{command_of, without_threads, mount_command};
-ghost use Rattle.mount_run.specs.Outcomes.{empty_rack, Succeeded, IsUnlawful, IsHeldBack, RefusedBy, Refused, RefusedUnwritten, RefusedLine, RefusedLineUnwritten, Unwritten, Checked, CheckedUnwritten, Ran, RanUnwritten, Judged, JudgedUnwritten, RanOutOfWinds, WindsRanOut};
+ghost use Rattle.script_commands.specs.declared.commands.Command.TheVariants.{Replay};
+ghost use Rattle.mount_run.specs.Outcomes.{empty_rack, Succeeded, IsUnlawful, RunHeldBack, RefusedBy, Refused, RefusedUnwritten, RefusedLine, RefusedLineUnwritten, Unwritten, Checked, CheckedUnwritten, Ran, RanUnwritten, Judged, JudgedUnwritten, RanOutOfWinds, WindsRanOut};
 
 use crate::generating::generate;
 use crate::mounting::mount_read;
@@ -13,16 +14,18 @@ use script_commands::{
 use std::alloc::Global;
 use std::sync::Wait;
 use std::thread::Threads;
+use std::time::Clock;
 use xl_base::{Sink, Source};
 
 /// Carries out a command on a script: `check` reads and plans it, and writes one line of what it has; `run SEED` runs it
-/// too, and writes its report.
+/// too, and writes its report; `replay` judges a script with its report behind it, and writes one line of the verdict; and
+/// `gen N` reads no script, but runs one that the program generates, and writes one line that sums the run up.
 ///
 /// The words are those after the program's name. The result is the status: 0 the command was carried out and its text was
 /// written; 1 the script is refused and its one fault line was written; 2 the words are no command, and nothing was read or
 /// written; 3 the source failed, and nothing was written; 4 the sink failed, and a prefix of the text was written; 5 out of
 /// memory, and nothing was written; 6 a replay judged the report unlawful, and the line that says so was written, or what a run
-/// left failed an audit, and nothing was written; 7 the run needed a further wind where 4,294,967,295 were opened, and nothing
+/// left failed an audit, and nothing was written (of `gen` also where the generated text is too long, or is refused); 7 the run needed a further wind where 4,294,967,295 were opened, and nothing
 /// was written. The rack must be empty; after a run, and where it
 /// needed a wind too many, it holds the bricks and the log of the run, and else it is empty still.
 pub fn top<S: Source, K: Sink>(
@@ -46,6 +49,7 @@ pub fn top<S: Source, K: Sink>(
     ensures write_fault { result ≡ 4 → (K.faults sink.old < K.faults sink.new) × Unwritten (without_threads (command_of (map string_bytes words.now))) (S.left source.old) (K.taken sink.old) (K.taken sink.new) rack.new }
     ensures memory { result ≡ 5 → (sink.new ≡ sink.old) × (rack.new ≡ empty_rack) }
     ensures unlawful { result ≡ 6 → IsUnlawful (without_threads (command_of (map string_bytes words.now))) (S.left source.old) (K.taken sink.old) (K.taken sink.new) rack.new }
+    ensures held_back { result ≡ 6 → (without_threads (command_of (map string_bytes words.now)) ≡ Some Replay) ⊎ (sink.new ≡ sink.old) }
     ensures winds { result ≡ 7 → (sink.new ≡ sink.old) × RanOutOfWinds (without_threads (command_of (map string_bytes words.now))) (S.left source.old) rack.new }
 {
     match command_in(words) {
@@ -114,7 +118,7 @@ fn run<S: Source, K: Sink>(
     ensures write_fault { result ≡ 4 → K.faults sink.old < K.faults sink.new }
     ensures short { result ≡ 4 → RanUnwritten (S.left source.old) (K.taken sink.old) (K.taken sink.new) rack.new ⊎ RefusedUnwritten (S.left source.old) (K.taken sink.old) (K.taken sink.new) rack.new }
     ensures memory { result ≡ 5 → (sink.new ≡ sink.old) × (rack.new ≡ empty_rack) }
-    ensures unlawful { result ≡ 6 → IsHeldBack (K.taken sink.old) (K.taken sink.new) rack.new }
+    ensures unlawful { result ≡ 6 → (sink.new ≡ sink.old) × RunHeldBack (S.left source.old) (K.taken sink.old) (K.taken sink.new) rack.new }
     ensures winds { result ≡ 7 → (sink.new ≡ sink.old) × WindsRanOut (S.left source.old) rack.new }
 {
     match read_script(alloc, source) {
@@ -125,7 +129,7 @@ fn run<S: Source, K: Sink>(
 
 /// Carries out `mount WORKERS` on a script: it is run by one thread for each brick and so many that take the hub's turns.
 /// The result is the status, as for [`top`].
-pub fn top_mount<R: Threads + Wait + Sync, S: Source, K: Sink>(
+pub fn top_mount<R: Threads + Wait + Clock + Sync, S: Source, K: Sink>(
     rt: &R,
     alloc: Global,
     words: &[String],
@@ -146,7 +150,7 @@ pub fn top_mount<R: Threads + Wait + Sync, S: Source, K: Sink>(
     ensures read_fault { result ≡ 3 → (S.faults source.old < S.faults source.new) × (sink.new ≡ sink.old) × (rack.new ≡ empty_rack) }
     ensures write_fault { result ≡ 4 → (K.faults sink.old < K.faults sink.new) × Unwritten (mount_command (command_of (map string_bytes words.now))) (S.left source.old) (K.taken sink.old) (K.taken sink.new) rack.new }
     ensures memory { result ≡ 5 → (sink.new ≡ sink.old) × (rack.new ≡ empty_rack) }
-    ensures unlawful { result ≡ 6 → IsUnlawful (mount_command (command_of (map string_bytes words.now))) (S.left source.old) (K.taken sink.old) (K.taken sink.new) rack.new }
+    ensures unlawful { result ≡ 6 → (sink.new ≡ sink.old) × IsUnlawful (mount_command (command_of (map string_bytes words.now))) (S.left source.old) (K.taken sink.old) (K.taken sink.new) rack.new }
     ensures winds { result ≡ 7 → (sink.new ≡ sink.old) × RanOutOfWinds (mount_command (command_of (map string_bytes words.now))) (S.left source.old) rack.new }
 {
     let Some(Command::Mount(workers)) = command_in(words) else {

@@ -31,7 +31,7 @@ const MEANINGS: [Meaning; 38] = [
     Meaning {
         kind: "VolUnexpected",
         wrong: "the line's first word is no statement that may be here",
-        expected: "`volume NAME` outside a block; in a block `type` and `subvolumes` once, `option`, `end-volume`",
+        expected: "`volume NAME` or `end-volfile` outside a block; in a block `type` and `subvolumes` once, `option`, `end-volume`",
         part: "The volfile",
     },
     Meaning {
@@ -108,8 +108,8 @@ const MEANINGS: [Meaning; 38] = [
     },
     Meaning {
         kind: "BadWord",
-        wrong: "a word has not the form that its place asks for",
-        expected: "a call, action or procedure of the tables, or a name, path, mode, number or data of its form",
+        wrong: "a word does not have the form of its place, or `before` has an action that may not come there",
+        expected: "a call, action or procedure of the tables, or a name, path, mode, number or data of its form; with `before` a `down` or `fault` of the same brick",
         part: "The script",
     },
     Meaning {
@@ -156,8 +156,8 @@ const MEANINGS: [Meaning; 38] = [
     },
     Meaning {
         kind: "TooLong",
-        wrong: "the script is longer than 2,097,152 bytes",
-        expected: "at most 2,097,152 bytes",
+        wrong: "the script is longer than 2,097,152 bytes, or the whole text of a replay than 4,294,967,295",
+        expected: "at most 2,097,152 bytes of a script, and for `replay` 4,294,967,295 with its report",
         part: "The script",
     },
     Meaning {
@@ -168,8 +168,8 @@ const MEANINGS: [Meaning; 38] = [
     },
     Meaning {
         kind: "BadReport",
-        wrong: "no report has this line after the lines before it",
-        expected: "the lines of a report, in their order, as a run writes them",
+        wrong: "no report has this line after the lines before it, or it is the last line and they end too early",
+        expected: "the lines of a report up to `end`, in their order, as a run writes them",
         part: "The report",
     },
     Meaning {
@@ -222,7 +222,7 @@ const MEANINGS: [Meaning; 38] = [
     },
     Meaning {
         kind: "PlanNestedCluster",
-        wrong: "the volume may not stand above what is below it",
+        wrong: "a volume of this type may not be above what is below it",
         expected: "replicate above clients, distribute above sets, io-cache and io-threads above all sets, one distribute and one io-cache on a path",
         part: "Plans",
     },

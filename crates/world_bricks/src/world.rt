@@ -10,7 +10,7 @@ use fop_types::Seq;
 use graph_build::Plan;
 use hub_calls::{Hub, Log, Rack};
 use script_lang::Script;
-use std::alloc::Global;
+use std::alloc::{AllocError, Global};
 use std::marker::Model;
 use xlator_law::Stop;
 
@@ -41,7 +41,7 @@ impl World {
     ///
     /// # Errors
     /// Out of memory.
-    pub fn new(alloc: Global, script: Script, plans: Seq<Plan>) -> Result<World, Stop>
+    pub fn new(alloc: Global, script: Script, plans: Seq<Plan>) -> Result<World, AllocError>
         requires { IsScript script plans }
         ensures { IfOk result (λ w. w ≡ record { script = script; plans = plans; stop = None }) }
     {
@@ -52,9 +52,9 @@ impl World {
                 lines,
                 stop: None,
             }),
-            Err(_) => {
+            Err(error) => {
                 drop(hub);
-                Err(Stop::Mem)
+                Err(error)
             }
         }
     }

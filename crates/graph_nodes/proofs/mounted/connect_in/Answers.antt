@@ -1,8 +1,9 @@
 use Rattle.std.proofs.Common.{ap}
 use Rattle.std.specs.Prelude.{ℕ}
-use Rattle.std.specs.BTreeMap.{BTreeMap, keys}
+use Rattle.std.specs.BTreeMap.{BTreeMap, get, keys}
+use Rattle.std.specs.Ordering.{nat_cmp}
 use Rattle.graph_nodes.specs.declared.graph.Graph.{Graph}
-use Rattle.graph_nodes.proofs.Together.{called_through, all_same}
+use Rattle.graph_nodes.proofs.Together.{called_through, all_same, not_absent}
 use Rattle.graph_nodes.proofs.mounted.connect_in.Goals as goal
 
 pub returns-in-Some-clause-live : goal.returns-in-Some-clause-live
@@ -17,3 +18,6 @@ returns-in-None-clause-live c = λ mount all. all_same c.args.live.now _ mount c
 
 pub returns-in-None-clause-numbers : goal.returns-in-None-clause-numbers
 returns-in-None-clause-numbers c = ap (λ (m : BTreeMap ℕ Graph). keys m) c.get_mut.follows.holds-at-none
+
+pub returns-in-Some-clause-absent : goal.returns-in-Some-clause-absent
+returns-in-Some-clause-absent c = not_absent _ c.in-Some.graph.now (get nat_cmp c.args.live.now c.args.number) c.in-Some.ensures.value

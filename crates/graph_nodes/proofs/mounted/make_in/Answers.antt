@@ -1,4 +1,5 @@
-use Rattle.std.proofs.Common.{sym, ◌∙◌}
+use Rattle.std.proofs.Common.{sym, ap, ◌∙◌}
+use Rattle.std.specs.Prelude.{not}
 use Rattle.graph_nodes.proofs.Together.{made_all, absent_by, put_numbers, same_numbers}
 use Rattle.graph_nodes.proofs.mounted.make_in.Goals as goal
 
@@ -14,3 +15,9 @@ returns-then-there-clause-live c = λ mount all. all
 
 pub returns-then-there-clause-numbers : goal.returns-then-there-clause-numbers
 returns-then-there-clause-numbers c = same_numbers c.args.live.now c.args.number (sym c.contains_key-there.ensures ∙ c.if-there.true)
+
+pub returns-clause-made : goal.returns-clause-made
+returns-clause-made c = ap not (sym c.if-there.false ∙ c.contains_key-there.ensures)
+
+pub returns-then-there-clause-made : goal.returns-then-there-clause-made
+returns-then-there-clause-made c = ap not (sym c.if-there.true ∙ c.contains_key-there.ensures)

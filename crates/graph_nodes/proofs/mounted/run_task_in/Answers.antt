@@ -1,9 +1,10 @@
 use Rattle.std.proofs.Common.{ap}
 use Rattle.std.proofs.lemmas.Result.{on_ok_weaker}
 use Rattle.std.specs.Prelude.{ℕ}
-use Rattle.std.specs.BTreeMap.{BTreeMap, keys}
+use Rattle.std.specs.BTreeMap.{BTreeMap, get, keys}
+use Rattle.std.specs.Ordering.{nat_cmp}
 use Rattle.graph_nodes.specs.declared.graph.Graph.{Graph}
-use Rattle.graph_nodes.proofs.Together.{one_found, called_through, all_same}
+use Rattle.graph_nodes.proofs.Together.{one_found, called_through, all_same, not_absent}
 use Rattle.graph_nodes.proofs.mounted.run_task_in.Goals as goal
 
 pub run_task-requires : goal.run_task-requires
@@ -24,3 +25,6 @@ returns-in-None-clause-live c = all_same c.args.live.now _ c.args.mount.now c.ge
 
 pub returns-in-None-clause-numbers : goal.returns-in-None-clause-numbers
 returns-in-None-clause-numbers c = ap (λ (m : BTreeMap ℕ Graph). keys m) c.get_mut.follows.holds-at-none
+
+pub returns-in-Some-clause-absent : goal.returns-in-Some-clause-absent
+returns-in-Some-clause-absent c = not_absent _ c.in-Some.graph.now (get nat_cmp c.args.live.now c.args.number) c.in-Some.ensures.value
