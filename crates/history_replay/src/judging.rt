@@ -5,11 +5,13 @@ ghost use Rattle.history_replay.specs.code.Shown.{replied, IsLawfulWithReplies, 
 ghost use Rattle.history_replay.specs.Traces.{IsLawfulTrace};
 ghost use Rattle.history_replay.specs.declared.judging.Verdict.TheVariants as verdict;
 
+use crate::assigned::assign;
 use crate::filled::filled;
 use crate::finding::{Walked, find};
 use crate::findings::Findings;
 use crate::lawful::is_borne;
-use crate::lines::{Named, are_the_lines, assign, submissions};
+use crate::lines::{Named, are_the_lines, submissions};
+use crate::reading::number;
 use crate::shown::{answer_shown, is_silent, shows_list};
 use crate::trace::{Replied, Submitted, Trace};
 use fop_types::{Answer, Call, Entry, Path, Seq};
@@ -206,13 +208,6 @@ fn first_unlawful(
         }
     }
     Ok(number(high))
-}
-
-fn number(at: usize) -> u32 {
-    match u32::try_from(at) {
-        Ok(number) => number,
-        Err(_) => u32::MAX,
-    }
 }
 
 // The first call that is not answered lawfully, at most the one of this number, which is not.
