@@ -65,7 +65,8 @@ fn add_call(sessions: &mut Vec<Session>, session: u8, at: usize) -> Result<(), A
 
 fn add_calls(sessions: &mut Vec<Session>, calls: &[Submitted]) -> Result<(), AllocError> {
     for at in 0..calls.len() {
-        add_call(sessions, calls[at].session, at)?;
+        let call = &calls[at];
+        add_call(sessions, call.session, at)?;
     }
     Ok(())
 }
