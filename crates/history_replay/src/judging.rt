@@ -293,6 +293,7 @@ fn judge_replies(
     Ok(found)
 }
 
+// The verdict with what was found, whose lists are put in the places of the answers that show them.
 fn judge_walked(
     alloc: Global,
     shown: &[ReportCall],
@@ -305,25 +306,7 @@ fn judge_walked(
     ensures { IfOk result (λ v. v ≡ verdict.Lawful → (fails ≡ None) × IsLawfulWithReplies shown.now base.now) }
 {
     fill_lists(shown, answers, &mut walked.lists);
-    let found = judge_replies(alloc, shown, answers, base, &walked.findings, fails)?;
-    Ok(found)
-}
-
-fn judge_found(
-    alloc: Global,
-    shown: &[ReportCall],
-    answers: &mut Vec<Option<Answer>>,
-    base: &Trace,
-    walked: &mut Result<Walked, u32>,
-    fails: Option<usize>,
-) -> Result<Verdict, AllocError>
-    requires { AreAnswersShown shown.now answers.old.items }
-    ensures { IfOk result (λ v. v ≡ verdict.Lawful → (fails ≡ None) × IsLawfulWithReplies shown.now base.now) }
-{
-    match walked {
-        Ok(walked) => Ok(judge_walked(alloc, shown, answers, base, walked, fails)?),
-        Err(entry) => Ok(Verdict::Entry(*entry)),
-    }
+    judge_replies(alloc, shown, answers, base, &walked.findings, fails)
 }
 
 fn judge_answers(
@@ -336,10 +319,14 @@ fn judge_answers(
     requires { AreAnswersShown shown.now answers.old.items }
     ensures { IfOk result (λ v. v ≡ verdict.Lawful → (fails ≡ None) × IsLawfulWithReplies shown.now base.now) }
 {
-    let mut walked = walk(alloc, shown, answers, base)?;
-    let found = judge_found(alloc, shown, answers, base, &mut walked, fails);
-    drop(walked);
-    found
+    match walk(alloc, shown, answers, base)? {
+        Ok(mut walked) => {
+            let found = judge_walked(alloc, shown, answers, base, &mut walked, fails);
+            drop(walked);
+            found
+        }
+        Err(entry) => Ok(Verdict::Entry(entry)),
+    }
 }
 
 // The verdict on a trace with the replies that calls show.

@@ -68,12 +68,7 @@ impl Known {
     }
 
     // The last operation of the call, if its lookups are done.
-    fn last_op(
-        &self,
-        alloc: Global,
-        call: &Call,
-        fds: &Fds,
-    ) -> Result<Option<FlatOp>, AllocError> {
+    fn last_op(&self, alloc: Global, call: &Call, fds: &Fds) -> Result<Option<FlatOp>, AllocError> {
         let found = self.found.as_slice();
         if is_found(call, found) && is_sent(fds, call) {
             last_op(alloc, call, ends_of(call, found), self.drawn, fds)

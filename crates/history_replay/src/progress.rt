@@ -141,14 +141,11 @@ impl Progress {
         requires { session < length self.old.fds.items }
         ensures { OnOk result (state_of self.new ≡ record (state_of self.old) { fds = fds_after self.old.fds.items session case.now (answer_by trace.now.replies reply) }) }
     {
-        match reply {
+        match answer_at(trace, reply) {
             None => Ok(()),
-            Some(k) => match trace.replies.get(k) {
-                None => Ok(()),
-                Some(found) => {
-                    self.fds[session].after_answer(case.call, case.file_given(), found.answer)
-                }
-            },
+            Some(found) => {
+                self.fds[session].after_answer(case.call, case.file_given(), found.answer)
+            }
         }
     }
 

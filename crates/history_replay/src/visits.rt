@@ -29,11 +29,7 @@ fn add_lists(lists: &mut Vec<Option<Answer>>, count: usize) -> Result<(), AllocE
     Ok(())
 }
 
-fn add_known(
-    alloc: Global,
-    known: &mut Vec<Known>,
-    calls: &[Submitted],
-) -> Result<(), AllocError> {
+fn add_known(alloc: Global, known: &mut Vec<Known>, calls: &[Submitted]) -> Result<(), AllocError> {
     let mut lo: u64 = 1;
     for call in calls {
         lo = lo.saturating_add(makes(call.call));
