@@ -107,6 +107,7 @@ fn fits(trace: &Trace, at: usize, bound: usize, reply: Option<usize>) -> bool
     }
 }
 
+#[tactic(auto, using(crate::proofs::Filling::filled_next))]
 fn no_fds(alloc: Global) -> Result<Vec<Fds>, AllocError>
     ensures { IfOk result (λ v. v.items ≡ replicate 256 map.empty) }
 {
