@@ -1,5 +1,5 @@
 //! Where each call's reply and entries are.
-ghost use Rattle.std.specs.Prelude.{◌≡◌, ◌+◌, Some, true};
+ghost use Rattle.std.specs.Prelude.{◌≡◌, ◌+◌, Some, None, true, get_or};
 ghost use Rattle.fop_types.specs.Calls.{last_part_number as last_part_number_of};
 ghost use Rattle.history_replay.specs.code.Runs.{index_by, IsReplyFound, IsEntryFound, IsLastOf, AreRepliesFound, AreEntriesFound, AreLasts, AreIndexed};
 
@@ -85,11 +85,18 @@ fn is_entry(entry: Entry, at: usize, part: u8) -> bool
     entry.call > 0 && (entry.call - 1) as usize == at && entry.part == part
 }
 
+// Whether the last part of a call, if there is one by what was found, is in the history.
+fn is_last_found(trace: &Trace, f: &Findings, at: usize, call: &Submitted) -> bool
+    ensures { result ≡ true → IsLastOf trace.now at call.now (get_or f.now.last at None) }
+{
+    is_last(trace, at, call, index_at(f.last.as_slice(), at))
+}
+
 fn are_lasts(trace: &Trace, f: &Findings) -> bool
     ensures { result ≡ true → AreLasts trace.now f.now }
 {
     for at in 0..trace.calls.len() {
-        if !is_last(trace, at, &trace.calls[at], index_at(f.last.as_slice(), at)) {
+        if !is_last_found(trace, f, at, &trace.calls[at]) {
             return false;
         }
     }
