@@ -3,6 +3,7 @@ pub mod Answers
 pub mod Basics
 pub mod Below
 pub mod Files
+pub mod Filling
 pub mod Folded
 pub mod Indexing
 pub mod Lining

@@ -7,6 +7,7 @@ use std::alloc::{AllocError, Global};
 ///
 /// # Errors
 /// Out of memory.
+#[tactic(auto, using(crate::proofs::Filling::filled_next))]
 pub(crate) fn filled<T: Copy>(alloc: Global, count: usize, value: T) -> Result<Vec<T>, AllocError>
     ensures { IfOk result (λ v. v.items ≡ replicate count value) }
 {

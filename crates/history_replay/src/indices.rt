@@ -1,10 +1,11 @@
 //! Where each call's reply and entries are.
-ghost use Rattle.std.specs.Prelude.{◌≡◌, ◌+◌, Some, true};
+ghost use Rattle.std.specs.Prelude.{◌≡◌, ◌+◌, Some, None, true, get_or};
 ghost use Rattle.fop_types.specs.Calls.{last_part_number as last_part_number_of};
 ghost use Rattle.history_replay.specs.code.Runs.{index_by, IsReplyFound, IsEntryFound, IsLastOf, AreRepliesFound, AreEntriesFound, AreLasts, AreIndexed};
 
+use crate::filled::filled;
 use crate::findings::Findings;
-use crate::progress::{index_at, reply_index};
+use crate::reading::{index_at, reply_index};
 use crate::trace::{Replied, Submitted, Trace};
 use fop_types::{Call, Entry, Seq};
 use std::alloc::{AllocError, Global};
@@ -84,11 +85,18 @@ fn is_entry(entry: Entry, at: usize, part: u8) -> bool
     entry.call > 0 && (entry.call - 1) as usize == at && entry.part == part
 }
 
+// Whether the last part of a call, if there is one by what was found, is in the history.
+fn is_last_found(trace: &Trace, f: &Findings, at: usize, call: &Submitted) -> bool
+    ensures { result ≡ true → IsLastOf trace.now at call.now (get_or f.now.last at None) }
+{
+    is_last(trace, at, call, index_at(f.last.as_slice(), at))
+}
+
 fn are_lasts(trace: &Trace, f: &Findings) -> bool
     ensures { result ≡ true → AreLasts trace.now f.now }
 {
     for at in 0..trace.calls.len() {
-        if !is_last(trace, at, &trace.calls[at], index_at(f.last.as_slice(), at)) {
+        if !is_last_found(trace, f, at, &trace.calls[at]) {
             return false;
         }
     }
@@ -130,51 +138,37 @@ pub(crate) fn are_indexed(trace: &Trace, f: &Findings) -> bool
     are_lasts(trace, f)
 }
 
-fn add_indices<T: Copy>(indices: &mut Vec<Option<T>>, count: usize) -> Result<(), AllocError> {
-    for _ in 0..count {
-        indices.push(None)?;
-    }
-    Ok(())
-}
-
 fn put_index<T: Copy>(indices: &mut Vec<Option<T>>, at: usize, index: T) {
     if at < indices.len() && indices[at].is_none() {
         indices[at] = Some(index);
     }
 }
 
-/// Finds the indices of the replies, by their calls.
-///
-/// # Errors
-/// Out of memory.
-pub(crate) fn find_replies(
-    trace: &Trace,
-    replied: &mut Vec<Option<usize>>,
-) -> Result<(), AllocError> {
-    add_indices(replied, trace.calls.len())?;
+// The indices of the replies, by their calls.
+fn replies_found(alloc: Global, trace: &Trace) -> Result<Vec<Option<usize>>, AllocError> {
+    let mut replied = filled(alloc, trace.calls.len(), None)?;
     for index in 0..trace.replies.len() {
         let reply = &trace.replies[index];
         if let Some(at) = reply.call.checked_sub(1) {
-            put_index(replied, at as usize, index);
+            put_index(&mut replied, at as usize, index);
         }
     }
-    Ok(())
+    Ok(replied)
 }
 
-/// The first and the last part of each call in the history.
+// The first and the last part of each call in the history.
 #[derive(Drop)]
-pub(crate) struct Parts {
-    pub first: Vec<Option<u32>>,
-    pub last: Vec<Option<u32>>,
+struct Parts {
+    first: Vec<Option<u32>>,
+    last: Vec<Option<u32>>,
 }
 
 impl Parts {
-    /// No part.
-    pub(crate) fn new(alloc: Global) -> Parts {
-        Parts {
-            first: Vec::new(alloc),
-            last: Vec::new(alloc),
-        }
+    // No part of so many calls.
+    fn new(alloc: Global, count: usize) -> Result<Parts, AllocError> {
+        let first = filled(alloc, count, None)?;
+        let last = filled(alloc, count, None)?;
+        Ok(Parts { first, last })
     }
 
     fn put(&mut self, call: &Call, at: usize, index: u32, part: u8) {
@@ -185,28 +179,37 @@ impl Parts {
         }
     }
 
-    fn enter(&mut self, trace: &Trace, index: u32, entry: Entry) {
-        let Some(at) = entry.call.checked_sub(1) else {
-            return;
-        };
-        let at = at as usize;
-        if let Some(call) = trace.calls.get(at) {
-            self.put(call.call, at, index, entry.part);
+    fn enter(&mut self, calls: &[Submitted], index: u32, entry: Entry) {
+        if let Some(at) = entry.call.checked_sub(1) {
+            let at = at as usize;
+            if let Some(call) = calls.get(at) {
+                self.put(call.call, at, index, entry.part);
+            }
+        }
+    }
+
+    fn enter_all(&mut self, calls: &[Submitted], history: &[Entry]) {
+        for index in 0..history.len() {
+            if let Ok(number) = u32::try_from(index) {
+                self.enter(calls, number, history[index]);
+            }
         }
     }
 }
 
-/// Finds the indices of the entries, by their calls.
+/// Finds the indices of the replies and of the entries, by their calls.
 ///
 /// # Errors
 /// Out of memory.
-pub(crate) fn find_parts(trace: &Trace, parts: &mut Parts) -> Result<(), AllocError> {
-    add_indices(&mut parts.first, trace.calls.len())?;
-    add_indices(&mut parts.last, trace.calls.len())?;
-    for index in 0..trace.history.len() {
-        if index <= u32::MAX as usize {
-            parts.enter(trace, index as u32, trace.history[index]);
-        }
-    }
-    Ok(())
+pub(crate) fn findings_of(alloc: Global, trace: &Trace) -> Result<Findings, AllocError> {
+    let replied = replies_found(alloc, trace)?;
+    let mut parts = Parts::new(alloc, trace.calls.len())?;
+    parts.enter_all(trace.calls, trace.history);
+    Ok(Findings {
+        found: Seq::new(alloc),
+        seen: Seq::new(alloc),
+        replied: Seq::from_vec(replied),
+        first: Seq::from_vec(parts.first),
+        last: Seq::from_vec(parts.last),
+    })
 }

@@ -5,11 +5,13 @@ ghost use Rattle.history_replay.specs.code.Shown.{replied, IsLawfulWithReplies, 
 ghost use Rattle.history_replay.specs.Traces.{IsLawfulTrace};
 ghost use Rattle.history_replay.specs.declared.judging.Verdict.TheVariants as verdict;
 
+use crate::assigned::assign;
 use crate::filled::filled;
 use crate::finding::{Walked, find};
 use crate::findings::Findings;
 use crate::lawful::is_borne;
-use crate::lines::{Named, are_the_lines, assign, submissions};
+use crate::lines::{Named, are_the_lines, submissions};
+use crate::reading::number;
 use crate::shown::{answer_shown, is_silent, shows_list};
 use crate::trace::{Replied, Submitted, Trace};
 use fop_types::{Answer, Call, Entry, Path, Seq};
@@ -208,13 +210,6 @@ fn first_unlawful(
     Ok(number(high))
 }
 
-fn number(at: usize) -> u32 {
-    match u32::try_from(at) {
-        Ok(number) => number,
-        Err(_) => u32::MAX,
-    }
-}
-
 // The first call that is not answered lawfully, at most the one of this number, which is not.
 fn first_before(
     alloc: Global,
@@ -298,6 +293,7 @@ fn judge_replies(
     Ok(found)
 }
 
+// The verdict with what was found, whose lists are put in the places of the answers that show them.
 fn judge_walked(
     alloc: Global,
     shown: &[ReportCall],
@@ -310,25 +306,7 @@ fn judge_walked(
     ensures { IfOk result (λ v. v ≡ verdict.Lawful → (fails ≡ None) × IsLawfulWithReplies shown.now base.now) }
 {
     fill_lists(shown, answers, &mut walked.lists);
-    let found = judge_replies(alloc, shown, answers, base, &walked.findings, fails)?;
-    Ok(found)
-}
-
-fn judge_found(
-    alloc: Global,
-    shown: &[ReportCall],
-    answers: &mut Vec<Option<Answer>>,
-    base: &Trace,
-    walked: &mut Result<Walked, u32>,
-    fails: Option<usize>,
-) -> Result<Verdict, AllocError>
-    requires { AreAnswersShown shown.now answers.old.items }
-    ensures { IfOk result (λ v. v ≡ verdict.Lawful → (fails ≡ None) × IsLawfulWithReplies shown.now base.now) }
-{
-    match walked {
-        Ok(walked) => Ok(judge_walked(alloc, shown, answers, base, walked, fails)?),
-        Err(entry) => Ok(Verdict::Entry(*entry)),
-    }
+    judge_replies(alloc, shown, answers, base, &walked.findings, fails)
 }
 
 fn judge_answers(
@@ -341,10 +319,14 @@ fn judge_answers(
     requires { AreAnswersShown shown.now answers.old.items }
     ensures { IfOk result (λ v. v ≡ verdict.Lawful → (fails ≡ None) × IsLawfulWithReplies shown.now base.now) }
 {
-    let mut walked = walk(alloc, shown, answers, base)?;
-    let found = judge_found(alloc, shown, answers, base, &mut walked, fails);
-    drop(walked);
-    found
+    match walk(alloc, shown, answers, base)? {
+        Ok(mut walked) => {
+            let found = judge_walked(alloc, shown, answers, base, &mut walked, fails);
+            drop(walked);
+            found
+        }
+        Err(entry) => Ok(Verdict::Entry(entry)),
+    }
 }
 
 // The verdict on a trace with the replies that calls show.

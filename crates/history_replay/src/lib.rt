@@ -17,23 +17,33 @@
 //! That [`judge`] names the first entry or call that fails is not proved: its contract speaks of [`Verdict::Lawful`] alone.
 #![tactic(auto)]
 
+mod asked;
+mod assigned;
 mod cases;
 mod claims;
 mod copies;
+mod ends;
 mod filled;
 mod finding;
 mod findings;
 mod indices;
 mod judging;
+mod known;
 mod lawful;
 mod lines;
+mod looking;
 mod lookups;
+mod making;
 mod places;
 mod progress;
+mod reading;
 mod same;
+mod sessions;
 mod shown;
 mod steps;
 mod trace;
+mod turns;
+mod visits;
 
 pub use judging::{Verdict, judge};
 pub use lawful::lawful_ops;

@@ -1,9 +1,9 @@
 //! The claims of all calls, one call after another.
-ghost use Rattle.std.specs.Prelude.{◌≡◌, ◌+◌, ◌<◌, ◌==◌, [], true, Some, None, nat_lt, length, get_or, replicate, if◌then◌else◌, IfOk, IfSome, OnOk};
+ghost use Rattle.std.specs.Prelude.{◌≡◌, ◌+◌, ◌<◌, ◌==◌, true, Some, None, nat_lt, length, get_or, replicate, if◌then◌else◌, IfOk, IfSome, OnOk};
 ghost use Rattle.std.specs.FinMap as map;
 ghost use Rattle.fop_types.specs.Calls.{makes as makes_of};
 ghost use Rattle.history_replay.specs.code.Cases.{case_claims};
-ghost use Rattle.history_replay.specs.code.Runs.{fits_at, after_claims, reply_at, answer_by, places_by, case_of, fits_reply as fits_reply_of, fits as fits_of, fds_after, bounds_after, after_call, after_calls, begun, state_of, GoesTo, AreClaimsOf};
+ghost use Rattle.history_replay.specs.code.Runs.{fits_at, after_claims, reply_at, answer_by, case_of, fits_reply as fits_reply_of, fits as fits_of, fds_after, bounds_after, after_call, after_calls, begun, state_of, GoesTo, AreClaimsOf};
 
 use crate::cases::{AnswerAt, Case, claim_case};
 use crate::claims::Claim;
@@ -11,6 +11,7 @@ use crate::filled::filled;
 use crate::findings::Findings;
 use crate::lookups::lookups;
 use crate::places::are_between;
+use crate::reading::{answer_at, found_at, index_at, number_at, places_at, reply_index};
 use crate::trace::{Replied, Submitted, Trace};
 use flat_fs::Fds;
 use fop_types::{Call, Gfid, Seq};
@@ -28,79 +29,14 @@ pub(crate) struct Progress {
     pub claims: Seq<Claim>,
 }
 
-// How many objects a call asks to be made.
-fn makes(call: &Call) -> u64
+/// How many objects a call asks to be made.
+pub(crate) fn makes(call: &Call) -> u64
     ensures { result ≡ makes_of call.now }
 {
     match call {
         Call::Mkdir { .. } => 1,
         Call::Create { .. } => 1,
         _ => 0,
-    }
-}
-
-// The number of a list at an index, 0 where there is none.
-fn number_at(numbers: &[u32], at: usize) -> u32
-    ensures { result ≡ get_or numbers.now at 0 }
-{
-    match numbers.get(at) {
-        Some(number) => *number,
-        None => 0,
-    }
-}
-
-pub(crate) fn index_at(indices: &[Option<u32>], at: usize) -> Option<u32>
-    ensures { result ≡ get_or indices.now at None }
-{
-    match indices.get(at) {
-        Some(index) => *index,
-        None => None,
-    }
-}
-
-fn found_at(found: &[Seq<Gfid>], at: usize) -> &[Gfid]
-    ensures { result.now ≡ get_or found.now at [] }
-{
-    match found.get(at) {
-        Some(found) => found.as_slice(),
-        None => &[],
-    }
-}
-
-// The index of the reply to the call at an index.
-pub(crate) fn reply_index(f: &Findings, at: usize) -> Option<usize>
-    ensures { result ≡ reply_at f.now at }
-{
-    match f.replied.as_slice().get(at) {
-        Some(reply) => *reply,
-        None => None,
-    }
-}
-
-fn answer_at<'a>(trace: &Trace<'a>, reply: Option<usize>) -> Option<AnswerAt<'a>>
-    ensures { result ≡ answer_by trace.now.replies reply }
-{
-    match reply {
-        None => None,
-        Some(reply) => match trace.replies.get(reply) {
-            None => None,
-            Some(found) => Some(AnswerAt {
-                reply,
-                answer: found.answer,
-            }),
-        },
-    }
-}
-
-fn places_at<'a>(trace: &Trace<'a>, reply: Option<usize>) -> &'a [u32]
-    ensures { result.now ≡ places_by trace.now.replies reply }
-{
-    match reply {
-        None => &[],
-        Some(reply) => match trace.replies.get(reply) {
-            None => &[],
-            Some(found) => found.places,
-        },
     }
 }
 
@@ -171,6 +107,7 @@ fn fits(trace: &Trace, at: usize, bound: usize, reply: Option<usize>) -> bool
     }
 }
 
+#[tactic(auto, using(crate::proofs::Filling::filled_next))]
 fn no_fds(alloc: Global) -> Result<Vec<Fds>, AllocError>
     ensures { IfOk result (λ v. v.items ≡ replicate 256 map.empty) }
 {
@@ -205,14 +142,11 @@ impl Progress {
         requires { session < length self.old.fds.items }
         ensures { OnOk result (state_of self.new ≡ record (state_of self.old) { fds = fds_after self.old.fds.items session case.now (answer_by trace.now.replies reply) }) }
     {
-        match reply {
+        match answer_at(trace, reply) {
             None => Ok(()),
-            Some(k) => match trace.replies.get(k) {
-                None => Ok(()),
-                Some(found) => {
-                    self.fds[session].after_answer(case.call, case.file_given(), found.answer)
-                }
-            },
+            Some(found) => {
+                self.fds[session].after_answer(case.call, case.file_given(), found.answer)
+            }
         }
     }
 

@@ -150,20 +150,7 @@ pub(crate) fn same_line(one: &CallLine, other: &CallLine) -> bool
 pub(crate) fn same_kind(one: Kind, other: Kind) -> bool
     ensures { result ≡ true → one ≡ other }
 {
-    match one {
-        Kind::File => match other {
-            Kind::File => true,
-            _ => false,
-        },
-        Kind::Dir => match other {
-            Kind::Dir => true,
-            _ => false,
-        },
-        Kind::Link => match other {
-            Kind::Link => true,
-            _ => false,
-        },
-    }
+    one == other
 }
 
 fn same_error(one: AppError, other: AppError) -> bool
