@@ -6,29 +6,30 @@
 //! memory.
 #![tactic(auto)]
 
-mod copies;
-mod fills;
 mod messages;
+mod requests;
 mod rounds;
 mod timing;
 
-use std::{env, io};
+use std::alloc::Global;
+use std::io;
+use std::rt::{Env, Runtime};
 
 fn main(rt: HostRuntime) -> io::Result<()> {
-    let alloc = rt.alloc();
-    let mut words = env::args(&rt)?;
-    let _program = words.next();
-    let Some(word) = words.next() else {
-        return Ok(());
-    };
-    if word.as_str() == "time" {
-        timing::report(&rt, alloc)?;
+    let mut word = [0u8; 6];
+    if rt.arg(1, &mut word).is_ok() {
+        begin(&rt, rt.alloc(), &word)
+    } else {
+        Ok(())
     }
-    if word.as_str() == "writes" {
-        fills::serve_writes(alloc, 1000)?;
+}
+
+// Does what a word says that has zeros behind it up to six bytes.
+fn begin<R: Runtime>(rt: &R, alloc: Global, word: &[u8]) -> io::Result<()> {
+    match word {
+        b"time\0\0" => timing::report(rt, alloc),
+        b"writes" => Ok(rounds::serve_writes(alloc, 1000)?),
+        b"none\0\0" => Ok(rounds::serve_writes(alloc, 0)?),
+        _ => Ok(()),
     }
-    if word.as_str() == "none" {
-        fills::serve_writes(alloc, 0)?;
-    }
-    Ok(())
 }

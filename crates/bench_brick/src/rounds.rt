@@ -1,41 +1,8 @@
-//! What is timed on a brick.
-use crate::fills::file;
-use crate::messages::{block, fetch, lock, mark, post, unlock, write};
+//! What a brick serves, and copies of 65,536 bytes beside it. All are kept, as a brick keeps its outputs.
+use crate::messages::{MOST, add_large_writes};
 use brick_machine::Brick;
 use bytes::Bytes;
 use std::alloc::{AllocError, Global};
-
-/// The bytes of an op.
-const PAGE: usize = 4096;
-
-/// Puts the requests of a write to a file behind others, in their order.
-fn put_requests(
-    alloc: Global,
-    messages: &mut Vec<Bytes>,
-    change: u32,
-    file: u32,
-    page: &[u8],
-) -> Result<(), AllocError> {
-    messages.push(lock(alloc, change, file)?)?;
-    messages.push(mark(alloc, change, file)?)?;
-    messages.push(write(alloc, change, file, page)?)?;
-    messages.push(post(alloc, change, file)?)?;
-    messages.push(unlock(alloc, change)?)?;
-    messages.push(fetch(alloc, file)?)?;
-    Ok(())
-}
-
-/// The requests of so many writes, each to a file of so many, all over them.
-pub fn messages(alloc: Global, writes: u32, files: u32) -> Result<Vec<Bytes>, AllocError> {
-    let page = block(alloc, PAGE)?;
-    let mut messages = Vec::new(alloc);
-    for call in 0..writes {
-        let change = call.wrapping_add(1);
-        let number = call.wrapping_mul(7919).checked_rem(files).unwrap_or(0);
-        put_requests(alloc, &mut messages, change, file(number), page.as_slice())?;
-    }
-    Ok(messages)
-}
 
 /// Serves some messages.
 pub fn serve(alloc: Global, brick: &mut Brick, messages: Vec<Bytes>) -> Result<(), AllocError> {
@@ -45,11 +12,42 @@ pub fn serve(alloc: Global, brick: &mut Brick, messages: Vec<Bytes>) -> Result<(
     Ok(())
 }
 
-/// The unlocks of so many calls, in the order in which they locked.
-pub fn unlocks(alloc: Global, calls: u32) -> Result<Vec<Bytes>, AllocError> {
-    let mut messages = Vec::new(alloc);
-    for call in 0..calls {
-        messages.push(unlock(alloc, call)?)?;
+/// A new brick that has served some messages.
+pub fn served(alloc: Global, messages: Vec<Bytes>) -> Result<Brick, AllocError> {
+    let mut brick = Brick::new(alloc)?;
+    match serve(alloc, &mut brick, messages) {
+        Ok(()) => Ok(brick),
+        Err(error) => {
+            drop(brick);
+            Err(error)
+        }
     }
-    Ok(messages)
+}
+
+/// Whether the last output of a brick answers a request as done.
+pub fn is_done(brick: &Brick) -> bool {
+    match brick.outputs().last() {
+        Some(output) => match output.as_slice().get(23) {
+            Some(status) => *status == 0,
+            None => false,
+        },
+        None => false,
+    }
+}
+
+/// A brick serves so many writes of 65,536 bytes, to a hundred files in turn.
+pub fn serve_writes(alloc: Global, writes: u32) -> Result<(), AllocError> {
+    let mut messages = Vec::new(alloc);
+    add_large_writes(alloc, &mut messages, writes)?;
+    drop(served(alloc, messages)?);
+    Ok(())
+}
+
+/// Keeps so many copies of a block.
+pub fn keep_copies(alloc: Global, copies: &mut Vec<Vec<u8>>, count: u32) -> Result<(), AllocError> {
+    let bytes = vec![in alloc; 7u8; MOST as usize]?;
+    for _ in 0..count {
+        copies.push(Vec::from_slice(alloc, bytes.as_slice())?)?;
+    }
+    Ok(())
 }

@@ -1,32 +1,14 @@
-use crate::messages::{MOST, block, fetch, is_done, replace};
-use crate::{copies, fills, rounds};
+use crate::messages::{BLOCKS, WRITES, Work, add_prepared, add_timed};
+use crate::rounds::{is_done, keep_copies, serve, served};
 use brick_machine::Brick;
 use bytes::Bytes;
-use std::alloc::{AllocError, Global};
+use std::alloc::Global;
 use std::io;
 use std::rt::Runtime;
 use std::time::{Duration, Instant};
 
-/// How many writes are timed, and how many of 65,536 bytes.
-const WRITES: u32 = 2000;
-
-const BLOCKS: u32 = 500;
-
 /// How many passes there are. The quickest is reported, since others may use the processor meanwhile.
 const PASSES: u32 = 5;
-
-/// What a new brick is timed with.
-#[derive(Clone, Copy)]
-enum Work {
-    /// Lock, mark, op of 4 KiB, post, unlock and fetch, with so many cells.
-    Writes(u32),
-    /// Replaces of 65,536 bytes.
-    Replaces,
-    /// Fetches of 65,536 bytes.
-    Fetches,
-    /// So many exclusive locks of one cell, unlocked one after the other.
-    Drain(u32),
-}
 
 /// Writes all times to standard error.
 pub fn report<R: Runtime>(rt: &R, alloc: Global) -> io::Result<()> {
@@ -46,15 +28,14 @@ fn report_writes<R: Runtime>(rt: &R, alloc: Global, files: u32) -> io::Result<()
     )
 }
 
-/// A fetch and a replace of 65,536 bytes, and a plain copy.
+/// A plain copy of 65,536 bytes, and a replace and a fetch of them.
 fn report_blocks<R: Runtime>(rt: &R, alloc: Global) -> io::Result<()> {
-    let copy = quickest_copies(rt, alloc)?;
+    let copy = quickest(rt, alloc, Work::Copies)?;
+    report_block(rt, "copy", copy, copy)?;
     let replaced = quickest(rt, alloc, Work::Replaces)?;
+    report_block(rt, "replace", replaced, copy)?;
     let fetched = quickest(rt, alloc, Work::Fetches)?;
-    eprintln!(rt; "65536 bytes, all results kept:")?;
-    report_one(rt, "copy", copy, copy)?;
-    report_one(rt, "replace", replaced, copy)?;
-    report_one(rt, "fetch", fetched, copy)
+    report_block(rt, "fetch", fetched, copy)
 }
 
 fn report_drain<R: Runtime>(rt: &R, alloc: Global, calls: u32) -> io::Result<()> {
@@ -63,10 +44,12 @@ fn report_drain<R: Runtime>(rt: &R, alloc: Global, calls: u32) -> io::Result<()>
     eprintln!(rt; "{calls} exclusive locks of one cell: {each} ns for each unlock")
 }
 
-fn report_one<R: Runtime>(rt: &R, name: &str, time: u64, copy: u64) -> io::Result<()> {
+fn report_block<R: Runtime>(rt: &R, name: &str, time: u64, copy: u64) -> io::Result<()> {
     let each = time / u64::from(BLOCKS);
     let hundredths = time.saturating_mul(100).checked_div(copy).unwrap_or(0);
-    eprintln!(rt; "  {name}: {each} ns, {hundredths} % of the time of the copy")
+    eprintln!(rt;
+        "65536 bytes, all results kept, {name}: {each} ns, {hundredths} % of the time of the copy"
+    )
 }
 
 // The quickest of some passes in nanoseconds, each with a new brick; 18446744073709551615 where a request was not done.
@@ -79,70 +62,41 @@ fn quickest<R: Runtime>(rt: &R, alloc: Global, work: Work) -> io::Result<u64> {
 }
 
 fn pass<R: Runtime>(rt: &R, alloc: Global, work: Work) -> io::Result<u64> {
-    let mut brick = Brick::new(alloc)?;
-    timed(rt, alloc, &mut brick, work)
+    match work {
+        Work::Copies => time_of_copies(rt, alloc),
+        _ => time_of_messages(rt, alloc, work),
+    }
 }
 
-fn timed<R: Runtime>(rt: &R, alloc: Global, brick: &mut Brick, work: Work) -> io::Result<u64> {
-    prepare(alloc, brick, work)?;
-    let messages = messages_of(alloc, work)?;
+fn time_of_messages<R: Runtime>(rt: &R, alloc: Global, work: Work) -> io::Result<u64> {
+    let mut prepared = Vec::new(alloc);
+    add_prepared(alloc, &mut prepared, work)?;
+    let mut messages = Vec::new(alloc);
+    add_timed(alloc, &mut messages, work)?;
+    let mut brick = served(alloc, prepared)?;
+    let time = timed(rt, alloc, &mut brick, messages);
+    drop(brick);
+    time
+}
+
+fn timed<R: Runtime>(
+    rt: &R,
+    alloc: Global,
+    brick: &mut Brick,
+    messages: Vec<Bytes>,
+) -> io::Result<u64> {
     let start = Instant::now(rt)?;
-    rounds::serve(alloc, brick, messages)?;
+    serve(alloc, brick, messages)?;
     let time = nanoseconds_of(start.elapsed(rt)?);
     Ok(if is_done(brick) { time } else { u64::MAX })
 }
 
-fn prepare(alloc: Global, brick: &mut Brick, work: Work) -> Result<(), AllocError> {
-    match work {
-        Work::Writes(files) => fills::fill(alloc, brick, files),
-        Work::Drain(calls) => fills::line_up(alloc, brick, calls),
-        Work::Replaces | Work::Fetches => prepare_block(alloc, brick),
-    }
-}
-
-// A file of 65,536 bytes.
-fn prepare_block(alloc: Global, brick: &mut Brick) -> Result<(), AllocError> {
-    fills::fill(alloc, brick, 1)?;
-    let bytes = block(alloc, MOST)?;
-    brick.serve(alloc, replace(alloc, 2, bytes.as_slice())?)
-}
-
-fn messages_of(alloc: Global, work: Work) -> Result<Vec<Bytes>, AllocError> {
-    match work {
-        Work::Writes(files) => rounds::messages(alloc, WRITES, files),
-        Work::Drain(calls) => rounds::unlocks(alloc, calls),
-        Work::Replaces => repeated(alloc, replace_of(alloc)?),
-        Work::Fetches => repeated(alloc, fetch(alloc, 2)?),
-    }
-}
-
-fn replace_of(alloc: Global) -> Result<Bytes, AllocError> {
-    let bytes = block(alloc, MOST)?;
-    replace(alloc, 2, bytes.as_slice())
-}
-
-fn repeated(alloc: Global, message: Bytes) -> Result<Vec<Bytes>, AllocError> {
-    let mut messages = Vec::new(alloc);
-    for _ in 0..BLOCKS {
-        messages.push(message.clone()?)?;
-    }
-    Ok(messages)
-}
-
-fn quickest_copies<R: Runtime>(rt: &R, alloc: Global) -> io::Result<u64> {
-    let mut best = u64::MAX;
-    for _ in 0..PASSES {
-        best = best.min(time_of_copies(rt, alloc)?);
-    }
-    Ok(best)
-}
-
 fn time_of_copies<R: Runtime>(rt: &R, alloc: Global) -> io::Result<u64> {
+    let mut copies = Vec::new(alloc);
     let start = Instant::now(rt)?;
-    let kept = copies::kept(alloc, BLOCKS)?;
+    keep_copies(alloc, &mut copies, BLOCKS)?;
     let time = nanoseconds_of(start.elapsed(rt)?);
-    let size = copies::size(kept.as_slice());
-    Ok(if size == 0 { u64::MAX } else { time })
+    Ok(if copies.is_empty() { u64::MAX } else { time })
 }
 
 fn nanoseconds_of(time: Duration) -> u64 {

@@ -1,7 +1,7 @@
 use frame_driver::{Child, Wiring};
 use frame_trees::{Kind, Node, Tree};
 use std::alloc::{AllocError, Global};
-use xlator_law::WindNo;
+use xlator_law::{Stop, WindNo};
 
 /// How many relays stand below one another; a fop opens as many frames on its way down.
 pub const DEPTH: u32 = 5;
@@ -37,7 +37,7 @@ fn relays(alloc: Global) -> Result<Tree, AllocError> {
 pub fn filled(alloc: Global, fops: u32) -> Result<Tree, AllocError> {
     let mut tree = relays(alloc)?;
     for call in 0..fops {
-        tree = started(alloc, tree, call)?;
+        tree = without_lines(tree.submit(alloc, call, 0))?;
         tree.sent();
     }
     Ok(tree)
@@ -53,37 +53,29 @@ pub fn rounds(alloc: Global, filled: Tree, fops: u32) -> Result<Tree, AllocError
 }
 
 fn round(alloc: Global, tree: Tree, call: u32) -> Result<Tree, AllocError> {
-    let down = started(alloc, tree, call)?;
-    let mut up = returned(alloc, down)?;
+    let mut down = without_lines(tree.submit(alloc, call, 0))?;
+    match down.sent() {
+        Some((wind, _)) => answered(alloc, down, wind),
+        None => {
+            drop(down);
+            Err(AllocError)
+        }
+    }
+}
+
+// The wind that went outside is answered, and so is its fop.
+fn answered(alloc: Global, down: Tree, wind: WindNo) -> Result<Tree, AllocError> {
+    let mut up = without_lines(down.reply(alloc, wind, 0))?;
     up.answer();
     Ok(up)
 }
 
-// The wind that went outside is answered.
-fn returned(alloc: Global, tree: Tree) -> Result<Tree, AllocError> {
-    let mut down = tree;
-    match down.sent() {
-        Some((wind, _)) => answered(alloc, down, wind),
-        None => Err(AllocError),
-    }
-}
-
 // The lines of the winds are let go, so that they take no memory.
-fn started(alloc: Global, tree: Tree, call: u32) -> Result<Tree, AllocError> {
-    match tree.submit(alloc, call, 0) {
-        Ok(mut next) => {
-            next.lines();
-            Ok(next)
-        }
-        Err(_) => Err(AllocError),
-    }
-}
-
-fn answered(alloc: Global, tree: Tree, wind: WindNo) -> Result<Tree, AllocError> {
-    match tree.reply(alloc, wind, 0) {
-        Ok(mut next) => {
-            next.lines();
-            Ok(next)
+fn without_lines(next: Result<Tree, Stop>) -> Result<Tree, AllocError> {
+    match next {
+        Ok(mut tree) => {
+            tree.lines();
+            Ok(tree)
         }
         Err(_) => Err(AllocError),
     }

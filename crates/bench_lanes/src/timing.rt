@@ -14,27 +14,31 @@ enum Scan {
     ZeroPlainly,
 }
 
+const SCANS: [(&str, Scan); 5] = [
+    ("differ: lanes", Scan::DifferByLanes),
+    ("differ: plain", Scan::DifferPlainly),
+    ("differ: memory compare", Scan::Compare),
+    ("all_zero: lanes", Scan::ZeroByLanes),
+    ("all_zero: plain", Scan::ZeroPlainly),
+];
+
 /// Writes to standard error how many nanoseconds each scan takes for one block.
 pub fn report<R: Runtime>(rt: &R) -> io::Result<()> {
-    let lanes = time_of(rt, Scan::DifferByLanes)?;
-    let plainly = time_of(rt, Scan::DifferPlainly)?;
-    let compare = time_of(rt, Scan::Compare)?;
-    eprintln!(rt; "differ: lanes {lanes} ns, plain {plainly} ns, memory compare {compare} ns")?;
-    let lanes = time_of(rt, Scan::ZeroByLanes)?;
-    let plainly = time_of(rt, Scan::ZeroPlainly)?;
-    eprintln!(rt; "all_zero: lanes {lanes} ns, plain {plainly} ns")?;
+    for (name, scan) in &SCANS {
+        report_one(rt, name, *scan)?;
+    }
     Ok(())
 }
 
 /// The time of one scan of equal blocks, which no scan may leave early.
-fn time_of<R: Runtime>(rt: &R, scan: Scan) -> io::Result<u64> {
+fn report_one<R: Runtime>(rt: &R, name: &str, scan: Scan) -> io::Result<()> {
     let start = Instant::now(rt)?;
     let met = scanned(scan);
-    let nanoseconds = nanoseconds_of(start.elapsed(rt)?);
+    let each = nanoseconds_of(start.elapsed(rt)?) / u64::from(ROUNDS);
     if met {
-        eprintln!(rt; "a scan met a difference that is not there")?;
+        return eprintln!(rt; "{name}: met a difference that is not there");
     }
-    Ok(nanoseconds / u64::from(ROUNDS))
+    eprintln!(rt; "{name} {each} ns")
 }
 
 /// Scans two equal blocks of zeros again and again, and says whether a difference was met. A byte is

@@ -3,14 +3,13 @@ use fop_types::Gfid;
 use mount_locks::MountLocks;
 use std::alloc::{AllocError, Global};
 
-/// Holds of which so many are granted and so many wait, each pair on a gfid of its own.
-pub fn filled(alloc: Global, entries: u32) -> Result<MountLocks, AllocError> {
-    let mut holds = MountLocks::new(alloc);
+/// Adds holds of which so many are granted and so many wait, each pair on a gfid of its own.
+pub fn fill(alloc: Global, holds: &mut MountLocks, entries: u32) -> Result<(), AllocError> {
     for number in 0..entries {
         holds.ask(alloc, number, &[gfid(number)], false)?;
         holds.ask(alloc, number ^ 2147483648, &[gfid(number)], false)?;
     }
-    Ok(holds)
+    Ok(())
 }
 
 /// A call asks for a gfid that is free, and releases it.

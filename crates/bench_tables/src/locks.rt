@@ -5,14 +5,13 @@ use brick_locks::{BrickLocks, Owner};
 use fop_types::{Aspect, Cell, Gfid};
 use std::alloc::{AllocError, Global};
 
-/// Locks of which so many hold and so many wait, each pair on a cell of its own.
-pub fn filled(alloc: Global, entries: u32) -> Result<BrickLocks, AllocError> {
-    let mut locks = BrickLocks::new(alloc);
+/// Adds requests of which so many hold and so many wait, each pair on a cell of its own.
+pub fn fill(alloc: Global, locks: &mut BrickLocks, entries: u32) -> Result<(), AllocError> {
     for call in 0..entries {
-        ask(alloc, &mut locks, Owner { graph: 1, call }, call)?;
-        ask(alloc, &mut locks, Owner { graph: 2, call }, call)?;
+        ask(alloc, locks, Owner { graph: 1, call }, call)?;
+        ask(alloc, locks, Owner { graph: 2, call }, call)?;
     }
-    Ok(locks)
+    Ok(())
 }
 
 /// A call asks for a cell that is free, and releases it.

@@ -5,15 +5,12 @@ use fop_types::{Gfid, Seq};
 use io_cache::PageCache;
 use std::alloc::{AllocError, Global};
 
-/// A cache that is full with so many pages, each of a file of its own.
-pub fn filled(alloc: Global, entries: u32) -> Result<PageCache, AllocError>
-    requires { 0 < entries }
-{
-    let mut cache = PageCache::new(alloc, entries)?;
+/// Puts so many pages into a cache, each of a file of its own.
+pub fn fill(alloc: Global, cache: &mut PageCache, entries: u32) -> Result<(), AllocError> {
     for number in 0..entries {
-        put(alloc, &mut cache, 0, number)?;
+        put(alloc, cache, 0, number)?;
     }
-    Ok(cache)
+    Ok(())
 }
 
 /// Reads of pages that are held.
@@ -21,7 +18,7 @@ pub fn hit(alloc: Global, cache: &mut PageCache, entries: u32) -> Result<(), All
     requires { 0 < entries }
 {
     for round in 0..ROUNDS {
-        cache.read(alloc, gfid(0, round % entries), 0, 4)?;
+        drop(cache.read(alloc, gfid(0, round % entries), 0, 4)?);
     }
     Ok(())
 }
@@ -29,7 +26,7 @@ pub fn hit(alloc: Global, cache: &mut PageCache, entries: u32) -> Result<(), All
 /// Reads of pages that are not held.
 pub fn miss(alloc: Global, cache: &mut PageCache) -> Result<(), AllocError> {
     for round in 0..ROUNDS {
-        cache.read(alloc, gfid(2, round), 0, 4)?;
+        drop(cache.read(alloc, gfid(2, round), 0, 4)?);
     }
     Ok(())
 }

@@ -2,16 +2,22 @@ use crate::timing::ROUNDS;
 use io_threads::{Priority, Queues};
 use std::alloc::{AllocError, Global};
 
-/// Queues of which each has so many tasks.
-pub fn filled(alloc: Global, entries: u32) -> Result<Queues<u32>, AllocError> {
-    let mut queues = Queues::new(alloc);
+// All priorities.
+const PRIORITIES: [Priority; 4] = [
+    Priority::High,
+    Priority::Normal,
+    Priority::Low,
+    Priority::Least,
+];
+
+/// Adds so many tasks to each queue.
+pub fn fill(alloc: Global, queues: &mut Queues<u32>, entries: u32) -> Result<(), AllocError> {
     for task in 0..entries {
-        push(alloc, &mut queues, Priority::High, task)?;
-        push(alloc, &mut queues, Priority::Normal, task)?;
-        push(alloc, &mut queues, Priority::Low, task)?;
-        push(alloc, &mut queues, Priority::Least, task)?;
+        for priority in &PRIORITIES {
+            push(alloc, queues, *priority, task)?;
+        }
     }
-    Ok(queues)
+    Ok(())
 }
 
 /// A task is pushed, and the next one is popped.

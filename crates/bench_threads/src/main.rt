@@ -11,18 +11,26 @@ mod rings;
 mod timing;
 mod winds;
 
-use std::{env, io};
+use std::alloc::Global;
+use std::env::FillError;
+use std::io;
+use std::rt::{Env, Runtime};
+use std::thread::Threads;
 use winds::WINDS;
 
 fn main(rt: HostRuntime) -> io::Result<()> {
-    let mut words = env::args(&rt)?;
-    let _program = words.next();
-    let Some(word) = words.next() else {
-        let (won, collected) = posts::race(&rt, rt.alloc())?;
-        return println!(rt; "{WINDS} winds, {won} won, {collected} collected");
-    };
-    if word.as_str() == "time" {
-        timing::report(&rt, rt.alloc())?;
+    let mut word = [0u8; 4];
+    let found = rt.arg(1, &mut word);
+    if found.is_ok() && word.as_slice() == b"time".as_slice() {
+        return timing::report(&rt, rt.alloc());
     }
-    Ok(())
+    match found {
+        Err(FillError::NotPresent) => report_race(&rt, rt.alloc()),
+        _ => Ok(()),
+    }
+}
+
+fn report_race<R: Runtime + Threads + Sync>(rt: &R, alloc: Global) -> io::Result<()> {
+    let (won, collected) = posts::race(rt, alloc)?;
+    println!(rt; "{WINDS} winds, {won} won, {collected} collected")
 }

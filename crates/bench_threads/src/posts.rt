@@ -64,12 +64,11 @@ fn four_posts<'a>(
     requires hub { hub.view.role ≡ Hub }
 {
     let mut hub = hub;
-    let mut posts = Vec::new(alloc);
-    posts.push(Post::reader(words, &mut hub))?;
-    posts.push(Post::reader(words, &mut hub))?;
-    posts.push(Post::reader(words, &mut hub))?;
-    posts.push(Post::hub(words, hub))?;
-    Ok(posts)
+    let first = Post::reader(words, &mut hub);
+    let second = Post::reader(words, &mut hub);
+    let third = Post::reader(words, &mut hub);
+    let last = Post::hub(words, hub);
+    Ok(vec![in alloc; first, second, third, last]?)
 }
 
 // A thread for each post: the hub's does one thing with all winds, and the readers' settle them. It gives for
@@ -83,17 +82,17 @@ fn act_together<R: Threads + Sync>(rt: &R, posts: &mut [Post], act: Act) -> u64 
     ended
 }
 
-/// Four threads on the same words: the hub's does one thing with all winds, and three settle them.
+/// Four threads on the same words: the hub's does one thing with all winds, and three settle them. It gives for how
+/// many winds one of them came first.
 pub fn act_beside_readers<R: Threads + Sync>(
     rt: &R,
     alloc: Global,
     desk: Desk,
     act: Act,
-) -> Result<(), AllocError> {
+) -> Result<u64, AllocError> {
     let (words, hub) = desk.into_parts();
     let mut posts = four_posts(alloc, &words, hub)?;
-    act_together(rt, &mut posts, act);
-    Ok(())
+    Ok(act_together(rt, &mut posts, act))
 }
 
 /// Three threads settle the same winds that the hub's bails, and then the hub collects them: how many were won,

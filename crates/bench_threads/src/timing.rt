@@ -1,7 +1,7 @@
 use crate::posts::act_beside_readers;
 use crate::rings::{ROOM, through_link, through_ring};
-use crate::winds::{Act, Desk, THREADS, WINDS, act_on_each};
-use std::alloc::Global;
+use crate::winds::{Act, Desk, THREADS, WINDS, act_on_each, prepare};
+use std::alloc::{AllocError, Global};
 use std::io;
 use std::rt::Runtime;
 use std::thread::Threads;
@@ -10,12 +10,19 @@ use std::time::{Duration, Instant};
 /// How often each is timed. The quickest counts, since others may use the processor meanwhile.
 const PASSES: u32 = 20;
 
+/// What is done with all winds, by its name.
+const ACTS: [(&str, Act); 3] = [
+    ("settle", Act::Settle),
+    ("bail", Act::Bail),
+    ("collect", Act::Collect),
+];
+
 /// Writes to standard error how many calls each second there are, in thousands.
 pub fn report<R: Runtime + Threads + Sync>(rt: &R, alloc: Global) -> io::Result<()> {
     eprintln!(rt; "thousands of calls each second, the quickest of {PASSES} passes:")?;
-    report_winds(rt, alloc, Act::Settle, "settle")?;
-    report_winds(rt, alloc, Act::Bail, "bail")?;
-    report_winds(rt, alloc, Act::Collect, "collect")?;
+    for (name, act) in &ACTS {
+        report_winds(rt, alloc, *act, name)?;
+    }
     report_messages(rt, alloc, 100, 4096)?;
     report_messages(rt, alloc, 65536, 64)
 }
@@ -44,19 +51,17 @@ fn report_winds<R: Runtime + Threads + Sync>(
 
 fn time_of_one<R: Runtime>(rt: &R, alloc: Global, act: Act) -> io::Result<u64> {
     let mut desk = Desk::prepared(alloc, act)?;
-    let start = Instant::now(rt)?;
+    let start = Instant::now(rt);
     desk.act(act);
-    Ok(nanoseconds_of(start.elapsed(rt)?))
+    time_since(rt, start, Ok(0))
 }
 
 fn time_of_four<R: Runtime + Threads + Sync>(rt: &R, alloc: Global, act: Act) -> io::Result<u64> {
     let mut desks = Vec::new(alloc);
-    for _ in 0..THREADS {
-        desks.push(Desk::prepared(alloc, act)?)?;
-    }
-    let start = Instant::now(rt)?;
+    prepare(alloc, &mut desks, act)?;
+    let start = Instant::now(rt);
     act_on_each(rt, &mut desks, act);
-    Ok(nanoseconds_of(start.elapsed(rt)?))
+    time_since(rt, start, Ok(0))
 }
 
 fn time_beside_readers<R: Runtime + Threads + Sync>(
@@ -65,39 +70,55 @@ fn time_beside_readers<R: Runtime + Threads + Sync>(
     act: Act,
 ) -> io::Result<u64> {
     let desk = Desk::prepared(alloc, act)?;
-    let start = Instant::now(rt)?;
-    act_beside_readers(rt, alloc, desk, act)?;
-    Ok(nanoseconds_of(start.elapsed(rt)?))
+    let start = Instant::now(rt);
+    let done = act_beside_readers(rt, alloc, desk, act);
+    time_since(rt, start, done)
+}
+
+fn report_messages<R: Runtime>(rt: &R, alloc: Global, size: usize, rounds: u32) -> io::Result<()> {
+    let bytes = vec![in alloc; 7u8; size]?;
+    report_rings(rt, alloc, &bytes, rounds)
 }
 
 // The plain ring and the link are timed in turn, so that both meet the same load.
-fn report_messages<R: Runtime>(rt: &R, alloc: Global, size: usize, rounds: u32) -> io::Result<()> {
-    let bytes = vec![in alloc; 7u8; size]?;
+fn report_rings<R: Runtime>(rt: &R, alloc: Global, bytes: &[u8], rounds: u32) -> io::Result<()> {
     let mut plain = u64::MAX;
     let mut linked = u64::MAX;
     for _ in 0..PASSES {
-        plain = plain.min(time_of_ring(rt, alloc, &bytes, rounds)?);
-        linked = linked.min(time_of_link(rt, alloc, &bytes, rounds)?);
+        plain = plain.min(time_of_ring(rt, alloc, bytes, rounds)?);
+        linked = linked.min(time_of_link(rt, alloc, bytes, rounds)?);
     }
     let messages = u64::from(rounds) * ROOM as u64;
     let of_ring = thousands(messages, plain);
     let of_link = thousands(messages, linked);
     let hundredths = linked.saturating_mul(100).checked_div(plain).unwrap_or(0);
+    let size = bytes.len();
     eprintln!(rt;
         "  messages of {size} bytes: {of_ring} through a plain ring, {of_link} through a link, in {hundredths} % of the time"
     )
 }
 
 fn time_of_ring<R: Runtime>(rt: &R, alloc: Global, bytes: &[u8], rounds: u32) -> io::Result<u64> {
-    let start = Instant::now(rt)?;
-    through_ring(alloc, bytes, rounds)?;
-    Ok(nanoseconds_of(start.elapsed(rt)?))
+    let start = Instant::now(rt);
+    let done = through_ring(alloc, bytes, rounds);
+    time_since(rt, start, done)
 }
 
 fn time_of_link<R: Runtime>(rt: &R, alloc: Global, bytes: &[u8], rounds: u32) -> io::Result<u64> {
-    let start = Instant::now(rt)?;
-    through_link(alloc, bytes, rounds)?;
-    Ok(nanoseconds_of(start.elapsed(rt)?))
+    let start = Instant::now(rt);
+    let done = through_link(alloc, bytes, rounds);
+    time_since(rt, start, done)
+}
+
+// The nanoseconds since the start, where all was done.
+fn time_since<R: Runtime>(
+    rt: &R,
+    start: io::Result<Instant>,
+    done: Result<u64, AllocError>,
+) -> io::Result<u64> {
+    let time = nanoseconds_of(start?.elapsed(rt)?);
+    done?;
+    Ok(time)
 }
 
 fn nanoseconds_of(time: Duration) -> u64 {

@@ -123,6 +123,14 @@ impl Desk {
     }
 }
 
+/// A desk for each thread.
+pub fn prepare(alloc: Global, desks: &mut Vec<Desk>, act: Act) -> Result<(), AllocError> {
+    for _ in 0..THREADS {
+        desks.push(Desk::prepared(alloc, act)?)?;
+    }
+    Ok(())
+}
+
 /// A thread for each of the words does one thing with all winds of its own.
 pub fn act_on_each<R: Threads + Sync>(rt: &R, desks: &mut [Desk], act: Act) {
     thread::for_each_mut(rt, desks, THREADS, &|_, desk: &mut Desk| desk.act(act));

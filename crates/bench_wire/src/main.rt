@@ -7,15 +7,14 @@
 mod messages;
 mod timing;
 
-use std::{env, io};
+use std::io;
+use std::rt::Env;
 
 fn main(rt: HostRuntime) -> io::Result<()> {
-    let mut words = env::args(&rt)?;
-    let _program = words.next();
-    if let Some(word) = words.next() {
-        if word.as_str() == "time" {
-            timing::report(&rt, rt.alloc())?;
-        }
+    let mut word = [0u8; 4];
+    if rt.arg(1, &mut word).is_ok() && word.as_slice() == b"time".as_slice() {
+        timing::report(&rt, rt.alloc())
+    } else {
+        Ok(())
     }
-    Ok(())
 }

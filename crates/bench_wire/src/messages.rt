@@ -55,63 +55,80 @@ pub fn message(alloc: Global, input: &Input) -> Result<Vec<u8>, AllocError>
     encode_req(alloc, input)
 }
 
-/// The sum of a byte of each of so many copies of the bytes.
-pub fn copied(alloc: Global, bytes: &[u8], rounds: u32) -> Result<u64, AllocError> {
-    let mut sum = 0u64;
-    for round in 0..rounds {
-        let copy = Vec::from_slice(alloc, bytes)?;
-        sum = sum.wrapping_add(byte_of(copy.as_slice(), round));
-    }
-    Ok(sum)
+/// What is timed.
+#[derive(Clone, Copy)]
+pub enum Work {
+    Copy,
+    Encode,
+    Decode,
 }
 
-/// The sum of a byte of each of so many encodings of the input.
-pub fn encoded(alloc: Global, input: &Input, rounds: u32) -> Result<u64, AllocError>
+/// The sum of a byte of what each of so many rounds of this work gives.
+pub fn sum_of(
+    alloc: Global,
+    work: Work,
+    bytes: &[u8],
+    input: &Input,
+    message: &[u8],
+    rounds: u32,
+) -> Result<u64, AllocError>
     requires { IsInput input.now }
 {
     let mut sum = 0u64;
     for round in 0..rounds {
-        let encoded = encode_req(alloc, input)?;
-        sum = sum.wrapping_add(byte_of(encoded.as_slice(), round));
+        sum = sum.wrapping_add(byte_of_round(alloc, work, bytes, input, message, round)?);
     }
     Ok(sum)
 }
 
-/// The sum of a byte of each of so many readings of the message.
-pub fn decoded(alloc: Global, message: &[u8], rounds: u32) -> Result<u64, AllocError> {
-    let mut sum = 0u64;
-    for round in 0..rounds {
-        let answer = decode_req(alloc, message)?;
-        sum = sum.wrapping_add(byte_of_decoded(&answer, round));
+fn byte_of_round(
+    alloc: Global,
+    work: Work,
+    bytes: &[u8],
+    input: &Input,
+    message: &[u8],
+    round: u32,
+) -> Result<u64, AllocError>
+    requires { IsInput input.now }
+{
+    match work {
+        Work::Copy => byte_of_made(Vec::from_slice(alloc, bytes), round),
+        Work::Encode => byte_of_made(encode_req(alloc, input), round),
+        Work::Decode => byte_of_read(decode_req(alloc, message), round),
     }
-    Ok(sum)
+}
+
+/// A byte of a copy or an encoding, which ends here.
+fn byte_of_made(made: Result<Vec<u8>, AllocError>, round: u32) -> Result<u64, AllocError> {
+    let made = made?;
+    Ok(byte_of(made.as_slice(), round))
+}
+
+/// A byte of what the input of a message writes; the input ends here.
+fn byte_of_read(read: Result<Decoded<Input>, AllocError>, round: u32) -> Result<u64, AllocError> {
+    let answer = read?;
+    let byte = byte_of_decoded(&answer, round);
+    drop(answer);
+    Ok(byte)
 }
 
 /// A byte of what the input of a message writes, or 0 where it writes nothing.
 fn byte_of_decoded(answer: &Decoded<Input>, round: u32) -> u64 {
     match answer {
-        Decoded::Front { value, .. } => byte_of_input(value, round),
-        Decoded::Bad(_) => 0,
-    }
-}
-
-fn byte_of_input(input: &Input, round: u32) -> u64 {
-    match input {
-        Input::Request { req, .. } => byte_of_request(req, round),
+        Decoded::Front {
+            value: Input::Request { req, .. },
+            ..
+        } => byte_of_request(req, round),
         _ => 0,
     }
 }
 
 fn byte_of_request(req: &BrickReq, round: u32) -> u64 {
     match req {
-        BrickReq::Op { op, .. } => byte_of_op(op, round),
-        _ => 0,
-    }
-}
-
-fn byte_of_op(op: &StoreOp, round: u32) -> u64 {
-    match op {
-        StoreOp::Write { bytes, .. } => byte_of(bytes.as_slice(), round),
+        BrickReq::Op {
+            op: StoreOp::Write { bytes, .. },
+            ..
+        } => byte_of(bytes.as_slice(), round),
         _ => 0,
     }
 }

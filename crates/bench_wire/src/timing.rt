@@ -1,6 +1,6 @@
 ghost use Rattle.wire_xdr.specs.WireText.{IsInput};
 
-use crate::messages::{SIZE, copied, decoded, encoded, message, payload, request};
+use crate::messages::{SIZE, Work, message, payload, request, sum_of};
 use fop_types::Input;
 use std::alloc::Global;
 use std::io;
@@ -10,8 +10,8 @@ use std::time::{Duration, Instant};
 /// How often each is done in a pass.
 const ROUNDS: u32 = 2000;
 
-/// How many passes follow the first. The quickest is reported, since others may use the processor meanwhile.
-const PASSES: u32 = 20;
+/// How many passes there are. The quickest is reported, since others may use the processor meanwhile.
+const PASSES: u32 = 21;
 
 /// The nanoseconds that the rounds of a pass took, and the sum of a byte of what each gave.
 #[derive(Clone, Copy)]
@@ -20,90 +20,60 @@ struct Timed {
     sum: u64,
 }
 
-/// What is timed in a pass.
-#[derive(Clone, Copy)]
-struct Pass {
-    copy: Timed,
-    encode: Timed,
-    decode: Timed,
-}
+/// Longer than any pass.
+const NEVER: Timed = Timed {
+    nanoseconds: u64::MAX,
+    sum: 0,
+};
 
 /// Writes to standard error how fast 65,536 bytes are copied, encoded as a write and decoded.
 pub fn report<R: Runtime>(rt: &R, alloc: Global) -> io::Result<()> {
-    let best = best_of_write(rt, alloc)?;
-    report_pass(rt, best)
-}
-
-fn report_pass<R: Runtime>(rt: &R, pass: Pass) -> io::Result<()> {
-    eprintln!(rt; "a write of 65536 bytes, the quickest pass of {ROUNDS} rounds:")?;
-    report_one(rt, "copy", pass.copy, pass.copy)?;
-    report_one(rt, "encode", pass.encode, pass.copy)?;
-    report_one(rt, "decode", pass.decode, pass.copy)
-}
-
-fn best_of_write<R: Runtime>(rt: &R, alloc: Global) -> io::Result<Pass> {
     let input = request(payload(alloc)?);
-    best_of_input(rt, alloc, &input)
+    let done = report_input(rt, alloc, &input);
+    drop(input);
+    done
 }
 
-fn best_of_input<R: Runtime>(rt: &R, alloc: Global, input: &Input) -> io::Result<Pass>
+fn report_input<R: Runtime>(rt: &R, alloc: Global, input: &Input) -> io::Result<()>
     requires { IsInput input.now }
 {
     let message = message(alloc, input)?;
-    best_of_message(rt, alloc, input, message.as_slice())
-}
-
-fn best_of_message<R: Runtime>(
-    rt: &R,
-    alloc: Global,
-    input: &Input,
-    message: &[u8],
-) -> io::Result<Pass>
-    requires { IsInput input.now }
-{
     let bytes = payload(alloc)?;
-    best_pass(rt, alloc, bytes.as_slice(), input, message)
+    report_passes(rt, alloc, bytes.as_slice(), input, message.as_slice())
 }
 
-/// The quickest of all passes, each of the three for itself.
-fn best_pass<R: Runtime>(
+/// The quickest of all passes, each of the three for itself. They are timed in turn, so that they meet the same load.
+fn report_passes<R: Runtime>(
     rt: &R,
     alloc: Global,
     bytes: &[u8],
     input: &Input,
     message: &[u8],
-) -> io::Result<Pass>
+) -> io::Result<()>
     requires { IsInput input.now }
 {
-    let mut best = one_pass(rt, alloc, bytes, input, message)?;
+    let mut copy = NEVER;
+    let mut encode = NEVER;
+    let mut decode = NEVER;
     for _ in 0..PASSES {
-        let next = one_pass(rt, alloc, bytes, input, message)?;
-        best = Pass {
-            copy: quicker(best.copy, next.copy),
-            encode: quicker(best.encode, next.encode),
-            decode: quicker(best.decode, next.decode),
-        };
+        copy = quicker(copy, time_of(rt, alloc, Work::Copy, bytes, input, message)?);
+        encode = quicker(
+            encode,
+            time_of(rt, alloc, Work::Encode, bytes, input, message)?,
+        );
+        decode = quicker(
+            decode,
+            time_of(rt, alloc, Work::Decode, bytes, input, message)?,
+        );
     }
-    Ok(best)
+    report_best(rt, copy, encode, decode)
 }
 
-fn one_pass<R: Runtime>(
-    rt: &R,
-    alloc: Global,
-    bytes: &[u8],
-    input: &Input,
-    message: &[u8],
-) -> io::Result<Pass>
-    requires { IsInput input.now }
-{
-    let copy = time_of_copies(rt, alloc, bytes)?;
-    let encode = time_of_encodings(rt, alloc, input)?;
-    let decode = time_of_decodings(rt, alloc, message)?;
-    Ok(Pass {
-        copy,
-        encode,
-        decode,
-    })
+fn report_best<R: Runtime>(rt: &R, copy: Timed, encode: Timed, decode: Timed) -> io::Result<()> {
+    eprintln!(rt; "a write of 65536 bytes, the quickest pass of {ROUNDS} rounds:")?;
+    report_one(rt, "copy", copy, copy)?;
+    report_one(rt, "encode", encode, copy)?;
+    report_one(rt, "decode", decode, copy)
 }
 
 fn quicker(one: Timed, other: Timed) -> Timed {
@@ -114,25 +84,18 @@ fn quicker(one: Timed, other: Timed) -> Timed {
     }
 }
 
-fn time_of_copies<R: Runtime>(rt: &R, alloc: Global, bytes: &[u8]) -> io::Result<Timed> {
-    let start = Instant::now(rt)?;
-    let sum = copied(alloc, bytes, ROUNDS)?;
-    let nanoseconds = nanoseconds_of(start.elapsed(rt)?);
-    Ok(Timed { nanoseconds, sum })
-}
-
-fn time_of_encodings<R: Runtime>(rt: &R, alloc: Global, input: &Input) -> io::Result<Timed>
+fn time_of<R: Runtime>(
+    rt: &R,
+    alloc: Global,
+    work: Work,
+    bytes: &[u8],
+    input: &Input,
+    message: &[u8],
+) -> io::Result<Timed>
     requires { IsInput input.now }
 {
     let start = Instant::now(rt)?;
-    let sum = encoded(alloc, input, ROUNDS)?;
-    let nanoseconds = nanoseconds_of(start.elapsed(rt)?);
-    Ok(Timed { nanoseconds, sum })
-}
-
-fn time_of_decodings<R: Runtime>(rt: &R, alloc: Global, message: &[u8]) -> io::Result<Timed> {
-    let start = Instant::now(rt)?;
-    let sum = decoded(alloc, message, ROUNDS)?;
+    let sum = sum_of(alloc, work, bytes, input, message, ROUNDS)?;
     let nanoseconds = nanoseconds_of(start.elapsed(rt)?);
     Ok(Timed { nanoseconds, sum })
 }

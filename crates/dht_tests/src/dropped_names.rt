@@ -1,8 +1,7 @@
 use crate::play::first_wrong;
-use std::test::Fail;
 
-// A name is dropped where the file is, and then the link that the look saw.
-const FILES: [&str; 18] = [
+const ROWS: [&str; 37] = [
+    // A name is dropped where the file is, and then the link that the look saw.
     "1 unlink f0 long: ENOTDIR -",
     "1 unlink / long: ENAMETOOLONG -",
     "1 unlink / fo: 0 names removed; ENOENT 7",
@@ -21,10 +20,7 @@ const FILES: [&str; 18] = [
     "3 unlink / old: 2 names old:s1; 1 names old:file; 1 drop.1 3; 2 link- ok; ok 3",
     "3 unlink / old: 2 names old:s1; 1 names none; 0 names old:file; 0 drop.1 3; 2 link- ok; ok 3",
     "3 unlink / old: 2 names old:s1; 1 names none; 0 names none; ENOENT 7",
-];
-
-// A directory is read on every set under the extended hold; links are no names of it.
-const DIRECTORIES: [&str; 19] = [
+    // A directory is read on every set under the extended hold; links are no names of it.
     "1 rmdir f0 long: ENOTDIR -",
     "1 rmdir / long: ENAMETOOLONG -",
     "1 rmdir / fo: 0 names removed; ENOENT 7",
@@ -47,8 +43,6 @@ const DIRECTORIES: [&str; 19] = [
 ];
 
 #[test]
-fn dropped_names(rt: HostRuntime) -> Result<(), Fail> {
-    assert_eq!(rt; first_wrong(rt.alloc(), &FILES)?, "");
-    assert_eq!(rt; first_wrong(rt.alloc(), &DIRECTORIES)?, "");
-    Ok(())
+fn dropped_names(rt: HostRuntime) {
+    assert_eq!(rt; first_wrong(rt.alloc(), &ROWS), "");
 }

@@ -9,31 +9,31 @@ const FILE: Gfid = Gfid { hi: 0, lo: 2 };
 
 const DIRECTORY: Gfid = Gfid { hi: 0, lo: 8 };
 
-fn directory(gfid: Gfid) -> Object {
-    Object {
-        gfid,
-        kind: Kind::Dir,
-        set: 0,
-    }
-}
+// The root, two directories, and a file by the number of its set: the gfid, the kind and the set of each.
+const OBJECTS: [(&[u8], u64, Kind, u8); 6] = [
+    (b"/", 1, Kind::Dir, 0),
+    (b"d", 8, Kind::Dir, 0),
+    (b"e", 9, Kind::Dir, 0),
+    (b"f0", 2, Kind::File, 0),
+    (b"f1", 2, Kind::File, 1),
+    (b"f2", 2, Kind::File, 2),
+];
 
-fn file(set: u8) -> Object {
+// Any other word is `f0`.
+fn object(word: &[u8]) -> Object {
+    for (name, lo, kind, set) in &OBJECTS {
+        if word == *name {
+            return Object {
+                gfid: Gfid { hi: 0, lo: *lo },
+                kind: *kind,
+                set: *set,
+            };
+        }
+    }
     Object {
         gfid: FILE,
         kind: Kind::File,
-        set,
-    }
-}
-
-// The root, two directories, and a file by the number of its set.
-fn object(word: &[u8]) -> Object {
-    match word {
-        b"/" => directory(Gfid { hi: 0, lo: 1 }),
-        b"d" => directory(DIRECTORY),
-        b"e" => directory(Gfid { hi: 0, lo: 9 }),
-        b"f2" => file(2),
-        b"f1" => file(1),
-        _ => file(0),
+        set: 0,
     }
 }
 
@@ -44,13 +44,6 @@ fn name(alloc: Global, word: &[u8]) -> Result<Seq<u8>, AllocError> {
     } else {
         Seq::from_bytes(alloc, word)
     }
-}
-
-fn attr(alloc: Global) -> Result<Attr, AllocError> {
-    Ok(Attr {
-        name: Seq::from_bytes(alloc, b"user.a")?,
-        value: Seq::from_bytes(alloc, b"w")?,
-    })
 }
 
 fn migrate(alloc: Global, count: u8) -> Result<Fop, AllocError> {
@@ -77,60 +70,141 @@ fn rename(alloc: Global, words: &[u8]) -> Result<Fop, AllocError> {
     })
 }
 
+// The operations of the rows.
+#[derive(Clone, Copy)]
+enum Op {
+    Rename,
+    Migrate,
+    Heal,
+    Mkdir,
+    Create,
+    Unlink,
+    Rmdir,
+    GetAttr,
+    DelAttr,
+    Truncate,
+    TruncateFar,
+    SetAttr,
+    Write,
+    WriteFar,
+    WriteNone,
+    Chmod,
+    Open,
+    Stat,
+    List,
+    Read,
+    ReadFar,
+    Lookup,
+}
+
+// The words of all but the last.
+const OPS: [(&[u8], Op); 21] = [
+    (b"rename", Op::Rename),
+    (b"migrate", Op::Migrate),
+    (b"heal", Op::Heal),
+    (b"mkdir", Op::Mkdir),
+    (b"create", Op::Create),
+    (b"unlink", Op::Unlink),
+    (b"rmdir", Op::Rmdir),
+    (b"getattr", Op::GetAttr),
+    (b"delattr", Op::DelAttr),
+    (b"truncate", Op::Truncate),
+    (b"truncate-far", Op::TruncateFar),
+    (b"setattr", Op::SetAttr),
+    (b"write", Op::Write),
+    (b"write-far", Op::WriteFar),
+    (b"write-none", Op::WriteNone),
+    (b"chmod", Op::Chmod),
+    (b"open", Op::Open),
+    (b"stat", Op::Stat),
+    (b"list", Op::List),
+    (b"read", Op::Read),
+    (b"read-far", Op::ReadFar),
+];
+
+fn op_of(word: &[u8]) -> Op {
+    for (name, op) in &OPS {
+        if word == *name {
+            return *op;
+        }
+    }
+    Op::Lookup
+}
+
 // A fop on the name of a directory, or on an attribute of an object.
-fn on_name(op: &[u8], object: Object, name: Seq<u8>) -> Fop {
+fn on_name(op: Op, object: Object, name: Seq<u8>) -> Fop {
     let parent = object;
     match op {
-        b"mkdir" => Fop::Mkdir {
+        Op::Mkdir => Fop::Mkdir {
             parent,
             name,
             mode: 0o755,
             drawn: DIRECTORY,
         },
-        b"create" => Fop::Create {
+        Op::Create => Fop::Create {
             fd: 1,
             parent,
             name,
             mode: 0o644,
             drawn: FILE,
         },
-        b"unlink" => Fop::Unlink { parent, name },
-        b"rmdir" => Fop::Rmdir { parent, name },
-        b"getattr" => Fop::GetAttr { object, name },
-        b"delattr" => Fop::DelAttr { object, name },
+        Op::Unlink => Fop::Unlink { parent, name },
+        Op::Rmdir => Fop::Rmdir { parent, name },
+        Op::GetAttr => Fop::GetAttr { object, name },
+        Op::DelAttr => Fop::DelAttr { object, name },
         _ => Fop::Lookup { parent, name },
     }
 }
 
+fn read(object: Object, offset: u32) -> Fop {
+    Fop::Read {
+        fd: 1,
+        object,
+        offset,
+        count: 3,
+    }
+}
+
 fn write(alloc: Global, object: Object, offset: u32, bytes: &[u8]) -> Result<Fop, AllocError> {
+    let bytes = Seq::from_bytes(alloc, bytes)?;
     Ok(Fop::Write {
         fd: 1,
         object,
         offset,
-        bytes: Seq::from_bytes(alloc, bytes)?,
+        bytes,
     })
 }
 
 fn set_attr(alloc: Global, object: Object) -> Result<Fop, AllocError> {
-    let attr = attr(alloc)?;
-    Ok(Fop::SetAttr { object, attr })
+    let name = Seq::from_bytes(alloc, b"user.a")?;
+    let value = Seq::from_bytes(alloc, b"w")?;
+    Ok(Fop::SetAttr {
+        object,
+        attr: Attr { name, value },
+    })
 }
 
-// A change of an object; `far` are ends beyond the greatest length of a file.
-fn change(alloc: Global, op: &[u8], object: Object) -> Result<Fop, AllocError> {
+// A fop on an object. Bytes are read up to the end of the file and beyond; `far` are ends beyond the greatest length of
+// a file.
+fn on_object(alloc: Global, op: Op, object: Object) -> Result<Fop, AllocError> {
     match op {
-        b"truncate" => Ok(Fop::Truncate {
+        Op::Open => Ok(Fop::Open { fd: 1, object }),
+        Op::Stat => Ok(Fop::Stat { object }),
+        Op::List => Ok(Fop::List { object }),
+        Op::Read => Ok(read(object, 1)),
+        Op::ReadFar => Ok(read(object, 5)),
+        Op::Truncate => Ok(Fop::Truncate {
             object,
             size: 65536,
         }),
-        b"truncate-far" => Ok(Fop::Truncate {
+        Op::TruncateFar => Ok(Fop::Truncate {
             object,
             size: 65537,
         }),
-        b"setattr" => set_attr(alloc, object),
-        b"write" => write(alloc, object, 65535, b"x"),
-        b"write-far" => write(alloc, object, 65536, b"x"),
-        b"write-none" => write(alloc, object, 65536, b""),
+        Op::SetAttr => set_attr(alloc, object),
+        Op::Write => write(alloc, object, 65535, b"x"),
+        Op::WriteFar => write(alloc, object, 65536, b"x"),
+        Op::WriteNone => write(alloc, object, 65536, b""),
         _ => Ok(Fop::Chmod {
             object,
             mode: 0o600,
@@ -138,29 +212,7 @@ fn change(alloc: Global, op: &[u8], object: Object) -> Result<Fop, AllocError> {
     }
 }
 
-// A fop on an object; bytes are read up to the end of the file and beyond.
-fn on_object(alloc: Global, op: &[u8], object: Object) -> Result<Fop, AllocError> {
-    match op {
-        b"open" => Ok(Fop::Open { fd: 1, object }),
-        b"stat" => Ok(Fop::Stat { object }),
-        b"list" => Ok(Fop::List { object }),
-        b"read" => Ok(Fop::Read {
-            fd: 1,
-            object,
-            offset: 1,
-            count: 3,
-        }),
-        b"read-far" => Ok(Fop::Read {
-            fd: 1,
-            object,
-            offset: 5,
-            count: 3,
-        }),
-        _ => change(alloc, op, object),
-    }
-}
-
-fn of_object(alloc: Global, op: &[u8], words: &[u8]) -> Result<Fop, AllocError> {
+fn of_object(alloc: Global, op: Op, words: &[u8]) -> Result<Fop, AllocError> {
     let (first, rest) = cut(words, b' ');
     let object = object(first);
     if rest.is_empty() {
@@ -173,11 +225,12 @@ fn of_object(alloc: Global, op: &[u8], words: &[u8]) -> Result<Fop, AllocError> 
 /// A fop by its words: the operation, its object or directory, and a name. A rename has two directories with names; a
 /// migration has the number of its descriptors, each on the next set.
 pub(crate) fn fop(alloc: Global, words: &[u8]) -> Result<Fop, AllocError> {
-    let (op, rest) = cut(words, b' ');
+    let (word, rest) = cut(words, b' ');
+    let op = op_of(word);
     match op {
-        b"rename" => rename(alloc, rest),
-        b"migrate" => migrate(alloc, digit(rest)),
-        b"heal" => Ok(Fop::Heal { count: 1 }),
+        Op::Rename => rename(alloc, rest),
+        Op::Migrate => migrate(alloc, digit(rest)),
+        Op::Heal => Ok(Fop::Heal { count: 1 }),
         _ => of_object(alloc, op, rest),
     }
 }

@@ -1,8 +1,7 @@
 use crate::play::first_wrong;
-use std::test::Fail;
 
-// The name `fo` belongs to set 0 of two and `foo` to set 1; of three sets, `new`, `fo` and `old` belong to 0, 1 and 2.
-const LOOKUPS: [&str; 35] = [
+const ROWS: [&str; 47] = [
+    // The name `fo` belongs to set 0 of two and `foo` to set 1; of three sets, `new`, `fo` and `old` belong to 0, 1 and 2.
     "1 lookup f0 long: ENOTDIR -",
     "1 lookup f0 fo: ENOTDIR -",
     "1 lookup / long: ENAMETOOLONG -",
@@ -39,10 +38,7 @@ const LOOKUPS: [&str; 35] = [
     // The root's layout is that of the first graph.
     "2/1 lookup / foo: 0 names none; 1 names foo:file; found1 8",
     "3/2 lookup / old: 1 names old:file; found1 8",
-];
-
-// The names of the sets are merged by rising bytes; links are left out.
-const LISTS: [&str; 12] = [
+    // The names of the sets are merged by rising bytes; links are left out.
     "1 list f0: ENOTDIR -",
     "2 list f1: ENOTDIR -",
     "1 list /: 0 names removed; ENOENT 7",
@@ -58,8 +54,6 @@ const LISTS: [&str; 12] = [
 ];
 
 #[test]
-fn lookups(rt: HostRuntime) -> Result<(), Fail> {
-    assert_eq!(rt; first_wrong(rt.alloc(), &LOOKUPS)?, "");
-    assert_eq!(rt; first_wrong(rt.alloc(), &LISTS)?, "");
-    Ok(())
+fn lookups(rt: HostRuntime) {
+    assert_eq!(rt; first_wrong(rt.alloc(), &ROWS), "");
 }

@@ -6,11 +6,12 @@ use crate::answers::push_answer;
 use crate::fops::fop;
 use crate::jobs::push_job;
 use crate::replies::reply;
-use crate::text::{cut, push_number};
+use crate::text::{cut, digit, push_number};
 use dht_fops::{DhtFop, DhtNext};
 use fop_types::{Fop, Gfid, Job, Seq, Span};
 use std::alloc::{AllocError, Global};
 use std::collections::BTreeMap;
+use std::mem;
 
 /// Layouts by directory.
 pub(crate) type Kept = BTreeMap<Gfid, Seq<Option<Span>>>;
@@ -38,26 +39,34 @@ fn names(alloc: Global, count: u8) -> Result<Vec<Seq<u8>>, AllocError>
     Ok(names)
 }
 
-fn begun(alloc: Global, sets: u8, root_sets: u8, fop: Fop, kept: &Kept) -> Result<Play, AllocError>
+fn begun(
+    alloc: Global,
+    fop: Fop,
+    sets: u8,
+    names: &[Seq<u8>],
+    root_sets: u8,
+    kept: &Kept,
+) -> Result<Play, AllocError>
     requires root { 1 ≤ root_sets }
     requires within { root_sets ≤ sets }
+    requires names { length names.now ≡ sets }
 {
-    let names = names(alloc, sets)?;
-    let (fop, next) = DhtFop::begin(alloc, 1, fop, sets, &names, root_sets, kept)?;
+    let (fop, next) = DhtFop::begin(alloc, 1, fop, sets, names, root_sets, kept)?;
     Ok(Play { fop, next })
 }
 
 // A fop by its words: the number of sets, behind `/` that of the first graph where it had fewer, and then the fop.
 fn begin(alloc: Global, words: &[u8], kept: &Kept) -> Result<Play, AllocError> {
-    let (sets, words) = cut(words, b' ');
-    let fop = fop(alloc, words)?;
-    match sets {
-        b"1" => begun(alloc, 1, 1, fop, kept),
-        b"2" => begun(alloc, 2, 2, fop, kept),
-        b"2/1" => begun(alloc, 2, 1, fop, kept),
-        b"3/2" => begun(alloc, 3, 2, fop, kept),
-        _ => begun(alloc, 3, 3, fop, kept),
+    let (counts, words) = cut(words, b' ');
+    let (all, first) = cut(counts, b'/');
+    let sets = digit(all);
+    let root_sets = if first.is_empty() { sets } else { digit(first) };
+    if root_sets < 1 || sets < root_sets {
+        return Err(AllocError);
     }
+    let names = names(alloc, sets)?;
+    let fop = fop(alloc, words)?;
+    begun(alloc, fop, sets, &names, root_sets, kept)
 }
 
 // ---- where a fop is
@@ -110,14 +119,19 @@ fn is_at(alloc: Global, next: &DhtNext, first: &[u8], second: &[u8]) -> Result<b
 // ---- turns
 
 // The fop takes the reply of the set that it asks, or the extension of the hold.
-fn go_on(alloc: Global, play: &mut Play, gives: &[u8]) -> Result<(), AllocError> {
-    match play.fop.asked() {
-        None => play.next = play.fop.held(alloc)?,
+fn next_of(alloc: Global, fop: &mut DhtFop, gives: &[u8]) -> Result<DhtNext, AllocError> {
+    match fop.asked() {
+        None => fop.held(alloc),
         Some(set) => {
             let reply = reply(alloc, set, gives)?;
-            play.next = play.fop.answer(alloc, set, reply)?;
+            fop.answer(alloc, set, reply)
         }
     }
+}
+
+fn go_on(alloc: Global, play: &mut Play, gives: &[u8]) -> Result<(), AllocError> {
+    let next = next_of(alloc, &mut play.fop, gives)?;
+    drop(mem::replace(&mut play.next, next));
     Ok(())
 }
 
@@ -136,13 +150,19 @@ fn turn(alloc: Global, play: &mut Play, words: &[u8], fails: bool) -> Result<boo
 }
 
 // The end of a fop by an I/O error of a set.
+const ERRORS: [(&[u8], &[u8]); 3] = [
+    (b"0", b" quorum[0] -"),
+    (b"1", b" quorum[1] -"),
+    (b"2", b" quorum[2] -"),
+];
+
 fn error_of<'a>(set: &[u8], more: &'a [u8]) -> &'a [u8] {
-    match set {
-        b"0" => b" quorum[0] -",
-        b"1" => b" quorum[1] -",
-        b"2" => b" quorum[2] -",
-        _ => more,
+    for (number, end) in &ERRORS {
+        if set == *number {
+            return *end;
+        }
     }
+    more
 }
 
 // What follows on a turn that fails: the answer is the error, but for a change of a link, which changes no answer.
@@ -179,7 +199,7 @@ fn goes(alloc: Global, play: &mut Play, turns: &[u8], failing: usize) -> Result<
 
 fn learn(alloc: Global, play: &Play, kept: &mut Kept) -> Result<(), AllocError> {
     for layout in play.fop.learnt() {
-        kept.insert(layout.dir, layout.spans.copy(alloc)?)?;
+        drop(kept.insert(layout.dir, layout.spans.copy(alloc)?)?);
     }
     Ok(())
 }
@@ -188,7 +208,9 @@ fn learn(alloc: Global, play: &Play, kept: &mut Kept) -> Result<(), AllocError> 
 fn runs(alloc: Global, row: &str, failing: usize, kept: &mut Kept) -> Result<bool, AllocError> {
     let (words, turns) = cut(row.as_bytes(), b':');
     let mut play = begin(alloc, words, kept)?;
-    ends(alloc, &mut play, turns, failing, kept)
+    let did = ends(alloc, &mut play, turns, failing, kept);
+    drop(play);
+    did
 }
 
 // The same of a fop that has begun.
@@ -222,12 +244,14 @@ fn runs_and_fails(alloc: Global, row: &str) -> Result<bool, AllocError> {
     Ok(true)
 }
 
-/// The first row that does not go as it says, or does not end with the error where a turn of it fails; empty where each
-/// does.
-pub(crate) fn first_wrong(
-    alloc: Global,
-    rows: &[&'static str],
-) -> Result<&'static str, AllocError> {
+fn or_memory(row: Result<&'static str, AllocError>) -> &'static str {
+    match row {
+        Ok(row) => row,
+        Err(_) => "out of memory",
+    }
+}
+
+fn first_wrong_of(alloc: Global, rows: &[&'static str]) -> Result<&'static str, AllocError> {
     for row in rows {
         if !runs_and_fails(alloc, row)? {
             return Ok(row);
@@ -236,11 +260,15 @@ pub(crate) fn first_wrong(
     Ok("")
 }
 
-/// The first row that does not go as it says, where the layouts that earlier rows read are kept; empty where each does.
-pub(crate) fn first_wrong_in_order(
-    alloc: Global,
-    rows: &[&'static str],
-) -> Result<&'static str, AllocError> {
+/// The first row that does not go as it says, or does not end with the error where a turn of it fails; empty where each
+/// does.
+pub(crate) fn first_wrong(alloc: Global, rows: &[&'static str]) -> &'static str {
+    or_memory(first_wrong_of(alloc, rows))
+}
+
+// The first row that does not go as it says, where the layouts that earlier rows of its table read are kept; empty where
+// each does.
+fn first_wrong_in_table(alloc: Global, rows: &[&'static str]) -> Result<&'static str, AllocError> {
     let mut kept = BTreeMap::new(alloc);
     for row in rows {
         if !runs(alloc, row, TURNS, &mut kept)? {
@@ -248,4 +276,18 @@ pub(crate) fn first_wrong_in_order(
         }
     }
     Ok("")
+}
+
+/// The same of some tables.
+pub(crate) fn first_wrong_in_order(
+    alloc: Global,
+    tables: &[&'static [&'static str]],
+) -> &'static str {
+    for rows in tables {
+        let row = or_memory(first_wrong_in_table(alloc, rows));
+        if !row.is_empty() {
+            return row;
+        }
+    }
+    ""
 }

@@ -53,25 +53,15 @@ const HIGH: Span = Span {
     last: 0xffff_ffff,
 };
 
-fn object(alloc: Global, word: &[u8], place: u32) -> Result<SetReply, AllocError> {
-    match word {
-        b"low" => shown_meta(alloc, Some(LOW), place),
-        b"high" => shown_meta(alloc, Some(HIGH), place),
-        b"meta" => shown_meta(alloc, None, place),
-        b"bytes" => shown_bytes(alloc, place),
-        b"both" => bytes_and_meta(alloc, b"hello", place),
-        b"empty" => bytes_and_meta(alloc, b"", place),
-        _ => contents(alloc, None, place),
-    }
-}
-
 // ---- names
 
 fn kind_of(word: &[u8]) -> Kind {
-    match word {
-        b"file" => Kind::File,
-        b"dir" => Kind::Dir,
-        _ => Kind::Link,
+    if word == b"file".as_slice() {
+        Kind::File
+    } else if word == b"dir".as_slice() {
+        Kind::Dir
+    } else {
+        Kind::Link
     }
 }
 
@@ -115,26 +105,6 @@ fn named(alloc: Global, words: &[u8], place: u32) -> Result<SetReply, AllocError
     names(alloc, false, items, place)
 }
 
-fn shown(alloc: Global, word: &[u8], place: u32) -> Result<SetReply, AllocError> {
-    match word {
-        b"none" => names(alloc, false, Seq::new(alloc), place),
-        b"removed" => names(alloc, true, Seq::new(alloc), place),
-        _ if word.contains(&b':') => named(alloc, word, place),
-        _ => object(alloc, word, place),
-    }
-}
-
-// What a read shows; its place is behind `@`, or by the number of the set.
-fn read(alloc: Global, set: u8, word: &[u8]) -> Result<SetReply, AllocError> {
-    let (word, place) = cut(word, b'@');
-    let place = if place.is_empty() {
-        set as u32 + 7
-    } else {
-        digit(place) as u32
-    };
-    shown(alloc, word, place)
-}
-
 // ---- cells and errors
 
 // The data cells of so many files.
@@ -175,28 +145,98 @@ fn fault(alloc: Global, set: u8) -> IoError {
     }
 }
 
-fn failed_or_listed(alloc: Global, set: u8, word: &[u8]) -> Result<SetReply, AllocError> {
+// ---- all
+
+// The words of replies, but for numbers and names.
+#[derive(Clone, Copy)]
+enum Word {
+    Done,
+    Opened,
+    Healed,
+    Skipped,
+    Io,
+    Split,
+    Fault,
+    Cells,
+    FiveCells,
+    Short,
+    NoNames,
+    Removed,
+    Low,
+    High,
+    Meta,
+    Bytes,
+    Both,
+    Empty,
+    Absent,
+}
+
+const WORDS: [(&[u8], Word); 19] = [
+    (b"ok", Word::Done),
+    (b"opened", Word::Opened),
+    (b"healed", Word::Healed),
+    (b"skipped", Word::Skipped),
+    (b"io", Word::Io),
+    (b"split", Word::Split),
+    (b"fault", Word::Fault),
+    (b"cells", Word::Cells),
+    (b"cells-5", Word::FiveCells),
+    (b"short", Word::Short),
+    (b"none", Word::NoNames),
+    (b"removed", Word::Removed),
+    (b"low", Word::Low),
+    (b"high", Word::High),
+    (b"meta", Word::Meta),
+    (b"bytes", Word::Bytes),
+    (b"both", Word::Both),
+    (b"empty", Word::Empty),
+    (b"absent", Word::Absent),
+];
+
+fn replied(alloc: Global, set: u8, word: Word, place: u32) -> Result<SetReply, AllocError> {
     match word {
-        b"io" => Ok(SetReply::Io(quorum(alloc, set))),
-        b"split" => Ok(SetReply::Io(split(alloc, set))),
-        b"fault" => Ok(SetReply::Io(fault(alloc, set))),
-        b"cells" => listed(alloc, 1, None),
-        b"cells-5" => listed(alloc, 5, None),
-        b"short" => listed(alloc, 1, Some(quorum(alloc, set))),
-        _ => read(alloc, set, word),
+        Word::Done => Ok(SetReply::Decided(None)),
+        Word::Opened => Ok(SetReply::Opened),
+        Word::Healed => Ok(SetReply::Healed(Seq::new(alloc))),
+        Word::Skipped => Ok(SetReply::Skipped(SkipCause::Split)),
+        Word::Io => Ok(SetReply::Io(quorum(alloc, set))),
+        Word::Split => Ok(SetReply::Io(split(alloc, set))),
+        Word::Fault => Ok(SetReply::Io(fault(alloc, set))),
+        Word::Cells => listed(alloc, 1, None),
+        Word::FiveCells => listed(alloc, 5, None),
+        Word::Short => listed(alloc, 1, Some(quorum(alloc, set))),
+        Word::NoNames => names(alloc, false, Seq::new(alloc), place),
+        Word::Removed => names(alloc, true, Seq::new(alloc), place),
+        Word::Low => shown_meta(alloc, Some(LOW), place),
+        Word::High => shown_meta(alloc, Some(HIGH), place),
+        Word::Meta => shown_meta(alloc, None, place),
+        Word::Bytes => shown_bytes(alloc, place),
+        Word::Both => bytes_and_meta(alloc, b"hello", place),
+        Word::Empty => bytes_and_meta(alloc, b"", place),
+        Word::Absent => contents(alloc, None, place),
     }
 }
 
-// ---- all
+// The place of what a read shows: behind `@`, or by the number of the set.
+fn place_of(set: u8, word: &[u8]) -> u32 {
+    if word.is_empty() {
+        set as u32 + 7
+    } else {
+        digit(word) as u32
+    }
+}
 
 /// The reply of a set by its word: a number is that of an entry of the history; names are shown as `NAME:KIND`.
-pub(crate) fn reply(alloc: Global, set: u8, word: &[u8]) -> Result<SetReply, AllocError> {
-    match word {
-        b"ok" => Ok(SetReply::Decided(None)),
-        [b'0'..=b'9'] => Ok(SetReply::Decided(Some(digit(word) as u32))),
-        b"opened" => Ok(SetReply::Opened),
-        b"healed" => Ok(SetReply::Healed(Seq::new(alloc))),
-        b"skipped" => Ok(SetReply::Skipped(SkipCause::Split)),
-        _ => failed_or_listed(alloc, set, word),
+pub(crate) fn reply(alloc: Global, set: u8, gives: &[u8]) -> Result<SetReply, AllocError> {
+    let (word, place) = cut(gives, b'@');
+    let place = place_of(set, place);
+    for (name, known) in &WORDS {
+        if word == *name {
+            return replied(alloc, set, *known, place);
+        }
     }
+    if word.len() == 1 {
+        return Ok(SetReply::Decided(Some(digit(word) as u32)));
+    }
+    named(alloc, word, place)
 }

@@ -1,6 +1,6 @@
 //! Parts of words, and numbers as text.
 
-use fop_types::{Aspect, Cell, Gfid, Kind, Span};
+use fop_types::{Aspect, Cell, Kind, Span};
 use std::alloc::{AllocError, Global};
 
 /// The text up to a mark, and what follows the mark.
@@ -15,9 +15,9 @@ pub(crate) fn cut<'a>(text: &'a [u8], mark: u8) -> (&'a [u8], &'a [u8]) {
 
 /// A number below ten by its digit.
 pub(crate) fn digit(word: &[u8]) -> u8 {
-    match word {
-        [digit] => *digit & 15,
-        _ => 0,
+    match word.first() {
+        Some(digit) => *digit & 15,
+        None => 0,
     }
 }
 
@@ -29,16 +29,26 @@ pub(crate) fn push_number(
     text.extend_from_slice(number.to_string(alloc)?.as_bytes())
 }
 
-/// A number behind a comma.
-pub(crate) fn push_next(alloc: Global, text: &mut Vec<u8>, number: u64) -> Result<(), AllocError> {
-    text.push(b',')?;
+/// A text, and another one behind it.
+pub(crate) fn push_both(text: &mut Vec<u8>, one: &[u8], other: &[u8]) -> Result<(), AllocError> {
+    text.extend_from_slice(one)?;
+    text.extend_from_slice(other)
+}
+
+/// A number behind a text.
+pub(crate) fn push_headed(
+    alloc: Global,
+    text: &mut Vec<u8>,
+    head: &[u8],
+    number: u64,
+) -> Result<(), AllocError> {
+    text.extend_from_slice(head)?;
     push_number(alloc, text, number)
 }
 
-/// Bytes behind a mark.
-pub(crate) fn push_marked(text: &mut Vec<u8>, mark: u8, bytes: &[u8]) -> Result<(), AllocError> {
-    text.push(mark)?;
-    text.extend_from_slice(bytes)
+/// A number behind a comma.
+pub(crate) fn push_next(alloc: Global, text: &mut Vec<u8>, number: u64) -> Result<(), AllocError> {
+    push_headed(alloc, text, b",", number)
 }
 
 /// The three octal digits of a mode, behind a comma.
@@ -62,8 +72,7 @@ pub(crate) fn push_span(
         return Ok(());
     };
     push_next(alloc, text, span.first as u64)?;
-    text.push(b'-')?;
-    push_number(alloc, text, span.last as u64)
+    push_headed(alloc, text, b"-", span.last as u64)
 }
 
 pub(crate) fn kind_word(kind: Kind) -> &'static [u8] {
@@ -94,11 +103,11 @@ pub(crate) fn push_cells(
     text: &mut Vec<u8>,
     cells: &[Cell],
 ) -> Result<(), AllocError> {
-    let mut mark = b'[';
+    let mut mark = b"[";
     for cell in cells {
-        text.push(mark)?;
+        text.extend_from_slice(mark)?;
         push_cell(alloc, text, *cell)?;
-        mark = b'+';
+        mark = b"+";
     }
     Ok(())
 }
@@ -108,17 +117,5 @@ pub(crate) fn push_fd(alloc: Global, text: &mut Vec<u8>, fd: u32) -> Result<(), 
     if fd == 0 {
         return Ok(());
     }
-    text.extend_from_slice(b",fd")?;
-    push_number(alloc, text, fd as u64)
-}
-
-/// A directory's gfid behind a comma, and a name of it behind `/`.
-pub(crate) fn push_path(
-    alloc: Global,
-    text: &mut Vec<u8>,
-    parent: Gfid,
-    name: &[u8],
-) -> Result<(), AllocError> {
-    push_next(alloc, text, parent.lo)?;
-    push_marked(text, b'/', name)
+    push_headed(alloc, text, b",fd", fd as u64)
 }

@@ -1,5 +1,4 @@
-use crate::reader::answers;
-use std::test::Fail;
+use crate::reader::are_answered;
 
 // Descriptors are a session's own; read, write and seek move the offset; a file whose name is gone stays.
 const CASES: [(&[u8], &[u8]); 11] = [
@@ -50,9 +49,6 @@ const CASES: [(&[u8], &[u8]); 11] = [
 ];
 
 #[test]
-fn descriptors(rt: HostRuntime) -> Result<(), Fail> {
-    for (script, want) in &CASES {
-        assert!(rt; answers(rt.alloc(), script)?.as_slice() == *want);
-    }
-    Ok(())
+fn descriptors(rt: HostRuntime) {
+    assert!(rt; are_answered(rt.alloc(), &CASES));
 }

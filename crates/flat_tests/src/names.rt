@@ -1,5 +1,4 @@
-use crate::reader::answers;
-use std::test::Fail;
+use crate::reader::are_answered;
 
 // 255 bytes are a name, 256 are too many; a name is looked up in a directory that is there.
 const ENTRY: [(&[u8], &[u8]); 12] = [
@@ -89,17 +88,11 @@ const RENAME: [(&[u8], &[u8]); 8] = [
 ];
 
 #[test]
-fn entries(rt: HostRuntime) -> Result<(), Fail> {
-    for (script, want) in &ENTRY {
-        assert!(rt; answers(rt.alloc(), script)?.as_slice() == *want);
-    }
-    Ok(())
+fn entries(rt: HostRuntime) {
+    assert!(rt; are_answered(rt.alloc(), &ENTRY));
 }
 
 #[test]
-fn renames(rt: HostRuntime) -> Result<(), Fail> {
-    for (script, want) in &RENAME {
-        assert!(rt; answers(rt.alloc(), script)?.as_slice() == *want);
-    }
-    Ok(())
+fn renames(rt: HostRuntime) {
+    assert!(rt; are_answered(rt.alloc(), &RENAME));
 }

@@ -1,5 +1,4 @@
-use crate::reader::answers;
-use std::test::Fail;
+use crate::reader::are_answered;
 
 // Calls on one object: modes, lengths, attributes. A directory's size is 0.
 const CASES: [(&[u8], &[u8]); 11] = [
@@ -50,9 +49,6 @@ const CASES: [(&[u8], &[u8]); 11] = [
 ];
 
 #[test]
-fn objects(rt: HostRuntime) -> Result<(), Fail> {
-    for (script, want) in &CASES {
-        assert!(rt; answers(rt.alloc(), script)?.as_slice() == *want);
-    }
-    Ok(())
+fn objects(rt: HostRuntime) {
+    assert!(rt; are_answered(rt.alloc(), &CASES));
 }

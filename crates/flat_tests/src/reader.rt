@@ -37,13 +37,22 @@ fn small(word: &[u8]) -> u8 {
 
 // `N*C` as N bytes C, at most 131,071; any other word as it is.
 fn bytes(alloc: Global, word: &[u8]) -> Result<Seq<u8>, AllocError> {
-    let (count, byte) = cut(word, b'*');
     let mut all = Vec::new(alloc);
-    match byte {
-        [byte] => all.resize((decimal(count) & 131071) as usize, *byte)?,
-        _ => all.extend_from_slice(word)?,
-    }
+    let (count, byte) = cut(word, b'*');
+    put_bytes(&mut all, word, count, byte.first())?;
     Ok(Seq::from_vec(all))
+}
+
+fn put_bytes(
+    all: &mut Vec<u8>,
+    word: &[u8],
+    count: &[u8],
+    byte: Option<&u8>,
+) -> Result<(), AllocError> {
+    match byte {
+        Some(byte) => all.resize((decimal(count) & 131071) as usize, *byte),
+        None => all.extend_from_slice(word),
+    }
 }
 
 // `/` alone has no components.
@@ -67,9 +76,15 @@ fn attr(alloc: Global, name: &[u8], value: &[u8]) -> Result<Attr, AllocError> {
     Ok(Attr { name, value })
 }
 
-// What a call on a path does.
+// What a call does.
 #[derive(Clone, Copy)]
 enum Verb {
+    Create,
+    Open,
+    Read,
+    Write,
+    Seek,
+    Close,
     Mkdir,
     Rmdir,
     Unlink,
@@ -83,20 +98,48 @@ enum Verb {
     DelAttr,
 }
 
+// The words of all but the last.
+const VERBS: [(&[u8], Verb); 16] = [
+    (b"create", Verb::Create),
+    (b"open", Verb::Open),
+    (b"read", Verb::Read),
+    (b"write", Verb::Write),
+    (b"seek", Verb::Seek),
+    (b"close", Verb::Close),
+    (b"mkdir", Verb::Mkdir),
+    (b"rmdir", Verb::Rmdir),
+    (b"unlink", Verb::Unlink),
+    (b"rename", Verb::Rename),
+    (b"stat", Verb::Stat),
+    (b"list", Verb::List),
+    (b"chmod", Verb::Chmod),
+    (b"truncate", Verb::Truncate),
+    (b"setattr", Verb::SetAttr),
+    (b"getattr", Verb::GetAttr),
+];
+
 fn verb_of(word: &[u8]) -> Verb {
-    match word {
-        b"mkdir" => Verb::Mkdir,
-        b"rmdir" => Verb::Rmdir,
-        b"unlink" => Verb::Unlink,
-        b"rename" => Verb::Rename,
-        b"stat" => Verb::Stat,
-        b"list" => Verb::List,
-        b"chmod" => Verb::Chmod,
-        b"truncate" => Verb::Truncate,
-        b"setattr" => Verb::SetAttr,
-        b"getattr" => Verb::GetAttr,
-        _ => Verb::DelAttr,
+    for (name, verb) in &VERBS {
+        if word == *name {
+            return *verb;
+        }
     }
+    Verb::DelAttr
+}
+
+fn create_call(alloc: Global, fd: u8, word: &[u8], mode: u16) -> Result<Call, AllocError> {
+    let path = path(alloc, word)?;
+    Ok(Call::Create { fd, path, mode })
+}
+
+fn open_call(alloc: Global, fd: u8, word: &[u8]) -> Result<Call, AllocError> {
+    let path = path(alloc, word)?;
+    Ok(Call::Open { fd, path })
+}
+
+fn write_call(alloc: Global, fd: u8, word: &[u8]) -> Result<Call, AllocError> {
+    let bytes = bytes(alloc, word)?;
+    Ok(Call::Write { fd, bytes })
 }
 
 fn rename(alloc: Global, path: Path, word: &[u8]) -> Result<Call, AllocError> {
@@ -120,7 +163,7 @@ fn del_attr(alloc: Global, path: Path, word: &[u8]) -> Result<Call, AllocError> 
 }
 
 // A call on a path, from its words.
-fn path_call(
+fn on_path(
     alloc: Global,
     verb: Verb,
     path: Path,
@@ -147,8 +190,19 @@ fn path_call(
         }),
         Verb::SetAttr => set_attr(alloc, path, second, third),
         Verb::GetAttr => get_attr(alloc, path, second),
-        Verb::DelAttr => del_attr(alloc, path, second),
+        _ => del_attr(alloc, path, second),
     }
+}
+
+fn path_call(
+    alloc: Global,
+    verb: Verb,
+    first: &[u8],
+    second: &[u8],
+    third: &[u8],
+) -> Result<Call, AllocError> {
+    let path = path(alloc, first)?;
+    on_path(alloc, verb, path, second, third)
 }
 
 // A call by its words.
@@ -156,99 +210,115 @@ fn call(alloc: Global, line: &[u8]) -> Result<Call, AllocError> {
     let (call, rest) = cut(line, b' ');
     let (first, rest) = cut(rest, b' ');
     let (second, third) = cut(rest, b' ');
+    let verb = verb_of(call);
     let fd = small(first);
-    match call {
-        b"create" => {
-            let path = path(alloc, second)?;
-            let mode = mode(third);
-            Ok(Call::Create { fd, path, mode })
-        }
-        b"open" => {
-            let path = path(alloc, second)?;
-            Ok(Call::Open { fd, path })
-        }
-        b"read" => Ok(Call::Read {
+    match verb {
+        Verb::Create => create_call(alloc, fd, second, mode(third)),
+        Verb::Open => open_call(alloc, fd, second),
+        Verb::Read => Ok(Call::Read {
             fd,
             count: decimal(second),
         }),
-        b"write" => {
-            let bytes = bytes(alloc, second)?;
-            Ok(Call::Write { fd, bytes })
-        }
-        b"seek" => Ok(Call::Seek {
+        Verb::Write => write_call(alloc, fd, second),
+        Verb::Seek => Ok(Call::Seek {
             fd,
             offset: decimal(second),
         }),
-        b"close" => Ok(Call::Close { fd }),
-        _ => {
-            let path = path(alloc, first)?;
-            path_call(alloc, verb_of(call), path, second, third)
-        }
+        Verb::Close => Ok(Call::Close { fd }),
+        _ => path_call(alloc, verb, first, second, third),
     }
 }
 
-fn kind_name(kind: Kind) -> &'static str {
+fn kind_name(kind: Kind) -> &'static [u8] {
     match kind {
-        Kind::File => "file",
-        Kind::Dir => "dir",
-        Kind::Link => "link",
+        Kind::File => b"file",
+        Kind::Dir => b"dir",
+        Kind::Link => b"link",
     }
 }
 
-// Three octal digits of a mode.
+// Three octal digits of a mode, between commas.
 fn push_mode(text: &mut Vec<u8>, mode: u16) -> Result<(), AllocError> {
-    text.push(b'0' + ((mode >> 6) & 7) as u8)?;
-    text.push(b'0' + ((mode >> 3) & 7) as u8)?;
-    text.push(b'0' + (mode & 7) as u8)?;
-    Ok(())
+    let digits = [
+        b',',
+        b'0' + ((mode >> 6) & 7) as u8,
+        b'0' + ((mode >> 3) & 7) as u8,
+        b'0' + (mode & 7) as u8,
+        b',',
+    ];
+    text.extend_from_slice(&digits)
 }
 
 fn push_number(alloc: Global, text: &mut Vec<u8>, number: u32) -> Result<(), AllocError> {
     text.extend_from_slice(number.to_string(alloc)?.as_bytes())
 }
 
-// The names in their order, each with `/` behind a directory's.
-fn push_items(text: &mut Vec<u8>, items: &[Item]) -> Result<(), AllocError> {
-    text.push(b'[')?;
-    for item in items {
-        text.extend_from_slice(item.name.as_slice())?;
-        if item.kind == Kind::Dir {
-            text.push(b'/')?;
-        }
-        text.push(b' ')?;
-    }
-    text.push(b']')?;
-    Ok(())
+// A name, with `/` behind a directory's.
+fn push_item(text: &mut Vec<u8>, item: &Item) -> Result<(), AllocError> {
+    let end: &[u8] = if item.kind == Kind::Dir { b"/ " } else { b" " };
+    text.extend_from_slice(item.name.as_slice())?;
+    text.extend_from_slice(end)
 }
 
-// An answer as text, with a space behind it: `ok`, a count, the bytes in quotes or, where there are more than 64,
-// their number and the last one; kind, mode and size; the names; an error's name.
+// The names in their order.
+fn push_items(text: &mut Vec<u8>, items: &[Item]) -> Result<(), AllocError> {
+    text.extend_from_slice(b"[")?;
+    for item in items {
+        push_item(text, item)?;
+    }
+    text.extend_from_slice(b"]")
+}
+
+fn push_quoted(text: &mut Vec<u8>, bytes: &[u8]) -> Result<(), AllocError> {
+    text.extend_from_slice(b"'")?;
+    text.extend_from_slice(bytes)?;
+    text.extend_from_slice(b"'")
+}
+
+fn push_stat(
+    alloc: Global,
+    text: &mut Vec<u8>,
+    kind: Kind,
+    mode: u16,
+    size: u32,
+) -> Result<(), AllocError> {
+    text.extend_from_slice(kind_name(kind))?;
+    push_mode(text, mode)?;
+    push_number(alloc, text, size)
+}
+
+// An answer as text: `ok`, a count, the bytes in quotes; kind, mode and size; the names; an error's name.
 fn push_answer(alloc: Global, text: &mut Vec<u8>, answer: &Answer) -> Result<(), AllocError> {
     match answer {
-        Answer::Done => text.extend_from_slice(b"ok")?,
-        Answer::Count(count) => push_number(alloc, text, *count)?,
-        Answer::Bytes(bytes) => {
-            text.push(b'\'')?;
-            text.extend_from_slice(bytes.as_slice())?;
-            text.push(b'\'')?;
-        }
-        Answer::Stat { kind, mode, size } => {
-            text.extend_from_slice(kind_name(*kind).as_bytes())?;
-            text.push(b',')?;
-            push_mode(text, *mode)?;
-            text.push(b',')?;
-            push_number(alloc, text, *size)?;
-        }
-        Answer::List(items) => push_items(text, items.as_slice())?,
-        Answer::App(error) => text.extend_from_slice(error.name().as_bytes())?,
-        Answer::Io(_) => text.extend_from_slice(b"EIO")?,
+        Answer::Done => text.extend_from_slice(b"ok"),
+        Answer::Count(count) => push_number(alloc, text, *count),
+        Answer::Bytes(bytes) => push_quoted(text, bytes.as_slice()),
+        Answer::Stat { kind, mode, size } => push_stat(alloc, text, *kind, *mode, *size),
+        Answer::List(items) => push_items(text, items.as_slice()),
+        Answer::App(error) => text.extend_from_slice(error.name().as_bytes()),
+        Answer::Io(_) => text.extend_from_slice(b"EIO"),
     }
-    text.push(b' ')?;
-    Ok(())
 }
 
-// Takes a line of a session: a call, whose answer is put behind the text, or the session of the lines from here on, which
-// it gives.
+// Puts the answer to a call of a session behind the text, with a space.
+fn take_call(
+    alloc: Global,
+    mount: &mut FlatMount,
+    session: u8,
+    line: &[u8],
+    text: &mut Vec<u8>,
+) -> Result<(), AllocError> {
+    let call = call(alloc, line)?;
+    let answer = mount.call(alloc, session, &call);
+    drop(call);
+    let answer = answer?;
+    let pushed = push_answer(alloc, text, &answer);
+    drop(answer);
+    pushed?;
+    text.extend_from_slice(b" ")
+}
+
+// Takes a line of a session: a call, or the session of the lines from here on, which it gives.
 fn take_line(
     alloc: Global,
     mount: &mut FlatMount,
@@ -256,15 +326,12 @@ fn take_line(
     line: &[u8],
     text: &mut Vec<u8>,
 ) -> Result<u8, AllocError> {
-    match line {
-        [b'@', b' ', number @ ..] => Ok(small(number)),
-        _ => {
-            let call = call(alloc, line)?;
-            let answer = mount.call(alloc, session, &call)?;
-            push_answer(alloc, text, &answer)?;
-            Ok(session)
-        }
+    let (mark, number) = cut(line, b' ');
+    if mark == b"@".as_slice() {
+        return Ok(small(number));
     }
+    take_call(alloc, mount, session, line, text)?;
+    Ok(session)
 }
 
 fn take_lines(
@@ -286,10 +353,25 @@ fn take_lines(
     Ok(())
 }
 
-/// The answers to a script of at most 64 lines on a new file system, each with a space behind it.
-pub(crate) fn answers(alloc: Global, script: &[u8]) -> Result<Vec<u8>, AllocError> {
+// The answers to a script of at most 64 lines on a new file system, each with a space behind it.
+fn answers(alloc: Global, script: &[u8]) -> Result<Vec<u8>, AllocError> {
     let mut text = Vec::new(alloc);
     let mut mount = FlatMount::new(alloc)?;
     take_lines(alloc, &mut mount, script, &mut text)?;
     Ok(text)
+}
+
+fn is_answered(alloc: Global, script: &[u8], want: &[u8]) -> Result<bool, AllocError> {
+    let found = answers(alloc, script)?;
+    Ok(found.as_slice() == want)
+}
+
+/// Whether each script of at most 64 lines is answered so on a new file system, with a space behind each answer.
+pub(crate) fn are_answered(alloc: Global, cases: &[(&'static [u8], &'static [u8])]) -> bool {
+    for (script, want) in cases {
+        if !matches!(is_answered(alloc, script, want), Ok(true)) {
+            return false;
+        }
+    }
+    true
 }

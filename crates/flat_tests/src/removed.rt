@@ -1,7 +1,6 @@
 use flat_fs::FlatFs;
 use fop_types::{Answer, AppError, FlatAnswer, FlatOp, Gfid, Seq};
 use std::alloc::{AllocError, Global};
-use std::test::Fail;
 
 const ROOT: Gfid = Gfid { hi: 0, lo: 1 };
 
@@ -16,25 +15,30 @@ fn named(alloc: Global, length: usize) -> Result<Seq<u8>, AllocError> {
     Ok(Seq::from_vec(name))
 }
 
-fn with_removed(alloc: Global) -> Result<FlatFs, AllocError> {
-    let mut files = FlatFs::new(alloc)?;
-    files.apply(
-        alloc,
-        FlatOp::Mkdir {
-            parent: ROOT,
-            name: named(alloc, 1)?,
-            mode: 0o755,
-            drawn: MADE,
-        },
-    )?;
-    files.apply(
-        alloc,
-        FlatOp::Rmdir {
-            parent: ROOT,
-            name: named(alloc, 1)?,
-        },
-    )?;
-    Ok(files)
+fn carry_out(alloc: Global, files: &mut FlatFs, op: FlatOp) -> Result<(), AllocError> {
+    drop(files.apply(alloc, op)?);
+    Ok(())
+}
+
+// Makes a directory and removes it.
+fn remove(alloc: Global, files: &mut FlatFs) -> Result<(), AllocError> {
+    let name = named(alloc, 1)?;
+    let made = FlatOp::Mkdir {
+        parent: ROOT,
+        name,
+        mode: 0o755,
+        drawn: MADE,
+    };
+    carry_out(alloc, files, made)?;
+    let name = named(alloc, 1)?;
+    carry_out(alloc, files, FlatOp::Rmdir { parent: ROOT, name })
+}
+
+fn is_error(answer: &FlatAnswer, error: AppError) -> bool {
+    match answer {
+        FlatAnswer::Call(Answer::App(found)) => *found == error,
+        _ => false,
+    }
 }
 
 fn refuses(
@@ -44,7 +48,9 @@ fn refuses(
     error: AppError,
 ) -> Result<bool, AllocError> {
     let answer = files.apply(alloc, op)?;
-    Ok(answer == FlatAnswer::Call(Answer::App(error)))
+    let refused = is_error(&answer, error);
+    drop(answer);
+    Ok(refused)
 }
 
 // Whether a look-up of a name of so many bytes gives this error.
@@ -68,12 +74,15 @@ fn is_removed(alloc: Global, files: &mut FlatFs) -> Result<bool, AllocError> {
     refuses(alloc, files, FlatOp::List { gfid: MADE }, AppError::Enoent)
 }
 
+fn stays_removed(alloc: Global) -> Result<bool, AllocError> {
+    let mut files = FlatFs::new(alloc)?;
+    remove(alloc, &mut files)?;
+    is_removed(alloc, &mut files)
+}
+
 // A removed directory stays under its gfid, which a call that looked it up before may still have: it has no names and
 // takes none.
 #[test]
-fn removed(rt: HostRuntime) -> Result<(), Fail> {
-    let alloc = rt.alloc();
-    let mut files = with_removed(alloc)?;
-    assert!(rt; is_removed(alloc, &mut files)?);
-    Ok(())
+fn removed(rt: HostRuntime) {
+    assert!(rt; matches!(stays_removed(rt.alloc()), Ok(true)));
 }

@@ -1,7 +1,7 @@
 //! An honest log, and what is wrong with it after one edit.
 ghost use Rattle.script_lang.specs.Accepted.{IsAccepted};
 
-use crate::audits::refusals;
+use crate::audits::note_refusals;
 use crate::logs::{Edit, Of, Rows, made};
 use brick_machine::Brick;
 use fop_types::{Seq, SetPlan};
@@ -9,7 +9,6 @@ use graph_build::Plan;
 use mount_log::Log;
 use script_lang::{Script, parse};
 use std::alloc::{AllocError, Global};
-use std::test::Fail;
 
 // Calls on lines 9, 10 and 11: two of session s, then one of session t.
 const SCRIPT: &[u8] =
@@ -104,6 +103,64 @@ const CASES: [(Of, usize, &[u32], &[u8]); 32] = [
     (Of::Events, 8, &[2, 0, 0], b"c"),
 ];
 
+// The brick that served its rows of a log, which is made with one edit.
+fn served(alloc: Global, log: &mut Log, edit: Edit) -> Result<Brick, AllocError> {
+    let mut brick = Brick::new(alloc)?;
+    match made(alloc, log, &mut brick, &HONEST, edit) {
+        Ok(()) => Ok(brick),
+        Err(error) => {
+            drop(brick);
+            Err(error)
+        }
+    }
+}
+
+fn note_brick(
+    alloc: Global,
+    letters: &mut Vec<u8>,
+    script: &Script,
+    plans: &[Plan],
+    log: &Log,
+    brick: Brick,
+) -> Result<(), AllocError>
+    requires { IsAccepted script.now }
+{
+    let bricks = [brick];
+    let noted = note_refusals(alloc, letters, script, plans, log, &bricks);
+    drop(bricks);
+    noted
+}
+
+fn note_log(
+    alloc: Global,
+    letters: &mut Vec<u8>,
+    script: &Script,
+    plans: &[Plan],
+    log: &mut Log,
+    edit: Edit,
+) -> Result<(), AllocError>
+    requires { IsAccepted script.now }
+{
+    let brick = served(alloc, log, edit)?;
+    note_brick(alloc, letters, script, plans, log, brick)
+}
+
+// The letters of the log that an edit makes.
+fn note_edited(
+    alloc: Global,
+    letters: &mut Vec<u8>,
+    script: &Script,
+    plans: &[Plan],
+    edit: Edit,
+) -> Result<(), AllocError>
+    requires { IsAccepted script.now }
+{
+    let mut log = Log::new(alloc);
+    let noted = note_log(alloc, letters, script, plans, &mut log, edit);
+    drop(log);
+    noted
+}
+
 fn is_as_wanted(
     alloc: Global,
     script: &Script,
@@ -113,13 +170,9 @@ fn is_as_wanted(
 ) -> Result<bool, AllocError>
     requires { IsAccepted script.now }
 {
-    let mut log = Log::new(alloc);
-    let mut brick = Brick::new(alloc)?;
-    made(alloc, &mut log, &mut brick, &HONEST, edit)?;
-    let mut bricks = Vec::new(alloc);
-    bricks.push(brick)?;
-    let found = refusals(alloc, script, plans, &log, bricks.as_slice())?;
-    Ok(found.as_slice() == wanted)
+    let mut letters = Vec::new(alloc);
+    note_edited(alloc, &mut letters, script, plans, edit)?;
+    Ok(letters.as_slice() == wanted)
 }
 
 // The plan of the one volfile: a set of the one brick.
@@ -143,10 +196,9 @@ fn plans_of(alloc: Global) -> Result<Vec<Plan>, AllocError> {
 }
 
 // The number of the first case, from 1, of which the audits answer otherwise; 0 where there is none.
-fn first_wrong(alloc: Global, script: &Script) -> Result<usize, AllocError>
+fn first_wrong(alloc: Global, script: &Script, plans: &[Plan]) -> Result<usize, AllocError>
     requires { IsAccepted script.now }
 {
-    let plans = plans_of(alloc)?;
     let mut number = 0usize;
     for (of, at, row, wanted) in &CASES {
         number = number.saturating_add(1);
@@ -155,19 +207,42 @@ fn first_wrong(alloc: Global, script: &Script) -> Result<usize, AllocError>
             at: *at,
             row: *row,
         };
-        if !is_as_wanted(alloc, script, plans.as_slice(), edit, wanted)? {
+        if !is_as_wanted(alloc, script, plans, edit, wanted)? {
             return Ok(number);
         }
     }
     Ok(0)
 }
 
-#[test]
-fn audits_see_one_wrong_line(rt: HostRuntime) -> Result<(), Fail> {
-    let alloc = rt.alloc();
+fn first_wrong_with_plans(alloc: Global, script: &Script) -> Result<usize, AllocError>
+    requires { IsAccepted script.now }
+{
+    let plans = plans_of(alloc)?;
+    let wrong = first_wrong(alloc, script, plans.as_slice());
+    drop(plans);
+    wrong
+}
+
+fn first_wrong_of_script(alloc: Global) -> Result<usize, AllocError> {
     match parse(alloc, SCRIPT) {
-        Ok(script) => assert_eq!(rt; first_wrong(alloc, &script)?, 0),
-        Err(_) => assert!(rt; false),
+        Ok(script) => {
+            let wrong = first_wrong_with_plans(alloc, &script);
+            drop(script);
+            wrong
+        }
+        Err(_) => Err(AllocError),
     }
-    Ok(())
+}
+
+// The same, but the greatest number where it was not found.
+fn wrong_case(alloc: Global) -> usize {
+    match first_wrong_of_script(alloc) {
+        Ok(number) => number,
+        Err(_) => usize::MAX,
+    }
+}
+
+#[test]
+fn audits_see_one_wrong_line(rt: HostRuntime) {
+    assert_eq!(rt; wrong_case(rt.alloc()), 0);
 }

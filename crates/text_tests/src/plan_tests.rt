@@ -1,10 +1,7 @@
-ghost use Rattle.std.specs.Prelude.{◌≤◌, length, IfOk};
-
 use fop_types::Seq;
 use graph_build::{NodeKind, NodePlan, Plan, PlanError, PlanKind, SetPlan, build, follows};
 use std::alloc::{AllocError, Global};
 use std::process::Abort;
-use std::test::Fail;
 use volfile::{BrickLine, parse};
 
 // ---- volfiles over clients c0, c1 .. of the bricks at h0, h1 ..
@@ -16,39 +13,52 @@ fn brick(alloc: Global, host: &[u8]) -> Result<BrickLine, AllocError> {
     })
 }
 
-fn bricks(alloc: Global) -> Result<Vec<BrickLine>, AllocError>
-    ensures { IfOk result (λ bricks. length bricks.items ≤ 60) }
-{
+const HOSTS: [&[u8]; 6] = [b"h0", b"h1", b"h2", b"h3", b"h4", b"h5"];
+
+fn bricks(alloc: Global) -> Result<Vec<BrickLine>, AllocError> {
     let mut bricks = Vec::new(alloc);
-    bricks.push(brick(alloc, b"h0")?)?;
-    bricks.push(brick(alloc, b"h1")?)?;
-    bricks.push(brick(alloc, b"h2")?)?;
-    bricks.push(brick(alloc, b"h3")?)?;
-    bricks.push(brick(alloc, b"h4")?)?;
-    bricks.push(brick(alloc, b"h5")?)?;
+    for host in &HOSTS {
+        bricks.push(brick(alloc, host)?)?;
+    }
     Ok(bricks)
+}
+
+fn put_all(text: &mut Vec<u8>, parts: &[&[u8]]) -> Result<(), AllocError> {
+    for part in parts {
+        text.extend_from_slice(part)?;
+    }
+    Ok(())
+}
+
+fn put_client(text: &mut Vec<u8>, number: u8) -> Result<(), AllocError> {
+    let digit = [b'0' + number % 10];
+    let parts: [&[u8]; 5] = [
+        b"volume c",
+        &digit,
+        b"\ntype protocol/client\noption remote-host h",
+        &digit,
+        b"\noption remote-subvolume /b\nend-volume\n",
+    ];
+    put_all(text, &parts)
 }
 
 fn text(alloc: Global, clients: u8, rest: &[u8]) -> Result<Vec<u8>, AllocError> {
     let mut text = Vec::new(alloc);
-    for i in 0..clients {
-        text.extend_from_slice(b"volume c")?;
-        text.push(b'0' + i % 10)?;
-        text.extend_from_slice(b"\ntype protocol/client\noption remote-host h")?;
-        text.push(b'0' + i % 10)?;
-        text.extend_from_slice(b"\noption remote-subvolume /b\nend-volume\n")?;
+    for number in 0..clients {
+        put_client(&mut text, number)?;
     }
     text.extend_from_slice(rest)?;
     Ok(text)
 }
 
+// Graphs have at most 256 volumes and 60 bricks.
 fn planned(alloc: Global, clients: u8, rest: &[u8]) -> Result<Plan, PlanError> {
     let text = text(alloc, clients, rest)?;
     let bricks = bricks(alloc)?;
     match parse(alloc, text.as_slice()) {
         Err(_) => Err(PlanError::Mem),
         Ok(v) => {
-            if v.volumes.len() > 256 {
+            if v.volumes.len() > 256 || bricks.len() > 60 {
                 return Err(PlanError::Mem);
             }
             build(alloc, &v, bricks.as_slice())
@@ -183,12 +193,10 @@ fn is_refused(alloc: Global, clients: u8, rest: &[u8], volume: u16, kind: PlanKi
 }
 
 #[test]
-fn refused_plans(rt: HostRuntime) -> Result<(), Fail> {
-    let alloc = rt.alloc();
+fn refused_plans(rt: HostRuntime) {
     for (clients, rest, volume, kind) in &REFUSED {
-        assert!(rt; is_refused(alloc, *clients, rest, *volume, *kind));
+        assert!(rt; is_refused(rt.alloc(), *clients, rest, *volume, *kind));
     }
-    Ok(())
 }
 
 // ---- plans, as a text: the nodes with their children, then the sets with their names, bricks and quorums
@@ -217,20 +225,19 @@ fn put_number(
     sign: &[u8],
     number: u32,
 ) -> Result<(), AllocError> {
-    let digits = number.to_string(alloc)?;
     shown.extend_from_slice(sign)?;
-    shown.extend_from_slice(digits.as_bytes())?;
-    Ok(())
+    let digits = number.to_string(alloc)?;
+    shown.extend_from_slice(digits.as_bytes())
 }
 
 fn put_kind(alloc: Global, shown: &mut Vec<u8>, node: &NodePlan) -> Result<(), AllocError> {
     match node.kind {
         NodeKind::Client(brick) => put_number(alloc, shown, b"C", brick as u32),
         NodeKind::Replicate(set) => put_number(alloc, shown, b"R", set as u32),
-        NodeKind::Distribute => Ok(shown.extend_from_slice(b"D")?),
+        NodeKind::Distribute => shown.extend_from_slice(b"D"),
         NodeKind::IoCache => put_number(alloc, shown, b"I", node.cache_pages),
-        NodeKind::IoThreads => Ok(shown.extend_from_slice(b"T")?),
-        NodeKind::Pass => Ok(shown.extend_from_slice(b"P")?),
+        NodeKind::IoThreads => shown.extend_from_slice(b"T"),
+        NodeKind::Pass => shown.extend_from_slice(b"P"),
     }
 }
 
@@ -239,8 +246,7 @@ fn put_node(alloc: Global, shown: &mut Vec<u8>, node: &NodePlan) -> Result<(), A
     for child in node.children.as_slice() {
         put_number(alloc, shown, b" ", *child as u32)?;
     }
-    shown.extend_from_slice(b";")?;
-    Ok(())
+    shown.extend_from_slice(b";")
 }
 
 fn put_set(alloc: Global, shown: &mut Vec<u8>, set: &SetPlan) -> Result<(), AllocError> {
@@ -249,8 +255,7 @@ fn put_set(alloc: Global, shown: &mut Vec<u8>, set: &SetPlan) -> Result<(), Allo
         put_number(alloc, shown, b" ", *brick as u32)?;
     }
     put_number(alloc, shown, b" q", set.q as u32)?;
-    shown.extend_from_slice(b";")?;
-    Ok(())
+    shown.extend_from_slice(b";")
 }
 
 fn shown(alloc: Global, plan: &Plan) -> Result<Vec<u8>, AllocError> {
@@ -265,46 +270,57 @@ fn shown(alloc: Global, plan: &Plan) -> Result<Vec<u8>, AllocError> {
     Ok(shown)
 }
 
+fn is_planned(alloc: Global, clients: u8, rest: &[u8], wanted: &[u8]) -> Result<bool, PlanError> {
+    let plan = planned(alloc, clients, rest)?;
+    let shown = shown(alloc, &plan)?;
+    Ok(shown.as_slice() == wanted)
+}
+
 #[test]
-fn plans(rt: HostRuntime) -> Result<(), Fail> {
-    let alloc = rt.alloc();
+fn plans(rt: HostRuntime) {
     for (clients, rest, wanted) in &PLANNED {
-        match planned(alloc, *clients, rest) {
-            Err(_) => assert!(rt; false),
-            Ok(plan) => {
-                let shown = shown(alloc, &plan)?;
-                assert!(rt; shown.as_slice() == *wanted);
-            }
-        }
+        assert!(rt; matches!(is_planned(rt.alloc(), *clients, rest, wanted), Ok(true)));
     }
-    Ok(())
 }
 
 // ---- paths: so many pass-through volumes over a client
+fn put_pass(chain: &mut Vec<u8>, name: &[u8], below: &[u8]) -> Result<(), AllocError> {
+    let parts: [&[u8]; 5] = [
+        b"volume ",
+        name,
+        b"\ntype features/utime\nsubvolumes ",
+        below,
+        b"\nend-volume\n",
+    ];
+    put_all(chain, &parts)
+}
+
 fn chain(alloc: Global, passes: u8) -> Result<Vec<u8>, AllocError> {
     let mut chain = Vec::new(alloc);
-    for i in 0..passes {
-        chain.extend_from_slice(b"volume ")?;
-        chain.push(b'a' + i % 26)?;
-        chain.extend_from_slice(b"\ntype features/utime\nsubvolumes ")?;
-        if i == 0 {
-            chain.extend_from_slice(b"c0")?;
-        } else {
-            chain.push(b'a' + (i - 1) % 26)?;
-        }
-        chain.extend_from_slice(b"\nend-volume\n")?;
+    if passes != 0 {
+        put_pass(&mut chain, b"a", b"c0")?;
+    }
+    for i in 1..passes {
+        put_pass(&mut chain, &[b'a' + i % 26], &[b'a' + (i - 1) % 26])?;
     }
     Ok(chain)
 }
 
+fn is_planned_chain(alloc: Global, passes: u8) -> Result<bool, PlanError> {
+    let chain = chain(alloc, passes)?;
+    drop(planned(alloc, 1, chain.as_slice())?);
+    Ok(true)
+}
+
+fn is_refused_chain(alloc: Global, passes: u8) -> Result<bool, AllocError> {
+    let chain = chain(alloc, passes)?;
+    Ok(is_refused(alloc, 1, chain.as_slice(), passes as u16, PlanKind::TooDeep))
+}
+
 #[test]
-fn paths_have_24_volumes(rt: HostRuntime) -> Result<(), Fail> {
-    let alloc = rt.alloc();
-    let deep = chain(alloc, 23)?;
-    assert!(rt; planned(alloc, 1, deep.as_slice()).is_ok());
-    let deeper = chain(alloc, 24)?;
-    assert!(rt; is_refused(alloc, 1, deeper.as_slice(), 24, PlanKind::TooDeep));
-    Ok(())
+fn paths_have_24_volumes(rt: HostRuntime) {
+    assert!(rt; matches!(is_planned_chain(rt.alloc(), 23), Ok(true)));
+    assert!(rt; matches!(is_refused_chain(rt.alloc(), 24), Ok(true)));
 }
 
 // ---- which plan may follow
@@ -326,17 +342,23 @@ const FOLLOWED: [(u8, &[u8], u8, &[u8], bool); 6] = [
     (3, R, 6, S, true),
 ];
 
+fn is_followed(
+    alloc: Global,
+    before: u8,
+    old: &[u8],
+    after: u8,
+    new: &[u8],
+    wanted: bool,
+) -> Result<bool, PlanError> {
+    let old = planned(alloc, before, old)?;
+    let new = planned(alloc, after, new)?;
+    Ok(follows(&old, &new) == wanted)
+}
+
 #[test]
-fn old_sets_come_first(rt: HostRuntime) -> Result<(), Fail> {
-    let alloc = rt.alloc();
+fn old_sets_come_first(rt: HostRuntime) {
     for (before, old, after, new, wanted) in &FOLLOWED {
-        match planned(alloc, *before, old) {
-            Err(_) => assert!(rt; false),
-            Ok(old) => match planned(alloc, *after, new) {
-                Err(_) => assert!(rt; false),
-                Ok(new) => assert!(rt; follows(&old, &new) == *wanted),
-            },
-        }
+        let followed = is_followed(rt.alloc(), *before, old, *after, new, *wanted);
+        assert!(rt; matches!(followed, Ok(true)));
     }
-    Ok(())
 }

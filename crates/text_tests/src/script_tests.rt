@@ -2,7 +2,6 @@ use fop_types::{Call, Proc};
 use script_lang::{Action, Script, ScriptError, ScriptKind as Kind, When, parse};
 use std::alloc::{AllocError, Global};
 use std::process::Abort;
-use std::test::Fail;
 use volfile::VolKind;
 
 // ---- whole texts
@@ -48,12 +47,10 @@ fn is_refused(alloc: Global, text: &[u8], line: u32, kind: Kind) -> bool {
 }
 
 #[test]
-fn refused_texts(rt: HostRuntime) -> Result<(), Fail> {
-    let alloc = rt.alloc();
+fn refused_texts(rt: HostRuntime) {
     for (text, line, kind) in &REFUSED {
-        assert!(rt; is_refused(alloc, text, *line, *kind));
+        assert!(rt; is_refused(rt.alloc(), text, *line, *kind));
     }
-    Ok(())
 }
 
 // ---- lines of a phase
@@ -122,20 +119,23 @@ fn behind(alloc: Global, prefix: &[u8], rest: &[u8]) -> Result<Vec<u8>, AllocErr
     Ok(text)
 }
 
-#[test]
-fn refused_lines(rt: HostRuntime) -> Result<(), Fail> {
-    let alloc = rt.alloc();
-    for (line, kind) in &LINES {
-        let text = behind(alloc, PROLOGUE, line)?;
-        assert!(rt; is_refused(alloc, text.as_slice(), 9, *kind));
+// Whether lines of a phase are refused at the line of this number.
+fn is_refused_at(alloc: Global, lines: &[u8], number: u32, kind: Kind) -> bool {
+    match behind(alloc, PROLOGUE, lines) {
+        Ok(text) => is_refused(alloc, text.as_slice(), number, kind),
+        Err(_) => false,
     }
-    let text = behind(
-        alloc,
-        PROLOGUE,
-        b"control heal\ncontrol up b0\ncontrol after b0 op 1 switch g",
-    )?;
-    assert!(rt; is_refused(alloc, text.as_slice(), 11, Kind::TwoGreat));
-    Ok(())
+}
+
+// A control that comes one too late.
+const LATE: &[u8] = b"control heal\ncontrol up b0\ncontrol after b0 op 1 switch g";
+
+#[test]
+fn refused_lines(rt: HostRuntime) {
+    for (line, kind) in &LINES {
+        assert!(rt; is_refused_at(rt.alloc(), line, 9, *kind));
+    }
+    assert!(rt; is_refused_at(rt.alloc(), LATE, 11, Kind::TwoGreat));
 }
 
 // ---- what is accepted
@@ -196,17 +196,19 @@ fn one_call(script: &Script, line: &[u8]) -> bool {
     }
 }
 
-#[test]
-fn accepted_calls(rt: HostRuntime) -> Result<(), Fail> {
-    let alloc = rt.alloc();
-    for line in &CALLS {
-        let text = behind(alloc, PROLOGUE, line)?;
-        match parse(alloc, text.as_slice()) {
-            Ok(script) => assert!(rt; one_call(&script, line)),
-            Err(_) => assert!(rt; false),
-        }
+fn is_accepted_call(alloc: Global, line: &[u8]) -> Result<bool, AllocError> {
+    let text = behind(alloc, PROLOGUE, line)?;
+    match parse(alloc, text.as_slice()) {
+        Ok(script) => Ok(one_call(&script, line)),
+        Err(_) => Ok(false),
     }
-    Ok(())
+}
+
+#[test]
+fn accepted_calls(rt: HostRuntime) {
+    for line in &CALLS {
+        assert!(rt; matches!(is_accepted_call(rt.alloc(), line), Ok(true)));
+    }
 }
 
 fn control_is(line: &[u8], when: When, action: Action) -> bool {
@@ -239,35 +241,54 @@ fn one_control(script: &Script, line: &[u8]) -> bool {
     }
 }
 
-#[test]
-fn accepted_controls(rt: HostRuntime) -> Result<(), Fail> {
-    let alloc = rt.alloc();
-    for line in &CONTROLS {
-        let text = behind(alloc, PROLOGUE, line)?;
-        match parse(alloc, text.as_slice()) {
-            Ok(script) => assert!(rt; one_control(&script, line)),
-            Err(_) => assert!(rt; false),
-        }
+fn is_accepted_control(alloc: Global, line: &[u8]) -> Result<bool, AllocError> {
+    let text = behind(alloc, PROLOGUE, line)?;
+    match parse(alloc, text.as_slice()) {
+        Ok(script) => Ok(one_control(&script, line)),
+        Err(_) => Ok(false),
     }
-    Ok(())
+}
+
+#[test]
+fn accepted_controls(rt: HostRuntime) {
+    for line in &CONTROLS {
+        assert!(rt; matches!(is_accepted_control(rt.alloc(), line), Ok(true)));
+    }
 }
 
 // ---- limits: so many lines are accepted, and one more is refused
 const LIMITS: [(&[u8], u32, u32); 2] = [(b"phase\n", 4095, 4104), (b"do s close 1\n", 4096, 4105)];
 
-#[test]
-fn limits_of_phases_and_calls(rt: HostRuntime) -> Result<(), Fail> {
-    let alloc = rt.alloc();
-    for (line, count, number) in &LIMITS {
-        let mut text = Vec::from_slice(alloc, PROLOGUE)?;
-        for _ in 0..*count {
-            text.extend_from_slice(line)?;
+fn is_accepted(alloc: Global, text: &[u8]) -> bool {
+    match parse(alloc, text) {
+        Ok(script) => {
+            drop(script);
+            true
         }
-        assert!(rt; parse(alloc, text.as_slice()).is_ok());
+        Err(_) => false,
+    }
+}
+
+fn put_lines(text: &mut Vec<u8>, line: &[u8], count: u32) -> Result<(), AllocError> {
+    for _ in 0..count {
         text.extend_from_slice(line)?;
-        assert!(rt; is_refused(alloc, text.as_slice(), *number, Kind::TooMany));
     }
     Ok(())
+}
+
+fn is_limit(alloc: Global, line: &[u8], count: u32, number: u32) -> Result<bool, AllocError> {
+    let mut text = Vec::from_slice(alloc, PROLOGUE)?;
+    put_lines(&mut text, line, count)?;
+    let accepted = is_accepted(alloc, text.as_slice());
+    text.extend_from_slice(line)?;
+    Ok(accepted && is_refused(alloc, text.as_slice(), number, Kind::TooMany))
+}
+
+#[test]
+fn limits_of_phases_and_calls(rt: HostRuntime) {
+    for (line, count, number) in &LIMITS {
+        assert!(rt; matches!(is_limit(rt.alloc(), line, *count, *number), Ok(true)));
+    }
 }
 
 // The first word, the length of the line, and the kind.
@@ -279,15 +300,15 @@ const LONG: [(&[u8], usize, Kind); 5] = [
     (b"\x01", 140001, Kind::BadByte),
 ];
 
+fn is_long(alloc: Global, word: &[u8], len: usize, kind: Kind) -> Result<bool, AllocError> {
+    let mut line = Vec::from_slice(alloc, word)?;
+    line.resize(len, b'a')?;
+    Ok(is_refused(alloc, line.as_slice(), 1, kind))
+}
+
 #[test]
-fn long_lines(rt: HostRuntime) -> Result<(), Fail> {
-    let alloc = rt.alloc();
+fn long_lines(rt: HostRuntime) {
     for (word, len, kind) in &LONG {
-        let mut line = Vec::from_slice(alloc, word)?;
-        for _ in word.len()..*len {
-            line.push(b'a')?;
-        }
-        assert!(rt; is_refused(alloc, line.as_slice(), 1, *kind));
+        assert!(rt; matches!(is_long(rt.alloc(), word, *len, *kind), Ok(true)));
     }
-    Ok(())
 }

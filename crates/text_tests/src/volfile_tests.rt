@@ -1,6 +1,5 @@
 use std::alloc::Global;
 use std::process::Abort;
-use std::test::Fail;
 use volfile::{VolError, VolKind, parse, print};
 
 const REFUSED: [(&[u8], u32, VolKind); 36] = [
@@ -58,12 +57,10 @@ fn is_refused(alloc: Global, text: &[u8], line: u32, kind: VolKind) -> bool {
 }
 
 #[test]
-fn refused_volfiles(rt: HostRuntime) -> Result<(), Fail> {
-    let alloc = rt.alloc();
+fn refused_volfiles(rt: HostRuntime) {
     for (text, line, kind) in &REFUSED {
-        assert!(rt; is_refused(alloc, text, *line, *kind));
+        assert!(rt; is_refused(rt.alloc(), text, *line, *kind));
     }
-    Ok(())
 }
 
 // A text, and how its volfile is printed.
@@ -105,10 +102,8 @@ fn is_printed(alloc: Global, text: &[u8], wanted: &[u8]) -> bool {
 }
 
 #[test]
-fn printed_volfiles(rt: HostRuntime) -> Result<(), Fail> {
-    let alloc = rt.alloc();
+fn printed_volfiles(rt: HostRuntime) {
     for (text, wanted) in &PRINTED {
-        assert!(rt; is_printed(alloc, text, wanted));
+        assert!(rt; is_printed(rt.alloc(), text, wanted));
     }
-    Ok(())
 }

@@ -57,6 +57,23 @@ fn read_names(alloc: Global) -> Result<Job, AllocError> {
     })
 }
 
+fn rename(alloc: Global, cells: Seq<Cell>) -> Result<Job, AllocError> {
+    let name = Seq::from_bytes(alloc, b"a")?;
+    let new_name = Seq::from_bytes(alloc, b"b")?;
+    let op = StoreOp::Move {
+        parent: cell().gfid,
+        name,
+        target: Gfid { hi: 0, lo: 3 },
+        new_name,
+    };
+    Ok(Job::Change {
+        cells,
+        fd: 0,
+        op,
+        effect: Some(Entry { call: 3, part: 1 }),
+    })
+}
+
 /// The job of a kind.
 pub(crate) fn job_of(alloc: Global, work: Work) -> Result<Job, AllocError> {
     let cells = touched(alloc, work)?;
@@ -85,17 +102,7 @@ pub(crate) fn job_of(alloc: Global, work: Work) -> Result<Job, AllocError> {
         Work::Open => Ok(Job::Open { fd: 1, gfid }),
         Work::Index => Ok(Job::Index),
         Work::Heal => Ok(Job::Heal(cell())),
-        Work::Rename => Ok(Job::Change {
-            cells,
-            fd: 0,
-            op: StoreOp::Move {
-                parent: gfid,
-                name: Seq::from_bytes(alloc, b"a")?,
-                target: Gfid { hi: 0, lo: 3 },
-                new_name: Seq::from_bytes(alloc, b"b")?,
-            },
-            effect: Some(Entry { call: 3, part: 1 }),
-        }),
+        Work::Rename => rename(alloc, cells),
         Work::ReadNames => read_names(alloc),
     }
 }

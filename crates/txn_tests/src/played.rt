@@ -1,4 +1,4 @@
-//! Whether a job, begun and taken through its turns, asks what a table says.
+//! Whether jobs, begun and taken through their turns, ask what a table says.
 ghost use Rattle.std.specs.Prelude.{◌≡◌, ◌+◌, ◌/◌, ◌%◌, ◌≤◌, length};
 
 use crate::jobs::{Work, job_of, ledger_of, set_of};
@@ -8,9 +8,6 @@ use afr_ledger::Ledger;
 use afr_transaction::{Need, Txn};
 use fop_types::{Cell, Mask, SetPlan};
 use std::alloc::{AllocError, Global};
-
-/// How many replicas, which are live, whether change 1 is unsettled, the job, what it asks first, and the turns.
-pub(crate) type Case = (u8, u8, bool, Work, Want, &'static [(Turn, Want)]);
 
 const LAST: [u32; 5] = [4; 5];
 
@@ -61,7 +58,9 @@ fn begins(
 {
     let job = job_of(alloc, work)?;
     let mut begun = Txn::begin(alloc, set, 3, job, Mask(live), &LAST, ledger);
-    goes_on_if_begun(alloc, &mut begun, live, ledger, first, turns)
+    let did = goes_on_if_begun(alloc, &mut begun, live, ledger, first, turns);
+    drop(begun);
+    did
 }
 
 // The same of a job by its kind, where change 1 may be unsettled.
@@ -82,8 +81,8 @@ fn plays(
     begins(alloc, set, work, live, &mut ledger, first, turns)
 }
 
-/// Whether a job on `n` replicas, of which these are live, asks first for this, and at each turn for that.
-pub(crate) fn is_played(
+// Whether a job on `n` replicas, of which these are live, asks first for this, and at each turn for that.
+fn is_played(
     alloc: Global,
     n: u8,
     live: u8,
@@ -98,4 +97,48 @@ pub(crate) fn is_played(
         return Ok(false);
     }
     plays(alloc, &set, work, live, unsettled, first, turns)
+}
+
+fn is_begin(turn: Turn) -> bool {
+    match turn {
+        Turn::Begin(..) => true,
+        _ => false,
+    }
+}
+
+// The rows up to the next job, and those from there on.
+fn cut(rows: &[(Turn, Want)]) -> (&[(Turn, Want)], &[(Turn, Want)]) {
+    for i in 0..rows.len() {
+        let row = rows[i];
+        if is_begin(row.0) {
+            return (&rows[..i], &rows[i..]);
+        }
+    }
+    (rows, &[])
+}
+
+fn is_case_played(alloc: Global, begin: Turn, first: Want, turns: &[(Turn, Want)]) -> bool {
+    match begin {
+        Turn::Begin(n, live, unsettled, work) => {
+            let played = is_played(alloc, n, live, unsettled, work, first, turns);
+            matches!(played, Ok(true))
+        }
+        _ => false,
+    }
+}
+
+/// Whether each job of a table asks first for what is beside its beginning, and at each turn for what is beside that.
+pub(crate) fn are_played(alloc: Global, rows: &[(Turn, Want)]) -> bool {
+    let mut rest = rows;
+    for _ in 0..rows.len() {
+        let Some((row, more)) = rest.split_first() else {
+            return true;
+        };
+        let (turns, next) = cut(more);
+        if !is_case_played(alloc, row.0, row.1, turns) {
+            return false;
+        }
+        rest = next;
+    }
+    rest.is_empty()
 }

@@ -1,17 +1,19 @@
 //! The turns of a job: what a replica answers, what a copy left, and what happens meanwhile.
 
-use crate::jobs::cell;
+use crate::jobs::{Work, cell};
 use crate::summary::{Want, summary};
 use afr_ledger::{Ledger, Unsettled};
 use afr_transaction::Txn;
 use fop_types::{BrickRep, Cell, Content, CopyDone, DoneArm, Mask, Out, Row, Seq};
 use std::alloc::{AllocError, Global};
 
-/// What happens next: an answer of a replica; a copy that is done, with the sinks that have it, and the replicas that are out
+/// What happens next: a job of its own begins, on so many replicas, of which these are live, with change 1 unsettled or not;
+/// an answer of a replica; a copy that is done, with the sinks that have it, and the replicas that are out
 /// by it; connections that end; one that ends and is open again, with the next number; or another transaction that settles
 /// change 1, or begins a change of the cell.
 #[derive(Clone, Copy)]
 pub(crate) enum Turn {
+    Begin(u8, u8, bool, Work),
     Done(u8),
     /// The rows of one cell: who is accused, and the last change.
     Rows(u8, u8, u64),
@@ -53,17 +55,59 @@ fn row(accused: u8, last: u64, present: bool) -> Row {
     }
 }
 
-fn rows_of(alloc: Global, row: Row) -> Result<BrickRep, AllocError> {
+// An answer of a replica.
+type Reply = (u8, BrickRep);
+
+fn rows_of(alloc: Global, k: u8, row: Row) -> Result<Reply, AllocError> {
     let mut rows = Seq::new(alloc);
     rows.push(row)?;
-    Ok(BrickRep::Done(DoneArm::Rows(rows)))
+    Ok((k, BrickRep::Done(DoneArm::Rows(rows))))
 }
 
-fn pair_of(alloc: Global, one: Row, other: Row) -> Result<BrickRep, AllocError> {
+fn pair_of(alloc: Global, k: u8, one: Row, other: Row) -> Result<Reply, AllocError> {
     let mut rows = Seq::new(alloc);
     rows.push(one)?;
     rows.push(other)?;
-    Ok(BrickRep::Done(DoneArm::Rows(rows)))
+    Ok((k, BrickRep::Done(DoneArm::Rows(rows))))
+}
+
+fn cells_of(alloc: Global, k: u8) -> Result<Reply, AllocError> {
+    let mut cells = Seq::new(alloc);
+    cells.push(cell())?;
+    Ok((k, BrickRep::Done(DoneArm::Cells(cells))))
+}
+
+fn content_of(k: u8, content: Content) -> Reply {
+    (k, BrickRep::Done(DoneArm::Content(content, 1)))
+}
+
+fn names_of(alloc: Global, k: u8) -> Reply {
+    let content = Content::Names {
+        removed: false,
+        items: Seq::new(alloc),
+    };
+    content_of(k, content)
+}
+
+// What a replica answers at a turn; at any other, one that is not asked.
+fn reply_of(alloc: Global, turn: Turn) -> Result<Reply, AllocError> {
+    match turn {
+        Turn::Done(k) => Ok((k, BrickRep::Done(DoneArm::Nothing))),
+        Turn::Rows(k, accused, last) => rows_of(alloc, k, row(accused, last, true)),
+        Turn::Pair(k, one, one_last, other, other_last) => pair_of(
+            alloc,
+            k,
+            row(one, one_last, true),
+            row(other, other_last, true),
+        ),
+        Turn::Absent(k) => rows_of(alloc, k, row(0, 0, false)),
+        Turn::Bytes(k) => Ok(content_of(k, Content::Bytes(Seq::new(alloc)))),
+        Turn::Names(k) => Ok(names_of(alloc, k)),
+        Turn::Cells(k) => cells_of(alloc, k),
+        Turn::Fault(k) => Ok((k, BrickRep::Fault)),
+        Turn::Gone(k) => Ok((k, BrickRep::Gone)),
+        _ => Ok((255, BrickRep::Gone)),
+    }
 }
 
 // Those that a mask names, each with connection 9.
@@ -79,12 +123,6 @@ fn outs_of(alloc: Global, mask: u8) -> Result<Seq<Out>, AllocError> {
         }
     }
     Ok(outs)
-}
-
-fn cells_of(alloc: Global) -> Result<BrickRep, AllocError> {
-    let mut cells = Seq::new(alloc);
-    cells.push(cell())?;
-    Ok(BrickRep::Done(DoneArm::Cells(cells)))
 }
 
 // Settles change 1, where it is unsettled.
@@ -127,10 +165,13 @@ impl Links {
         rep: BrickRep,
     ) -> Result<Want, AllocError> {
         if k >= 5 || !txn.wave.is_asked(k) {
+            drop(rep);
             return Ok(Want::Other(k));
         }
         let need = txn.answer(alloc, k, rep, 9, Mask(self.live), &self.last, ledger)?;
-        Ok(summary(&need))
+        let want = summary(&need);
+        drop(need);
+        Ok(want)
     }
 
     fn copied(
@@ -148,7 +189,9 @@ impl Links {
             records: Seq::new(alloc),
         };
         let need = txn.copied(alloc, done, Mask(self.live), &self.last, ledger)?;
-        Ok(summary(&need))
+        let want = summary(&need);
+        drop(need);
+        Ok(want)
     }
 
     fn back(&mut self, k: u8) -> Want {
@@ -159,6 +202,17 @@ impl Links {
         Want::Wait
     }
 
+    fn answered(
+        &mut self,
+        alloc: Global,
+        txn: &mut Txn,
+        ledger: &mut Ledger<Cell>,
+        turn: Turn,
+    ) -> Result<Want, AllocError> {
+        let (k, rep) = reply_of(alloc, turn)?;
+        self.answer(alloc, txn, ledger, k, rep)
+    }
+
     fn turn(
         &mut self,
         alloc: Global,
@@ -167,52 +221,6 @@ impl Links {
         turn: Turn,
     ) -> Result<Want, AllocError> {
         match turn {
-            Turn::Done(k) => self.answer(alloc, txn, ledger, k, BrickRep::Done(DoneArm::Nothing)),
-            Turn::Rows(k, accused, last) => {
-                let rep = rows_of(alloc, row(accused, last, true))?;
-                self.answer(alloc, txn, ledger, k, rep)
-            }
-            Turn::Pair(k, one, one_last, other, other_last) => {
-                let rep = pair_of(
-                    alloc,
-                    row(one, one_last, true),
-                    row(other, other_last, true),
-                )?;
-                self.answer(alloc, txn, ledger, k, rep)
-            }
-            Turn::Absent(k) => {
-                let rep = rows_of(alloc, row(0, 0, false))?;
-                self.answer(alloc, txn, ledger, k, rep)
-            }
-            Turn::Bytes(k) => {
-                let content = Content::Bytes(Seq::new(alloc));
-                self.answer(
-                    alloc,
-                    txn,
-                    ledger,
-                    k,
-                    BrickRep::Done(DoneArm::Content(content, 1)),
-                )
-            }
-            Turn::Names(k) => {
-                let content = Content::Names {
-                    removed: false,
-                    items: Seq::new(alloc),
-                };
-                self.answer(
-                    alloc,
-                    txn,
-                    ledger,
-                    k,
-                    BrickRep::Done(DoneArm::Content(content, 1)),
-                )
-            }
-            Turn::Cells(k) => {
-                let rep = cells_of(alloc)?;
-                self.answer(alloc, txn, ledger, k, rep)
-            }
-            Turn::Gone(k) => self.answer(alloc, txn, ledger, k, BrickRep::Gone),
-            Turn::Fault(k) => self.answer(alloc, txn, ledger, k, BrickRep::Fault),
             Turn::Copied(current) => self.copied(alloc, txn, ledger, current, 0),
             Turn::CopyOuts(current, outs) => self.copied(alloc, txn, ledger, current, outs),
             Turn::Cut(live) => {
@@ -222,6 +230,7 @@ impl Links {
             Turn::Back(k) => Ok(self.back(k)),
             Turn::Settled(adopted) => settled(alloc, ledger, adopted),
             Turn::Begun => begun(alloc, ledger),
+            _ => self.answered(alloc, txn, ledger, turn),
         }
     }
 
