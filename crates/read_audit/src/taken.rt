@@ -21,7 +21,7 @@ use change_audit::history::{entry_at, op_at};
 use fop_types::{Call, FlatOp, Gfid, Seq};
 use graph_build::Plan;
 use history_replay::Submitted;
-use log_audit::heads::Head;
+use mount_log::heads::Head;
 use log_replay::calls_in;
 use mount_log::Log;
 use script_lang::Script;
