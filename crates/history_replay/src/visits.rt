@@ -114,7 +114,7 @@ impl Visits {
         }
     }
 
-    // Keeps what the lookups of a call led to, and passes it.
+    // Keeps what the lookups of a call led to, and passes the call in its session.
     fn settle(
         &mut self,
         alloc: Global,
