@@ -1,1 +1,3 @@
 pub mod SmallSets
+pub mod Sessions
+pub mod Creations

@@ -1,10 +1,13 @@
 //! What the hub asks of a call's next fop beside the fop itself and its hold, which `call_fops` gives.
+ghost use Rattle.std.specs.Prelude.{◌≡◌, ◌+◌, ◌*◌};
 
 use call_fops::Walk;
 use fop_types::Call;
 
 /// The number on the bricks of a session's descriptor.
-pub fn fd_number(session: u8, fd: u8) -> u32 {
+pub fn fd_number(session: u8, fd: u8) -> u32
+    ensures { result ≡ 256 * session + fd + 1 }
+{
     256 * session as u32 + fd as u32 + 1
 }
 
