@@ -18,8 +18,11 @@ nothing : (b : Bool) (d : ℕ) → d ≡ 0 → (b && (d == 1)) ≡ false
 nothing true d none = ap (λ (x : ℕ). x == 1) none
 nothing false d none = refl
 
+pub none_has : (number : ℕ) → has no_numbers number ≡ false
+none_has number = nothing (nat_lt number 64) (bit_at 0 number) (bit_at-zero number)
+
 pub with_none : (p : ProgressState) → AreWithLine p 0 no_numbers
-with_none p = λ session low. nothing (nat_lt session 64) (bit_at 0 session) (bit_at-zero session) ∙ sym (ap (λ (b : Bool). b && has_line p session) (le-ltb session 0 (omega arith)))
+with_none p = λ session low. none_has session ∙ sym (ap (λ (b : Bool). b && has_line p session) (le-ltb session 0 (omega arith)))
 
 below : (n session : ℕ) → ((session ≡ n) → ⊥) → nat_lt session (n + 1) ≡ nat_lt session n
 below n session apart = elim (cases_lt session n) [
