@@ -83,6 +83,7 @@ impl Turn {
     ///
     /// # Errors
     /// Out of memory; the log is unchanged.
+    #[tactic(auto, using(crate::proofs::Writing::adds_event))]
     pub(crate) fn write(
         &mut self,
         alloc: Global,
@@ -94,10 +95,12 @@ impl Turn {
     {
         let mut lines = self.take_lines(alloc);
         lines.add_event(event)?;
-        add_lines(alloc, log, lines)
+        add_lines(alloc, log, lines)?;
+        Ok(())
     }
 
-    /// Of an event that was cut for want of a wind, the winds are written to the log, where memory suffices.
+    /// Of an event that was cut, as no wind was left, the winds are written to the log where memory suffices.
+    #[tactic(auto, using(crate::proofs::Writing::has_cut, crate::proofs::Writing::nothing_cut))]
     pub(crate) fn write_cut(&mut self, alloc: Global, stop: Stop, log: &mut Log)
         ensures { IsAfterStop stop log.old log.new }
     {

@@ -1,5 +1,5 @@
 //! The turn of an event: what is to be done until nothing is left, and what closes it.
-ghost use Rattle.std.specs.Prelude.{◌≡◌, OnOk, OnErr, IfErr};
+ghost use Rattle.std.specs.Prelude.{◌≡◌, OnOk, IfErr};
 ghost use Rattle.hub_calls.specs.Hubs.{AddsEvent, IsAfterStop};
 
 use crate::parts::Parts;
@@ -25,6 +25,7 @@ impl Parts {
     ///
     /// # Errors
     /// Out of memory.
+    #[tactic(auto, using(crate::proofs::Writing::adds_no_event))]
     pub(crate) fn begin_script(
         &mut self,
         alloc: Global,
@@ -37,7 +38,8 @@ impl Parts {
         self.begin_phase(alloc, on)?;
         self.move_on(alloc, on)?;
         let lines = self.turn.take_lines(alloc);
-        add_lines(alloc, log, lines)
+        add_lines(alloc, log, lines)?;
+        Ok(())
     }
 
     /// The next call of a session, by the place of its line, is submitted: it is answered at once, or begins its walk.

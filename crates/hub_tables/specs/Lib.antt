@@ -1,5 +1,5 @@
--- In reading order: sets of small numbers; how far the sessions are; the names of bricks; what may be armed; which outputs are owed; the bricks of a
--- plan; which fops change bytes.
+-- In reading order: sets of small numbers; how far the sessions are; the names of bricks; what may be armed; which outputs
+-- are owed; the bricks of a plan; which fops change bytes.
 pub mod SmallSets
 pub mod Sessions
 pub mod Naming
