@@ -12,7 +12,9 @@
 
 mod enabled;
 mod events;
+mod line;
 mod lines;
+mod parts;
 mod schedule;
 mod world;
 
