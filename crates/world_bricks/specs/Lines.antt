@@ -1,8 +1,7 @@
 -- The bricks of a world with their lines: a brick's line has the inputs that were sent to it and that it has not served, first
 -- in, first out, and how many of its outputs have arrived. Ours.
-use Rattle.std.specs.Prelude.{ℕ, ◌+◌, min, Bool, false, ◌&&◌, List, [], ◌∷◌, ◌++◌, map, replicate, length, drop, is_some, slice_get, slice_set, Option, None, Some}
+use Rattle.std.specs.Prelude.{ℕ, ◌+◌, Bool, ◌&&◌, List, [], ◌∷◌, ◌++◌, map, replicate, length, drop, is_some, slice_get, slice_set, Option, None, Some}
 use Rattle.std.specs.List.{range_with_len}
-use Rattle.fop_types.specs.Limits.{max_hyper}
 use Rattle.graph_build.specs.declared.plans.Plan.{Plan}
 use Rattle.script_lang.specs.declared.scripts.Script.{Script}
 use Rattle.brick_machine.specs.Journal.{Journal}
@@ -93,8 +92,8 @@ next_output lines brick = slice_get (outputs_by (slice_get lines.bricks brick)) 
 
 abbrev pub noted_by : Option LineState → ℕ → List LineState → List LineState
 noted_by None brick queues = queues
-noted_by (Some line) brick queues = slice_set queues brick (record line { arrived = min (line.arrived + 1) max_hyper })
+noted_by (Some line) brick queues = slice_set queues brick (record line { arrived = line.arrived + 1 })
 
--- an output more of the brick has arrived; the number ends at 2^64 - 1
+-- an output more of the brick has arrived
 abbrev pub with_arrival : LinesState → ℕ → LinesState
 with_arrival lines brick = record lines { queues = noted_by (slice_get lines.queues brick) brick lines.queues }

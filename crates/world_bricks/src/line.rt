@@ -1,5 +1,4 @@
-ghost use Rattle.std.specs.Prelude.{◌≡◌, ◌+◌, ◌∷◌, ◌++◌, [], min, drop, is_some, slice_get, OnOk};
-ghost use Rattle.fop_types.specs.Limits.{max_hyper};
+ghost use Rattle.std.specs.Prelude.{◌≡◌, ◌<◌, ◌+◌, ◌-◌, ◌^◌, ◌∷◌, ◌++◌, [], drop, is_some, slice_get, OnOk};
 ghost use Rattle.world_bricks.specs.Lines.{empty_line};
 
 use bytes::Bytes;
@@ -67,10 +66,11 @@ impl Line {
         self.arrived
     }
 
-    /// An output has arrived. The number ends at 2^64 - 1.
+    /// An output has arrived.
     pub(crate) fn arrive(&mut self)
-        ensures { self.new ≡ record self.old { arrived = min (self.old.arrived + 1) max_hyper } }
+        requires { self.old.arrived < 2 ^ 64 - 1 }
+        ensures { self.new ≡ record self.old { arrived = self.old.arrived + 1 } }
     {
-        self.arrived = self.arrived.saturating_add(1);
+        self.arrived += 1;
     }
 }

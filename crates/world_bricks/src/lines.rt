@@ -1,5 +1,5 @@
 //! The lines of all bricks.
-ghost use Rattle.std.specs.Prelude.{◌≡◌, ◌∷◌, ◌++◌, [], ◌≤◌, true, false, length, is_some, slice_get, IfOk, OnOk, OnErr, MatchOption};
+ghost use Rattle.std.specs.Prelude.{◌≡◌, ◌<◌, ◌-◌, ◌^◌, ◌∷◌, ◌++◌, [], ◌≤◌, true, false, length, is_some, slice_get, IfOk, OnOk, OnErr, MatchOption};
 ghost use Rattle.world_bricks.specs.Lines.{empty_line, new_lines, put_by, with_sent, next_input, may_serve, shortened_by, served_by, with_served, outputs_by, arrived_of, next_output, with_arrival};
 ghost use Rattle.world_bricks.specs.Worlds.{Serves};
 
@@ -200,6 +200,7 @@ impl Lines {
 
     // An output of a brick has arrived.
     fn note_arrival(&mut self, brick: u8)
+        requires { arrived_of self.old brick < 2 ^ 64 - 1 }
         ensures { self.new ≡ with_arrival self.old brick }
     {
         match self.queues.get_mut(brick as usize) {
@@ -218,12 +219,17 @@ impl Lines {
         ensures taken { IfOk result (λ o. MatchOption o (self.new ≡ self.old) (λ _. self.new ≡ with_arrival self.old brick)) }
         ensures err { OnErr result (self.new ≡ self.old) }
     {
-        let Some(output) = self.next_output(brick)? else {
+        if self.arrived(brick) >= self.outputs(brick).len() {
             return Ok(None);
-        };
-        self.note_arrival(brick);
-        self.note(brick);
-        Ok(Some(output))
+        }
+        match self.next_output(brick)? {
+            Some(output) => {
+                self.note_arrival(brick);
+                self.note(brick);
+                Ok(Some(output))
+            }
+            None => Ok(None),
+        }
     }
 
     // Takes a brick's next input.
