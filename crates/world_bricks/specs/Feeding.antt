@@ -24,4 +24,4 @@ pub record AreFed (log : Log) (lines : LinesState) : Type 0 where
 abbrev pub WorldsAreFed : Type 0
 WorldsAreFed =
     (script : Script) (plans : List Plan) (many : ℕ) (log log_after : Log) (lines_after : LinesState) → log.events ≡ []
-    → IsReached log (with_sent (new_lines script plans many) log.sent) log_after lines_after → AreFed log_after lines_after
+    → IsReached script log (with_sent (new_lines script plans many) log.sent) log_after lines_after → AreFed log_after lines_after

@@ -9,7 +9,7 @@ use Rattle.mount_log.specs.declared.logs.HubEvent.{HubEvent}
 use Rattle.mount_log.specs.declared.logs.HubEvent.TheVariants as logged
 use Rattle.mount_log.specs.declared.logs.Log.{Log}
 use Rattle.hub_tables.specs.Arming.{is_armable}
-use Rattle.hub_calls.specs.Hubs.{AddsEvent, is_of_brick}
+use Rattle.hub_calls.specs.Hubs.{AddsEvent, AddsSubmission, is_of_brick}
 use Rattle.world_bricks.specs.Lines.{LinesState, with_sent, next_input, may_serve, with_served, next_output, with_arrival}
 use Rattle.world_bricks.specs.declared.events.Event.{Event}
 use Rattle.world_bricks.specs.declared.events.Event.TheVariants as event
@@ -29,9 +29,9 @@ pub record HubDoes (e : HubEvent) (log : Log) (lines : LinesState) (log_after : 
   pub sent : lines_after ≡ with_sent lines log_after.sent
 
 -- a session submits a line of the script
-pub record Submits (session : ℕ) (log : Log) (lines : LinesState) (log_after : Log) (lines_after : LinesState) : Type 0 where
-  pub line : ℕ
-  pub does : HubDoes (logged.Submit session line) log lines log_after lines_after
+pub record Submits (script : Script) (session : ℕ) (log : Log) (lines : LinesState) (log_after : Log) (lines_after : LinesState) : Type 0 where
+  pub submission : AddsSubmission script log log_after session
+  pub sent : lines_after ≡ with_sent lines log_after.sent
 
 -- the next output of a brick arrives
 pub record Arrives (brick : ℕ) (log : Log) (lines : LinesState) (log_after : Log) (lines_after : LinesState) : Type 0 where
@@ -47,13 +47,13 @@ pub record Serves (brick : ℕ) (lines lines_after : LinesState) : Type 0 where
   pub after : lines_after ≡ with_served lines brick input
 
 -- what an event makes of the log and of the bricks with their lines
-abbrev pub Happens : Event → Log → LinesState → Log → LinesState → Type 0
-Happens (event.Submit session) log lines log_after lines_after = Submits session log lines log_after lines_after
-Happens (event.Arrive brick) log lines log_after lines_after = Arrives brick log lines log_after lines_after
-Happens (event.Serve brick) log lines log_after lines_after = Serves brick lines lines_after × (log_after ≡ log)
-Happens (event.Run graph task) log lines log_after lines_after = HubDoes (logged.Run graph task) log lines log_after lines_after
-Happens (event.Act action) log lines log_after lines_after = HubDoes (logged.Act action) log lines log_after lines_after
-Happens (event.Arm brick p count action) log lines log_after lines_after = HubDoes (logged.Arm brick p count action) log lines log_after lines_after
+abbrev pub Happens : Script → Event → Log → LinesState → Log → LinesState → Type 0
+Happens script (event.Submit session) log lines log_after lines_after = Submits script session log lines log_after lines_after
+Happens script (event.Arrive brick) log lines log_after lines_after = Arrives brick log lines log_after lines_after
+Happens script (event.Serve brick) log lines log_after lines_after = Serves brick lines lines_after × (log_after ≡ log)
+Happens script (event.Run graph task) log lines log_after lines_after = HubDoes (logged.Run graph task) log lines log_after lines_after
+Happens script (event.Act action) log lines log_after lines_after = HubDoes (logged.Act action) log lines log_after lines_after
+Happens script (event.Arm brick p count action) log lines log_after lines_after = HubDoes (logged.Arm brick p count action) log lines log_after lines_after
 
 -- which events happen: an output arrives where one is left, and a brick serves where it has an input; an action that is no heal
 -- and no switch is carried out where it is of a brick of the script, and armed where it may be. Of a submission, a task, a heal and
@@ -69,18 +69,18 @@ HappensWhere (event.Arm brick p count action) script lines did = did ≡ (is_arm
 -- ---- runs
 
 -- an event, and then what follows of what it leaves
-pub record HappensThen (e : Event) (log : Log) (lines : LinesState) (follows : Log → LinesState → Type 0) : Type 0 where
+pub record HappensThen (script : Script) (e : Event) (log : Log) (lines : LinesState) (follows : Log → LinesState → Type 0) : Type 0 where
   pub log_after : Log
   pub lines_after : LinesState
-  pub happens : Happens e log lines log_after lines_after
+  pub happens : Happens script e log lines log_after lines_after
   pub then_follows : follows log_after lines_after
 
 -- these events, one after another
-abbrev pub HappenInTurn : List Event → Log → LinesState → Log → LinesState → Type 0
-HappenInTurn [] log lines log_after lines_after = (log_after ≡ log) × (lines_after ≡ lines)
-HappenInTurn (e ∷ es) log lines log_after lines_after = HappensThen e log lines (λ l ls. HappenInTurn es l ls log_after lines_after)
+abbrev pub HappenInTurn : Script → List Event → Log → LinesState → Log → LinesState → Type 0
+HappenInTurn script [] log lines log_after lines_after = (log_after ≡ log) × (lines_after ≡ lines)
+HappenInTurn script (e ∷ es) log lines log_after lines_after = HappensThen script e log lines (λ l ls. HappenInTurn script es l ls log_after lines_after)
 
 -- some events lead from one to the other, one after another
-pub record IsReached (log : Log) (lines : LinesState) (log_after : Log) (lines_after : LinesState) : Type 0 where
+pub record IsReached (script : Script) (log : Log) (lines : LinesState) (log_after : Log) (lines_after : LinesState) : Type 0 where
   pub events : List Event
-  pub happen : HappenInTurn events log lines log_after lines_after
+  pub happen : HappenInTurn script events log lines log_after lines_after

@@ -33,7 +33,7 @@ impl Parts {
 
     fn submit(&mut self, alloc: Global, session: u8) -> Result<bool, Stop>
         ensures same { (self.new.hub.script ≡ self.old.hub.script) × (self.new.hub.plans ≡ self.old.hub.plans) }
-        ensures happens { IfOk result (λ did. did ≡ true → Submits session self.old.hub.log self.old.lines self.new.hub.log self.new.lines) }
+        ensures happens { IfOk result (λ did. did ≡ true → Submits self.old.hub.script session self.old.hub.log self.old.lines self.new.hub.log self.new.lines) }
         ensures unchanged { IfOk result (λ did. did ≡ false → self.new ≡ self.old) }
     {
         let did = self.hub.submit(alloc, session)?;
@@ -123,7 +123,7 @@ impl Parts {
     /// As for [`hub_calls::Hub::submit`].
     pub(crate) fn happen(&mut self, alloc: Global, happening: Event) -> Result<bool, Stop>
         ensures same { (self.new.hub.script ≡ self.old.hub.script) × (self.new.hub.plans ≡ self.old.hub.plans) }
-        ensures happens { IfOk result (λ did. did ≡ true → Happens happening self.old.hub.log self.old.lines self.new.hub.log self.new.lines) }
+        ensures happens { IfOk result (λ did. did ≡ true → Happens self.old.hub.script happening self.old.hub.log self.old.lines self.new.hub.log self.new.lines) }
         ensures unchanged { IfOk result (λ did. did ≡ false → self.new ≡ self.old) }
         ensures enabled { IfOk result (λ did. HappensWhere happening self.old.hub.script self.old.lines did) }
     {

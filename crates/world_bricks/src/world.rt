@@ -1,4 +1,4 @@
-ghost use Rattle.std.specs.Prelude.{◌≡◌, None, Some, true, false, length, OnOk, IfOk, IfErr};
+ghost use Rattle.std.specs.Prelude.{◌≡◌, [], None, Some, true, false, length, OnOk, IfOk, IfErr};
 ghost use Rattle.hub_calls.specs.Hubs.{StaysStopped};
 ghost use Rattle.mount_log.specs.Scripts.{IsScript};
 ghost use Rattle.world_bricks.specs.Lines.{new_lines, with_sent};
@@ -45,7 +45,8 @@ impl World {
     /// Out of memory.
     pub fn new(alloc: Global, script: Script, plans: Seq<Plan>) -> Result<World, AllocError>
         requires { IsScript script plans }
-        ensures { IfOk result (λ w. w ≡ record { script = script; plans = plans; log = w.log; lines = with_sent (new_lines script plans (length script.bricks)) w.log.sent; stop = None }) }
+        ensures start { IfOk result (λ w. w ≡ record { script = script; plans = plans; log = w.log; lines = with_sent (new_lines script plans (length script.bricks)) w.log.sent; stop = None }) }
+        ensures events { IfOk result (λ w. w.log.events ≡ []) }
     {
         let hub = Hub::new(alloc, script, plans)?;
         match Lines::new(alloc, hub.script(), hub.plans(), hub.log().sent.as_slice()) {
@@ -66,7 +67,7 @@ impl World {
     /// As for [`hub_calls::Hub::submit`].
     pub fn apply(&mut self, alloc: Global, event: Event) -> Result<bool, Stop>
         ensures same { (self.new.script ≡ self.old.script) × (self.new.plans ≡ self.old.plans) }
-        ensures happens { IfOk result (λ did. did ≡ true → Happens event self.old.log self.old.lines self.new.log self.new.lines) }
+        ensures happens { IfOk result (λ did. did ≡ true → Happens self.old.script event self.old.log self.old.lines self.new.log self.new.lines) }
         ensures unchanged { IfOk result (λ did. did ≡ false → self.new ≡ self.old) }
         ensures enabled { IfOk result (λ did. HappensWhere event self.old.script self.old.lines did) }
         ensures spent { StaysStopped self.old.stop self.old self.new result }
@@ -121,7 +122,7 @@ impl World {
     /// As for [`hub_calls::Hub::submit`].
     pub fn run(&mut self, alloc: Global, seed: u64) -> Result<(), Stop>
         ensures same { (self.new.script ≡ self.old.script) × (self.new.plans ≡ self.old.plans) }
-        ensures reached { OnOk result (IsReached self.old.log self.old.lines self.new.log self.new.lines) }
+        ensures reached { OnOk result (IsReached self.old.script self.old.log self.old.lines self.new.log self.new.lines) }
         ensures spent { StaysStopped self.old.stop self.old self.new result }
         ensures goes { OnOk result (self.new.stop ≡ None) }
         ensures stops { IfErr result (λ s. self.new.stop ≡ Some s) }
@@ -136,7 +137,7 @@ impl World {
     fn run_on(&mut self, alloc: Global, seed: u64) -> Result<(), Stop>
         requires { self.old.stop ≡ None }
         ensures same { (self.new.script ≡ self.old.script) × (self.new.plans ≡ self.old.plans) }
-        ensures reached { OnOk result (IsReached self.old.log self.old.lines self.new.log self.new.lines) }
+        ensures reached { OnOk result (IsReached self.old.script self.old.log self.old.lines self.new.log self.new.lines) }
         ensures goes { OnOk result (self.new.stop ≡ None) }
         ensures stops { IfErr result (λ s. self.new.stop ≡ Some s) }
     {
