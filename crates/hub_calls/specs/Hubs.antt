@@ -1,13 +1,22 @@
 -- What is seen of a hub: the script that it runs, with its plans, the log of the whole events, and why it stopped; what a stop
--- does to later calls; and which actions may be carried out. Ours.
-use Rattle.std.specs.Prelude.{◌≡◌, ℕ, nat_lt, Bool, false, ◌&&◌, List, Option, Some, Result, Err}
+-- does to later calls; which actions may be carried out; and which event a call adds to the log. Ours.
+use Rattle.std.specs.Prelude.{◌≡◌, ℕ, nat_lt, Bool, false, ◌&&◌, List, [], ◌∷◌, Option, Some, Result, Err}
 use Rattle.graph_build.specs.declared.plans.Plan.{Plan}
+use Rattle.script_lang.specs.declared.scripts.CallLine.{CallLine}
 use Rattle.script_lang.specs.declared.scripts.Script.{Script}
 use Rattle.xlator_law.specs.declared.winds.Stop.{Stop}
+use Rattle.xlator_law.specs.declared.winds.Stop.TheVariants as stopped
+use Rattle.mount_log.specs.declared.logs.HubEvent.{HubEvent}
+use Rattle.mount_log.specs.declared.logs.HubEvent.TheVariants as logged
 use Rattle.mount_log.specs.declared.logs.Log.{Log}
+use Rattle.mount_log.specs.declared.places.LineAt.{LineAt}
+use Rattle.mount_log.specs.Lines.{line_of}
+use Rattle.mount_log.specs.Logs.{with_lines, with_cut}
 use Rattle.script_lang.specs.declared.scripts.Action.{Action}
 use Rattle.script_lang.specs.declared.scripts.Action.TheVariants as action
 use Rattle.hub_tables.specs.Arming.{may_fail}
+use Rattle.hub_tables.specs.declared.actions.Turned.{Turned}
+use Rattle.hub_tables.specs.declared.actions.Turned.TheVariants as turn
 
 pub record HubState : Type 0 where
   pub script : Script
@@ -27,3 +36,47 @@ is_of_brick many (action.Cut brick) = nat_lt brick many
 is_of_brick many (action.Fault brick p number) = nat_lt brick many && may_fail p number
 is_of_brick many action.Heal = false
 is_of_brick many (action.Switch volfile) = false
+
+-- ---- what a call adds to the log
+
+-- the log with the lines of one event more, and this is the event
+pub record AddsEvent (old new : Log) (e : HubEvent) : Type 0 where
+  pub lines : Log
+  pub event : lines.events ≡ e ∷ []
+  pub added : new ≡ with_lines old lines
+
+-- a call of a session is submitted, which is a line of the script
+pub record AddsSubmission (script : Script) (old new : Log) (session : ℕ) : Type 0 where
+  pub at : LineAt
+  pub line : CallLine
+  pub there : line_of script at ≡ Some line
+  pub of_session : line.session ≡ session
+  pub event : AddsEvent old new (logged.Submit session line.line)
+
+-- a task of a graph is run
+pub record AddsRun (old new : Log) : Type 0 where
+  pub graph : ℕ
+  pub task : ℕ
+  pub event : AddsEvent old new (logged.Run graph task)
+
+-- a turn takes the first of the outputs that have arrived, each with its brick; where there is none it runs a task
+abbrev pub TakesFirst : List (ℕ × List ℕ) → List (ℕ × List ℕ) → Log → Log → Type 0
+TakesFirst [] after old new = (after ≡ []) × AddsRun old new
+TakesFirst (output ∷ outputs) after old new = (after ≡ outputs) × AddsEvent old new (logged.Arrive output.0 output.1)
+
+-- a turn that was quiet has found no output, and changes nothing
+abbrev pub IsTurn : Turned → List (ℕ × List ℕ) → List (ℕ × List ℕ) → HubState → HubState → Type 0
+IsTurn turn.Did before after old new = TakesFirst before after old.log new.log
+IsTurn (turn.Quiet ready arrived) before after old new = (before ≡ []) × ((after ≡ []) × (new ≡ old))
+
+-- ---- the log after a call that stopped
+
+-- the log with the winds more of an event that was cut, if it has any
+pub record HasCut (old new : Log) : Type 0 where
+  pub lines : Log
+  pub cut : new ≡ with_cut old lines
+
+-- the log is as it was, but for the winds of an event that was cut for want of one
+abbrev pub IsAfterStop : Stop → Log → Log → Type 0
+IsAfterStop stopped.Mem old new = new ≡ old
+IsAfterStop stopped.Winds old new = HasCut old new

@@ -1,3 +1,4 @@
--- In reading order: the script that a hub runs; what is seen of a hub.
+-- In reading order: the script that a hub runs; what is seen of a hub, and what its calls add to the log; a list that grows.
 pub mod Plans
 pub mod Hubs
+pub mod Growing

@@ -7,7 +7,6 @@ use crate::planned::Planned;
 use fop_types::{Fop, OpenFd, Proc, Seq};
 use graph_switch::{Reopen, reopen_list};
 use hub_tables::fd_number;
-use mount_log::HubEvent;
 use script_lang::{Action, Script};
 use std::alloc::{AllocError, Global};
 use xlator_law::Stop;
@@ -64,7 +63,6 @@ impl Parts {
         if let Some(control) = self.turn.controls.carried_by(action, plain, rest) {
             self.turn.controls.carried(control);
         }
-        self.turn.lines.add_event(HubEvent::Act(action))?;
         self.carry_out(alloc, on, action)
     }
 

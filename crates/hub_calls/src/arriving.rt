@@ -5,10 +5,8 @@ ghost use Rattle.wire_xdr.specs.WireText.{IsOutput};
 
 use crate::parts::Parts;
 use crate::planned::Planned;
-use bytes::Bytes;
 use fop_types::{BrickRep, OutKind, Output};
 use graph_build::NodeKind;
-use mount_log::HubEvent;
 use std::alloc::Global;
 use wire_messages::{Message, output_of};
 use xlator_law::{Stop, WindNo};
@@ -29,7 +27,7 @@ fn is_gone(rep: &BrickRep) -> bool {
 }
 
 impl Parts {
-    /// An output of a brick arrives. Bytes that are none are written down alone.
+    /// An output of a brick arrives. Bytes that are none do nothing.
     ///
     /// # Errors
     /// As for `Hub::submit`.
@@ -38,19 +36,11 @@ impl Parts {
         alloc: Global,
         on: &Planned,
         brick: u8,
-        bytes: Bytes,
+        bytes: &[u8],
     ) -> Result<(), Stop> {
-        let read = output_of(alloc, bytes.as_slice());
-        let noted = self.turn.lines.add_event(HubEvent::Arrive { brick, bytes });
-        match read {
-            Ok(Message::Whole(output)) => match noted {
-                Ok(()) => self.put_out(alloc, on, brick, output),
-                Err(_) => {
-                    drop(output);
-                    Err(Stop::Mem)
-                }
-            },
-            Ok(Message::Wrong { place: _ }) => Ok(noted?),
+        match output_of(alloc, bytes) {
+            Ok(Message::Whole(output)) => self.put_out(alloc, on, brick, output),
+            Ok(Message::Wrong { place: _ }) => Ok(()),
             Err(_) => Err(Stop::Mem),
         }
     }

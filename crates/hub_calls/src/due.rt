@@ -77,6 +77,6 @@ impl Hub {
     /// The reply of a call, by its number from 1.
     pub fn reply_of(&self, call: u32) -> Option<&ReplyLine> {
         let at = self.parts.calls.reply_at(call)?;
-        self.parts.log.replies.as_slice().get(at)
+        self.log().replies.as_slice().get(at)
     }
 }

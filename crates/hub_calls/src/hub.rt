@@ -1,6 +1,7 @@
-ghost use Rattle.std.specs.Prelude.{◌≡◌, ◌&&◌, false, None, Some, length, OnOk, IfOk, IfErr};
+ghost use Rattle.std.specs.Prelude.{◌≡◌, ◌&&◌, false, true, None, Some, [], length, OnOk, IfOk, IfErr};
 ghost use Rattle.hub_tables.specs.Arming.{is_armable};
-ghost use Rattle.hub_calls.specs.Hubs.{StaysStopped, is_of_brick};
+ghost use Rattle.hub_calls.specs.Hubs.{StaysStopped, is_of_brick, AddsEvent, AddsSubmission, IsAfterStop, IsTurn};
+ghost use Rattle.mount_log.specs.declared.logs.HubEvent.TheVariants as logged;
 ghost use Rattle.mount_log.specs.Scripts.{IsScript};
 ghost use Rattle.script_lang.specs.StatementText.{is_great_action};
 
@@ -11,7 +12,7 @@ use bytes::Bytes;
 use fop_types::{Proc, Seq};
 use graph_build::Plan;
 use hub_tables::{Turned, may_be_armed};
-use mount_log::Log;
+use mount_log::{HubEvent, Log};
 use script_lang::{Action, Script};
 use std::alloc::{AllocError, Global};
 use std::collections::VecDeque;
@@ -27,6 +28,7 @@ use xlator_law::Stop;
 pub struct Hub {
     pub(crate) planned: Planned,
     pub(crate) parts: Parts,
+    log: Log,
     stop: Option<Stop>,
 }
 
@@ -35,7 +37,7 @@ impl Model for Hub {
 
     ghost Value = { HubState };
 
-    ghost view = { λ h. record { script = h.planned.script; plans = h.planned.plans; log = h.parts.log; stop = h.stop } };
+    ghost view = { λ h. record { script = h.planned.script; plans = h.planned.plans; log = h.log; stop = h.stop } };
 }
 
 impl Hub {
@@ -47,17 +49,21 @@ impl Hub {
     /// Out of memory.
     pub fn new(alloc: Global, script: Script, plans: Seq<Plan>) -> Result<Hub, AllocError>
         requires { IsScript script plans }
-        ensures { IfOk result (λ h. h ≡ record { script = script; plans = plans; log = h.log; stop = None }) }
+        ensures start { IfOk result (λ h. h ≡ record { script = script; plans = plans; log = h.log; stop = None }) }
+        ensures events { IfOk result (λ h. h.log.events ≡ []) }
     {
         let planned = Planned::new(script, plans);
-        match Parts::begun(alloc, &planned) {
+        let mut log = Log::new(alloc);
+        match Parts::begun(alloc, &planned, &mut log) {
             Ok(parts) => Ok(Hub {
                 planned,
                 parts,
+                log,
                 stop: None,
             }),
             Err(error) => {
                 drop(planned);
+                drop(log);
                 Err(error)
             }
         }
@@ -74,13 +80,18 @@ impl Hub {
     }
 
     // Closes an event of a hub that has not stopped. An event that was not done stops it.
-    fn close(&mut self, alloc: Global, done: Result<(), Stop>) -> Result<(), Stop>
+    fn close(&mut self, alloc: Global, done: Result<(), Stop>, event: HubEvent) -> Result<(), Stop>
         requires { self.old.stop ≡ None }
         ensures same { (self.new.script ≡ self.old.script) × (self.new.plans ≡ self.old.plans) }
+        ensures event { OnOk result (AddsEvent self.old.log self.new.log event) }
+        ensures cut { IfErr result (λ stop. IsAfterStop stop self.old.log self.new.log) }
         ensures goes { OnOk result (self.new.stop ≡ None) }
         ensures stops { IfErr result (λ s. self.new.stop ≡ Some s) }
     {
-        match self.parts.close(alloc, &self.planned, done) {
+        match self
+            .parts
+            .close(alloc, &self.planned, done, event, &mut self.log)
+        {
             Ok(()) => Ok(()),
             Err(stop) => {
                 self.stop = Some(stop);
@@ -94,20 +105,32 @@ impl Hub {
     ///
     /// # Errors
     /// `Winds` where a further wind was needed and 4,294,967,295 were opened; else out of memory.
+    #[tactic(auto, using(crate::proofs::Writing::adds_submission, crate::proofs::Writing::after_same))]
     pub fn submit(&mut self, alloc: Global, session: u8) -> Result<bool, Stop>
         ensures same { (self.new.script ≡ self.old.script) × (self.new.plans ≡ self.old.plans) }
         ensures unchanged { IfOk result (λ did. did ≡ false → self.new ≡ self.old) }
+        ensures event { IfOk result (λ did. did ≡ true → AddsSubmission self.old.script self.old.log self.new.log session) }
+        ensures cut { IfErr result (λ stop. IsAfterStop stop self.old.log self.new.log) }
         ensures spent { StaysStopped self.old.stop self.old self.new result }
         ensures goes { OnOk result (self.new.stop ≡ None) }
         ensures stops { IfErr result (λ s. self.new.stop ≡ Some s) }
     {
         self.check()?;
-        if !self.parts.progress.ready().has(session) {
+        let Some(at) = self.parts.progress.next(session) else {
             return Ok(false);
-        }
-        self.parts.open_event();
-        let done = self.parts.submitted(alloc, &self.planned, session);
-        self.close(alloc, done)?;
+        };
+        let Some(line) = self.planned.line_of(session, at) else {
+            return Ok(false);
+        };
+        let event = HubEvent::Submit {
+            session,
+            line: line.line,
+        };
+        self.parts.turn.open(&self.log);
+        let done = self
+            .parts
+            .submitted(alloc, &self.planned, session, at, line);
+        self.close(alloc, done, event)?;
         Ok(true)
     }
 
@@ -115,17 +138,26 @@ impl Hub {
     ///
     /// # Errors
     /// As for [`Hub::submit`].
+    #[tactic(auto, using(crate::proofs::Writing::after_same))]
     pub fn arrive(&mut self, alloc: Global, brick: u8, output: Bytes) -> Result<(), Stop>
         ensures same { (self.new.script ≡ self.old.script) × (self.new.plans ≡ self.old.plans) }
+        ensures event { OnOk result (AddsEvent self.old.log self.new.log (logged.Arrive brick output)) }
+        ensures cut { IfErr result (λ stop. IsAfterStop stop self.old.log self.new.log) }
         ensures spent { StaysStopped self.old.stop self.old self.new result }
         ensures goes { OnOk result (self.new.stop ≡ None) }
         ensures stops { IfErr result (λ s. self.new.stop ≡ Some s) }
     {
         match self.check() {
             Ok(()) => {
-                self.parts.open_event();
-                let done = self.parts.arrived(alloc, &self.planned, brick, output);
-                self.close(alloc, done)
+                self.parts.turn.open(&self.log);
+                let done = self
+                    .parts
+                    .arrived(alloc, &self.planned, brick, output.as_slice());
+                let event = HubEvent::Arrive {
+                    brick,
+                    bytes: output,
+                };
+                self.close(alloc, done, event)
             }
             Err(stop) => {
                 drop(output);
@@ -139,9 +171,12 @@ impl Hub {
     ///
     /// # Errors
     /// As for [`Hub::submit`].
+    #[tactic(auto, using(crate::proofs::Writing::after_same))]
     pub fn run(&mut self, alloc: Global, graph: u32, task: u32) -> Result<bool, Stop>
         ensures same { (self.new.script ≡ self.old.script) × (self.new.plans ≡ self.old.plans) }
         ensures unchanged { IfOk result (λ did. did ≡ false → self.new ≡ self.old) }
+        ensures event { IfOk result (λ did. did ≡ true → AddsEvent self.old.log self.new.log (logged.Run graph task)) }
+        ensures cut { IfErr result (λ stop. IsAfterStop stop self.old.log self.new.log) }
         ensures spent { StaysStopped self.old.stop self.old self.new result }
         ensures goes { OnOk result (self.new.stop ≡ None) }
         ensures stops { IfErr result (λ s. self.new.stop ≡ Some s) }
@@ -150,10 +185,22 @@ impl Hub {
         if !self.parts.graphs.nodes.is_ready(graph, task) {
             return Ok(false);
         }
-        self.parts.open_event();
-        let done = self.parts.run_task(alloc, graph, task);
-        self.close(alloc, done)?;
+        self.run_ready(alloc, graph, task)?;
         Ok(true)
+    }
+
+    // Runs a task that is ready, in a hub that has not stopped.
+    fn run_ready(&mut self, alloc: Global, graph: u32, task: u32) -> Result<(), Stop>
+        requires { self.old.stop ≡ None }
+        ensures same { (self.new.script ≡ self.old.script) × (self.new.plans ≡ self.old.plans) }
+        ensures event { OnOk result (AddsEvent self.old.log self.new.log (logged.Run graph task)) }
+        ensures cut { IfErr result (λ stop. IsAfterStop stop self.old.log self.new.log) }
+        ensures goes { OnOk result (self.new.stop ≡ None) }
+        ensures stops { IfErr result (λ s. self.new.stop ≡ Some s) }
+    {
+        self.parts.turn.open(&self.log);
+        let done = self.parts.run_task(alloc, graph, task);
+        self.close(alloc, done, HubEvent::Run { graph, task })
     }
 
     /// Takes the first output that has arrived, else the first ready task. `Quiet` comes exactly where there is neither.
@@ -161,6 +208,7 @@ impl Hub {
     ///
     /// # Errors
     /// As for [`Hub::submit`].
+    #[tactic(auto, using(crate::proofs::Writing::after_same, crate::proofs::Writing::turn_takes, crate::proofs::Writing::turn_runs))]
     pub fn turn(
         &mut self,
         alloc: Global,
@@ -169,6 +217,8 @@ impl Hub {
         ensures same { (self.new.script ≡ self.old.script) × (self.new.plans ≡ self.old.plans) }
         ensures spent { StaysStopped self.old.stop self.old self.new result }
         ensures arrived { StaysStopped self.old.stop arrived.old arrived.new result }
+        ensures event { IfOk result (λ turned. IsTurn turned arrived.old.items arrived.new.items self.old self.new) }
+        ensures cut { IfErr result (λ stop. IsAfterStop stop self.old.log self.new.log) }
         ensures goes { OnOk result (self.new.stop ≡ None) }
         ensures stops { IfErr result (λ s. self.new.stop ≡ Some s) }
     {
@@ -179,7 +229,7 @@ impl Hub {
         }
         match self.parts.graphs.ready_at(0) {
             Some((graph, task)) => {
-                self.run(alloc, graph, task)?;
+                self.run_ready(alloc, graph, task)?;
                 Ok(Turned::Did)
             }
             None => Ok(Turned::Quiet {
@@ -207,9 +257,12 @@ impl Hub {
     ///
     /// # Errors
     /// As for [`Hub::submit`].
+    #[tactic(auto, using(crate::proofs::Writing::after_same))]
     pub fn act(&mut self, alloc: Global, action: Action) -> Result<bool, Stop>
         ensures same { (self.new.script ≡ self.old.script) × (self.new.plans ≡ self.old.plans) }
         ensures unchanged { IfOk result (λ did. did ≡ false → self.new ≡ self.old) }
+        ensures event { IfOk result (λ did. did ≡ true → AddsEvent self.old.log self.new.log (logged.Act action)) }
+        ensures cut { IfErr result (λ stop. IsAfterStop stop self.old.log self.new.log) }
         ensures of_brick { IfOk result (λ did. is_great_action action ≡ false → did ≡ is_of_brick (length self.old.script.bricks) action) }
         ensures spent { StaysStopped self.old.stop self.old self.new result }
         ensures goes { OnOk result (self.new.stop ≡ None) }
@@ -219,9 +272,9 @@ impl Hub {
         if !self.may_act(action) {
             return Ok(false);
         }
-        self.parts.open_event();
+        self.parts.turn.open(&self.log);
         let done = self.parts.acted(alloc, &self.planned, action);
-        self.close(alloc, done)?;
+        self.close(alloc, done, HubEvent::Act(action))?;
         Ok(true)
     }
 
@@ -231,6 +284,7 @@ impl Hub {
     ///
     /// # Errors
     /// As for [`Hub::submit`].
+    #[tactic(auto, using(crate::proofs::Writing::after_same))]
     pub fn arm(
         &mut self,
         alloc: Global,
@@ -241,6 +295,8 @@ impl Hub {
     ) -> Result<bool, Stop>
         ensures same { (self.new.script ≡ self.old.script) × (self.new.plans ≡ self.old.plans) }
         ensures unchanged { IfOk result (λ did. did ≡ false → self.new ≡ self.old) }
+        ensures event { IfOk result (λ did. did ≡ true → AddsEvent self.old.log self.new.log (logged.Arm brick before count action)) }
+        ensures cut { IfErr result (λ stop. IsAfterStop stop self.old.log self.new.log) }
         ensures armable { IfOk result (λ did. did ≡ (is_armable brick action && is_of_brick (length self.old.script.bricks) action)) }
         ensures spent { StaysStopped self.old.stop self.old self.new result }
         ensures goes { OnOk result (self.new.stop ≡ None) }
@@ -250,9 +306,9 @@ impl Hub {
         if !may_be_armed(brick, action) || !is_of_brick(self.script(), action) {
             return Ok(false);
         }
-        self.parts.open_event();
+        self.parts.turn.open(&self.log);
         let done = self.parts.turn.armed(brick, before, count, action);
-        self.close(alloc, done)?;
+        self.close(alloc, done, HubEvent::Arm(brick, before, count, action))?;
         Ok(true)
     }
 
@@ -260,7 +316,7 @@ impl Hub {
     pub fn log(&self) -> &Log
         ensures { result.now ≡ self.now.log }
     {
-        &self.parts.log
+        &self.log
     }
 
     /// The script that the hub runs.
@@ -281,8 +337,14 @@ impl Hub {
     pub fn into_log(self) -> (Script, Seq<Plan>, Log)
         ensures { result ≡ (self.script, self.plans, self.log) }
     {
-        let Hub { planned, parts, .. } = self;
+        let Hub {
+            planned,
+            parts,
+            log,
+            ..
+        } = self;
+        drop(parts);
         let (script, plans) = planned.into_parts();
-        (script, plans, parts.into_log())
+        (script, plans, log)
     }
 }

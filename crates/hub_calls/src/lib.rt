@@ -24,8 +24,8 @@
 //! An event is one turn: a call is submitted, an output arrives, a task is run, an action is carried out or armed. What the graphs give
 //! is taken in the order in which it was given, until nothing is left: first what is sent, then the holds that are asked
 //! for, then the answers. At an answer the fop's holds are released, those who are let in begin, and then the call asks
-//! for its next hold. At its end the event's lines are written to the log, and the phase moves on where it has nothing
-//! left.
+//! for its next hold. At its end the phase moves on where it has nothing left, and the event is written to the log with
+//! its lines. The moves of an event are not handed the log; the hub's contracts name the event that a call adds.
 //!
 //! No event looks through the log, the calls, the sessions or the frames of other calls.
 #![tactic(auto)]
@@ -46,6 +46,7 @@ mod running;
 mod sends;
 mod turn;
 mod turns;
+mod writing;
 
 pub use hub::Hub;
 pub use hub_tables::{Due, SmallSet, Turned, named_brick};

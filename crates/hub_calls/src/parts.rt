@@ -1,5 +1,5 @@
 //! What a hub keeps.
-ghost use Rattle.std.specs.Prelude.{◌≡◌};
+ghost use Rattle.std.specs.Prelude.{◌≡◌, IfOk};
 ghost use Rattle.script_lang.specs.Accepted.{IsAccepted};
 
 use crate::graphs::Graphs;
@@ -11,16 +11,15 @@ use mount_locks::MountLocks;
 use mount_log::Log;
 use std::alloc::{AllocError, Global};
 
-/// The parts of a hub that events move: the log of the whole events, and the event under way; how far the script is; the
-/// calls without a reply, and the graph of the internal call; the holds and the descriptors; and the live graphs.
-/// `creations` is the number of mkdir and create calls of the script.
+/// The parts of a hub that events move: the event under way; how far the script is; the calls without a reply, and the
+/// graph of the internal call; the holds and the descriptors; and the live graphs. `creations` is the number of mkdir and
+/// create calls of the script. The log of the whole events lies beside them: an event is written to it as it is closed.
 ///
 /// Its moves are handed the script with its plans, which they cannot change. They stay within bounds whatever the parts
 /// are: what is not there is passed over. Whether a run was as it should be, its log shows.
 #[derive(Drop)]
 pub struct Parts {
     pub creations: u32,
-    pub log: Log,
     pub turn: Turn,
     pub progress: Progress,
     pub calls: Calls,
@@ -41,7 +40,6 @@ impl Parts {
         let progress = Progress::new(alloc, on.script())?;
         Ok(Parts {
             creations: on.creations(),
-            log: Log::new(alloc),
             turn: Turn::new(alloc),
             progress,
             calls: Calls::new(alloc),
@@ -52,38 +50,21 @@ impl Parts {
         })
     }
 
-    /// The parts of a hub that has made its first graph.
+    /// The parts of a hub that has made its first graph, and has written what that sends to the log.
     ///
     /// # Errors
     /// Out of memory.
-    pub(crate) fn begun(alloc: Global, on: &Planned) -> Result<Parts, AllocError>
+    pub(crate) fn begun(alloc: Global, on: &Planned, log: &mut Log) -> Result<Parts, AllocError>
         requires { IsAccepted on.now.script }
+        ensures { IfOk result (λ _. log.new.events ≡ log.old.events) }
     {
         let mut parts = Parts::new(alloc, on)?;
-        let began = parts.begin_script(alloc, on);
-        began.and(Ok(parts))
-    }
-
-    /// The log of the whole events.
-    pub(crate) fn into_log(self) -> Log
-        ensures { result ≡ self.log }
-    {
-        let Parts {
-            log,
-            turn,
-            progress,
-            calls,
-            holds,
-            fds,
-            graphs,
-            ..
-        } = self;
-        drop(turn);
-        drop(progress);
-        drop(calls);
-        drop(holds);
-        drop(fds);
-        drop(graphs);
-        log
+        match parts.begin_script(alloc, on, log) {
+            Ok(()) => Ok(parts),
+            Err(error) => {
+                drop(parts);
+                Err(error)
+            }
+        }
     }
 }

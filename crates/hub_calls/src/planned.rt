@@ -1,6 +1,7 @@
 //! The script that a hub runs, with the plans of its volfiles.
-ghost use Rattle.std.specs.Prelude.{◌≡◌, IfSome};
+ghost use Rattle.std.specs.Prelude.{◌≡◌, Some, IfSome, slice_get};
 ghost use Rattle.graph_nodes.specs.Plans.{IsPlan};
+ghost use Rattle.mount_log.specs.Lines.{line_of};
 ghost use Rattle.mount_log.specs.Scripts.{IsScript};
 
 use fop_types::Seq;
@@ -82,16 +83,30 @@ impl Planned {
         (phase as usize) < self.script.phases.len()
     }
 
-    pub(crate) fn phase(&self, phase: u32) -> Option<&Phase> {
+    pub(crate) fn phase(&self, phase: u32) -> Option<&Phase>
+        ensures { IfSome result (λ found. slice_get self.now.script.phases phase ≡ Some found.now) }
+    {
         self.script.phases.as_slice().get(phase as usize)
     }
 
     /// The line of a call.
-    pub(crate) fn line(&self, at: LineAt) -> Option<&CallLine> {
+    #[tactic(auto, using(crate::proofs::Planning::is_line))]
+    pub(crate) fn line(&self, at: LineAt) -> Option<&CallLine>
+        ensures { IfSome result (λ line. line_of self.now.script at ≡ Some line.now) }
+    {
         match self.phase(at.phase) {
             Some(phase) => phase.calls.as_slice().get(at.index as usize),
             None => None,
         }
+    }
+
+    /// The line of a call of a session.
+    pub(crate) fn line_of(&self, session: u8, at: LineAt) -> Option<&CallLine>
+        ensures line { IfSome result (λ line. line_of self.now.script at ≡ Some line.now) }
+        ensures session { IfSome result (λ line. line.now.session ≡ session) }
+    {
+        let line = self.line(at)?;
+        if line.session == session { Some(line) } else { None }
     }
 
     /// How many mkdir and create calls the script has.

@@ -215,11 +215,7 @@ impl Parts {
             return Ok(false);
         };
         let graph = state.graph;
-        let at = self
-            .log
-            .replies
-            .len()
-            .saturating_add(self.turn.lines.replies.len());
+        let at = self.turn.reply_place();
         self.replied_with(alloc, call, state, reply)?;
         let last = self.calls.replied(call, graph, at)?;
         Ok(last)

@@ -7,7 +7,6 @@ use crate::parts::Parts;
 use fop_types::{BrickRep, Fop};
 use graph_nodes::Moved;
 use hub_tables::is_fop;
-use mount_log::HubEvent;
 use std::alloc::{AllocError, Global};
 use xlator_law::{Settled, Stop, WindNo};
 
@@ -71,7 +70,6 @@ impl Parts {
     /// # Errors
     /// As for `Hub::submit`.
     pub(crate) fn run_task(&mut self, alloc: Global, graph: u32, task: u32) -> Result<(), Stop> {
-        self.turn.lines.add_event(HubEvent::Run { graph, task })?;
         let moved = self.graphs.nodes.run_task(alloc, graph, task);
         self.ran(alloc, graph, moved)
     }

@@ -1,5 +1,8 @@
 //! The event under way: its lines, and what is still to be done in it.
+ghost use Rattle.std.specs.Prelude.{◌≡◌, [], OnOk, OnErr};
+ghost use Rattle.hub_calls.specs.Hubs.{AddsEvent, IsAfterStop};
 
+use crate::writing::add_lines;
 use fop_types::{Cell, CopyRecord, FopAnswer, Proc, Seq, SkipCause};
 use frame_driver::Queue;
 use graph_nodes::{HoldAsk, Moved};
@@ -27,11 +30,14 @@ pub enum Todo {
     Refuse(u32),
 }
 
-/// The event under way, by its number and its lines so far; what is still to be done in it; the controls of the phase; and
-/// what is known of the bricks.
+/// The event under way, by its number, how many replies and entries the log has before it, and its lines so far, which
+/// get the event itself as they are written to the log; what is still to be done in it; the controls of the phase; and what
+/// is known of the bricks.
 #[derive(Drop)]
 pub struct Turn {
     pub event: u64,
+    pub replies: usize,
+    pub entries: usize,
     pub lines: Log,
     pub todo: Queue<Todo>,
     pub controls: Controls,
@@ -43,10 +49,67 @@ impl Turn {
     pub(crate) fn new(alloc: Global) -> Turn {
         Turn {
             event: 0,
+            replies: 0,
+            entries: 0,
             lines: Log::new(alloc),
             todo: Queue::new(alloc),
             controls: Controls::new(alloc),
             bricks: Bricks::new(),
+        }
+    }
+
+    /// Begins an event behind those of the log.
+    pub(crate) fn open(&mut self, log: &Log) {
+        self.event = (log.events.len() as u64).saturating_add(1);
+        self.replies = log.replies.len();
+        self.entries = log.history.len();
+    }
+
+    /// The place in the log of the next reply.
+    pub(crate) fn reply_place(&self) -> usize {
+        self.replies.saturating_add(self.lines.replies.len())
+    }
+
+    /// The lines so far, which have no event; none are left.
+    pub(crate) fn take_lines(&mut self, alloc: Global) -> Log
+        ensures { result.events ≡ [] }
+    {
+        let mut lines = mem::replace(&mut self.lines, Log::new(alloc));
+        drop(mem::replace(&mut lines.events, Seq::new(alloc)));
+        lines
+    }
+
+    /// Writes an event with its lines to the log.
+    ///
+    /// # Errors
+    /// Out of memory; the log is unchanged.
+    #[tactic(auto, using(crate::proofs::Writing::adds_event))]
+    pub(crate) fn write(
+        &mut self,
+        alloc: Global,
+        event: HubEvent,
+        log: &mut Log,
+    ) -> Result<(), AllocError>
+        ensures ok { OnOk result (AddsEvent log.old log.new event) }
+        ensures err { OnErr result (log.new ≡ log.old) }
+    {
+        let mut lines = self.take_lines(alloc);
+        lines.add_event(event)?;
+        add_lines(alloc, log, lines)?;
+        Ok(())
+    }
+
+    /// Of an event that was cut, as no wind was left, the winds are written to the log where memory suffices.
+    #[tactic(auto, using(crate::proofs::Writing::has_cut, crate::proofs::Writing::nothing_cut))]
+    pub(crate) fn write_cut(&mut self, alloc: Global, stop: Stop, log: &mut Log)
+        ensures { IsAfterStop stop log.old log.new }
+    {
+        match stop {
+            Stop::Mem => {}
+            Stop::Winds => match log.add_winds(alloc, &mut self.lines) {
+                Ok(()) => {}
+                Err(_) => {}
+            },
         }
     }
 
@@ -67,8 +130,6 @@ impl Turn {
         action: Action,
     ) -> Result<(), Stop> {
         self.controls.arm(brick, before, count, action)?;
-        self.lines
-            .add_event(HubEvent::Arm(brick, before, count, action))?;
         Ok(())
     }
 

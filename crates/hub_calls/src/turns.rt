@@ -1,13 +1,16 @@
 //! The turn of an event: what is to be done until nothing is left, and what closes it.
+ghost use Rattle.std.specs.Prelude.{◌≡◌, OnOk, IfErr};
+ghost use Rattle.hub_calls.specs.Hubs.{AddsEvent, IsAfterStop};
 
 use crate::parts::Parts;
 use crate::planned::Planned;
 use crate::turn::{Given, Todo};
+use crate::writing::add_lines;
 use call_fops::{Walk, at_once};
 use fop_types::{FopAnswer, Gfid, Seq};
 use graph_nodes::HoldAsk;
 use hub_tables::{CallState, Controls, Stage, makes};
-use mount_log::{HubEvent, LineAt};
+use mount_log::{HubEvent, LineAt, Log};
 use script_lang::CallLine;
 use std::alloc::{AllocError, Global};
 use xlator_law::Stop;
@@ -18,23 +21,28 @@ const NOTHING_DRAWN: Gfid = Gfid { hi: 0, lo: 0 };
 const ITEMS: u64 = 18446744073709551615;
 
 impl Parts {
-    /// Makes the first graph, writes down what it sends, and begins the first phase that has something left.
+    /// Makes the first graph, begins the first phase that has something left, and writes what the graph sends to the log.
     ///
     /// # Errors
     /// Out of memory.
-    pub(crate) fn begin_script(&mut self, alloc: Global, on: &Planned) -> Result<(), AllocError> {
+    #[tactic(auto, using(crate::proofs::Writing::adds_no_event))]
+    pub(crate) fn begin_script(
+        &mut self,
+        alloc: Global,
+        on: &Planned,
+        log: &mut Log,
+    ) -> Result<(), AllocError>
+        ensures { OnOk result (log.new.events ≡ log.old.events) }
+    {
         self.make_graph(alloc, on, on.script().start)?;
-        self.log.add(alloc, &mut self.turn.lines)?;
         self.begin_phase(alloc, on)?;
-        self.move_on(alloc, on)
+        self.move_on(alloc, on)?;
+        let lines = self.turn.take_lines(alloc);
+        add_lines(alloc, log, lines)?;
+        Ok(())
     }
 
-    /// Begins an event.
-    pub(crate) fn open_event(&mut self) {
-        self.turn.event = (self.log.events.len() as u64).saturating_add(1);
-    }
-
-    /// The next call of a session is submitted: it is answered at once, or begins its walk.
+    /// The next call of a session, by the place of its line, is submitted: it is answered at once, or begins its walk.
     ///
     /// # Errors
     /// As for `Hub::submit`.
@@ -43,13 +51,10 @@ impl Parts {
         alloc: Global,
         on: &Planned,
         session: u8,
+        at: LineAt,
+        line: &CallLine,
     ) -> Result<(), Stop> {
-        let Some(at) = self.progress.submit(session) else {
-            return Ok(());
-        };
-        let Some(line) = on.line(at) else {
-            return Ok(());
-        };
+        self.progress.submit(session);
         let call = self.opened_call(alloc, line, session, at)?;
         match at_once(&line.call, session, &self.fds) {
             Some(reply) => self.reply(alloc, on, call, reply),
@@ -65,11 +70,6 @@ impl Parts {
         session: u8,
         at: LineAt,
     ) -> Result<u32, AllocError> {
-        let event = HubEvent::Submit {
-            session,
-            line: line.line,
-        };
-        self.turn.lines.add_event(event)?;
         let call = self.calls.number()?;
         let drawn = if makes(&line.call) {
             self.calls.draw()
@@ -158,28 +158,25 @@ impl Parts {
     // The entries that the ledger has made in this event.
     fn note_entries(&mut self) -> Result<(), AllocError> {
         let history = self.graphs.nodes.history();
-        for at in self.log.history.len()..history.len() {
+        for at in self.turn.entries..history.len() {
             self.turn.lines.history.push(history[at])?;
             self.turn.lines.entered.push(self.turn.event)?;
         }
         Ok(())
     }
 
-    /// Closes an event: all that is left of it is done, the graphs that are done with are disconnected, its lines are
-    /// written, and the phase moves on.
-    ///
-    /// # Errors
-    /// As for `Hub::submit`.
-    pub(crate) fn close_event(&mut self, alloc: Global, on: &Planned) -> Result<(), Stop> {
+    // Finishes what was begun of an event: all that is left of it is done, the graphs that are done with are disconnected,
+    // and the phase moves on.
+    fn finish_event(&mut self, alloc: Global, on: &Planned) -> Result<(), Stop> {
         self.settle(alloc, on)?;
         self.disconnect_drained(alloc, on)?;
         self.note_entries()?;
-        self.log.add(alloc, &mut self.turn.lines)?;
         self.move_on(alloc, on)?;
         Ok(())
     }
 
-    /// Ends an event: it is closed where it was done. After `Winds` the log also has the winds of the event that was cut.
+    /// Closes an event: it is finished where it was begun, and written to the log with its lines. After `Winds` the log has
+    /// the winds of the event that was cut.
     ///
     /// # Errors
     /// As for `Hub::submit`.
@@ -188,24 +185,33 @@ impl Parts {
         alloc: Global,
         on: &Planned,
         done: Result<(), Stop>,
-    ) -> Result<(), Stop> {
-        let closed = match done {
-            Ok(()) => self.close_event(alloc, on),
+        event: HubEvent,
+        log: &mut Log,
+    ) -> Result<(), Stop>
+        ensures event { OnOk result (AddsEvent log.old log.new event) }
+        ensures stops { IfErr result (λ stop. IsAfterStop stop log.old log.new) }
+    {
+        let finished = match done {
+            Ok(()) => self.finish_event(alloc, on),
             Err(stop) => Err(stop),
         };
-        match closed {
-            Ok(()) => Ok(()),
-            Err(stop) => self.cut_event(alloc, stop),
+        match finished {
+            Ok(()) => self.write_event(alloc, event, log),
+            Err(stop) => {
+                drop(event);
+                self.turn.write_cut(alloc, stop, log);
+                Err(stop)
+            }
         }
     }
 
-    fn cut_event(&mut self, alloc: Global, stop: Stop) -> Result<(), Stop> {
-        match stop {
-            Stop::Mem => Err(Stop::Mem),
-            Stop::Winds => match self.log.add_winds(alloc, &mut self.turn.lines) {
-                Ok(()) => Err(Stop::Winds),
-                Err(_) => Err(Stop::Winds),
-            },
+    fn write_event(&mut self, alloc: Global, event: HubEvent, log: &mut Log) -> Result<(), Stop>
+        ensures event { OnOk result (AddsEvent log.old log.new event) }
+        ensures stops { IfErr result (λ stop. IsAfterStop stop log.old log.new) }
+    {
+        match self.turn.write(alloc, event, log) {
+            Ok(()) => Ok(()),
+            Err(_) => Err(Stop::Mem),
         }
     }
 

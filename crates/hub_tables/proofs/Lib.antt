@@ -1,1 +1,4 @@
 pub mod SmallSets
+pub mod Sessions
+pub mod Creations
+pub mod PlanBricks

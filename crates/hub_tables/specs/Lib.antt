@@ -1,4 +1,9 @@
--- In reading order: sets of small numbers; the names of bricks; what may be armed.
+-- In reading order: sets of small numbers; how far the sessions are; the names of bricks; what may be armed; which outputs
+-- are owed; the bricks of a plan; which fops change bytes.
 pub mod SmallSets
+pub mod Sessions
 pub mod Naming
 pub mod Arming
+pub mod Owing
+pub mod PlanBricks
+pub mod Fops

@@ -1,12 +1,15 @@
 //! What a control does.
-ghost use Rattle.std.specs.Prelude.{◌≡◌, ◌↔◌, IsTrue};
+ghost use Rattle.std.specs.Prelude.{◌≡◌, ◌↔◌, Some, IsTrue};
+ghost use Rattle.mount_log.specs.Procedures.{proc_by};
 ghost use Rattle.hub_tables.specs.Arming.{is_armable};
 
 use fop_types::Proc;
 use script_lang::Action;
 
 /// The place of a procedure among the procedures, from 0.
-pub(crate) fn proc_rank(proc: Proc) -> u8 {
+pub(crate) fn proc_rank(proc: Proc) -> u8
+    ensures { proc_by (Some result) ≡ Some proc }
+{
     proc as u8
 }
 

@@ -1,4 +1,7 @@
 //! What the hub knows of its bricks.
+ghost use Rattle.std.specs.Prelude.{◌≡◌, ◌+◌, OnOk, OnErr};
+ghost use Rattle.hub_tables.specs.SmallSets.{no_numbers};
+ghost use Rattle.hub_tables.specs.Owing.{PutsOut};
 
 use crate::small_set::SmallSet;
 use fop_types::OutKind;
@@ -13,7 +16,9 @@ pub struct Bricks {
 
 impl Bricks {
     /// Every brick is taken as open, and no output is owed.
-    pub fn new() -> Bricks {
+    pub fn new() -> Bricks
+        ensures { result ≡ record { closed = no_numbers; owed = 0 } }
+    {
         Bricks {
             closed: SmallSet::new(),
             owed: 0,
@@ -24,7 +29,10 @@ impl Bricks {
     ///
     /// # Errors
     /// Out of memory.
-    pub fn owe(&mut self) -> Result<(), AllocError> {
+    pub fn owe(&mut self) -> Result<(), AllocError>
+        ensures ok { OnOk result (self.new ≡ record self.old { owed = self.old.owed + 1 }) }
+        ensures err { OnErr result (self.new ≡ self.old) }
+    {
         if self.owed == u64::MAX {
             return Err(AllocError);
         }
@@ -33,7 +41,9 @@ impl Bricks {
     }
 
     /// Notes an output of a brick.
-    pub fn put_out(&mut self, brick: u8, kind: &OutKind) {
+    pub fn put_out(&mut self, brick: u8, kind: &OutKind)
+        ensures { PutsOut self.old brick kind.now self.new }
+    {
         match kind {
             OutKind::Reply { .. } => self.owed = self.owed.saturating_sub(1),
             OutKind::Closed => {

@@ -1,4 +1,6 @@
 //! Which request a control names.
+ghost use Rattle.std.specs.Prelude.{◌≡◌, Some};
+ghost use Rattle.mount_log.specs.Procedures.{proc_by};
 
 use crate::actions::proc_rank;
 use fop_types::Proc;
@@ -14,7 +16,10 @@ pub struct Nth {
 
 impl Nth {
     /// The request of this brick, procedure and number.
-    pub fn new(brick: u8, proc: Proc, count: u32) -> Nth {
+    pub fn new(brick: u8, proc: Proc, count: u32) -> Nth
+        ensures request { (result.brick ≡ brick) × (result.count ≡ count) }
+        ensures proc { proc_by (Some result.proc) ≡ Some proc }
+    {
         Nth {
             brick,
             proc: proc_rank(proc),
