@@ -12,6 +12,7 @@
 
 mod enabled;
 mod events;
+mod laws;
 mod line;
 mod lines;
 mod parts;
@@ -20,5 +21,6 @@ mod world;
 
 pub use events::Event;
 pub use hub_calls::Rack;
+pub use laws::bricks_are_fed;
 pub use schedule::Schedule;
 pub use world::World;
