@@ -15,10 +15,14 @@ set_beyond xs i y le = sym (set_past xs i y le)
 -- ---- places without a load
 
 -- a place behind all loads, and one that has no load
+abbrev load_with : ℕ → ℕ → Load
+load_with weight breadth = record { weight = weight; breadth = breadth }
+
 with_none : (most : Load) → with_load most (Some no_load) ≡ most
 with_none most =
     let w : max most.weight 0 ≡ most.weight = omega arith in let b : max most.breadth 0 ≡ most.breadth = omega arith in
-    ap (λ (n : ℕ). (record { weight = n; breadth = max most.breadth 0 } : Load)) w ∙ ap (λ (n : ℕ). (record { weight = most.weight; breadth = n } : Load)) b
+    let first : with_load most (Some no_load) ≡ load_with most.weight (max most.breadth 0) = ap (λ (n : ℕ). load_with n (max most.breadth 0)) w in
+    first ∙ ap (load_with most.weight) b
 
 in_room : (m p : ℕ) (most : Load) → with_load most (slice_get (replicate m no_load) p) ≡ most
 in_room zero p most = refl
@@ -65,39 +69,43 @@ none_first nodes sets = record { kept = refl; last = refl; }
 
 module _ (nodes : List NodePlan) (sets : List SetPlan) (at : ℕ) (n : NodePlan) (loads : List Load) (top : Load) (there : at < length nodes) (few : length nodes ≤ 1024)
     (read : n ≡ get_or nodes at n) (are : AreFirst nodes sets at loads top) where
-  so_far : List Load
+  abbrev so_far : List Load
   so_far = first_loads nodes sets at
 
-  load : Load
+  abbrev load : Load
   load = planned_load sets so_far n
 
+  abbrev left : List Load
+  left = replicate (1024 - (at + 1)) no_load
+
   long : length so_far ≡ at
-  long = let l = long_behind (take at nodes) sets [] in let t = length-take-le at nodes (omega (arith, there)) in omega (arith, l, t)
+  long =
+      let all : length so_far ≡ 0 + length (take at nodes) = long_behind (take at nodes) sets [] in
+      let first = length-take-le at nodes (omega (arith, there)) in omega (arith, all, first)
 
   made : planned_load sets loads n ≡ load
   made = ap (λ (ls : List Load). planned_load sets ls n) are.kept ∙ planned_same sets so_far (1024 - at) n
 
   grown : first_loads nodes sets (at + 1) ≡ so_far ++ load ∷ []
   grown =
-      ap (λ (ns : List NodePlan). loads_behind ns sets []) (take_more nodes at n there ∙ ap (λ (x : NodePlan). take at nodes ++ x ∷ []) (sym read))
-      ∙ behind_push (take at nodes) n sets []
+      let more : take (at + 1) nodes ≡ take at nodes ++ n ∷ [] = take_more nodes at n there ∙ ap (λ (x : NodePlan). take at nodes ++ x ∷ []) (sym read) in
+      let pushed : first_loads nodes sets (at + 1) ≡ loads_behind (take at nodes ++ n ∷ []) sets [] = ap (λ (ns : List NodePlan). loads_behind ns sets []) more in
+      pushed ∙ behind_push (take at nodes) n sets []
 
   one_more : AreFirst nodes sets (at + 1) (slice_set loads at (planned_load sets loads n)) (planned_load sets loads n)
   one_more =
-      let room : 1024 - at ≡ suc (1024 - (at + 1)) = omega (arith, there, few) in
-      let back : at + 1 - 1 ≡ at = omega arith in
+      let fits : 1024 - at ≡ suc (1024 - (at + 1)) = omega (arith, there, few) in
+      let room : so_far ++ replicate (1024 - at) no_load ≡ so_far ++ no_load ∷ left = ap (λ (m : ℕ). so_far ++ replicate m no_load) fits in
+      let set : slice_set loads at load ≡ slice_set (so_far ++ no_load ∷ left) at load = ap (λ (ls : List Load). slice_set ls at load) (are.kept ∙ room) in
+      let put : slice_set (so_far ++ no_load ∷ left) at load ≡ so_far ++ load ∷ left = set_at so_far no_load left load at long in
+      let apart : so_far ++ load ∷ left ≡ (so_far ++ load ∷ []) ++ left = sym (append_assoc so_far (load ∷ []) left) in
+      let back : at ≡ at + 1 - 1 = omega arith in
+      let last_of : load ≡ get_or (so_far ++ load ∷ []) at no_load = sym (get_or_at so_far load [] at no_load long) in
+      let by_place : get_or (first_loads nodes sets (at + 1)) at no_load ≡ get_or (first_loads nodes sets (at + 1)) (at + 1 - 1) no_load
+          = ap (λ (k : ℕ). get_or (first_loads nodes sets (at + 1)) k no_load) back in
       record {
-        kept =
-          ap (λ (l : Load). slice_set loads at l) made
-          ∙ ap (λ (ls : List Load). slice_set ls at load) (are.kept ∙ ap (λ (m : ℕ). so_far ++ replicate m no_load) room)
-          ∙ set_at so_far no_load (replicate (1024 - (at + 1)) no_load) load at long
-          ∙ sym (append_assoc so_far (load ∷ []) (replicate (1024 - (at + 1)) no_load))
-          ∙ ap (λ (ls : List Load). ls ++ replicate (1024 - (at + 1)) no_load) (sym grown);
-        last =
-          made
-          ∙ sym (get_or_at so_far load [] at no_load long)
-          ∙ ap (λ (ls : List Load). get_or ls at no_load) (sym grown)
-          ∙ ap (λ (k : ℕ). get_or (first_loads nodes sets (at + 1)) k no_load) (sym back);
+        kept = ap (λ (l : Load). slice_set loads at l) made ∙ set ∙ put ∙ apart ∙ ap (λ (ls : List Load). ls ++ left) (sym grown);
+        last = made ∙ last_of ∙ ap (λ (ls : List Load). get_or ls at no_load) (sym grown) ∙ by_place;
       }
 
   pub next_first : (loads_after : List Load) (top_after : Load) → top_after ≡ planned_load sets loads n → loads_after ≡ slice_set loads at top_after → AreFirst nodes sets (at + 1) loads_after top_after
@@ -109,5 +117,7 @@ module _ (nodes : List NodePlan) (sets : List SetPlan) (at : ℕ) (n : NodePlan)
 pub all_first : (plan : Plan) (at : ℕ) (loads : List Load) (top : Load) → at ≡ length plan.nodes → AreFirst plan.nodes plan.sets at loads top → top.weight ≡ top_weight plan
 all_first plan at loads top all are =
     let whole : take at plan.nodes ≡ plan.nodes = take_all at plan.nodes (omega (arith, all)) in
-    ap (λ (l : Load). l.weight) (are.last ∙ ap (λ (ns : List NodePlan). get_or (loads_behind ns plan.sets []) (at - 1) no_load) whole
-      ∙ ap (λ (k : ℕ). get_or (loads_behind plan.nodes plan.sets []) (k - 1) no_load) all)
+    let first : top ≡ get_or (loads_behind plan.nodes plan.sets []) (at - 1) no_load = are.last ∙ ap (λ (ns : List NodePlan). get_or (loads_behind ns plan.sets []) (at - 1) no_load) whole in
+    let last_of : get_or (loads_behind plan.nodes plan.sets []) (at - 1) no_load ≡ get_or (loads_behind plan.nodes plan.sets []) (length plan.nodes - 1) no_load
+        = ap (λ (k : ℕ). get_or (loads_behind plan.nodes plan.sets []) (k - 1) no_load) all in
+    ap (λ (l : Load). l.weight) (first ∙ last_of)

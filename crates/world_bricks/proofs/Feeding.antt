@@ -2,7 +2,7 @@
 -- it are its first outputs.
 use Rattle.std.proofs.Common.{◌≡◌, refl, sym, ap, subst, ◌∙◌, append-nil, append_assoc, arith}
 use Rattle.std.proofs.lemmas.Bool.{eq-eqb, eqb-true, eqb-false}
-use Rattle.std.proofs.lemmas.List.{drop_at, length-append}
+use Rattle.std.proofs.lemmas.List.{drop_at}
 use Rattle.std.specs.Prelude.{ℕ, zero, suc, ◌+◌, ◌≤◌, ◌==◌, Bool, true, false, List, [], ◌∷◌, ◌++◌, length, map, take, drop, replicate, slice_get, slice_set, Option, None, Some, if◌then◌else◌}
 use Rattle.std.specs.List.{range_with_len}
 use Rattle.graph_build.specs.declared.plans.Plan.{Plan}
@@ -16,11 +16,11 @@ use Rattle.mount_log.specs.declared.logs.HubEvent.TheVariants as logged
 use Rattle.mount_log.specs.declared.logs.Log.{Log}
 use Rattle.mount_log.specs.declared.logs.SentLine.{SentLine}
 use Rattle.world_bricks.specs.Feeding.{IsFed, AreFed, WorldsAreFed}
-use Rattle.world_bricks.specs.Lines.{LineState, LinesState, empty_line, new_brick, new_lines, put_all, with_sent, first_input, shortened_by, served_by, with_served, next_output, noted_by, with_arrival}
+use Rattle.world_bricks.specs.Lines.{LineState, LinesState, empty_line, new_brick, new_lines, put_all, with_sent, first_input, shortened_by, served_by, with_served, outputs_by, arrived_by, next_output, noted_by, with_arrival}
 use Rattle.world_bricks.specs.Worlds.{HubDoes, Submits, Arrives, Serves, Happens, HappenInTurn, IsReached}
 use Rattle.world_bricks.specs.declared.events.Event.{Event}
 use Rattle.world_bricks.specs.declared.events.Event.TheVariants as event
-use Rattle.world_bricks.proofs.Places.{get_same, get_other, take_next, take_front, first_rest, all_alike}
+use Rattle.world_bricks.proofs.Places.{get_same, get_other, take_next, of_front, first_rest, all_alike}
 use Rattle.world_bricks.proofs.Sent.{inputs_both, arrivals_more, with_inputs, longer_by, all_put}
 
 -- ---- events of the hub
@@ -34,20 +34,24 @@ record IsFedBefore (e : HubEvent) (log : Log) (brick : ℕ) (b : Journal) (line 
 module _ (e : HubEvent) (log : Log) (lines : LinesState) (delivered : lines.delivered ≡ length log.sent)
     (each : (brick : ℕ) (b : Journal) (line : LineState) → slice_get lines.bricks brick ≡ Some b → slice_get lines.queues brick ≡ Some line → IsFedBefore e log brick b line)
     (log_after : Log) (lines_after : LinesState) (does : HubDoes e log lines log_after lines_after) where
-  sent : List SentLine
+  abbrev sent : List SentLine
   sent = does.event.lines.sent
 
   sent_is : log_after.sent ≡ log.sent ++ sent
   sent_is = ap (λ (l : Log). l.sent) does.event.added
 
   events_are : log_after.events ≡ log.events ++ e ∷ []
-  events_are = ap (λ (l : Log). l.events) does.event.added ∙ ap (λ (es : List HubEvent). log.events ++ es) does.event.event
+  events_are =
+      let grown : log_after.events ≡ log.events ++ does.event.lines.events = ap (λ (l : Log). l.events) does.event.added in
+      grown ∙ ap (λ (es : List HubEvent). log.events ++ es) does.event.event
 
   rest : drop lines.delivered log_after.sent ≡ sent
   rest = ap (λ (n : ℕ). drop n log_after.sent) delivered ∙ ap (λ (l : List SentLine). drop (length log.sent) l) sent_is ∙ drop_at log.sent sent (length log.sent) refl
 
   queues_are : lines_after.queues ≡ put_all sent lines.queues
-  queues_are = ap (λ (l : LinesState). l.queues) does.sent ∙ ap (λ (l : List SentLine). put_all l lines.queues) rest
+  queues_are =
+      let all : lines_after.queues ≡ put_all (drop lines.delivered log_after.sent) lines.queues = ap (λ (l : LinesState). l.queues) does.sent in
+      all ∙ ap (λ (l : List SentLine). put_all l lines.queues) rest
 
   fed_after : (brick : ℕ) (b : Journal) (line : LineState) → IsFedBefore e log brick b line → IsFed log_after brick b (with_inputs (inputs_to brick sent) line)
   fed_after brick b line fed = record {
@@ -71,9 +75,10 @@ module _ (e : HubEvent) (log : Log) (lines : LinesState) (delivered : lines.deli
   hub_feeds = record {
     delivered = ap (λ (l : LinesState). l.delivered) does.sent;
     each = λ brick b line there found.
-      by_line brick b line (slice_get lines.queues brick)
-      (ap (λ (l : LinesState). slice_get l.bricks brick) (sym does.sent) ∙ there) refl
-      (sym (all_put sent lines.queues brick) ∙ ap (λ (l : List LineState). slice_get l brick) (sym queues_are) ∙ found);
+      let same : slice_get lines.bricks brick ≡ slice_get lines_after.bricks brick = ap (λ (l : LinesState). slice_get l.bricks brick) (sym does.sent) in
+      let put : longer_by (inputs_to brick sent) (slice_get lines.queues brick) ≡ slice_get lines_after.queues brick
+          = sym (all_put sent lines.queues brick) ∙ ap (λ (l : List LineState). slice_get l brick) (sym queues_are) in
+      by_line brick b line (slice_get lines.queues brick) (same ∙ there) refl (put ∙ found);
   }
 
 -- an event in which nothing arrives
@@ -92,73 +97,58 @@ nothing_arrives e log lines log_after lines_after none are does = hub_feeds e lo
 -- ---- arrivals
 
 module _ (brick : ℕ) (log : Log) (lines : LinesState) (are : AreFed log lines) (output : List ℕ) (next : next_output lines brick ≡ Some output) where
-  arrival : HubEvent
+  abbrev arrival : HubEvent
   arrival = logged.Arrive brick output
 
+  abbrev after_one : LineState → LineState
+  after_one line = record line { arrived = line.arrived + 1 }
+
   -- of the brick itself
-  arrived_here : (b : Journal) (line line_after : LineState) → slice_get lines.bricks brick ≡ Some b → slice_get lines.queues brick ≡ Some line
-      → record line { arrived = line.arrived + 1 } ≡ line_after → IsFedBefore arrival log brick b line_after
-  arrived_here b line line_after there is same = subst (λ (l : LineState). IsFedBefore arrival log brick b l) same fed_now where
-    fed : IsFed log brick b line
-    fed = are.each brick b line there is
+  arrived_here : (b : Journal) (line : LineState) → slice_get lines.bricks brick ≡ Some b → slice_get lines.queues brick ≡ Some line → IsFedBefore arrival log brick b (after_one line)
+  arrived_here b line there is =
+      let fed : IsFed log brick b line = are.each brick b line there is in
+      let by_b : slice_get (texts_of b.journal) line.arrived ≡ slice_get (outputs_by (slice_get lines.bricks brick)) line.arrived
+          = sym (ap (λ (o : Option Journal). slice_get (outputs_by o) line.arrived) there) in
+      let by_l : slice_get (outputs_by (slice_get lines.bricks brick)) line.arrived ≡ next_output lines brick
+          = sym (ap (λ (o : Option LineState). slice_get (outputs_by (slice_get lines.bricks brick)) (arrived_by o)) is) in
+      let taken = take_next (texts_of b.journal) line.arrived output (by_b ∙ by_l ∙ next) in
+      let one : suc line.arrived ≡ line.arrived + 1 = omega arith in
+      let mine : arrival_from brick arrival [] ≡ output ∷ [] = ap (λ (t : Bool). if t then output ∷ [] else []) (eq-eqb brick brick refl) in
+      record {
+        served = fed.served;
+        arrived =
+          ap (λ (l : List (List ℕ)). arrivals_from brick log.events ++ l) mine
+          ∙ ap (λ (l : List (List ℕ)). l ++ output ∷ []) fed.arrived
+          ∙ sym taken.0
+          ∙ ap (λ (n : ℕ). take n (texts_of b.journal)) one;
+        few = omega (arith, taken.1);
+      }
 
-    found : slice_get (texts_of b.journal) line.arrived ≡ Some output
-    found =
-        sym (ap (λ (o : Option Journal). slice_get (outputs_now o) line.arrived) there)
-        ∙ sym (ap (λ (o : Option LineState). slice_get (outputs_now (slice_get lines.bricks brick)) (arrived_now o)) is)
-        ∙ next where
-      outputs_now : Option Journal → List (List ℕ)
-      outputs_now None = []
-      outputs_now (Some j) = texts_of j.journal
-
-      arrived_now : Option LineState → ℕ
-      arrived_now None = 0
-      arrived_now (Some l) = l.arrived
-
-    one : suc line.arrived ≡ line.arrived + 1
-    one = omega arith
-
-    mine : (if brick == brick then output ∷ [] else []) ≡ output ∷ []
-    mine = ap (λ (t : Bool). if t then output ∷ [] else []) (eq-eqb brick brick refl)
-
-    taken : (take (suc line.arrived) (texts_of b.journal) ≡ take line.arrived (texts_of b.journal) ++ output ∷ []) × (suc line.arrived ≤ length (texts_of b.journal))
-    taken = take_next (texts_of b.journal) line.arrived output found
-
-    fed_now : IsFedBefore arrival log brick b (record line { arrived = line.arrived + 1 })
-    fed_now = record {
-      served = fed.served;
-      arrived =
-        ap (λ (l : List (List ℕ)). arrivals_from brick log.events ++ l) mine
-        ∙ ap (λ (l : List (List ℕ)). l ++ output ∷ []) fed.arrived
-        ∙ sym taken.0
-        ∙ ap (λ (n : ℕ). take n (texts_of b.journal)) one;
-      few = omega (arith, taken.1);
-    }
+  some_line : (x y : LineState) → ◌≡◌ {A = Option LineState} (Some x) (Some y) → x ≡ y
+  some_line x y e = cc
 
   at_brick : (b : Journal) (line_after : LineState) (o : Option LineState) → slice_get lines.bricks brick ≡ Some b → slice_get lines.queues brick ≡ o
       → slice_get (noted_by o brick lines.queues) brick ≡ Some line_after → IsFedBefore arrival log brick b line_after
   at_brick b line_after None there is found = let no : ◌≡◌ {A = Option LineState} None (Some line_after) = sym is ∙ found in absurd cc
   at_brick b line_after (Some line) there is found =
-      let put = get_same lines.queues brick line (record line { arrived = line.arrived + 1 }) is in
-      let same : record line { arrived = line.arrived + 1 } ≡ line_after = some_same _ _ (sym put ∙ found) in
-      arrived_here b line line_after there is same where
-    some_same : (x y : LineState) → ◌≡◌ {A = Option LineState} (Some x) (Some y) → x ≡ y
-    some_same x y e = cc
+      let put : Some (after_one line) ≡ slice_get (noted_by (Some line) brick lines.queues) brick = sym (get_same lines.queues brick line (after_one line) is) in
+      let same : after_one line ≡ line_after = some_line (after_one line) line_after (put ∙ found) in
+      subst (λ (l : LineState). IsFedBefore arrival log brick b l) same (arrived_here b line there is)
+
+  unmoved : (other : ℕ) (o : Option LineState) → (brick == other) ≡ false → slice_get (noted_by o brick lines.queues) other ≡ slice_get lines.queues other
+  unmoved other None off = refl
+  unmoved other (Some line) off = get_other lines.queues brick other (after_one line) (eqb-false brick other off)
 
   elsewhere : (other : ℕ) (b : Journal) (line_after : LineState) (o : Option LineState) → (brick == other) ≡ false → slice_get lines.bricks other ≡ Some b
       → slice_get (noted_by o brick lines.queues) other ≡ Some line_after → IsFedBefore arrival log other b line_after
   elsewhere other b line_after o off there found =
-      let fed = are.each other b line_after there (sym (unmoved o) ∙ found) in
+      let fed = are.each other b line_after there (sym (unmoved other o off) ∙ found) in
+      let none : arrival_from other arrival [] ≡ [] = ap (λ (t : Bool). if t then output ∷ [] else []) off in
       record {
         served = fed.served;
-        arrived =
-          ap (λ (t : Bool). arrivals_from other log.events ++ (if t then output ∷ [] else [])) off
-          ∙ append-nil (arrivals_from other log.events) ∙ fed.arrived;
+        arrived = ap (λ (l : List (List ℕ)). arrivals_from other log.events ++ l) none ∙ append-nil (arrivals_from other log.events) ∙ fed.arrived;
         few = fed.few;
-      } where
-    unmoved : (o : Option LineState) → slice_get (noted_by o brick lines.queues) other ≡ slice_get lines.queues other
-    unmoved None = refl
-    unmoved (Some line) = get_other lines.queues brick other (record line { arrived = line.arrived + 1 }) (eqb-false brick other off)
+      }
 
   by_brick : (other : ℕ) (t : Bool) → (brick == other) ≡ t → (b : Journal) (line_after : LineState) → slice_get lines.bricks other ≡ Some b
       → slice_get (noted_by (slice_get lines.queues brick) brick lines.queues) other ≡ Some line_after → IsFedBefore arrival log other b line_after
@@ -175,52 +165,54 @@ module _ (brick : ℕ) (log : Log) (lines : LinesState) (are : AreFed log lines)
 -- ---- inputs that are served
 
 module _ (brick : ℕ) (log : Log) (lines : LinesState) (are : AreFed log lines) (input : List ℕ) (next : first_input (slice_get lines.queues brick) ≡ Some input) where
-  after_one : Journal → Journal
-  after_one b = record { journal = b.journal ++ input ∷ []; names = b.names; spent = false }
+  abbrev one_more : Journal → Journal
+  one_more b = record { journal = b.journal ++ input ∷ []; names = b.names; spent = false }
 
-  served_here : (b : Journal) (line : LineState) → slice_get lines.bricks brick ≡ Some b → slice_get lines.queues brick ≡ Some line
-      → IsFed log brick (after_one b) (record line { inputs = drop 1 line.inputs })
+  abbrev one_less : LineState → LineState
+  one_less line = record line { inputs = drop 1 line.inputs }
+
+  served_here : (b : Journal) (line : LineState) → slice_get lines.bricks brick ≡ Some b → slice_get lines.queues brick ≡ Some line → IsFed log brick (one_more b) (one_less line)
   served_here b line there is =
-      let fed = are.each brick b line there is in
-      let first : slice_get line.inputs 0 ≡ Some input = sym (ap first_input is) ∙ next in
-      let push = texts_of_push b.journal input in
-      let more = length-append (texts_of b.journal) _ in
+      let fed : IsFed log brick b line = are.each brick b line there is in
+      let front : slice_get line.inputs 0 ≡ first_input (slice_get lines.queues brick) = sym (ap first_input is) in
+      let whole : line.inputs ≡ input ∷ drop 1 line.inputs = first_rest line.inputs input (front ∙ next) in
+      let stay = of_front (texts_of b.journal) _ (texts_of (b.journal ++ input ∷ [])) line.arrived (texts_of_push b.journal input) fed.few in
+      let joined : (b.journal ++ input ∷ []) ++ drop 1 line.inputs ≡ b.journal ++ (input ∷ drop 1 line.inputs) = append_assoc b.journal (input ∷ []) (drop 1 line.inputs) in
       record {
-        served =
-          append_assoc b.journal (input ∷ []) (drop 1 line.inputs)
-          ∙ ap (λ (l : List (List ℕ)). b.journal ++ l) (sym (first_rest line.inputs input first))
-          ∙ fed.served;
-        arrived =
-          fed.arrived ∙ sym (take_front (texts_of b.journal) _ line.arrived fed.few)
-          ∙ ap (λ (l : List (List ℕ)). take line.arrived l) (sym push);
-        few = subst (λ (l : List (List ℕ)). line.arrived ≤ length l) (sym push) (omega (arith, more, fed.few));
+        served = joined ∙ ap (λ (l : List (List ℕ)). b.journal ++ l) (sym whole) ∙ fed.served;
+        arrived = fed.arrived ∙ stay.0;
+        few = stay.1;
       }
 
   some_brick : (x y : Journal) → ◌≡◌ {A = Option Journal} (Some x) (Some y) → x ≡ y
   some_brick x y e = cc
 
-  some_line : (x y : LineState) → ◌≡◌ {A = Option LineState} (Some x) (Some y) → x ≡ y
-  some_line x y e = cc
+  some_less : (x y : LineState) → ◌≡◌ {A = Option LineState} (Some x) (Some y) → x ≡ y
+  some_less x y e = cc
 
   at_served : (o : Option Journal) (q : Option LineState) (b_after : Journal) (line_after : LineState) → slice_get lines.bricks brick ≡ o → slice_get lines.queues brick ≡ q
       → slice_get (served_by o brick input lines.bricks) brick ≡ Some b_after → slice_get (shortened_by q brick lines.queues) brick ≡ Some line_after → IsFed log brick b_after line_after
   at_served None q b_after line_after there is found line = let no : ◌≡◌ {A = Option Journal} None (Some b_after) = sym there ∙ found in absurd cc
-  at_served (Some b) None b_after line_after there is found line = let no : ◌≡◌ {A = Option (List ℕ)} None (Some input) = sym (ap first_input is) ∙ next in absurd cc
+  at_served (Some b) None b_after line_after there is found line =
+      let none : ◌≡◌ {A = Option (List ℕ)} None (first_input (slice_get lines.queues brick)) = sym (ap first_input is) in
+      let no : ◌≡◌ {A = Option (List ℕ)} None (Some input) = none ∙ next in absurd cc
   at_served (Some b) (Some l) b_after line_after there is found line =
-      let same = some_brick _ _ (sym (get_same lines.bricks brick b (after_one b) there) ∙ found) in
-      let short = some_line _ _ (sym (get_same lines.queues brick l (record l { inputs = drop 1 l.inputs }) is) ∙ line) in
-      subst (λ (x : LineState). IsFed log brick b_after x) short (subst (λ (x : Journal). IsFed log brick x (record l { inputs = drop 1 l.inputs })) same (served_here b l there is))
+      let put : Some (one_more b) ≡ slice_get (served_by (Some b) brick input lines.bricks) brick = sym (get_same lines.bricks brick b (one_more b) there) in
+      let less : Some (one_less l) ≡ slice_get (shortened_by (Some l) brick lines.queues) brick = sym (get_same lines.queues brick l (one_less l) is) in
+      subst (λ (x : LineState). IsFed log brick b_after x) (some_less (one_less l) line_after (less ∙ line))
+      (subst (λ (x : Journal). IsFed log brick x (one_less l)) (some_brick (one_more b) b_after (put ∙ found)) (served_here b l there is))
+
+  same_brick : (other : ℕ) (o : Option Journal) → (brick == other) ≡ false → slice_get (served_by o brick input lines.bricks) other ≡ slice_get lines.bricks other
+  same_brick other None off = refl
+  same_brick other (Some b) off = get_other lines.bricks brick other (one_more b) (eqb-false brick other off)
+
+  same_line : (other : ℕ) (q : Option LineState) → (brick == other) ≡ false → slice_get (shortened_by q brick lines.queues) other ≡ slice_get lines.queues other
+  same_line other None off = refl
+  same_line other (Some l) off = get_other lines.queues brick other (one_less l) (eqb-false brick other off)
 
   not_served : (other : ℕ) (o : Option Journal) (q : Option LineState) (b_after : Journal) (line_after : LineState) → (brick == other) ≡ false
       → slice_get (served_by o brick input lines.bricks) other ≡ Some b_after → slice_get (shortened_by q brick lines.queues) other ≡ Some line_after → IsFed log other b_after line_after
-  not_served other o q b_after line_after off found line = are.each other b_after line_after (sym (same_brick o) ∙ found) (sym (same_line q) ∙ line) where
-    same_brick : (o : Option Journal) → slice_get (served_by o brick input lines.bricks) other ≡ slice_get lines.bricks other
-    same_brick None = refl
-    same_brick (Some b) = get_other lines.bricks brick other (after_one b) (eqb-false brick other off)
-
-    same_line : (q : Option LineState) → slice_get (shortened_by q brick lines.queues) other ≡ slice_get lines.queues other
-    same_line None = refl
-    same_line (Some l) = get_other lines.queues brick other (record l { inputs = drop 1 l.inputs }) (eqb-false brick other off)
+  not_served other o q b_after line_after off found line = are.each other b_after line_after (sym (same_brick other o off) ∙ found) (sym (same_line other q off) ∙ line)
 
   by_served : (other : ℕ) (t : Bool) → (brick == other) ≡ t → (b_after : Journal) (line_after : LineState) → slice_get (with_served lines brick input).bricks other ≡ Some b_after
       → slice_get (with_served lines brick input).queues other ≡ Some line_after → IsFed log other b_after line_after

@@ -1,5 +1,6 @@
 -- Lists by place: an item that was put, the first items, and items that are all alike.
-use Rattle.std.proofs.Common.{◌≡◌, refl, sym, ap, ◌∙◌, arith}
+use Rattle.std.proofs.Common.{◌≡◌, refl, sym, ap, subst, ◌∙◌, arith}
+use Rattle.std.proofs.lemmas.List.{length-append}
 use Rattle.std.specs.Prelude.{ℕ, zero, suc, ◌<◌, ◌≤◌, ◌+◌, List, [], ◌∷◌, ◌++◌, length, take, drop, replicate, slice_get, slice_set, Option, None, Some}
 
 module _ {X : Type 0} where
@@ -20,10 +21,19 @@ module _ {X : Type 0} where
   take_next (y ∷ ys) zero x is = let same : y ≡ x = cc in (ap (λ (z : X). z ∷ []) same, omega arith)
   take_next (y ∷ ys) (suc n) x is = let rest = take_next ys n x is in (ap (λ (zs : List X). y ∷ zs) rest.0, omega (arith, rest.1))
 
-  pub take_front : (xs ys : List X) (n : ℕ) → n ≤ length xs → take n (xs ++ ys) ≡ take n xs
+  take_front : (xs ys : List X) (n : ℕ) → n ≤ length xs → take n (xs ++ ys) ≡ take n xs
   take_front xs ys zero le = refl
   take_front [] ys (suc n) le = absurd (omega (arith, le))
   take_front (x ∷ xs) ys (suc n) le = ap (λ (zs : List X). x ∷ zs) (take_front xs ys n (omega (arith, le)))
+
+  -- what begins all is a prefix of it
+  pub of_front : (xs ys all : List X) (n : ℕ) → all ≡ xs ++ ys → n ≤ length xs → (take n xs ≡ take n all) × (n ≤ length all)
+  of_front xs ys all n is le =
+      let same : take n xs ≡ take n (xs ++ ys) = sym (take_front xs ys n le) in
+      let back : take n (xs ++ ys) ≡ take n all = ap (λ (zs : List X). take n zs) (sym is) in
+      let long = length-append xs ys in
+      let few : n ≤ length (xs ++ ys) = omega (arith, long, le) in
+      (same ∙ back, subst (λ (zs : List X). n ≤ length zs) (sym is) few)
 
   pub first_rest : (xs : List X) (x : X) → slice_get xs 0 ≡ Some x → xs ≡ x ∷ drop 1 xs
   first_rest [] x is = absurd cc

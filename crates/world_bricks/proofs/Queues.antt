@@ -19,11 +19,23 @@ pub some_first : {X : Type 0} (xs : List X) → nat_lt 0 (length xs) ≡ is_some
 some_first [] = refl
 some_first (x ∷ xs) = refl
 
--- with one brick more
-pub new_more : (script : Script) (plans : List Plan) (n : ℕ) → record (new_lines script plans n) { bricks = (new_lines script plans n).bricks ++ new_brick script plans n ∷ []; queues = (new_lines script plans n).queues ++ empty_line ∷ [] } ≡ new_lines script plans (n + 1)
+-- ---- one brick more
+
+abbrev lines_with : List Journal → List LineState → LinesState
+lines_with bricks queues = record { bricks = bricks; queues = queues; delivered = 0 }
+
+pub new_more : (script : Script) (plans : List Plan) (n : ℕ)
+    → record (new_lines script plans n) { bricks = (new_lines script plans n).bricks ++ new_brick script plans n ∷ []; queues = (new_lines script plans n).queues ++ empty_line ∷ [] } ≡ new_lines script plans (n + 1)
 new_more script plans n =
-    ap (λ (bs : List Journal). (record { bricks = bs; queues = replicate n empty_line ++ empty_line ∷ []; delivered = 0 } : LinesState)) (sym (map-range_with_len_more (new_brick script plans) 0 n n (zero-add n)))
-    ∙ ap (λ (qs : List LineState). (record { bricks = map (new_brick script plans) (range_with_len 0 (n + 1)); queues = qs; delivered = 0 } : LinesState)) (replicate_more n empty_line)
+    let bricks : lines_with (map (new_brick script plans) (range_with_len 0 n) ++ new_brick script plans n ∷ []) (replicate n empty_line ++ empty_line ∷ [])
+          ≡ lines_with (map (new_brick script plans) (range_with_len 0 (n + 1))) (replicate n empty_line ++ empty_line ∷ [])
+        = ap (λ (bs : List Journal). lines_with bs (replicate n empty_line ++ empty_line ∷ [])) (sym (map-range_with_len_more (new_brick script plans) 0 n n (zero-add n))) in
+    let queues : lines_with (map (new_brick script plans) (range_with_len 0 (n + 1))) (replicate n empty_line ++ empty_line ∷ [])
+          ≡ lines_with (map (new_brick script plans) (range_with_len 0 (n + 1))) (replicate (n + 1) empty_line)
+        = ap (λ (qs : List LineState). lines_with (map (new_brick script plans) (range_with_len 0 (n + 1))) qs) (replicate_more n empty_line) in
+    bricks ∙ queues
+
+-- ---- inputs that are served
 
 absent : {X : Type 0} (there : Bool) (o : Option X) → (there && is_some o) ≡ true → o ≡ None → ⊥
 absent there (Some x) may none = absurd cc

@@ -1,7 +1,7 @@
 -- What is sent to one brick, and what arrives from it, as logs and lines grow.
 use Rattle.std.proofs.Common.{◌≡◌, refl, sym, ap, ◌∙◌, append-nil, append_assoc}
 use Rattle.std.proofs.lemmas.Bool.{eqb-true, eqb-false}
-use Rattle.std.specs.Prelude.{ℕ, ◌==◌, Bool, true, false, List, [], ◌∷◌, ◌++◌, slice_get, Option, None, Some, if◌then◌else◌}
+use Rattle.std.specs.Prelude.{ℕ, ◌==◌, Bool, true, false, List, [], ◌∷◌, ◌++◌, slice_get, slice_set, Option, None, Some, if◌then◌else◌}
 use Rattle.mount_log.specs.Arrivals.{inputs_to, arrivals_from, arrival_from}
 use Rattle.mount_log.specs.declared.logs.HubEvent.{HubEvent}
 use Rattle.mount_log.specs.declared.logs.HubEvent.TheVariants as logged
@@ -48,26 +48,34 @@ longer_by more (Some line) = Some (with_inputs more line)
 
 no_longer : (o : Option LineState) → longer_by [] o ≡ o
 no_longer None = refl
-no_longer (Some line) = ap (λ (inputs : List (List ℕ)). Some (record line { inputs = inputs })) (append-nil line.inputs)
+no_longer (Some line) = ap (λ (inputs : List (List ℕ)). let o : Option LineState = Some (record line { inputs = inputs }) in o) (append-nil line.inputs)
 
 longer_twice : (xs ys : List (List ℕ)) (o : Option LineState) → longer_by ys (longer_by xs o) ≡ longer_by (xs ++ ys) o
 longer_twice xs ys None = refl
-longer_twice xs ys (Some line) = ap (λ (inputs : List (List ℕ)). Some (record line { inputs = inputs })) (append_assoc line.inputs xs ys)
+longer_twice xs ys (Some line) = ap (λ (inputs : List (List ℕ)). let o : Option LineState = Some (record line { inputs = inputs }) in o) (append_assoc line.inputs xs ys)
 
 module _ (s : SentLine) (queues : List LineState) (brick : ℕ) where
+  abbrev one : List (List ℕ)
+  one = s.bytes ∷ []
+
   put_to : (o : Option LineState) → slice_get queues s.brick ≡ o → (t : Bool) → (s.brick == brick) ≡ t
-      → slice_get (put_by o s queues) brick ≡ longer_by (if t then s.bytes ∷ [] else []) (slice_get queues brick)
+      → slice_get (put_by o s queues) brick ≡ longer_by (if t then one else []) (slice_get queues brick)
   put_to None is true on =
       let here : slice_get queues brick ≡ None = ap (λ (b : ℕ). slice_get queues b) (sym (eqb-true s.brick brick on)) ∙ is in
-      here ∙ sym (ap (longer_by (s.bytes ∷ [])) here)
+      let back : ◌≡◌ {A = Option LineState} None (longer_by one (slice_get queues brick)) = sym (ap (longer_by one) here) in
+      here ∙ back
   put_to None is false off = sym (no_longer (slice_get queues brick))
   put_to (Some line) is true on =
       let same : s.brick ≡ brick = eqb-true s.brick brick on in
       let here : slice_get queues brick ≡ Some line = ap (λ (b : ℕ). slice_get queues b) (sym same) ∙ is in
-      ap (λ (b : ℕ). slice_get (put_by (Some line) s queues) b) (sym same)
-      ∙ get_same queues s.brick line (with_inputs (s.bytes ∷ []) line) is
-      ∙ sym (ap (longer_by (s.bytes ∷ [])) here)
-  put_to (Some line) is false off = get_other queues s.brick brick (with_inputs (s.bytes ∷ []) line) (eqb-false s.brick brick off) ∙ sym (no_longer (slice_get queues brick))
+      let there : slice_get (slice_set queues s.brick (with_inputs one line)) brick ≡ slice_get (slice_set queues s.brick (with_inputs one line)) s.brick
+          = ap (λ (b : ℕ). slice_get (slice_set queues s.brick (with_inputs one line)) b) (sym same) in
+      let put : slice_get (slice_set queues s.brick (with_inputs one line)) s.brick ≡ Some (with_inputs one line) = get_same queues s.brick line (with_inputs one line) is in
+      let back : Some (with_inputs one line) ≡ longer_by one (slice_get queues brick) = sym (ap (longer_by one) here) in
+      there ∙ put ∙ back
+  put_to (Some line) is false off =
+      let other : slice_get (slice_set queues s.brick (with_inputs one line)) brick ≡ slice_get queues brick = get_other queues s.brick brick (with_inputs one line) (eqb-false s.brick brick off) in
+      other ∙ sym (no_longer (slice_get queues brick))
 
   pub put_one : slice_get (put_by (slice_get queues s.brick) s queues) brick ≡ longer_by (inputs_to brick (s ∷ [])) (slice_get queues brick)
   put_one = put_to (slice_get queues s.brick) refl (s.brick == brick) refl
