@@ -19,5 +19,5 @@ pub mod Wired
 pub mod Plans
 pub mod Parking
 pub mod Living
-pub mod Loads
+pub mod PlanLoads
 pub mod Together

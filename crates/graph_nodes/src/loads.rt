@@ -120,7 +120,7 @@ pub(crate) fn sets_in(plan: &Plan) -> u8
 }
 
 // The load of the node at this place is kept, if the place is below 1,024.
-#[tactic(auto, using(crate::proofs::Loads::set_beyond))]
+#[tactic(auto, using(crate::proofs::PlanLoads::set_beyond))]
 fn keep_load(loads: &mut [Load; 1024], at: usize, load: Load)
     ensures { loads.new ≡ slice_set loads.old at load }
 {

@@ -1,5 +1,5 @@
 use Rattle.std.proofs.Common.{◌≡◌, ◌≤◌, length}
-use Rattle.graph_nodes.proofs.Loads.{AreFirst}
+use Rattle.graph_nodes.proofs.PlanLoads.{AreFirst}
 use Rattle.graph_nodes.proofs.loads.top_weight.Given as goal
 
 abbrev pub invariant-loop-at : goal.invariant-loop-at
