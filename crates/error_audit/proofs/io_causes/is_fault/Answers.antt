@@ -7,6 +7,6 @@ returns c = λ yes. record {
   each_fault = c.in_ok-are_faulted.ensures c.if-not-branch-2.false;
   each_lost = c.in_ok-yes.ensures yes;
   rising_faults = c.are_rising.ensures c.if-not-are_rising.false;
-  rising_lost = c.are_rising-2.ensures c.if-not-are_rising-2.false;
+  rising_lost = c.are_rising-else-not-are_rising.ensures c.if-not-are_rising-2.false;
   enough = c.in_ok-has_enough.ensures c.if-not-branch.false;
 }
