@@ -23,7 +23,7 @@ impl Graphs {
 
     /// Whether no frame of a graph is open. It is false where there is no such graph.
     pub fn is_drained(&self, number: u32) -> bool
-        ensures absent { has self.now.numbers number ≡ false → result ≡ false }
+        ensures { has self.now.numbers number ≡ false → result ≡ false }
     {
         match self.live.get(&number) {
             Some(graph) => graph.is_drained(),
@@ -33,7 +33,7 @@ impl Graphs {
 
     /// The number of a graph's open connection to a brick.
     pub fn connection(&self, number: u32, brick: u8) -> Option<u32>
-        ensures absent { has self.now.numbers number ≡ false → result ≡ None }
+        ensures { has self.now.numbers number ≡ false → result ≡ None }
     {
         match self.live.get(&number) {
             Some(graph) => graph.connection(brick),
@@ -43,7 +43,7 @@ impl Graphs {
 
     /// How many tasks of a graph are ready.
     pub fn ready_len(&self, number: u32) -> u32
-        ensures absent { has self.now.numbers number ≡ false → result ≡ 0 }
+        ensures { has self.now.numbers number ≡ false → result ≡ 0 }
     {
         match self.live.get(&number) {
             Some(graph) => graph.ready_len(),
@@ -53,7 +53,7 @@ impl Graphs {
 
     /// The ready task of a graph with so many lower ones.
     pub fn ready_at(&self, number: u32, at: u32) -> Option<u32>
-        ensures absent { has self.now.numbers number ≡ false → result ≡ None }
+        ensures { has self.now.numbers number ≡ false → result ≡ None }
     {
         match self.live.get(&number) {
             Some(graph) => graph.ready_at(at),
@@ -63,7 +63,7 @@ impl Graphs {
 
     /// Whether a task of a graph is ready.
     pub fn is_ready(&self, number: u32, task: u32) -> bool
-        ensures absent { has self.now.numbers number ≡ false → result ≡ false }
+        ensures { has self.now.numbers number ≡ false → result ≡ false }
     {
         match self.live.get(&number) {
             Some(graph) => graph.is_ready(task),

@@ -27,3 +27,9 @@ module _ (script : Script) (e : Event) (log_mid : Log) (lines_mid : LinesState) 
 
 pub reached_itself : (script : Script) (log : Log) (lines : LinesState) → IsReached script log lines log lines
 reached_itself script log lines = record { events = []; happen = (refl, refl); }
+
+-- one event more, by the script of the world in which it happens
+pub next_reached : (script script_mid : Script) (e : Event) (log : Log) (lines : LinesState) (log_mid : Log) (lines_mid : LinesState) (log_after : Log) (lines_after : LinesState)
+    → script_mid ≡ script → Happens script_mid e log_mid lines_mid log_after lines_after → IsReached script log lines log_mid lines_mid → IsReached script log lines log_after lines_after
+next_reached script script_mid e log lines log_mid lines_mid log_after lines_after same h reached =
+    one_more script e log_mid lines_mid log_after lines_after (subst (λ (s : Script). Happens s e log_mid lines_mid log_after lines_after) same h) log lines reached

@@ -3,6 +3,7 @@ use Rattle.std.proofs.Common.{◌≡◌, refl, sym, ap, ◌∙◌, arith}
 use Rattle.std.specs.Prelude.{ℕ, zero, suc, ◌<◌, ◌+◌, ◌&&◌, Bool, true, false, List, [], ◌∷◌, ◌++◌, length, map, replicate, get_or, nat_lt, slice_get, Option, None, Some, is_some, MatchOption}
 use Rattle.std.specs.List.{range_with_len}
 use Rattle.std.proofs.Math.Nat.{zero-add}
+use Rattle.std.proofs.lemmas.Bool.{lt-ltb}
 use Rattle.std.proofs.lemmas.List.{replicate_more}
 use Rattle.std.proofs.lemmas.List.FromFn.{map-range_with_len_more}
 use Rattle.graph_build.specs.declared.plans.Plan.{Plan}
@@ -17,7 +18,7 @@ first_of (x ∷ xs) r n m long cases value = value x (let z : n ≡ suc (length 
 
 pub some_first : {X : Type 0} (xs : List X) → nat_lt 0 (length xs) ≡ is_some (slice_get xs 0)
 some_first [] = refl
-some_first (x ∷ xs) = refl
+some_first (x ∷ xs) = let more : 0 < suc (length xs) = omega arith in lt-ltb 0 (suc (length xs)) more
 
 -- ---- one brick more
 
@@ -34,6 +35,16 @@ new_more script plans n =
           ≡ lines_with (map (new_brick script plans) (range_with_len 0 (n + 1))) (replicate (n + 1) empty_line)
         = ap (λ (qs : List LineState). lines_with (map (new_brick script plans) (range_with_len 0 (n + 1))) qs) (replicate_more n empty_line) in
     bricks ∙ queues
+
+abbrev with_brick : LinesState → Journal → LinesState
+with_brick lines b = record lines { bricks = lines.bricks ++ b ∷ []; queues = lines.queues ++ empty_line ∷ [] }
+
+pub next_brick : (script : Script) (plans : List Plan) (n : ℕ) (old new : LinesState) (b : Journal) → old ≡ new_lines script plans n → b ≡ new_brick script plans n
+    → new ≡ record old { bricks = old.bricks ++ b ∷ []; queues = old.queues ++ empty_line ∷ [] } → new ≡ new_lines script plans (n + 1)
+next_brick script plans n old new b were is put =
+    let named : new ≡ with_brick old (new_brick script plans n) = put ∙ ap (with_brick old) is in
+    let grown : new ≡ with_brick (new_lines script plans n) (new_brick script plans n) = named ∙ ap (λ (l : LinesState). with_brick l (new_brick script plans n)) were in
+    grown ∙ new_more script plans n
 
 -- ---- inputs that are served
 

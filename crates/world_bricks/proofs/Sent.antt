@@ -13,10 +13,10 @@ use Rattle.world_bricks.proofs.Places.{get_same, get_other}
 
 pub inputs_both : (brick : ℕ) (xs ys : List SentLine) → inputs_to brick (xs ++ ys) ≡ inputs_to brick xs ++ inputs_to brick ys
 inputs_both brick [] ys = refl
-inputs_both brick (x ∷ xs) ys = by (x.brick == brick) where
-  by : (t : Bool) → (if t then x.bytes ∷ inputs_to brick (xs ++ ys) else inputs_to brick (xs ++ ys)) ≡ (if t then x.bytes ∷ inputs_to brick xs else inputs_to brick xs) ++ inputs_to brick ys
-  by true = ap (λ (l : List (List ℕ)). x.bytes ∷ l) (inputs_both brick xs ys)
-  by false = inputs_both brick xs ys
+inputs_both brick (x ∷ xs) ys = by (x.brick == brick) (inputs_both brick xs ys) where
+  by : (t : Bool) → inputs_to brick (xs ++ ys) ≡ inputs_to brick xs ++ inputs_to brick ys → (if t then x.bytes ∷ inputs_to brick (xs ++ ys) else inputs_to brick (xs ++ ys)) ≡ (if t then x.bytes ∷ inputs_to brick xs else inputs_to brick xs) ++ inputs_to brick ys
+  by true rest = ap (λ (l : List (List ℕ)). x.bytes ∷ l) rest
+  by false rest = rest
 
 arrival_before : (brick : ℕ) (e : HubEvent) (rest : List (List ℕ)) → arrival_from brick e rest ≡ arrival_from brick e [] ++ rest
 arrival_before brick (logged.Arrive from bytes) rest = by (from == brick) where

@@ -1,6 +1,6 @@
 -- The bricks of a world with their lines: a brick's line has the inputs that were sent to it and that it has not served, first
 -- in, first out, and how many of its outputs have arrived. Ours.
-use Rattle.std.specs.Prelude.{ℕ, ◌+◌, Bool, ◌&&◌, List, [], ◌∷◌, ◌++◌, map, replicate, length, drop, is_some, slice_get, slice_set, Option, None, Some}
+use Rattle.std.specs.Prelude.{ℕ, ◌+◌, Bool, false, ◌&&◌, List, [], ◌∷◌, ◌++◌, map, replicate, length, drop, is_some, slice_get, slice_set, Option, None, Some}
 use Rattle.std.specs.List.{range_with_len}
 use Rattle.graph_build.specs.declared.plans.Plan.{Plan}
 use Rattle.script_lang.specs.declared.scripts.Script.{Script}

@@ -72,6 +72,7 @@ impl Lines {
         self.deliver(sent)
     }
 
+    #[tactic(auto, using(crate::proofs::Queues::next_brick))]
     fn add_bricks(
         &mut self,
         alloc: Global,
