@@ -106,7 +106,11 @@ impl Planned {
         ensures session { IfSome result (λ line. line.now.session ≡ session) }
     {
         let line = self.line(at)?;
-        if line.session == session { Some(line) } else { None }
+        if line.session == session {
+            Some(line)
+        } else {
+            None
+        }
     }
 
     /// How many mkdir and create calls the script has.

@@ -23,10 +23,10 @@ module _ (script : Script) (e : Event) (log_mid : Log) (lines_mid : LinesState) 
   }
 
   pub one_more : (log : Log) (lines : LinesState) → IsReached script log lines log_mid lines_mid → IsReached script log lines log_after lines_after
-  one_more log lines reached = record { events = reached.events ++ e ∷ []; happen = behind reached.events log lines reached.happen; }
+  one_more log lines reached = record { events = reached.events ++ e ∷ []; happen = behind reached.events log lines reached.happen }
 
 pub reached_itself : (script : Script) (log : Log) (lines : LinesState) → IsReached script log lines log lines
-reached_itself script log lines = record { events = []; happen = (refl, refl); }
+reached_itself script log lines = record { events = []; happen = (refl, refl) }
 
 -- one event more, by the script of the world in which it happens
 pub next_reached : (script script_mid : Script) (e : Event) (log : Log) (lines : LinesState) (log_mid : Log) (lines_mid : LinesState) (log_after : Log) (lines_after : LinesState)

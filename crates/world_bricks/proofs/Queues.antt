@@ -29,11 +29,11 @@ pub new_more : (script : Script) (plans : List Plan) (n : ℕ)
     → record (new_lines script plans n) { bricks = (new_lines script plans n).bricks ++ new_brick script plans n ∷ []; queues = (new_lines script plans n).queues ++ empty_line ∷ [] } ≡ new_lines script plans (n + 1)
 new_more script plans n =
     let bricks : lines_with (map (new_brick script plans) (range_with_len 0 n) ++ new_brick script plans n ∷ []) (replicate n empty_line ++ empty_line ∷ [])
-          ≡ lines_with (map (new_brick script plans) (range_with_len 0 (n + 1))) (replicate n empty_line ++ empty_line ∷ [])
-        = ap (λ (bs : List Journal). lines_with bs (replicate n empty_line ++ empty_line ∷ [])) (sym (map-range_with_len_more (new_brick script plans) 0 n n (zero-add n))) in
+    ≡ lines_with (map (new_brick script plans) (range_with_len 0 (n + 1))) (replicate n empty_line ++ empty_line ∷ [])
+    = ap (λ (bs : List Journal). lines_with bs (replicate n empty_line ++ empty_line ∷ [])) (sym (map-range_with_len_more (new_brick script plans) 0 n n (zero-add n))) in
     let queues : lines_with (map (new_brick script plans) (range_with_len 0 (n + 1))) (replicate n empty_line ++ empty_line ∷ [])
-          ≡ lines_with (map (new_brick script plans) (range_with_len 0 (n + 1))) (replicate (n + 1) empty_line)
-        = ap (λ (qs : List LineState). lines_with (map (new_brick script plans) (range_with_len 0 (n + 1))) qs) (replicate_more n empty_line) in
+    ≡ lines_with (map (new_brick script plans) (range_with_len 0 (n + 1))) (replicate (n + 1) empty_line)
+    = ap (λ (qs : List LineState). lines_with (map (new_brick script plans) (range_with_len 0 (n + 1))) qs) (replicate_more n empty_line) in
     bricks ∙ queues
 
 abbrev with_brick : LinesState → Journal → LinesState
