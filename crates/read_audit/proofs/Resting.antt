@@ -1,6 +1,6 @@
 -- Changes that rest on names that were read: by later events, too; one entry, and those so far.
 use Rattle.std.proofs.Common.{◌≡◌, refl, sym, ap, subst, ◌∙◌, arith}
-use Rattle.std.specs.Prelude.{ℕ, ◌<◌, ◌≤◌, ◌+◌, List, [], ◌∷◌, ◌++◌, Option, None, Some, get_or, length, slice_get, IfSome}
+use Rattle.std.specs.Prelude.{ℕ, ◌≤◌, ◌+◌, List, [], ◌∷◌, ◌++◌, Option, None, Some, get_or, length, slice_get, IfSome}
 use Rattle.std.proofs.lemmas.List.{length_push}
 use Rattle.std.proofs.lemmas.Option.{slice_get_within, slice_get-get_or}
 use Rattle.fop_types.specs.Calls.{Submission, call_numbered, looked_up}
@@ -22,7 +22,7 @@ use Rattle.mount_log.proofs.Lists.{each_push}
 use Rattle.change_audit.proofs.Marking.{mark_first, none_well}
 use Rattle.change_audit.specs.Acknowledged.{mark_of, AreMarked}
 use Rattle.call_fops.specs.Walks.{second_path}
-use Rattle.read_audit.specs.Names.{IsStep, LeadsTo, LeadsToOne}
+use Rattle.read_audit.specs.Names.{IsStep, LeadsTo}
 use Rattle.read_audit.specs.Read.{IsFetched}
 use Rattle.read_audit.specs.Taken.{worked_on, moved_into, path_for, Reaches, IsNameTaken, IsTaken, RestsOnNames, EntriesRestOnNames}
 use Rattle.read_audit.specs.Taking.{RestsForCall, RestsInTime, EntryRests, FirstRest}
