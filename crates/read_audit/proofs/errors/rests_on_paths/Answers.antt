@@ -1,10 +1,7 @@
 use Rattle.std.specs.Prelude.{List, ℕ}
 use Rattle.read_audit.specs.Errors.{LeadsUpTo, RestsOn, paths_of}
-use Rattle.read_audit.proofs.ErrorReplies.{on_none, on_first}
+use Rattle.read_audit.proofs.ErrorReplies.{on_first}
 use Rattle.read_audit.proofs.errors.rests_on_paths.Goals as goal
-
-pub returns-in-None : goal.returns-in-None
-returns-in-None c = λ _. on_none (paths_of c.args.error c.args.call.now) (λ (path : List (List ℕ)). LeadsUpTo c.args.run.now.script.now c.args.run.now.plans.now c.args.run.now.log.now c.args.run.now.bricks.now c.args.by.call c.args.by.number path (RestsOn c.args.run.now.script.now c.args.run.now.plans.now c.args.run.now.log.now c.args.run.now.bricks.now c.args.by.call c.args.by.number c.args.call.now c.args.error)) c.in-None.ensures
 
 pub returns-then-branch : goal.returns-then-branch
 returns-then-branch c = λ _.
