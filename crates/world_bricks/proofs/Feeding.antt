@@ -3,7 +3,7 @@
 use Rattle.std.proofs.Common.{◌≡◌, refl, sym, ap, subst, ◌∙◌, append-nil, append_assoc, arith}
 use Rattle.std.proofs.lemmas.Bool.{eq-eqb, eqb-true, eqb-false}
 use Rattle.std.proofs.lemmas.List.{drop_at}
-use Rattle.std.specs.Prelude.{ℕ, zero, suc, ◌+◌, ◌≤◌, ◌==◌, Bool, true, false, List, [], ◌∷◌, ◌++◌, length, map, take, drop, replicate, slice_get, slice_set, Option, None, Some, if◌then◌else◌}
+use Rattle.std.specs.Prelude.{ℕ, zero, suc, ◌+◌, ◌≤◌, ◌==◌, Bool, true, false, List, [], ◌∷◌, ◌++◌, length, map, take, drop, replicate, slice_get, Option, None, Some, if◌then◌else◌}
 use Rattle.std.specs.List.{range_with_len}
 use Rattle.graph_build.specs.declared.plans.Plan.{Plan}
 use Rattle.script_lang.specs.declared.scripts.Script.{Script}
@@ -17,7 +17,7 @@ use Rattle.mount_log.specs.declared.logs.Log.{Log}
 use Rattle.mount_log.specs.declared.logs.SentLine.{SentLine}
 use Rattle.world_bricks.specs.Feeding.{IsFed, AreFed, WorldsAreFed}
 use Rattle.world_bricks.specs.Lines.{LineState, LinesState, empty_line, new_brick, new_lines, put_all, with_sent, first_input, shortened_by, served_by, with_served, outputs_by, arrived_by, next_output, noted_by, with_arrival}
-use Rattle.world_bricks.specs.Worlds.{HubDoes, Submits, Arrives, Serves, Happens, HappenInTurn, IsReached}
+use Rattle.world_bricks.specs.Worlds.{HubDoes, Happens, HappenInTurn}
 use Rattle.world_bricks.specs.declared.events.Event.{Event}
 use Rattle.world_bricks.specs.declared.events.Event.TheVariants as event
 use Rattle.world_bricks.proofs.Places.{get_same, get_other, take_next, of_front, first_rest, all_alike}
@@ -56,10 +56,10 @@ module _ (e : HubEvent) (log : Log) (lines : LinesState) (delivered : lines.deli
   fed_after : (brick : ℕ) (b : Journal) (line : LineState) → IsFedBefore e log brick b line → IsFed log_after brick b (with_inputs (inputs_to brick sent) line)
   fed_after brick b line fed = record {
     served =
-      sym (append_assoc b.journal line.inputs (inputs_to brick sent))
-      ∙ ap (λ (l : List (List ℕ)). l ++ inputs_to brick sent) fed.served
-      ∙ sym (inputs_both brick log.sent sent)
-      ∙ ap (inputs_to brick) (sym sent_is);
+        sym (append_assoc b.journal line.inputs (inputs_to brick sent))
+        ∙ ap (λ (l : List (List ℕ)). l ++ inputs_to brick sent) fed.served
+        ∙ sym (inputs_both brick log.sent sent)
+        ∙ ap (inputs_to brick) (sym sent_is);
     arrived = ap (arrivals_from brick) events_are ∙ arrivals_more brick log.events e ∙ fed.arrived;
     few = fed.few;
   }
@@ -75,10 +75,10 @@ module _ (e : HubEvent) (log : Log) (lines : LinesState) (delivered : lines.deli
   hub_feeds = record {
     delivered = ap (λ (l : LinesState). l.delivered) does.sent;
     each = λ brick b line there found.
-      let same : slice_get lines.bricks brick ≡ slice_get lines_after.bricks brick = ap (λ (l : LinesState). slice_get l.bricks brick) (sym does.sent) in
-      let put : longer_by (inputs_to brick sent) (slice_get lines.queues brick) ≡ slice_get lines_after.queues brick
-          = sym (all_put sent lines.queues brick) ∙ ap (λ (l : List LineState). slice_get l brick) (sym queues_are) in
-      by_line brick b line (slice_get lines.queues brick) (same ∙ there) refl (put ∙ found);
+        let same : slice_get lines.bricks brick ≡ slice_get lines_after.bricks brick = ap (λ (l : LinesState). slice_get l.bricks brick) (sym does.sent) in
+        let put : longer_by (inputs_to brick sent) (slice_get lines.queues brick) ≡ slice_get lines_after.queues brick
+        = sym (all_put sent lines.queues brick) ∙ ap (λ (l : List LineState). slice_get l brick) (sym queues_are) in
+        by_line brick b line (slice_get lines.queues brick) (same ∙ there) refl (put ∙ found);
   }
 
 -- an event in which nothing arrives
@@ -108,19 +108,19 @@ module _ (brick : ℕ) (log : Log) (lines : LinesState) (are : AreFed log lines)
   arrived_here b line there is =
       let fed : IsFed log brick b line = are.each brick b line there is in
       let by_b : slice_get (texts_of b.journal) line.arrived ≡ slice_get (outputs_by (slice_get lines.bricks brick)) line.arrived
-          = sym (ap (λ (o : Option Journal). slice_get (outputs_by o) line.arrived) there) in
+      = sym (ap (λ (o : Option Journal). slice_get (outputs_by o) line.arrived) there) in
       let by_l : slice_get (outputs_by (slice_get lines.bricks brick)) line.arrived ≡ next_output lines brick
-          = sym (ap (λ (o : Option LineState). slice_get (outputs_by (slice_get lines.bricks brick)) (arrived_by o)) is) in
+      = sym (ap (λ (o : Option LineState). slice_get (outputs_by (slice_get lines.bricks brick)) (arrived_by o)) is) in
       let taken = take_next (texts_of b.journal) line.arrived output (by_b ∙ by_l ∙ next) in
       let one : suc line.arrived ≡ line.arrived + 1 = omega arith in
       let mine : arrival_from brick arrival [] ≡ output ∷ [] = ap (λ (t : Bool). if t then output ∷ [] else []) (eq-eqb brick brick refl) in
       record {
         served = fed.served;
         arrived =
-          ap (λ (l : List (List ℕ)). arrivals_from brick log.events ++ l) mine
-          ∙ ap (λ (l : List (List ℕ)). l ++ output ∷ []) fed.arrived
-          ∙ sym taken.0
-          ∙ ap (λ (n : ℕ). take n (texts_of b.journal)) one;
+            ap (λ (l : List (List ℕ)). arrivals_from brick log.events ++ l) mine
+            ∙ ap (λ (l : List (List ℕ)). l ++ output ∷ []) fed.arrived
+            ∙ sym taken.0
+            ∙ ap (λ (n : ℕ). take n (texts_of b.journal)) one;
         few = omega (arith, taken.1);
       }
 
@@ -154,7 +154,7 @@ module _ (brick : ℕ) (log : Log) (lines : LinesState) (are : AreFed log lines)
       → slice_get (noted_by (slice_get lines.queues brick) brick lines.queues) other ≡ Some line_after → IsFedBefore arrival log other b line_after
   by_brick other true on =
       subst (λ (n : ℕ). (b : Journal) (line_after : LineState) → slice_get lines.bricks n ≡ Some b
-        → slice_get (noted_by (slice_get lines.queues brick) brick lines.queues) n ≡ Some line_after → IsFedBefore arrival log n b line_after)
+      → slice_get (noted_by (slice_get lines.queues brick) brick lines.queues) n ≡ Some line_after → IsFedBefore arrival log n b line_after)
       (eqb-true brick other on) (λ b line_after there found. at_brick b line_after (slice_get lines.queues brick) there refl found)
   by_brick other false off = λ b line_after there found. elsewhere other b line_after (slice_get lines.queues brick) off there found
 
@@ -218,7 +218,7 @@ module _ (brick : ℕ) (log : Log) (lines : LinesState) (are : AreFed log lines)
       → slice_get (with_served lines brick input).queues other ≡ Some line_after → IsFed log other b_after line_after
   by_served other true on =
       subst (λ (n : ℕ). (b_after : Journal) (line_after : LineState) → slice_get (with_served lines brick input).bricks n ≡ Some b_after
-        → slice_get (with_served lines brick input).queues n ≡ Some line_after → IsFed log n b_after line_after)
+      → slice_get (with_served lines brick input).queues n ≡ Some line_after → IsFed log n b_after line_after)
       (eqb-true brick other on) (λ b_after line_after found line. at_served (slice_get lines.bricks brick) (slice_get lines.queues brick) b_after line_after refl refl found line)
   by_served other false off = λ b_after line_after found line. not_served other (slice_get lines.bricks brick) (slice_get lines.queues brick) b_after line_after off found line
 
@@ -233,7 +233,7 @@ module _ (brick : ℕ) (log : Log) (lines : LinesState) (are : AreFed log lines)
 event_feeds : (script : Script) (e : Event) (log : Log) (lines : LinesState) (log_after : Log) (lines_after : LinesState) → AreFed log lines → Happens script e log lines log_after lines_after
     → AreFed log_after lines_after
 event_feeds script (event.Submit session) log lines log_after lines_after are h =
-    nothing_arrives (logged.Submit session h.submission.line.line) log lines log_after lines_after (λ brick. refl) are (record { event = h.submission.event; sent = h.sent; })
+    nothing_arrives (logged.Submit session h.submission.line.line) log lines log_after lines_after (λ brick. refl) are (record { event = h.submission.event; sent = h.sent })
 event_feeds script (event.Arrive brick) log lines log_after lines_after are h = arrival_feeds brick log lines are h.output h.next log_after lines_after h.does
 event_feeds script (event.Serve brick) log lines log_after lines_after are h =
     subst (λ (l : Log). AreFed l lines_after) (sym h.1) (subst (λ (ls : LinesState). AreFed log ls) (sym h.0.after) (serving_feeds brick log lines are h.0.input h.0.next))
@@ -257,7 +257,7 @@ new_journal script plans from (suc many) zero b is = let same : new_brick script
 new_journal script plans from (suc many) (suc brick) b is = new_journal script plans (from + 1) many brick b is
 
 start_fed : (script : Script) (plans : List Plan) (many : ℕ) (log : Log) → log.events ≡ [] → AreFed log (with_sent (new_lines script plans many) log.sent)
-start_fed script plans many log none = record { delivered = refl; each = each; } where
+start_fed script plans many log none = record { delivered = refl; each = each } where
   by_line : (brick : ℕ) (b : Journal) (line : LineState) (o : Option LineState) → slice_get (replicate many empty_line) brick ≡ o → b.journal ≡ []
       → longer_by (inputs_to brick log.sent) o ≡ Some line → IsFed log brick b line
   by_line brick b line None is new found = absurd cc

@@ -69,7 +69,7 @@ module _ (s : SentLine) (queues : List LineState) (brick : ℕ) where
       let same : s.brick ≡ brick = eqb-true s.brick brick on in
       let here : slice_get queues brick ≡ Some line = ap (λ (b : ℕ). slice_get queues b) (sym same) ∙ is in
       let there : slice_get (slice_set queues s.brick (with_inputs one line)) brick ≡ slice_get (slice_set queues s.brick (with_inputs one line)) s.brick
-          = ap (λ (b : ℕ). slice_get (slice_set queues s.brick (with_inputs one line)) b) (sym same) in
+      = ap (λ (b : ℕ). slice_get (slice_set queues s.brick (with_inputs one line)) b) (sym same) in
       let put : slice_get (slice_set queues s.brick (with_inputs one line)) s.brick ≡ Some (with_inputs one line) = get_same queues s.brick line (with_inputs one line) is in
       let back : Some (with_inputs one line) ≡ longer_by one (slice_get queues brick) = sym (ap (longer_by one) here) in
       there ∙ put ∙ back

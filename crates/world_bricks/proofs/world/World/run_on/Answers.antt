@@ -5,11 +5,10 @@ use Rattle.world_bricks.proofs.world.World.run_on.Goals as goal
 pub loop-preserved : goal.loop-preserved
 loop-preserved c =
     let same = c.in_ok-apply.ensures.same in
-    let kept = c.loop.invariant in
-    (
+    let kept = c.loop.invariant in (
       same.0 ∙ kept.0,
       same.1 ∙ kept.1,
       c.in_ok-apply.ensures.goes,
       next_reached c.args.self.now.script c.loop.self.script c.in-Some.event c.args.self.now.log c.args.self.now.lines c.loop.self.log c.loop.self.lines c.apply.new.self.log c.apply.new.self.lines kept.0
-        (c.in_ok-apply.ensures.happens c.if-not-branch.false) kept.3,
+          (c.in_ok-apply.ensures.happens c.if-not-branch.false) kept.3,
     )
