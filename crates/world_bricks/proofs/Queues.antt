@@ -1,4 +1,4 @@
--- The lines of bricks: the first input of one, those of one brick more, and what is sent, line by line.
+-- The lines of bricks: the first input of one, and those of one brick more.
 use Rattle.std.proofs.Common.{◌≡◌, refl, sym, ap, ◌∙◌, arith}
 use Rattle.std.specs.Prelude.{ℕ, suc, ◌<◌, ◌+◌, List, [], ◌∷◌, ◌++◌, length, map, replicate, get_or, nat_lt, slice_get, Option, None, Some, is_some, MatchOption}
 use Rattle.std.specs.List.{range_with_len}
