@@ -19,5 +19,4 @@ pub mod Wired
 pub mod Plans
 pub mod Parking
 pub mod Living
-pub mod PlanLoads
 pub mod Together

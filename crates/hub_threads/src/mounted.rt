@@ -1,4 +1,3 @@
-ghost use Rattle.std.specs.Prelude.{◌≡◌, IfOk, IsErrOf};
 ghost use Rattle.mount_log.specs.Scripts.{IsScript};
 
 use crate::desk::{Desk, Ended};
@@ -143,45 +142,14 @@ fn came_to_end(stop: Option<Stop>, whole: bool) -> Result<(), Stop> {
     }
 }
 
-// What a run has left goes into the rack, unless it ran out of memory.
-fn put_left(
-    ran: Ran,
-    ended: Result<(), Stop>,
-    left: Rack,
-    rack: &mut Rack,
-) -> Result<Ran, Stop>
-    ensures ran { IfOk result (λ r. r ≡ ran) }
-    ensures memory { IsErrOf result Stop.Mem → rack.new ≡ rack.old }
-{
-    match ended {
-        Ok(()) => {
-            drop(mem::replace(rack, left));
-            Ok(ran)
-        }
-        Err(Stop::Winds) => {
-            drop(mem::replace(rack, left));
-            drop(ran);
-            Err(Stop::Winds)
-        }
-        Err(Stop::Mem) => {
-            drop(left);
-            drop(ran);
-            Err(Stop::Mem)
-        }
-    }
-}
-
+// What a run has left goes into the rack.
 fn leave(
     alloc: Global,
     ended: Ended,
     posts: Vec<Post>,
     whole: bool,
     rack: &mut Rack,
-) -> Result<Ran, Stop>
-    requires { IsScript ended.script ended.plans }
-    ensures script { IfOk result (λ ran. IsScript ran.script ran.plans) }
-    ensures memory { IsErrOf result Stop.Mem → rack.new ≡ rack.old }
-{
+) -> Result<Ran, Stop> {
     let Ended {
         script,
         plans,
@@ -190,7 +158,10 @@ fn leave(
     } = ended;
     let ran = Ran { script, plans };
     match bricks_of(alloc, posts) {
-        Ok(bricks) => put_left(ran, came_to_end(stop, whole), Rack { bricks, log }, rack),
+        Ok(bricks) => {
+            drop(mem::replace(rack, Rack { bricks, log }));
+            came_to_end(stop, whole).and(Ok(ran))
+        }
         Err(_) => {
             drop(log);
             drop(ran);
@@ -204,8 +175,7 @@ fn leave(
 /// afterwards.
 ///
 /// # Errors
-/// `Winds` where a further wind was needed and 4,294,967,295 were opened, and the rack is filled; else out of memory, and the
-/// rack is as it was.
+/// `Winds` where a further wind was needed and 4,294,967,295 were opened, and the rack is filled; else out of memory.
 pub fn mount<R: Threads + Wait + Clock + Sync, G: Gate + Sync>(
     rt: &R,
     alloc: Global,
@@ -216,8 +186,6 @@ pub fn mount<R: Threads + Wait + Clock + Sync, G: Gate + Sync>(
     rack: &mut Rack,
 ) -> Result<Ran, Stop>
     requires { IsScript script plans }
-    ensures script { IfOk result (λ ran. IsScript ran.script ran.plans) }
-    ensures memory { IsErrOf result Stop.Mem → rack.new ≡ rack.old }
 {
     match places_of(alloc, &script, plans.as_slice(), workers) {
         Ok(Places { ends, posts }) => {

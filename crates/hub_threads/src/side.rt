@@ -1,15 +1,11 @@
-ghost use Rattle.std.specs.Prelude.{◌≡◌};
-ghost use Rattle.hub_threads.specs.Sides.{ServesAtMostOne};
-
 use crate::gate::Gate;
 use brick_link::BrickEnd;
 use brick_machine::Brick;
 use hub_calls::request_proc;
 use std::alloc::{AllocError, Global};
-use std::marker::Model;
 
 /// A brick with its owner's end of the link. `queued` is how many of the brick's outputs were queued. A side that ran out
-/// of memory is spent: it answers the same again. Contracts see the brick.
+/// of memory is spent: it answers the same again.
 #[derive(Drop)]
 pub struct BrickSide {
     number: u8,
@@ -19,19 +15,9 @@ pub struct BrickSide {
     spent: bool,
 }
 
-impl Model for BrickSide {
-    ghost use Rattle.brick_machine.specs.Journal.{Journal};
-
-    ghost Value = { Journal };
-
-    ghost view = { λ s. s.brick };
-}
-
 impl BrickSide {
     /// A brick that has served nothing, and an end that has sent and received nothing.
-    pub fn new(number: u8, brick: Brick, end: BrickEnd) -> BrickSide
-        ensures { result ≡ brick }
-    {
+    pub fn new(number: u8, brick: Brick, end: BrickEnd) -> BrickSide {
         BrickSide {
             number,
             brick,
@@ -42,10 +28,7 @@ impl BrickSide {
     }
 
     // Receives an input, if there is one, and serves it.
-    #[tactic(auto, using(crate::proofs::Turns::serves_none, crate::proofs::Turns::serves_one))]
-    fn serve_next<G: Gate>(&mut self, alloc: Global, gate: &G) -> Result<bool, AllocError>
-        ensures { ServesAtMostOne self.old self.new }
-    {
+    fn serve_next<G: Gate>(&mut self, alloc: Global, gate: &G) -> Result<bool, AllocError> {
         let Some(input) = self.end.try_recv() else {
             return Ok(false);
         };
@@ -57,9 +40,7 @@ impl BrickSide {
     }
 
     // Queues the outputs that the brick has made.
-    fn queue_outputs(&mut self, alloc: Global) -> Result<(), AllocError>
-        ensures { self.new ≡ self.old }
-    {
+    fn queue_outputs(&mut self, alloc: Global) -> Result<(), AllocError> {
         let outputs = self.brick.outputs();
         for at in self.queued..outputs.len() {
             let bytes = outputs[at].clone()?;
@@ -69,9 +50,7 @@ impl BrickSide {
         Ok(())
     }
 
-    fn go_on<G: Gate>(&mut self, alloc: Global, gate: &G) -> Result<bool, AllocError>
-        ensures { ServesAtMostOne self.old self.new }
-    {
+    fn go_on<G: Gate>(&mut self, alloc: Global, gate: &G) -> Result<bool, AllocError> {
         let served = self.serve_next(alloc, gate)?;
         self.queue_outputs(alloc)?;
         let sent = self.end.try_send();
@@ -83,10 +62,7 @@ impl BrickSide {
     ///
     /// # Errors
     /// Out of memory.
-    #[tactic(auto, using(crate::proofs::Turns::serves_none))]
-    pub fn turn<G: Gate>(&mut self, alloc: Global, gate: &G) -> Result<bool, AllocError>
-        ensures { ServesAtMostOne self.old self.new }
-    {
+    pub fn turn<G: Gate>(&mut self, alloc: Global, gate: &G) -> Result<bool, AllocError> {
         if self.spent {
             return Err(AllocError);
         }
@@ -95,9 +71,7 @@ impl BrickSide {
         went
     }
 
-    pub fn into_brick(self) -> Brick
-        ensures { result ≡ self }
-    {
+    pub fn into_brick(self) -> Brick {
         let BrickSide { brick, end, .. } = self;
         drop(end);
         brick

@@ -1,10 +1,10 @@
 -- One event more behind others.
-use Rattle.std.proofs.Common.{◌≡◌, refl, sym, subst}
+use Rattle.std.proofs.Common.{◌≡◌, refl, subst}
 use Rattle.std.specs.Prelude.{List, [], ◌∷◌, ◌++◌}
 use Rattle.mount_log.specs.declared.logs.Log.{Log}
 use Rattle.script_lang.specs.declared.scripts.Script.{Script}
 use Rattle.world_bricks.specs.Lines.{LinesState}
-use Rattle.world_bricks.specs.Worlds.{Happens, HappensThen, HappenInTurn, IsReached}
+use Rattle.world_bricks.specs.Worlds.{Happens, HappenInTurn, IsReached}
 use Rattle.world_bricks.specs.declared.events.Event.{Event}
 
 module _ (script : Script) (e : Event) (log_mid : Log) (lines_mid : LinesState) (log_after : Log) (lines_after : LinesState) (h : Happens script e log_mid lines_mid log_after lines_after) where
@@ -24,9 +24,6 @@ module _ (script : Script) (e : Event) (log_mid : Log) (lines_mid : LinesState) 
 
   pub one_more : (log : Log) (lines : LinesState) → IsReached script log lines log_mid lines_mid → IsReached script log lines log_after lines_after
   one_more log lines reached = record { events = reached.events ++ e ∷ []; happen = behind reached.events log lines reached.happen }
-
-pub reached_itself : (script : Script) (log : Log) (lines : LinesState) → IsReached script log lines log lines
-reached_itself script log lines = record { events = []; happen = (refl, refl) }
 
 -- one event more, by the script of the world in which it happens
 pub next_reached : (script script_mid : Script) (e : Event) (log : Log) (lines : LinesState) (log_mid : Log) (lines_mid : LinesState) (log_after : Log) (lines_after : LinesState)

@@ -1,6 +1,6 @@
--- The lines of bricks: the first input of one, those of one brick more, and what is sent, line by line.
+-- The lines of bricks: the first input of one, and those of one brick more.
 use Rattle.std.proofs.Common.{◌≡◌, refl, sym, ap, ◌∙◌, arith}
-use Rattle.std.specs.Prelude.{ℕ, zero, suc, ◌<◌, ◌+◌, ◌&&◌, Bool, true, false, List, [], ◌∷◌, ◌++◌, length, map, replicate, get_or, nat_lt, slice_get, Option, None, Some, is_some, MatchOption}
+use Rattle.std.specs.Prelude.{ℕ, suc, ◌<◌, ◌+◌, List, [], ◌∷◌, ◌++◌, length, map, replicate, get_or, nat_lt, slice_get, Option, None, Some, is_some, MatchOption}
 use Rattle.std.specs.List.{range_with_len}
 use Rattle.std.proofs.Math.Nat.{zero-add}
 use Rattle.std.proofs.lemmas.Bool.{lt-ltb}
@@ -9,7 +9,7 @@ use Rattle.std.proofs.lemmas.List.FromFn.{map-range_with_len_more}
 use Rattle.graph_build.specs.declared.plans.Plan.{Plan}
 use Rattle.script_lang.specs.declared.scripts.Script.{Script}
 use Rattle.brick_machine.specs.Journal.{Journal}
-use Rattle.world_bricks.specs.Lines.{LineState, LinesState, empty_line, new_brick, new_lines, next_input, may_serve}
+use Rattle.world_bricks.specs.Lines.{LineState, LinesState, empty_line, new_brick, new_lines}
 
 pub first_of : {X : Type 0} (old : List X) (r : Option X) (n m : ℕ) → n ≡ length old → MatchOption r ((n ≡ 0) × (m ≡ 0)) (λ _. m + 1 ≡ n) → ((d : X) → 0 < n → r ≡ Some (get_or old 0 d)) → r ≡ slice_get old 0
 first_of [] None n m long cases value = refl
@@ -45,14 +45,3 @@ next_brick script plans n old new b were is put =
     let named : new ≡ with_brick old (new_brick script plans n) = put ∙ ap (with_brick old) is in
     let grown : new ≡ with_brick (new_lines script plans n) (new_brick script plans n) = named ∙ ap (λ (l : LinesState). with_brick l (new_brick script plans n)) were in
     grown ∙ new_more script plans n
-
--- ---- inputs that are served
-
-absent : {X : Type 0} (there : Bool) (o : Option X) → (there && is_some o) ≡ true → o ≡ None → ⊥
-absent there (Some x) may none = absurd cc
-absent true None may none = absurd cc
-absent false None may none = absurd cc
-
--- a brick that may serve has an input
-pub has_next : (lines : LinesState) (brick : ℕ) → may_serve lines brick ≡ true → next_input lines brick ≡ None → ⊥
-has_next lines brick may none = absent (is_some (slice_get lines.bricks brick)) (next_input lines brick) may none

@@ -1,6 +1,6 @@
 //! The lines of all bricks.
 ghost use Rattle.std.specs.Prelude.{◌≡◌, ◌<◌, ◌-◌, ◌^◌, ◌∷◌, ◌++◌, [], ◌≤◌, true, false, length, is_some, slice_get, IfOk, OnOk, OnErr, MatchOption};
-ghost use Rattle.world_bricks.specs.Lines.{empty_line, new_lines, put_by, with_sent, next_input, may_serve, shortened_by, served_by, with_served, outputs_by, arrived_of, next_output, with_arrival};
+ghost use Rattle.world_bricks.specs.Lines.{empty_line, new_lines, put_by, with_sent, next_input, may_serve, shortened_by, served_by, outputs_by, arrived_of, next_output, with_arrival};
 ghost use Rattle.world_bricks.specs.Worlds.{Serves};
 
 use crate::line::Line;
