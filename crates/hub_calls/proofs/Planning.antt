@@ -111,10 +111,10 @@ left_submitted script old new left after stop session line at are goes takes add
 
 pub adds_submission : (script : Script) (old new : Log) (on : PlannedScript) (stop : Option Stop) (session number : ℕ) (at : LineAt) → MatchOption stop (AreLeft on.script old.events on.left) (λ _. Unit {0}) → stop ≡ None
     → on.script ≡ script → IsNext on session at number → AddsEvent old new (logged.Submit session number) → AddsSubmission script old new session
-adds_submission script old new on stop session number at are goes same next adds = record {
-  line = next.line;
-  next = ap (line_by script) place ∙ ap (λ (s : Script). line_of s at) (sym same) ∙ next.there;
-  event = subst (λ (n : ℕ). AddsEvent old new (logged.Submit session n)) (sym next.numbered) adds;
+adds_submission script old new on stop session number at are goes same is adds = record {
+  line = is.line;
+  next = ap (line_by script) place ∙ ap (λ (s : Script). line_of s at) (sym same) ∙ is.there;
+  event = subst (λ (n : ℕ). AddsEvent old new (logged.Submit session n)) (sym is.numbered) adds;
 }
   where
     places : List LineAt
@@ -124,4 +124,4 @@ adds_submission script old new on stop session number at are goes same next adds
     now = left_now on.script old.events on.left stop are goes session ∙ ap (λ (s : Script). drop (submits_of session old.events) (places_from session 0 s.phases)) same
 
     place : slice_get places (submits_of session old.events) ≡ Some at
-    place = sym (get_first (submits_of session old.events) places) ∙ ap (λ (queue : List LineAt). slice_get queue 0) (sym now) ∙ next.first
+    place = sym (get_first (submits_of session old.events) places) ∙ ap (λ (queue : List LineAt). slice_get queue 0) (sym now) ∙ is.first
