@@ -34,7 +34,7 @@ pub struct Hub {
 }
 
 impl Model for Hub {
-    ghost use Rattle.std.specs.Prelude.{MatchOption, Unit};
+    ghost use Rattle.std.specs.Prelude.{MatchOption};
     ghost use Rattle.hub_calls.specs.Hubs.{HubState};
     ghost use Rattle.hub_calls.specs.Plans.{AreLeft};
 
