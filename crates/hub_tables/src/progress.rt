@@ -10,7 +10,7 @@ use std::marker::Model;
 
 /// How far the sessions are: the current phase, which is the number of phases after the last one; the sessions that may
 /// submit, which have no unanswered call and a line in the phase; and how many calls of the phase have no reply.
-#[derive(Clone, Copy)]
+#[derive(Drop)]
 pub struct Progress {
     phase: u32,
     ready: SmallSet,
