@@ -6,9 +6,10 @@ ghost use Rattle.history_replay.specs.code.Runs.{index_by, IsReplyFound, IsEntry
 use crate::filled::filled;
 use crate::findings::Findings;
 use crate::reading::{index_at, reply_index};
-use crate::trace::{Replied, Submitted, Trace};
+use crate::trace::{Replied, Trace};
 use fop_types::{Call, Entry, Seq};
 use std::alloc::{AllocError, Global};
+use submitted_calls::Submitted;
 
 fn last_part_number(call: &Call) -> u8
     ensures { result ≡ last_part_number_of call.now }

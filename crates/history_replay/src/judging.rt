@@ -13,12 +13,13 @@ use crate::lawful::is_borne;
 use crate::lines::{Named, are_the_lines, submissions};
 use crate::reading::number;
 use crate::shown::{answer_shown, is_silent, shows_list};
-use crate::trace::{Replied, Submitted, Trace};
+use crate::trace::{Replied, Trace};
 use fop_types::{Answer, Call, Entry, Path, Seq};
 use report_text::{Report, ReportCall};
 use script_lang::{CallLine, Script};
 use std::alloc::{AllocError, Global};
 use std::mem;
+use submitted_calls::Submitted;
 
 /// What a judge says: the report is lawful; or the number of the first entry that is no change of the flat file system; or,
 /// where all are, that of the first call that is not answered as it answers.

@@ -77,7 +77,7 @@ impl Known {
         }
     }
 
-    /// Keeps what the lookups of the call led to, and passes it.
+    /// Keeps the last operation of the call, by what its lookups led to, and passes the call in its session.
     ///
     /// # Errors
     /// Out of memory.

@@ -47,4 +47,4 @@ mod visits;
 
 pub use judging::{Verdict, judge};
 pub use lawful::lawful_ops;
-pub use trace::{Replied, Submitted, Trace};
+pub use trace::{Replied, Trace};

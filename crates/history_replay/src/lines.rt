@@ -4,11 +4,11 @@ ghost use Rattle.history_replay.specs.Reports.{IsCallOf, AreCallsOf, AreInPhases
 
 use crate::lookups::behind;
 use crate::same::{same_bytes, same_line};
-use crate::trace::Submitted;
 use report_text::ReportCall;
 use script_lang::{CallLine, Phase, Script};
 use std::alloc::{AllocError, Global};
 use std::marker::Model;
+use submitted_calls::Submitted;
 
 /// The line of a call.
 #[derive(Drop)]

@@ -12,11 +12,12 @@ use crate::findings::Findings;
 use crate::lookups::lookups;
 use crate::places::are_between;
 use crate::reading::{answer_at, found_at, index_at, number_at, places_at, reply_index};
-use crate::trace::{Replied, Submitted, Trace};
+use crate::trace::{Replied, Trace};
 use flat_fs::Fds;
 use fop_types::{Call, Gfid, Seq};
 use std::alloc::{AllocError, Global};
 use std::mem;
+use submitted_calls::Submitted;
 
 /// How far the calls of a trace are: the descriptors of each session; the number of replies that are not behind those of the
 /// session's calls; how many objects the calls asked for; and the claims.

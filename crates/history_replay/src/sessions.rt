@@ -1,10 +1,10 @@
 //! The sessions of a walk over the history.
 use crate::cases::AnswerAt;
-use crate::trace::Submitted;
 use crate::turns::Turns;
 use flat_fs::Fds;
 use fop_types::{Call, Gfid};
 use std::alloc::{AllocError, Global};
+use submitted_calls::Submitted;
 
 /// A session: the turns of its calls, and its descriptors.
 #[derive(Drop)]

@@ -1,23 +1,9 @@
 //! What is judged: calls, replies and a history.
 ghost use Rattle.std.specs.Prelude.{◌≡◌};
 
-use fop_types::{Answer, Call, Entry};
+use fop_types::{Answer, Entry};
 use std::marker::Model;
-
-/// A call of a session, as it was submitted. Contracts see it as a submission.
-#[derive(Drop)]
-pub struct Submitted<'a> {
-    pub session: u8,
-    pub call: &'a Call,
-}
-
-impl<'a> Model for Submitted<'a> {
-    ghost use Rattle.fop_types.specs.Calls.{Submission};
-
-    ghost Value = { Submission };
-
-    ghost view = { λ s. record { session = s.session; call = s.call.now } };
-}
+use submitted_calls::Submitted;
 
 /// A reply: the number of its call, from 1; a place for each of the call's file operations that was answered by something
 /// else than an I/O error; and the answer.

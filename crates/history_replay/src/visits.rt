@@ -6,11 +6,12 @@ use crate::looking::{list, look};
 use crate::progress::makes;
 use crate::reading::number_at;
 use crate::sessions::Session;
-use crate::trace::{Submitted, Trace};
+use crate::trace::Trace;
 use flat_fs::FlatFs;
 use fop_types::Answer;
 use std::alloc::{AllocError, Global};
 use std::mem;
+use submitted_calls::Submitted;
 
 /// What is known of each call; the answers of those that list a directory; the calls whose rename was not yet possible, and
 /// whose part 1 is in the history; and the files.
@@ -113,7 +114,7 @@ impl Visits {
         }
     }
 
-    // Keeps what the lookups of a call led to, and passes it.
+    // Keeps what the lookups of a call led to, and passes the call in its session.
     fn settle(
         &mut self,
         alloc: Global,

@@ -27,7 +27,7 @@ pub record HubState : Type 0 where
 abbrev pub StaysStopped : {S R : Type 0} → Option Stop → S → S → Result R Stop → Type 0
 StaysStopped stop old new result = (s : Stop) → stop ≡ Some s → (result ≡ Err s) × (new ≡ old)
 
--- whether an action is of one of so many bricks, and a fault of a request that may fail
+-- whether an action is of one of so many bricks, and, if it is a fault, of a request that may fail
 abbrev pub is_of_brick : ℕ → Action → Bool
 is_of_brick many (action.Down brick serve) = nat_lt brick many
 is_of_brick many (action.Up brick) = nat_lt brick many

@@ -11,7 +11,7 @@ use script_lang::{Action, Script};
 use std::alloc::{AllocError, Global};
 use xlator_law::Stop;
 
-/// Whether an action is of one of the script's bricks, and a fault of a request that may fail.
+/// Whether an action is of one of the script's bricks, and, if it is a fault, of a request that may fail.
 pub(crate) fn is_of_brick(script: &Script, action: Action) -> bool
     ensures { result ≡ of_brick (length script.now.bricks) action }
 {

@@ -4,7 +4,7 @@ ghost use Rattle.std.specs.Prelude.{◌≡◌, ◌≤◌};
 use std::thread;
 use std::time::{Clock, Duration};
 
-// So often in a row a thread that finds nothing looks again at once.
+// So often in a row a thread that finds nothing looks again without a nap.
 const LOOKS: u32 = 64;
 
 // How much longer each nap is than the one before it, and how long the longest is, in microseconds.

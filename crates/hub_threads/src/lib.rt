@@ -12,7 +12,7 @@
 //! A turn under the lock is one event: an arrival, a submission, a task or a control. An owner serves one input at a
 //! time, and takes no lock for it. Threads go on until the log is finished, one of them runs out of memory, or the hub
 //! needs a wind too many. Where threads ended before the log was finished, the caller goes on by itself.
-//! A thread that finds nothing to do looks again; from the 65th time in a row on it naps before, up to a millisecond.
+//! A thread that finds nothing to do looks again; from the 65th time in a row on it naps first, up to a millisecond.
 #![tactic(auto)]
 
 mod desk;

@@ -1,3 +1,4 @@
+ghost use Rattle.std.specs.Prelude.{◌≡◌, IfOk, IsErrOf};
 ghost use Rattle.mount_log.specs.Scripts.{IsScript};
 
 use crate::desk::{Desk, Ended};
@@ -142,14 +143,45 @@ fn came_to_end(stop: Option<Stop>, whole: bool) -> Result<(), Stop> {
     }
 }
 
-// What a run has left goes into the rack.
+// What a run has left goes into the rack, unless it ran out of memory.
+fn put_left(
+    ran: Ran,
+    ended: Result<(), Stop>,
+    left: Rack,
+    rack: &mut Rack,
+) -> Result<Ran, Stop>
+    ensures ran { IfOk result (λ r. r ≡ ran) }
+    ensures memory { IsErrOf result Stop.Mem → rack.new ≡ rack.old }
+{
+    match ended {
+        Ok(()) => {
+            drop(mem::replace(rack, left));
+            Ok(ran)
+        }
+        Err(Stop::Winds) => {
+            drop(mem::replace(rack, left));
+            drop(ran);
+            Err(Stop::Winds)
+        }
+        Err(Stop::Mem) => {
+            drop(left);
+            drop(ran);
+            Err(Stop::Mem)
+        }
+    }
+}
+
 fn leave(
     alloc: Global,
     ended: Ended,
     posts: Vec<Post>,
     whole: bool,
     rack: &mut Rack,
-) -> Result<Ran, Stop> {
+) -> Result<Ran, Stop>
+    requires { IsScript ended.script ended.plans }
+    ensures script { IfOk result (λ ran. IsScript ran.script ran.plans) }
+    ensures memory { IsErrOf result Stop.Mem → rack.new ≡ rack.old }
+{
     let Ended {
         script,
         plans,
@@ -158,10 +190,7 @@ fn leave(
     } = ended;
     let ran = Ran { script, plans };
     match bricks_of(alloc, posts) {
-        Ok(bricks) => {
-            drop(mem::replace(rack, Rack { bricks, log }));
-            came_to_end(stop, whole).and(Ok(ran))
-        }
+        Ok(bricks) => put_left(ran, came_to_end(stop, whole), Rack { bricks, log }, rack),
         Err(_) => {
             drop(log);
             drop(ran);
@@ -175,7 +204,8 @@ fn leave(
 /// afterwards.
 ///
 /// # Errors
-/// `Winds` where a further wind was needed and 4,294,967,295 were opened, and the rack is filled; else out of memory.
+/// `Winds` where a further wind was needed and 4,294,967,295 were opened, and the rack is filled; else out of memory, and the
+/// rack is as it was.
 pub fn mount<R: Threads + Wait + Clock + Sync, G: Gate + Sync>(
     rt: &R,
     alloc: Global,
@@ -186,6 +216,8 @@ pub fn mount<R: Threads + Wait + Clock + Sync, G: Gate + Sync>(
     rack: &mut Rack,
 ) -> Result<Ran, Stop>
     requires { IsScript script plans }
+    ensures script { IfOk result (λ ran. IsScript ran.script ran.plans) }
+    ensures memory { IsErrOf result Stop.Mem → rack.new ≡ rack.old }
 {
     match places_of(alloc, &script, plans.as_slice(), workers) {
         Ok(Places { ends, posts }) => {

@@ -13,7 +13,8 @@ use Rattle.mount_log.specs.declared.logs.HubEvent.{HubEvent}
 use Rattle.mount_log.specs.declared.logs.HubEvent.TheVariants as logged
 use Rattle.mount_log.specs.declared.logs.Log.{Log}
 use Rattle.history_replay.specs.Traces.{Trace, of_call, IsLawfulWith}
-use Rattle.log_replay.specs.Events.{submit_events, HasReplyEvents}
+use Rattle.log_calls.specs.Events.{submit_events}
+use Rattle.log_replay.specs.Events.{HasReplyEvents}
 use Rattle.log_replay.specs.Judged.{IsOneFileSystem}
 use Rattle.log_replay.specs.Lengths.{trace_of, HasLengths}
 

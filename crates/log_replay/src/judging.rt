@@ -6,14 +6,15 @@ ghost use Rattle.log_replay.specs.Judged.{IsOneFileSystem};
 ghost use Rattle.log_replay.specs.Lengths.{trace_of, HasLengths};
 ghost use Rattle.log_replay.specs.Events.{AreRising};
 
-use crate::calls::calls_in;
 use crate::lengths::{are_rising, lengths_at};
 use crate::replies::{replies_in, reply_events};
 use fop_types::{FlatOp, Seq};
-use history_replay::{Submitted, Trace, lawful_ops};
+use history_replay::{Trace, lawful_ops};
+use log_calls::calls_in;
 use mount_log::Log;
 use script_lang::Script;
 use std::alloc::{AllocError, Global};
+use submitted_calls::Submitted;
 
 // The lengths of the history at the submission and at the reply of each call.
 #[derive(Drop)]

@@ -2,20 +2,16 @@
 //! of its one history.
 //!
 //! ```text
-//!   calls      the calls of the log, and the events that submit them
+//!   log_calls  the calls of the log, and the events that submit them
 //!   replies    the replies, and the event of each call's reply
 //!   lengths    how long the history was at each of these events
 //!     |
 //!   history_replay::lawful_ops
 //! ```
-//!
-//! [`calls_in`] gives other audits the calls of a log.
 #![tactic(auto)]
 
-mod calls;
 mod judging;
 mod lengths;
 mod replies;
 
-pub use calls::{Calls, calls_in};
 pub use judging::one_file_system;

@@ -1,7 +1,8 @@
--- How the replies, winds and requests of a log are tied to its events: numbers of events rise; a reply is to the call that its session submitted by
--- its line, and comes as a wind of that call ends, or at once; a wind is of a graph that was made by then, that of a call of
--- the call's graph, and ends before the call's reply; each request was sent for a wind that was opened in its event, each wind having at most one request and
--- one open before it; and such a wind ends by what arrives from the brick, or with its connection.
+-- How the replies, winds and requests of a log are tied to its events: numbers of events rise; a reply is to the call that its
+-- session submitted by its line, and comes as a wind of that call ends, or at once; a wind is of a graph that was made by then,
+-- that of a call of the call's graph, and ends before the call's reply; each request was sent for a wind that was opened in its
+-- event, each wind having at most one request and one open before it; and such a wind ends by what arrives from the brick, or with
+-- its connection.
 use Rattle.std.specs.Prelude.{◌≡◌, ◌≢◌, ℕ, ◌+◌, ◌≤◌, nat_le, ◌&&◌, ◌⊎◌, Bool, true, false, List, [], ◌∷◌, Some, length, map, slice_get, take}
 use Rattle.fop_types.specs.declared.answers.Answer.TheVariants.{Io}
 use Rattle.fop_types.specs.declared.answers.IoError.{IoError}

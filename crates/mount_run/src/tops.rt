@@ -25,9 +25,9 @@ use xl_base::{Sink, Source};
 /// written; 1 the script is refused and its one fault line was written; 2 the words are no command, and nothing was read or
 /// written; 3 the source failed, and nothing was written; 4 the sink failed, and a prefix of the text was written; 5 out of
 /// memory, and nothing was written; 6 a replay judged the report unlawful, and the line that says so was written, or what a run
-/// left failed an audit, and nothing was written (of `gen` also where the generated text is too long, or is refused); 7 the run needed a further wind where 4,294,967,295 were opened, and nothing
-/// was written. The rack must be empty; after a run, and where it
-/// needed a wind too many, it holds the bricks and the log of the run, and else it is empty still.
+/// left failed an audit, and nothing was written (of `gen` also where the generated text is too long, or is refused); 7 the run
+/// needed a further wind where 4,294,967,295 were opened, and nothing was written. The rack must be empty; after a run, and where
+/// it needed a wind too many, it holds the bricks and the log of the run, and else it is empty still.
 pub fn top<S: Source, K: Sink>(
     alloc: Global,
     words: &[String],

@@ -8,6 +8,7 @@ use Rattle.fop_types.specs.Cells.{meta_cell, names_cell}
 use Rattle.fop_types.specs.declared.cells.Cell.{Cell}
 use Rattle.fop_types.specs.declared.cells.Gfid.{Gfid}
 use Rattle.fop_types.specs.declared.contents.Content.{Content as Held}
+use Rattle.fop_types.specs.declared.contents.Content.TheVariants.{Meta}
 use Rattle.fop_types.specs.declared.contents.Item.{Item}
 use Rattle.fop_types.specs.declared.fops.Object.{Object}
 use Rattle.graph_build.specs.declared.plans.Plan.{Plan}
@@ -62,8 +63,8 @@ module _ (script : Script) (plans : List Plan) (log : Log) (bricks : List Journa
     attrs = has.attrs;
     span = has.span;
     meta =
-        subst (λ (s : ℕ). IsFetched script plans log bricks call number s (meta_cell object.gfid) _) set_is
-        (shown script plans log bricks call number set cell (meta_cell object.gfid) content _ cell_is has.is
+        subst (λ (s : ℕ). IsFetched script plans log bricks call number s (meta_cell object.gfid) (Meta has.mode has.attrs has.span)) set_is
+        (shown script plans log bricks call number set cell (meta_cell object.gfid) content (Meta has.mode has.attrs has.span) cell_is has.is
         (subst (λ (f : Option Held). IfSome f (λ c. IsFetched script plans log bricks call number set cell c)) is fetched));
     none = has.none;
   }

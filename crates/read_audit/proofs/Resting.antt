@@ -18,7 +18,7 @@ use Rattle.brick_machine.specs.Journal.{Journal}
 use Rattle.mount_log.proofs.Items.{some_is}
 use Rattle.mount_log.specs.Submissions.{submissions_of}
 use Rattle.mount_log.specs.declared.logs.Log.{Log}
-use Rattle.log_audit.proofs.Lists.{each_push}
+use Rattle.mount_log.proofs.Lists.{each_push}
 use Rattle.change_audit.proofs.Marking.{mark_first, none_well}
 use Rattle.change_audit.specs.Acknowledged.{mark_of, AreMarked}
 use Rattle.call_fops.specs.Walks.{second_path}

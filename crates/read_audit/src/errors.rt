@@ -14,9 +14,9 @@ use crate::runs::Run;
 use crate::submissions::made_at;
 use call_fops::{first_path, second_path};
 use fop_types::{Answer, AppError, Call, Path, Seq};
-use history_replay::Submitted;
 use mount_log::ReplyLine;
 use std::alloc::{AllocError, Global};
+use submitted_calls::Submitted;
 
 // ---- the paths of a call
 

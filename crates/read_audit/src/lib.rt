@@ -4,7 +4,7 @@
 //! calls that were answered well take names, as they had read them, if their changes work on what their paths lead to.
 //!
 //! ```text
-//!   replies    call 7 was answered Bytes        its call, by log_replay::calls_in; its graph, by change_audit::call_graphs
+//!   replies    call 7 was answered Bytes        its call, by log_calls::calls_in; its graph, by change_audit::call_graphs
 //!
 //!   events     brick 0 grants Lock(7, cells)  ..  brick 2 grants Lock(7, cells)  ..  brick 2 answers Fetch(cell) by a content
 //!              a quorum of the bricks of one set, each for just these cells           a brick of them, for a wind of the call

@@ -92,7 +92,10 @@ fn is_not_shown(
         .found
         .fetches_of(alloc, by.call, by.number, names_cell(dir))?;
     for at in &fetches {
-        if has_member(plan, at.source) && is_not_by(alloc, run, by, dir, name, set, *at)? {
+        if !has_member(plan, at.source) {
+            continue;
+        }
+        if is_not_by(alloc, run, by, dir, name, set, *at)? {
             return Ok(true);
         }
     }

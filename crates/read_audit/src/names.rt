@@ -19,12 +19,12 @@ use brick_machine::Brick;
 use change_audit::call_graphs::call_graphs;
 use fop_types::Answer;
 use graph_build::Plan;
-use history_replay::Submitted;
-use log_replay::calls_in;
+use log_calls::calls_in;
 use mount_log::heads::Head;
 use mount_log::{Log, ReplyLine};
 use script_lang::Script;
 use std::alloc::{AllocError, Global};
+use submitted_calls::Submitted;
 
 // Whether an answer is no error.
 fn is_ok(answer: &Answer) -> bool

@@ -3,10 +3,10 @@
 
 use crate::submissions::made_at;
 use fop_types::{Answer, Call};
-use history_replay::Submitted;
 use mount_log::ReplyLine;
 use std::alloc::{AllocError, Global};
 use std::collections::BTreeMap;
+use submitted_calls::Submitted;
 
 // A descriptor of a session.
 #[derive(Clone, Copy, PartialEq, Eq, PartialOrd, Ord)]

@@ -15,12 +15,12 @@ use crate::submissions::made_at;
 use brick_machine::Brick;
 use change_audit::call_graphs::call_graphs;
 use graph_build::Plan;
-use history_replay::Submitted;
-use log_replay::calls_in;
+use log_calls::calls_in;
 use mount_log::heads::Head;
 use mount_log::{Log, ReplyLine};
 use script_lang::Script;
 use std::alloc::{AllocError, Global};
+use submitted_calls::Submitted;
 
 // Whether the answer of a reply to a call was read from bricks.
 fn is_reply_read(

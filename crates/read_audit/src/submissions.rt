@@ -2,7 +2,7 @@
 ghost use Rattle.std.specs.Prelude.{◌≡◌, option_copied};
 ghost use Rattle.fop_types.specs.Calls.{call_numbered};
 
-use history_replay::Submitted;
+use submitted_calls::Submitted;
 
 /// The call of a number, from 1; `None` for 0, and where there are fewer calls.
 pub(crate) fn made_at<'a, 'b>(calls: &'a [Submitted<'b>], number: u32) -> Option<&'a Submitted<'b>>

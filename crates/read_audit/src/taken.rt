@@ -20,12 +20,12 @@ use change_audit::call_graphs::call_graphs;
 use change_audit::history::{entry_at, op_at};
 use fop_types::{Call, FlatOp, Gfid, Seq};
 use graph_build::Plan;
-use history_replay::Submitted;
-use log_audit::heads::Head;
-use log_replay::calls_in;
+use log_calls::calls_in;
+use mount_log::heads::Head;
 use mount_log::Log;
 use script_lang::Script;
 use std::alloc::{AllocError, Global};
+use submitted_calls::Submitted;
 
 /// The set from which a change takes a name, if it takes one.
 #[derive(Clone, Copy)]

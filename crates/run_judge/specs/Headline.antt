@@ -1,6 +1,7 @@
 -- The headline: for every script, the replies written are those of one plain file system at the written places of one
 -- written history that holds each acknowledged change once; what a stat, a getattr, a list, or a read without an io-cache shows was
--- read from bricks; an I/O error is written only with its cause, a copy only where it was made; and every wind is ended once.
+-- read from bricks, and so were the names on which changes rest, and what errors rest on; an I/O error is written only with its
+-- cause, a copy only where it was made; and every wind is ended once.
 use Rattle.std.specs.Prelude.{◌≡◌, ℕ, List, Option, Ok, length}
 use Rattle.fop_types.specs.declared.flat.FlatOp.{FlatOp}
 use Rattle.graph_build.specs.declared.plans.Plan.{Plan}

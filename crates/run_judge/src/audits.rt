@@ -183,7 +183,8 @@ fn are_read(
     Ok(yes)
 }
 
-// Whether what arrived from the bricks is what they make of what was sent, and what answers show was read from them.
+// Whether what arrived from the bricks is what they make of what was sent; and whether what answers show, names, and what errors
+// rest on were read from them.
 fn is_from_bricks(
     alloc: Global,
     script: &Script,

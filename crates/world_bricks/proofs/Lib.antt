@@ -1,1 +1,6 @@
 pub mod Chosen
+pub mod Queues
+pub mod Chains
+pub mod Places
+pub mod Sent
+pub mod Feeding

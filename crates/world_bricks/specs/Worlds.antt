@@ -1,10 +1,86 @@
--- What contracts see of a world: its script with the plans, and why it has stopped.
-use Rattle.std.specs.Prelude.{List, Option}
+-- What contracts see of a world: its script with the plans, the log, the bricks with their lines, and why it has stopped; and
+-- what each event makes of log and lines. Ours.
+use Rattle.std.specs.Prelude.{◌≡◌, ℕ, Bool, true, false, ◌&&◌, List, [], ◌∷◌, length, is_some, Option, Some}
 use Rattle.graph_build.specs.declared.plans.Plan.{Plan}
+use Rattle.script_lang.specs.StatementText.{is_great_action}
 use Rattle.script_lang.specs.declared.scripts.Script.{Script}
 use Rattle.xlator_law.specs.declared.winds.Stop.{Stop}
+use Rattle.mount_log.specs.declared.logs.HubEvent.{HubEvent}
+use Rattle.mount_log.specs.declared.logs.HubEvent.TheVariants as logged
+use Rattle.mount_log.specs.declared.logs.Log.{Log}
+use Rattle.hub_tables.specs.Arming.{is_armable}
+use Rattle.hub_calls.specs.Hubs.{AddsEvent, AddsSubmission, is_of_brick}
+use Rattle.world_bricks.specs.Lines.{LinesState, with_sent, next_input, may_serve, with_served, next_output, with_arrival}
+use Rattle.world_bricks.specs.declared.events.Event.{Event}
+use Rattle.world_bricks.specs.declared.events.Event.TheVariants as event
 
 pub record WorldState : Type 0 where
   pub script : Script
   pub plans : List Plan
+  pub log : Log
+  pub lines : LinesState
   pub stop : Option Stop
+
+-- ---- events
+
+-- an event of the hub: the log has it more, with its lines, and what was sent has gone into the bricks' lines
+pub record HubDoes (e : HubEvent) (log : Log) (lines : LinesState) (log_after : Log) (lines_after : LinesState) : Type 0 where
+  pub event : AddsEvent log log_after e
+  pub sent : lines_after ≡ with_sent lines log_after.sent
+
+-- a session submits a line of the script
+pub record Submits (script : Script) (session : ℕ) (log : Log) (lines : LinesState) (log_after : Log) (lines_after : LinesState) : Type 0 where
+  pub submission : AddsSubmission script log log_after session
+  pub sent : lines_after ≡ with_sent lines log_after.sent
+
+-- the next output of a brick arrives
+pub record Arrives (brick : ℕ) (log : Log) (lines : LinesState) (log_after : Log) (lines_after : LinesState) : Type 0 where
+  pub output : List ℕ
+  pub next : next_output lines brick ≡ Some output
+  pub does : HubDoes (logged.Arrive brick output) log (with_arrival lines brick) log_after lines_after
+
+-- a brick serves its next input; the hub has no part in it
+pub record Serves (brick : ℕ) (lines lines_after : LinesState) : Type 0 where
+  pub input : List ℕ
+  pub next : next_input lines brick ≡ Some input
+  pub there : may_serve lines brick ≡ true
+  pub after : lines_after ≡ with_served lines brick input
+
+-- what an event makes of the log and of the bricks with their lines
+abbrev pub Happens : Script → Event → Log → LinesState → Log → LinesState → Type 0
+Happens script (event.Submit session) log lines log_after lines_after = Submits script session log lines log_after lines_after
+Happens script (event.Arrive brick) log lines log_after lines_after = Arrives brick log lines log_after lines_after
+Happens script (event.Serve brick) log lines log_after lines_after = Serves brick lines lines_after × (log_after ≡ log)
+Happens script (event.Run graph task) log lines log_after lines_after = HubDoes (logged.Run graph task) log lines log_after lines_after
+Happens script (event.Act action) log lines log_after lines_after = HubDoes (logged.Act action) log lines log_after lines_after
+Happens script (event.Arm brick p count action) log lines log_after lines_after = HubDoes (logged.Arm brick p count action) log lines log_after lines_after
+
+-- which events happen: an output arrives where one is left, and a brick serves where it has an input; an action that is no heal
+-- and no switch is carried out where it is of a brick of the script, and armed where it may be. Of a submission, a task, a heal and
+-- a switch nothing is said.
+abbrev pub HappensWhere : Event → Script → LinesState → Bool → Type 0
+HappensWhere (event.Submit session) script lines did = Unit {0}
+HappensWhere (event.Arrive brick) script lines did = did ≡ is_some (next_output lines brick)
+HappensWhere (event.Serve brick) script lines did = did ≡ may_serve lines brick
+HappensWhere (event.Run graph task) script lines did = Unit {0}
+HappensWhere (event.Act action) script lines did = is_great_action action ≡ false → did ≡ is_of_brick (length script.bricks) action
+HappensWhere (event.Arm brick p count action) script lines did = did ≡ (is_armable brick action && is_of_brick (length script.bricks) action)
+
+-- ---- runs
+
+-- an event, and then what follows of what it leaves
+pub record HappensThen (script : Script) (e : Event) (log : Log) (lines : LinesState) (follows : Log → LinesState → Type 0) : Type 0 where
+  pub log_after : Log
+  pub lines_after : LinesState
+  pub happens : Happens script e log lines log_after lines_after
+  pub then_follows : follows log_after lines_after
+
+-- these events, one after another
+abbrev pub HappenInTurn : Script → List Event → Log → LinesState → Log → LinesState → Type 0
+HappenInTurn script [] log lines log_after lines_after = (log_after ≡ log) × (lines_after ≡ lines)
+HappenInTurn script (e ∷ es) log lines log_after lines_after = HappensThen script e log lines (λ l ls. HappenInTurn script es l ls log_after lines_after)
+
+-- some events lead from one to the other, one after another
+pub record IsReached (script : Script) (log : Log) (lines : LinesState) (log_after : Log) (lines_after : LinesState) : Type 0 where
+  pub events : List Event
+  pub happen : HappenInTurn script events log lines log_after lines_after

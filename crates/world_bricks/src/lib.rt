@@ -12,11 +12,15 @@
 
 mod enabled;
 mod events;
+mod laws;
+mod line;
 mod lines;
+mod parts;
 mod schedule;
 mod world;
 
 pub use events::Event;
 pub use hub_calls::Rack;
+pub use laws::bricks_are_fed;
 pub use schedule::Schedule;
 pub use world::World;

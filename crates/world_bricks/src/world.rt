@@ -1,10 +1,13 @@
-ghost use Rattle.std.specs.Prelude.{◌≡◌, None, Some, OnOk, IfOk, IfErr};
+ghost use Rattle.std.specs.Prelude.{◌≡◌, [], None, Some, true, false, length, OnOk, IfOk, IfErr};
 ghost use Rattle.hub_calls.specs.Hubs.{StaysStopped};
 ghost use Rattle.mount_log.specs.Scripts.{IsScript};
+ghost use Rattle.world_bricks.specs.Lines.{new_lines, with_sent};
+ghost use Rattle.world_bricks.specs.Worlds.{Happens, HappensWhere, IsReached};
 
 use crate::enabled::{Choice, Enabled};
 use crate::events::{Event, due_event, event_of};
 use crate::lines::Lines;
+use crate::parts::Parts;
 use crate::schedule::Schedule;
 use fop_types::Seq;
 use graph_build::Plan;
@@ -23,8 +26,7 @@ const EVENTS: u64 = 18446744073709551615;
 /// ends with the last whole event, and each brick's journal with the last input that it served.
 #[derive(Drop)]
 pub struct World {
-    hub: Hub,
-    lines: Lines,
+    parts: Parts,
     stop: Option<Stop>,
 }
 
@@ -33,7 +35,7 @@ impl Model for World {
 
     ghost Value = { WorldState };
 
-    ghost view = { λ w. record { script = w.hub.script; plans = w.hub.plans; stop = w.stop } };
+    ghost view = { λ w. record { script = w.parts.hub.script; plans = w.parts.hub.plans; log = w.parts.hub.log; lines = w.parts.lines; stop = w.stop } };
 }
 
 impl World {
@@ -43,66 +45,18 @@ impl World {
     /// Out of memory.
     pub fn new(alloc: Global, script: Script, plans: Seq<Plan>) -> Result<World, AllocError>
         requires { IsScript script plans }
-        ensures { IfOk result (λ w. w ≡ record { script = script; plans = plans; stop = None }) }
+        ensures start { IfOk result (λ w. w ≡ record { script = script; plans = plans; log = w.log; lines = with_sent (new_lines script plans (length script.bricks)) w.log.sent; stop = None }) }
+        ensures events { IfOk result (λ w. w.log.events ≡ []) }
     {
         let hub = Hub::new(alloc, script, plans)?;
         match Lines::new(alloc, hub.script(), hub.plans(), hub.log().sent.as_slice()) {
             Ok(lines) => Ok(World {
-                hub,
-                lines,
+                parts: Parts { hub, lines },
                 stop: None,
             }),
             Err(error) => {
                 drop(hub);
                 Err(error)
-            }
-        }
-    }
-
-    // Puts what the hub has sent into the bricks' lines, where it did not stop.
-    fn delivered(&mut self, did: Result<bool, Stop>) -> Result<bool, Stop>
-        ensures { self.new ≡ self.old }
-    {
-        let did = did?;
-        self.lines.deliver(self.hub.log().sent.as_slice())?;
-        Ok(did)
-    }
-
-    // The next output of a brick arrives.
-    fn arrive(&mut self, alloc: Global, brick: u8) -> Result<bool, Stop>
-        ensures { (self.new.script ≡ self.old.script) × (self.new.plans ≡ self.old.plans) }
-    {
-        let Some(output) = self.lines.take_output(brick)? else {
-            return Ok(false);
-        };
-        let arrived = self.hub.arrive(alloc, brick, output);
-        self.delivered(arrived.and(Ok(true)))
-    }
-
-    fn happen(&mut self, alloc: Global, happening: Event) -> Result<bool, Stop>
-        ensures { (self.new.script ≡ self.old.script) × (self.new.plans ≡ self.old.plans) }
-    {
-        match happening {
-            Event::Submit(session) => {
-                let did = self.hub.submit(alloc, session);
-                self.delivered(did)
-            }
-            Event::Arrive(brick) => self.arrive(alloc, brick),
-            Event::Serve(brick) => {
-                let did = self.lines.serve(alloc, brick)?;
-                Ok(did)
-            }
-            Event::Run(graph, task) => {
-                let did = self.hub.run(alloc, graph, task);
-                self.delivered(did)
-            }
-            Event::Act(action) => {
-                let did = self.hub.act(alloc, action);
-                self.delivered(did)
-            }
-            Event::Arm(brick, proc, count, action) => {
-                let did = self.hub.arm(alloc, brick, proc, count, action);
-                self.delivered(did)
             }
         }
     }
@@ -113,37 +67,37 @@ impl World {
     /// As for [`hub_calls::Hub::submit`].
     pub fn apply(&mut self, alloc: Global, event: Event) -> Result<bool, Stop>
         ensures same { (self.new.script ≡ self.old.script) × (self.new.plans ≡ self.old.plans) }
+        ensures happens { IfOk result (λ did. did ≡ true → Happens self.old.script event self.old.log self.old.lines self.new.log self.new.lines) }
+        ensures unchanged { IfOk result (λ did. did ≡ false → self.new ≡ self.old) }
+        ensures enabled { IfOk result (λ did. HappensWhere event self.old.script self.old.lines did) }
         ensures spent { StaysStopped self.old.stop self.old self.new result }
         ensures goes { OnOk result (self.new.stop ≡ None) }
         ensures stops { IfErr result (λ s. self.new.stop ≡ Some s) }
     {
-        if let Some(stop) = self.stop {
-            return Err(stop);
-        }
-        match self.happen(alloc, event) {
-            Ok(did) => {
-                self.stop = None;
-                Ok(did)
-            }
-            Err(stop) => {
-                self.stop = Some(stop);
-                Err(stop)
-            }
+        match self.stop {
+            Some(stop) => Err(stop),
+            None => match self.parts.happen(alloc, event) {
+                Ok(did) => Ok(did),
+                Err(stop) => {
+                    self.stop = Some(stop);
+                    Err(stop)
+                }
+            },
         }
     }
 
     // One of the events that are enabled, by a value of the schedule.
     fn choose(&self, value: u64) -> Option<Event> {
         let enabled = Enabled {
-            submits: self.hub.submits(),
-            arriving: self.lines.arriving,
-            serving: self.lines.serving,
-            tasks: self.hub.ready_len(),
-            plain: self.hub.plain(),
+            submits: self.parts.hub.submits(),
+            arriving: self.parts.lines.arriving,
+            serving: self.parts.lines.serving,
+            tasks: self.parts.hub.ready_len(),
+            plain: self.parts.hub.plain(),
         };
         match enabled.chosen(value)? {
             Choice::Event(event) => Some(event),
-            Choice::Task(at) => match self.hub.ready_at(at) {
+            Choice::Task(at) => match self.parts.hub.ready_at(at) {
                 Some((graph, task)) => Some(Event::Run(graph, task)),
                 None => None,
             },
@@ -153,11 +107,11 @@ impl World {
     /// The next event, by a value of the schedule: what goes before everything else; else one of the events that are
     /// enabled; else the first control that is left.
     pub fn pick(&self, value: u64) -> Option<Event> {
-        match self.hub.first() {
+        match self.parts.hub.first() {
             Some(due) => Some(event_of(due)),
             None => match self.choose(value) {
                 Some(event) => Some(event),
-                None => due_event(self.hub.rest()),
+                None => due_event(self.parts.hub.rest()),
             },
         }
     }
@@ -168,6 +122,7 @@ impl World {
     /// As for [`hub_calls::Hub::submit`].
     pub fn run(&mut self, alloc: Global, seed: u64) -> Result<(), Stop>
         ensures same { (self.new.script ≡ self.old.script) × (self.new.plans ≡ self.old.plans) }
+        ensures reached { OnOk result (IsReached self.old.script self.old.log self.old.lines self.new.log self.new.lines) }
         ensures spent { StaysStopped self.old.stop self.old self.new result }
         ensures goes { OnOk result (self.new.stop ≡ None) }
         ensures stops { IfErr result (λ s. self.new.stop ≡ Some s) }
@@ -182,6 +137,7 @@ impl World {
     fn run_on(&mut self, alloc: Global, seed: u64) -> Result<(), Stop>
         requires { self.old.stop ≡ None }
         ensures same { (self.new.script ≡ self.old.script) × (self.new.plans ≡ self.old.plans) }
+        ensures reached { OnOk result (IsReached self.old.script self.old.log self.old.lines self.new.log self.new.lines) }
         ensures goes { OnOk result (self.new.stop ≡ None) }
         ensures stops { IfErr result (λ s. self.new.stop ≡ Some s) }
     {
@@ -199,19 +155,23 @@ impl World {
 
     /// Whether each call has its reply, each control was carried out, and nothing else is left.
     pub fn is_finished(&self) -> bool {
-        self.hub.is_finished()
+        self.parts.hub.is_finished()
     }
 
     /// The log of the events so far.
-    pub fn log(&self) -> &Log {
-        self.hub.log()
+    pub fn log(&self) -> &Log
+        ensures { result.now ≡ self.now.log }
+    {
+        self.parts.hub.log()
     }
 
     /// What the run has left, with nothing copied: the script, the plans, and the bricks with the log.
     pub fn into_parts(self) -> (Script, Seq<Plan>, Rack)
-        ensures { (result.0 ≡ self.script) × (result.1 ≡ self.plans) }
+        ensures kept { (result.0 ≡ self.script) × (result.1 ≡ self.plans) }
+        ensures rack { result.2 ≡ record { bricks = self.lines.bricks; log = self.log } }
     {
-        let World { hub, lines, .. } = self;
+        let World { parts, .. } = self;
+        let Parts { hub, lines } = parts;
         let bricks = lines.into_bricks();
         let (script, plans, log) = hub.into_log();
         (script, plans, Rack { bricks, log })

@@ -5,8 +5,8 @@ use Rattle.script_lang.specs.declared.scripts.Script.{Script}
 use Rattle.mount_log.specs.Submissions.{submissions_from}
 use Rattle.mount_log.specs.declared.logs.HubEvent.{HubEvent}
 use Rattle.mount_log.specs.declared.places.LineAt.{LineAt}
-use Rattle.log_replay.specs.Events.{HaveLeft, Submits, submit_events}
-use Rattle.log_replay.specs.declared.calls.Gathered.{Gathered}
+use Rattle.log_calls.specs.Events.{HaveLeft, Submits, submit_events}
+use Rattle.log_calls.specs.declared.calls.Gathered.{Gathered}
 
 abbrev pub lines_left : Gathered → List (List LineAt)
 lines_left g = map (λ q. q.items) g.queues.items

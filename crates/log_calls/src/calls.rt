@@ -3,14 +3,14 @@ ghost use Rattle.std.specs.Prelude.{◌≡◌, [], true, length, map, option_cop
 ghost use Rattle.script_lang.specs.Accepted.{IsAccepted};
 ghost use Rattle.mount_log.specs.Lines.{line_of};
 ghost use Rattle.mount_log.specs.Submissions.{submissions_from};
-ghost use Rattle.log_replay.specs.Events.{Submits, submit_events, submitter as submitter_of};
-ghost use Rattle.log_replay.specs.Gathering.{Gathers};
+ghost use Rattle.log_calls.specs.Events.{Submits, submit_events, submitter as submitter_of};
+ghost use Rattle.log_calls.specs.Gathering.{Gathers};
 
-use history_replay::Submitted;
 use mount_log::{HubEvent, LineAt, lines_of_sessions, take_line};
 use script_lang::{CallLine, Phase, Script};
 use std::alloc::{AllocError, Global};
 use std::collections::VecDeque;
+use submitted_calls::Submitted;
 
 /// The calls that the events of a log submit, by their numbers, and the number of the event that submits each.
 #[derive(Drop)]

@@ -11,9 +11,9 @@ use Rattle.mount_log.specs.Submissions.{session_line, line_by, submits_of, is_su
 use Rattle.mount_log.specs.declared.logs.HubEvent.{HubEvent}
 use Rattle.mount_log.specs.declared.logs.HubEvent.TheVariants as logged
 use Rattle.mount_log.specs.declared.places.LineAt.{LineAt}
-use Rattle.log_replay.specs.Events.{HaveLeft, Submits, submit_events, submitter}
-use Rattle.log_replay.specs.Gathering.{lines_left, GathersCall, Gathers, HasGathered}
-use Rattle.log_replay.specs.declared.calls.Gathered.{Gathered}
+use Rattle.log_calls.specs.Events.{HaveLeft, Submits, submit_events, submitter}
+use Rattle.log_calls.specs.Gathering.{lines_left, GathersCall, Gathers, HasGathered}
+use Rattle.log_calls.specs.declared.calls.Gathered.{Gathered}
 
 submits_push : (session : ℕ) (es : List HubEvent) (e : HubEvent) → submits_of session (es ++ e ∷ []) ≡ submits_of session es + is_submit_of session e
 submits_push session [] e = let n = is_submit_of session e in let z : n + 0 ≡ 0 + n = omega arith in z

@@ -1,8 +1,8 @@
 use Rattle.std.proofs.Common.{◌+◌}
-use Rattle.log_replay.specs.Events.{submitter}
-use Rattle.log_replay.specs.Gathering.{Gathers}
-use Rattle.log_replay.proofs.Calling.{gathered_next}
-use Rattle.log_replay.proofs.calls.calls_in.Goals as goal
+use Rattle.log_calls.specs.Events.{submitter}
+use Rattle.log_calls.specs.Gathering.{Gathers}
+use Rattle.log_calls.proofs.Calling.{gathered_next}
+use Rattle.log_calls.proofs.calls.calls_in.Goals as goal
 
 pub loop-at-preserved : goal.loop-at-preserved
 loop-at-preserved c =

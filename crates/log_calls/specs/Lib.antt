@@ -1,0 +1,3 @@
+-- In reading order: the events of calls; calls that are gathered.
+pub mod Events
+pub mod Gathering
