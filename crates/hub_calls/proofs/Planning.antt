@@ -75,7 +75,7 @@ still_left script old new left stop e are goes other adds = λ session.
 
 -- a submission
 
-drop_first : {A : Type 0} (n : ℕ) (xs : List A) (x : A) (rest : List A) → x ∷ rest ≡ drop n xs → rest ≡ drop (n + 1) xs
+drop_first : {A : Type 0} (n : ℕ) (xs : List A) (x : A) (rest : List A) → x ∷ rest ≡ drop n xs → rest ≡ drop (suc n) xs
 drop_first zero [] x rest is = absurd cc
 drop_first zero (y ∷ ys) x rest is = cc
 drop_first (suc n) [] x rest is = absurd cc
@@ -102,7 +102,7 @@ left_submitted script old new left after stop session line at are goes takes add
     by : (s : ℕ) → (session ≡ s) ⊎ (session ≡ s → ⊥) → queue_of after s ≡ drop (submits_of s new.events) (places_from s 0 script.phases)
     by s (inl same) =
         let one : is_submit_of s e ≡ 1 = ap (λ (b : Bool). if b then 1 else 0) (eq-eqb session s same) in
-        let count : submits_of s old.events + 1 ≡ submits_of s (old.events ++ e ∷ []) = omega (arith, submits_push s old.events e, one) in
+        let count : suc (submits_of s old.events) ≡ submits_of s (old.events ++ e ∷ []) = omega (arith, submits_push s old.events e, one) in
         let line_is : queue_of left s ≡ at ∷ queue_of after s = subst (λ (k : ℕ). queue_of left k ≡ at ∷ queue_of after k) same takes.line in
         more s (drop_first (submits_of s old.events) (places_from s 0 script.phases) at (queue_of after s) (sym line_is ∙ now s) ∙ ap (λ (n : ℕ). drop n (places_from s 0 script.phases)) count)
     by s (inr apart) =
