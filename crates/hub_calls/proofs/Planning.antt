@@ -19,7 +19,7 @@ use Rattle.mount_log.specs.Submissions.{is_submit_of, submits_of, session_line, 
 use Rattle.hub_tables.specs.Sessions.{first_line}
 use Rattle.hub_calls.specs.Plans.{PlannedScript, AreLeft, IsNext}
 use Rattle.hub_calls.specs.Hubs.{AddsEvent, AddsSubmission}
-use Rattle.hub_calls.proofs.Writing.{one_event_more}
+use Rattle.hub_calls.proofs.Additions.{one_event_more}
 
 each_plan : (bricks : ℕ) (plans : List Plan) → AllByRecursion (IsPlanOver bricks) plans → AllByRecursion IsPlan plans
 each_plan bricks [] all = tt

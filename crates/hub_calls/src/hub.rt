@@ -112,7 +112,7 @@ impl Hub {
     ///
     /// # Errors
     /// `Winds` where a further wind was needed and 4,294,967,295 were opened; else out of memory.
-    #[tactic(auto, using(crate::proofs::Planning::left_submitted, crate::proofs::Planning::adds_submission, crate::proofs::Writing::after_same))]
+    #[tactic(auto, using(crate::proofs::Planning::left_submitted, crate::proofs::Planning::adds_submission, crate::proofs::Additions::after_same))]
     pub fn submit(&mut self, alloc: Global, session: u8) -> Result<bool, Stop>
         ensures same { (self.new.script ≡ self.old.script) × (self.new.plans ≡ self.old.plans) }
         ensures unchanged { IfOk result (λ did. did ≡ false → self.new ≡ self.old) }
@@ -149,7 +149,7 @@ impl Hub {
     ///
     /// # Errors
     /// As for [`Hub::submit`].
-    #[tactic(auto, using(crate::proofs::Writing::after_same))]
+    #[tactic(auto, using(crate::proofs::Additions::after_same))]
     pub fn arrive(&mut self, alloc: Global, brick: u8, output: Bytes) -> Result<(), Stop>
         ensures same { (self.new.script ≡ self.old.script) × (self.new.plans ≡ self.old.plans) }
         ensures event { OnOk result (AddsEvent self.old.log self.new.log (logged.Arrive brick output)) }
@@ -182,7 +182,7 @@ impl Hub {
     ///
     /// # Errors
     /// As for [`Hub::submit`].
-    #[tactic(auto, using(crate::proofs::Writing::after_same))]
+    #[tactic(auto, using(crate::proofs::Additions::after_same))]
     pub fn run(&mut self, alloc: Global, graph: u32, task: u32) -> Result<bool, Stop>
         ensures same { (self.new.script ≡ self.old.script) × (self.new.plans ≡ self.old.plans) }
         ensures unchanged { IfOk result (λ did. did ≡ false → self.new ≡ self.old) }
@@ -219,7 +219,7 @@ impl Hub {
     ///
     /// # Errors
     /// As for [`Hub::submit`].
-    #[tactic(auto, using(crate::proofs::Writing::after_same, crate::proofs::Writing::turn_takes, crate::proofs::Writing::turn_runs))]
+    #[tactic(auto, using(crate::proofs::Additions::after_same, crate::proofs::Additions::turn_takes, crate::proofs::Additions::turn_runs))]
     pub fn turn(
         &mut self,
         alloc: Global,
@@ -268,7 +268,7 @@ impl Hub {
     ///
     /// # Errors
     /// As for [`Hub::submit`].
-    #[tactic(auto, using(crate::proofs::Writing::after_same))]
+    #[tactic(auto, using(crate::proofs::Additions::after_same))]
     pub fn act(&mut self, alloc: Global, action: Action) -> Result<bool, Stop>
         ensures same { (self.new.script ≡ self.old.script) × (self.new.plans ≡ self.old.plans) }
         ensures unchanged { IfOk result (λ did. did ≡ false → self.new ≡ self.old) }
@@ -295,7 +295,7 @@ impl Hub {
     ///
     /// # Errors
     /// As for [`Hub::submit`].
-    #[tactic(auto, using(crate::proofs::Writing::after_same))]
+    #[tactic(auto, using(crate::proofs::Additions::after_same))]
     pub fn arm(
         &mut self,
         alloc: Global,

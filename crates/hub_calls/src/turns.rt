@@ -25,7 +25,7 @@ impl Parts {
     ///
     /// # Errors
     /// Out of memory.
-    #[tactic(auto, using(crate::proofs::Writing::adds_no_event))]
+    #[tactic(auto, using(crate::proofs::Additions::adds_no_event))]
     pub(crate) fn begin_script(
         &mut self,
         alloc: Global,
