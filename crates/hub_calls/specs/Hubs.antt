@@ -9,9 +9,8 @@ use Rattle.xlator_law.specs.declared.winds.Stop.TheVariants as stopped
 use Rattle.mount_log.specs.declared.logs.HubEvent.{HubEvent}
 use Rattle.mount_log.specs.declared.logs.HubEvent.TheVariants as logged
 use Rattle.mount_log.specs.declared.logs.Log.{Log}
-use Rattle.mount_log.specs.declared.places.LineAt.{LineAt}
-use Rattle.mount_log.specs.Lines.{line_of}
 use Rattle.mount_log.specs.Logs.{with_lines, with_cut}
+use Rattle.mount_log.specs.Submissions.{session_line, submits_of}
 use Rattle.script_lang.specs.declared.scripts.Action.{Action}
 use Rattle.script_lang.specs.declared.scripts.Action.TheVariants as action
 use Rattle.hub_tables.specs.Arming.{may_fail}
@@ -45,12 +44,10 @@ pub record AddsEvent (old new : Log) (e : HubEvent) : Type 0 where
   pub event : lines.events ≡ e ∷ []
   pub added : new ≡ with_lines old lines
 
--- a call of a session is submitted, which is a line of the script
+-- a session submits the first of its lines in the script that it had not submitted
 pub record AddsSubmission (script : Script) (old new : Log) (session : ℕ) : Type 0 where
-  pub at : LineAt
   pub line : CallLine
-  pub there : line_of script at ≡ Some line
-  pub of_session : line.session ≡ session
+  pub next : session_line script session (submits_of session old.events) ≡ Some line
   pub event : AddsEvent old new (logged.Submit session line.line)
 
 -- a task of a graph is run

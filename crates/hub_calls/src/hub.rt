@@ -2,6 +2,7 @@ ghost use Rattle.std.specs.Prelude.{◌≡◌, ◌&&◌, false, true, None, Some
 ghost use Rattle.hub_tables.specs.Arming.{is_armable};
 ghost use Rattle.hub_calls.specs.Hubs.{StaysStopped, is_of_brick, AddsEvent, AddsSubmission, IsAfterStop, IsTurn};
 ghost use Rattle.mount_log.specs.declared.logs.HubEvent.TheVariants as logged;
+ghost use Rattle.mount_log.specs.Logs.{is_submit};
 ghost use Rattle.mount_log.specs.Scripts.{IsScript};
 ghost use Rattle.script_lang.specs.StatementText.{is_great_action};
 
@@ -33,11 +34,15 @@ pub struct Hub {
 }
 
 impl Model for Hub {
+    ghost use Rattle.std.specs.Prelude.{MatchOption};
     ghost use Rattle.hub_calls.specs.Hubs.{HubState};
+    ghost use Rattle.hub_calls.specs.Plans.{AreLeft};
 
     ghost Value = { HubState };
 
     ghost view = { λ h. record { script = h.planned.script; plans = h.planned.plans; log = h.log; stop = h.stop } };
+
+    ghost invariant = { λ h. MatchOption h.stop (AreLeft h.planned.script h.log.events h.planned.left) (λ _. Unit {0}) };
 }
 
 impl Hub {
@@ -52,7 +57,7 @@ impl Hub {
         ensures start { IfOk result (λ h. h ≡ record { script = script; plans = plans; log = h.log; stop = None }) }
         ensures events { IfOk result (λ h. h.log.events ≡ []) }
     {
-        let planned = Planned::new(script, plans);
+        let planned = Planned::new(alloc, script, plans)?;
         let mut log = Log::new(alloc);
         match Parts::begun(alloc, &planned, &mut log) {
             Ok(parts) => Ok(Hub {
@@ -79,9 +84,11 @@ impl Hub {
         }
     }
 
-    // Closes an event of a hub that has not stopped. An event that was not done stops it.
+    // Closes an event, which is no submission, of a hub that has not stopped. An event that was not done stops it.
+    #[tactic(auto, using(crate::proofs::Planning::still_left))]
     fn close(&mut self, alloc: Global, done: Result<(), Stop>, event: HubEvent) -> Result<(), Stop>
-        requires { self.old.stop ≡ None }
+        requires goes { self.old.stop ≡ None }
+        requires other { is_submit event ≡ 0 }
         ensures same { (self.new.script ≡ self.old.script) × (self.new.plans ≡ self.old.plans) }
         ensures event { OnOk result (AddsEvent self.old.log self.new.log event) }
         ensures cut { IfErr result (λ stop. IsAfterStop stop self.old.log self.new.log) }
@@ -105,7 +112,7 @@ impl Hub {
     ///
     /// # Errors
     /// `Winds` where a further wind was needed and 4,294,967,295 were opened; else out of memory.
-    #[tactic(auto, using(crate::proofs::Writing::adds_submission, crate::proofs::Writing::after_same))]
+    #[tactic(auto, using(crate::proofs::Planning::left_submitted, crate::proofs::Planning::adds_submission, crate::proofs::Additions::after_same))]
     pub fn submit(&mut self, alloc: Global, session: u8) -> Result<bool, Stop>
         ensures same { (self.new.script ≡ self.old.script) × (self.new.plans ≡ self.old.plans) }
         ensures unchanged { IfOk result (λ did. did ≡ false → self.new ≡ self.old) }
@@ -116,29 +123,33 @@ impl Hub {
         ensures stops { IfErr result (λ s. self.new.stop ≡ Some s) }
     {
         self.check()?;
-        let Some(at) = self.parts.progress.next(session) else {
+        if !self.parts.progress.ready().has(session) {
+            return Ok(false);
+        }
+        let Some((at, line)) = self.planned.next(session) else {
             return Ok(false);
         };
-        let Some(line) = self.planned.line_of(session, at) else {
-            return Ok(false);
-        };
-        let event = HubEvent::Submit {
-            session,
-            line: line.line,
-        };
+        self.planned.take_line(session);
         self.parts.turn.open(&self.log);
-        let done = self
+        let done = self.parts.submitted(alloc, &self.planned, session, at);
+        let event = HubEvent::Submit { session, line };
+        match self
             .parts
-            .submitted(alloc, &self.planned, session, at, line);
-        self.close(alloc, done, event)?;
-        Ok(true)
+            .close(alloc, &self.planned, done, event, &mut self.log)
+        {
+            Ok(()) => Ok(true),
+            Err(stop) => {
+                self.stop = Some(stop);
+                Err(stop)
+            }
+        }
     }
 
     /// Takes the bytes of an output of a brick, which the script has.
     ///
     /// # Errors
     /// As for [`Hub::submit`].
-    #[tactic(auto, using(crate::proofs::Writing::after_same))]
+    #[tactic(auto, using(crate::proofs::Additions::after_same))]
     pub fn arrive(&mut self, alloc: Global, brick: u8, output: Bytes) -> Result<(), Stop>
         ensures same { (self.new.script ≡ self.old.script) × (self.new.plans ≡ self.old.plans) }
         ensures event { OnOk result (AddsEvent self.old.log self.new.log (logged.Arrive brick output)) }
@@ -171,7 +182,7 @@ impl Hub {
     ///
     /// # Errors
     /// As for [`Hub::submit`].
-    #[tactic(auto, using(crate::proofs::Writing::after_same))]
+    #[tactic(auto, using(crate::proofs::Additions::after_same))]
     pub fn run(&mut self, alloc: Global, graph: u32, task: u32) -> Result<bool, Stop>
         ensures same { (self.new.script ≡ self.old.script) × (self.new.plans ≡ self.old.plans) }
         ensures unchanged { IfOk result (λ did. did ≡ false → self.new ≡ self.old) }
@@ -208,7 +219,7 @@ impl Hub {
     ///
     /// # Errors
     /// As for [`Hub::submit`].
-    #[tactic(auto, using(crate::proofs::Writing::after_same, crate::proofs::Writing::turn_takes, crate::proofs::Writing::turn_runs))]
+    #[tactic(auto, using(crate::proofs::Additions::after_same, crate::proofs::Additions::turn_takes, crate::proofs::Additions::turn_runs))]
     pub fn turn(
         &mut self,
         alloc: Global,
@@ -257,7 +268,7 @@ impl Hub {
     ///
     /// # Errors
     /// As for [`Hub::submit`].
-    #[tactic(auto, using(crate::proofs::Writing::after_same))]
+    #[tactic(auto, using(crate::proofs::Additions::after_same))]
     pub fn act(&mut self, alloc: Global, action: Action) -> Result<bool, Stop>
         ensures same { (self.new.script ≡ self.old.script) × (self.new.plans ≡ self.old.plans) }
         ensures unchanged { IfOk result (λ did. did ≡ false → self.new ≡ self.old) }
@@ -284,7 +295,7 @@ impl Hub {
     ///
     /// # Errors
     /// As for [`Hub::submit`].
-    #[tactic(auto, using(crate::proofs::Writing::after_same))]
+    #[tactic(auto, using(crate::proofs::Additions::after_same))]
     pub fn arm(
         &mut self,
         alloc: Global,

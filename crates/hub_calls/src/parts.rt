@@ -1,6 +1,5 @@
 //! What a hub keeps.
 ghost use Rattle.std.specs.Prelude.{◌≡◌, IfOk};
-ghost use Rattle.script_lang.specs.Accepted.{IsAccepted};
 
 use crate::graphs::Graphs;
 use crate::planned::Planned;
@@ -30,24 +29,18 @@ pub struct Parts {
 }
 
 impl Parts {
-    /// The parts before anything has happened: no graph is made, and no phase has begun.
-    ///
-    /// # Errors
-    /// Out of memory.
-    fn new(alloc: Global, on: &Planned) -> Result<Parts, AllocError>
-        requires { IsAccepted on.now.script }
-    {
-        let progress = Progress::new(alloc, on.script())?;
-        Ok(Parts {
+    // The parts before anything has happened: no graph is made, and no phase has begun. They take no memory.
+    fn new(alloc: Global, on: &Planned) -> Parts {
+        Parts {
             creations: on.creations(),
             turn: Turn::new(alloc),
-            progress,
+            progress: Progress::new(),
             calls: Calls::new(alloc),
             internal: None,
             holds: MountLocks::new(alloc),
             fds: FdTable::new(alloc),
             graphs: Graphs::new(alloc, on.root_sets()),
-        })
+        }
     }
 
     /// The parts of a hub that has made its first graph, and has written what that sends to the log.
@@ -55,10 +48,9 @@ impl Parts {
     /// # Errors
     /// Out of memory.
     pub(crate) fn begun(alloc: Global, on: &Planned, log: &mut Log) -> Result<Parts, AllocError>
-        requires { IsAccepted on.now.script }
         ensures { IfOk result (λ _. log.new.events ≡ log.old.events) }
     {
-        let mut parts = Parts::new(alloc, on)?;
+        let mut parts = Parts::new(alloc, on);
         match parts.begin_script(alloc, on, log) {
             Ok(()) => Ok(parts),
             Err(error) => {

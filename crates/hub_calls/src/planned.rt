@@ -1,21 +1,27 @@
-//! The script that a hub runs, with the plans of its volfiles.
-ghost use Rattle.std.specs.Prelude.{◌≡◌, Some, IfSome, slice_get};
+//! The script that a hub runs, with the plans of its volfiles, and what is left of it.
+ghost use Rattle.std.specs.Prelude.{◌≡◌, Some, [], IfSome, IfOk, slice_get};
 ghost use Rattle.graph_nodes.specs.Plans.{IsPlan};
-ghost use Rattle.mount_log.specs.Lines.{line_of};
+ghost use Rattle.mount_log.specs.Lines.{line_of, TakesLine};
+ghost use Rattle.mount_log.specs.declared.places.LineAt.{LineAt as Place};
+ghost use Rattle.hub_tables.specs.Sessions.{first_line};
+ghost use Rattle.hub_calls.specs.Plans.{AreLeft, IsNext};
 ghost use Rattle.mount_log.specs.Scripts.{IsScript};
 
 use fop_types::Seq;
 use graph_build::Plan;
-use hub_tables::creations;
+use hub_tables::{SessionLines, creations};
 use mount_log::LineAt;
 use script_lang::{CallLine, Phase, Script};
+use std::alloc::{AllocError, Global};
 use std::marker::Model;
 
-/// A script with the plan of each of its volfiles, in order. Each plan is one that `graph_build::build` gives.
+/// A script with the plan of each of its volfiles, in order, and the lines that its sessions have not submitted. Each plan
+/// is one that `graph_build::build` gives.
 #[derive(Drop)]
 pub struct Planned {
     script: Script,
     plans: Seq<Plan>,
+    left: SessionLines,
 }
 
 impl Model for Planned {
@@ -25,18 +31,38 @@ impl Model for Planned {
 
     ghost Value = { PlannedScript };
 
-    ghost view = { λ p. record { script = p.script; plans = p.plans } };
+    ghost view = { λ p. record { script = p.script; plans = p.plans; left = p.left } };
 
     ghost invariant = { λ p. AllByRecursion IsPlan p.plans };
 }
 
 impl Planned {
+    /// A script of which nothing was submitted.
+    ///
+    /// # Errors
+    /// Out of memory.
     #[tactic(auto, using(crate::proofs::Planning::are_plans))]
-    pub(crate) fn new(script: Script, plans: Seq<Plan>) -> Planned
+    pub(crate) fn new(
+        alloc: Global,
+        script: Script,
+        plans: Seq<Plan>,
+    ) -> Result<Planned, AllocError>
         requires { IsScript script plans }
-        ensures { result ≡ record { script = script; plans = plans } }
+        ensures given { IfOk result (λ on. (on.script ≡ script) × (on.plans ≡ plans)) }
+        ensures left { IfOk result (λ on. AreLeft script [] on.left) }
     {
-        Planned { script, plans }
+        match SessionLines::new(alloc, &script) {
+            Ok(left) => Ok(Planned {
+                script,
+                plans,
+                left,
+            }),
+            Err(error) => {
+                drop(script);
+                drop(plans);
+                Err(error)
+            }
+        }
     }
 
     pub(crate) fn script(&self) -> &Script
@@ -54,7 +80,12 @@ impl Planned {
     pub(crate) fn into_parts(self) -> (Script, Seq<Plan>)
         ensures { result ≡ (self.script, self.plans) }
     {
-        let Planned { script, plans } = self;
+        let Planned {
+            script,
+            plans,
+            left,
+        } = self;
+        drop(left);
         (script, plans)
     }
 
@@ -100,17 +131,29 @@ impl Planned {
         }
     }
 
-    /// The line of a call of a session.
-    pub(crate) fn line_of(&self, session: u8, at: LineAt) -> Option<&CallLine>
-        ensures line { IfSome result (λ line. line_of self.now.script at ≡ Some line.now) }
-        ensures session { IfSome result (λ line. line.now.session ≡ session) }
+    /// The lines that the sessions have left.
+    pub(crate) fn left(&self) -> &SessionLines
+        ensures { result.now ≡ self.now.left }
     {
+        &self.left
+    }
+
+    /// The next line of a session, by its place and its number in the script.
+    #[tactic(auto, using(crate::proofs::Planning::is_next))]
+    pub(crate) fn next(&self, session: u8) -> Option<(LineAt, u32)>
+        ensures { IfSome result (λ next. IsNext self.now session next.0 next.1) }
+    {
+        let at = self.left.first(session)?;
         let line = self.line(at)?;
-        if line.session == session {
-            Some(line)
-        } else {
-            None
-        }
+        Some((at, line.line))
+    }
+
+    /// A session has its first line no more.
+    pub(crate) fn take_line(&mut self, session: u8)
+        ensures same { (self.new.script ≡ self.old.script) × (self.new.plans ≡ self.old.plans) }
+        ensures taken { (at : Place) → first_line self.old.left session ≡ Some at → TakesLine self.old.left session at self.new.left }
+    {
+        self.left.take(session);
     }
 
     /// How many mkdir and create calls the script has.

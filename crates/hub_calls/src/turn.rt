@@ -83,7 +83,7 @@ impl Turn {
     ///
     /// # Errors
     /// Out of memory; the log is unchanged.
-    #[tactic(auto, using(crate::proofs::Writing::adds_event))]
+    #[tactic(auto, using(crate::proofs::Additions::adds_event))]
     pub(crate) fn write(
         &mut self,
         alloc: Global,
@@ -100,7 +100,7 @@ impl Turn {
     }
 
     /// Of an event that was cut, as no wind was left, the winds are written to the log where memory suffices.
-    #[tactic(auto, using(crate::proofs::Writing::has_cut, crate::proofs::Writing::nothing_cut))]
+    #[tactic(auto, using(crate::proofs::Additions::has_cut, crate::proofs::Additions::nothing_cut))]
     pub(crate) fn write_cut(&mut self, alloc: Global, stop: Stop, log: &mut Log)
         ensures { IsAfterStop stop log.old log.new }
     {

@@ -25,7 +25,7 @@ impl Parts {
     ///
     /// # Errors
     /// Out of memory.
-    #[tactic(auto, using(crate::proofs::Writing::adds_no_event))]
+    #[tactic(auto, using(crate::proofs::Additions::adds_no_event))]
     pub(crate) fn begin_script(
         &mut self,
         alloc: Global,
@@ -52,9 +52,11 @@ impl Parts {
         on: &Planned,
         session: u8,
         at: LineAt,
-        line: &CallLine,
     ) -> Result<(), Stop> {
         self.progress.submit(session);
+        let Some(line) = on.line(at) else {
+            return Ok(());
+        };
         let call = self.opened_call(alloc, line, session, at)?;
         match at_once(&line.call, session, &self.fds) {
             Some(reply) => self.reply(alloc, on, call, reply),
@@ -234,7 +236,7 @@ impl Parts {
     pub(crate) fn begin_phase(&mut self, alloc: Global, on: &Planned) -> Result<(), AllocError> {
         match on.phase(self.progress.phase()) {
             Some(phase) => {
-                self.progress.begin(phase);
+                self.progress.begin(on.left(), phase);
                 let controls = Controls::of(alloc, phase)?;
                 self.turn.set_controls(controls);
             }

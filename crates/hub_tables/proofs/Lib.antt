@@ -1,4 +1,4 @@
 pub mod SmallSets
 pub mod Sessions
-pub mod Creations
+pub mod MadeObjects
 pub mod PlanBricks

@@ -16,7 +16,7 @@ pub fn makes(call: &Call) -> bool
     }
 }
 
-#[tactic(auto, using(crate::proofs::Creations::makes_one, crate::proofs::Creations::makes_none, crate::proofs::Creations::stops))]
+#[tactic(auto, using(crate::proofs::MadeObjects::makes_one, crate::proofs::MadeObjects::makes_none, crate::proofs::MadeObjects::stops))]
 fn creations_in(phase: &Phase) -> u32
     ensures { result ≡ min (creations_in_lines phase.now.calls) (2 ^ 32 - 1) }
 {
@@ -30,7 +30,7 @@ fn creations_in(phase: &Phase) -> u32
 }
 
 /// How many calls of a script make an object, or the greatest `u32` where that is less.
-#[tactic(auto, using(crate::proofs::Creations::stops_by))]
+#[tactic(auto, using(crate::proofs::MadeObjects::stops_by))]
 pub fn creations(script: &Script) -> u32
     ensures { result ≡ min (creations_of script.now.phases) (2 ^ 32 - 1) }
 {

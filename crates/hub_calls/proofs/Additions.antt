@@ -1,18 +1,14 @@
 -- What a call adds to the log.
 use Rattle.std.proofs.Common.{◌≡◌, refl, sym, ap, ◌∙◌, append-nil}
 use Rattle.std.specs.Prelude.{ℕ, List, [], ◌∷◌, ◌++◌, Option, Some, option_to_list}
-use Rattle.script_lang.specs.declared.scripts.CallLine.{CallLine}
-use Rattle.script_lang.specs.declared.scripts.Script.{Script}
 use Rattle.xlator_law.specs.declared.winds.Stop.{Stop}
 use Rattle.xlator_law.specs.declared.winds.Stop.TheVariants as stopped
 use Rattle.mount_log.specs.declared.logs.HubEvent.{HubEvent}
 use Rattle.mount_log.specs.declared.logs.HubEvent.TheVariants as logged
 use Rattle.mount_log.specs.declared.logs.Log.{Log}
 use Rattle.mount_log.specs.declared.logs.WindLine.{WindLine}
-use Rattle.mount_log.specs.declared.places.LineAt.{LineAt}
-use Rattle.mount_log.specs.Lines.{line_of}
 use Rattle.mount_log.specs.Logs.{empty_log, with_event, with_lines, with_cut}
-use Rattle.hub_calls.specs.Hubs.{HubState, AddsEvent, AddsSubmission, AddsRun, TakesFirst, HasCut, IsAfterStop}
+use Rattle.hub_calls.specs.Hubs.{AddsEvent, AddsRun, TakesFirst, HasCut, IsAfterStop}
 
 pub adds_event : (old new none lines : Log) (e : HubEvent) → none.events ≡ [] → lines ≡ with_event none e → new ≡ with_lines old lines → AddsEvent old new e
 adds_event old new none lines e empty one added = record {
@@ -24,9 +20,9 @@ adds_event old new none lines e empty one added = record {
 pub adds_no_event : (old new lines : Log) → lines.events ≡ [] → new ≡ with_lines old lines → new.events ≡ old.events
 adds_no_event old new lines none added = ap (λ (l : Log). l.events) added ∙ ap (λ (es : List HubEvent). old.events ++ es) none ∙ sym (append-nil old.events)
 
-pub adds_submission : (script : Script) (old new : Log) (session : ℕ) (at : LineAt) (line : CallLine) → line_of script at ≡ Some line → line.session ≡ session
-    → AddsEvent old new (logged.Submit session line.line) → AddsSubmission script old new session
-adds_submission script old new session at line there of_session event = record { at = at; line = line; there = there; of_session = of_session; event = event }
+-- the events are those before, and this one
+pub one_event_more : (old new : Log) (e : HubEvent) → AddsEvent old new e → new.events ≡ old.events ++ e ∷ []
+one_event_more old new e adds = ap (λ (l : Log). l.events) adds.added ∙ ap (λ (es : List HubEvent). old.events ++ es) adds.event
 
 -- ---- an event that was cut
 
