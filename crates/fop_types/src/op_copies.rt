@@ -3,6 +3,7 @@ ghost use Rattle.fop_types.specs.declared.store_ops.StoreOp.TheVariants as op;
 
 use crate::cells::Gfid;
 use crate::contents::{Attr, Item, Span};
+use crate::data::Data;
 use crate::lists::Seq;
 use crate::store_ops::StoreOp;
 use std::alloc::{AllocError, Global};
@@ -58,7 +59,7 @@ impl StoreOp {
         alloc: Global,
         gfid: Gfid,
         offset: u32,
-        bytes: &Seq<u8>,
+        bytes: &Data,
     ) -> Result<StoreOp, AllocError>
         ensures { IfOk result (λ c. c ≡ op.Write gfid offset bytes.now) }
     {

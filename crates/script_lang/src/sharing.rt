@@ -1,0 +1,193 @@
+//! Data of equal bytes, which is kept once for all calls that write it.
+//!
+//! The data of a script is no longer than its text, but for runs of one byte (`z:N`, `r:N:HH`). Each run of a page or more is
+//! made a front of the longest one of its byte, so that all of them take 16 MiB at most. What is kept is believed by nobody:
+//! data is compared with it, and only then shared.
+ghost use Rattle.std.specs.Prelude.{◌≡◌, true, take, length, IfOk, OnOk};
+
+use crate::scripts::{CallLine, Phase};
+use bytes::Bytes;
+use fop_types::{Call, Data, Seq};
+use std::alloc::{AllocError, Global};
+use std::collections::BTreeMap;
+use std::mem;
+
+// The longest data of a write, in bytes.
+const LONGEST: usize = 65536;
+
+// The fewest bytes that are shared.
+const PAGE: usize = 4096;
+
+// Runs of the longest length, by their byte.
+#[derive(Drop)]
+struct Runs {
+    by_byte: BTreeMap<u8, Bytes>,
+}
+
+impl Runs {
+    fn new(alloc: Global) -> Runs {
+        Runs {
+            by_byte: BTreeMap::new(alloc),
+        }
+    }
+
+    // Keeps the run of a byte, if it is not there.
+    fn add(&mut self, alloc: Global, byte: u8) -> Result<(), AllocError> {
+        if self.by_byte.contains_key(&byte) {
+            return Ok(());
+        }
+        let run = Bytes::from_vec(Vec::from_elem(alloc, byte, LONGEST)?)?;
+        drop(self.by_byte.insert(byte, run)?);
+        Ok(())
+    }
+
+    // The same data, as a front of a run where it is one.
+    fn shared(&mut self, alloc: Global, data: Data) -> Result<Data, AllocError>
+        ensures { IfOk result (λ d. d ≡ data) }
+    {
+        let Some(byte) = run_byte(data.as_slice()) else {
+            return Ok(data);
+        };
+        match self.add(alloc, byte) {
+            Ok(()) => front_of(self.by_byte.get(&byte), data),
+            Err(error) => {
+                drop(data);
+                Err(error)
+            }
+        }
+    }
+}
+
+// The byte of which long data may be a run: that at its ends.
+fn run_byte(data: &[u8]) -> Option<u8> {
+    if data.len() < PAGE {
+        return None;
+    }
+    let first = *data.first()?;
+    let last = *data.last()?;
+    if first == last { Some(first) } else { None }
+}
+
+fn is_same(one: &[u8], other: &[u8]) -> bool
+    ensures { result ≡ true → one.now ≡ other.now }
+{
+    one == other
+}
+
+// Whether data is a front of a run.
+fn is_front(run: &[u8], data: &[u8]) -> bool
+    ensures { result ≡ true → take (length data.now) run.now ≡ data.now }
+{
+    let count = data.len();
+    if count > run.len() {
+        return false;
+    }
+    is_same(&run[..count], data)
+}
+
+fn front_of(run: Option<&Bytes>, data: Data) -> Result<Data, AllocError>
+    ensures { IfOk result (λ d. d ≡ data) }
+{
+    match run {
+        None => Ok(data),
+        Some(run) => front_if(run, data),
+    }
+}
+
+fn front_if(run: &Bytes, data: Data) -> Result<Data, AllocError>
+    ensures { IfOk result (λ d. d ≡ data) }
+{
+    if !is_front(run.as_slice(), data.as_slice()) {
+        return Ok(data);
+    }
+    let count = data.len();
+    drop(data);
+    let mut front = run.clone()?;
+    front.truncate(count);
+    Ok(Data::from_shared(front))
+}
+
+// The same call, whose data is shared.
+fn shared_call(alloc: Global, runs: &mut Runs, call: Call) -> Result<Call, AllocError>
+    ensures { IfOk result (λ c. c ≡ call) }
+{
+    match call {
+        Call::Write { fd, bytes } => {
+            let bytes = runs.shared(alloc, bytes)?;
+            Ok(Call::Write { fd, bytes })
+        }
+        other => Ok(other),
+    }
+}
+
+fn shared_line(alloc: Global, runs: &mut Runs, line: CallLine) -> Result<CallLine, AllocError>
+    ensures { IfOk result (λ l. l ≡ line) }
+{
+    let CallLine {
+        line: number,
+        session,
+        call,
+    } = line;
+    let call = shared_call(alloc, runs, call)?;
+    Ok(CallLine {
+        line: number,
+        session,
+        call,
+    })
+}
+
+fn shared_lines(
+    alloc: Global,
+    runs: &mut Runs,
+    lines: Seq<CallLine>,
+) -> Result<Seq<CallLine>, AllocError>
+    ensures { IfOk result (λ s. s ≡ lines) }
+{
+    let mut shared = Seq::new(alloc);
+    for line in lines.into_vec() {
+        shared.push(shared_line(alloc, runs, line)?)?;
+    }
+    Ok(shared)
+}
+
+fn shared_phase(alloc: Global, runs: &mut Runs, phase: Phase) -> Result<Phase, AllocError>
+    ensures { IfOk result (λ p. p ≡ phase) }
+{
+    let Phase { calls, controls } = phase;
+    match shared_lines(alloc, runs, calls) {
+        Ok(calls) => Ok(Phase { calls, controls }),
+        Err(error) => {
+            drop(controls);
+            Err(error)
+        }
+    }
+}
+
+fn shared_phases(
+    alloc: Global,
+    runs: &mut Runs,
+    phases: Seq<Phase>,
+) -> Result<Seq<Phase>, AllocError>
+    ensures { IfOk result (λ s. s ≡ phases) }
+{
+    let mut shared = Seq::new(alloc);
+    for phase in phases.into_vec() {
+        shared.push(shared_phase(alloc, runs, phase)?)?;
+    }
+    Ok(shared)
+}
+
+/// Shares the data that the calls of phases write. The calls stay what they are.
+///
+/// # Errors
+/// Out of memory.
+pub(crate) fn share_data(alloc: Global, phases: &mut Seq<Phase>) -> Result<(), AllocError>
+    ensures { OnOk result (phases.new ≡ phases.old) }
+{
+    let mut runs = Runs::new(alloc);
+    let all = mem::replace(phases, Seq::new(alloc));
+    let shared = shared_phases(alloc, &mut runs, all);
+    drop(runs);
+    *phases = shared?;
+    Ok(())
+}
