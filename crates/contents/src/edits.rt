@@ -30,12 +30,7 @@ pub enum Edit {
 }
 
 // Writes into the bytes, which are copied first where they are shared.
-fn write_into(
-    alloc: Global,
-    bytes: &mut Data,
-    offset: u32,
-    new: &[u8],
-) -> Result<(), AllocError>
+fn write_into(alloc: Global, bytes: &mut Data, offset: u32, new: &[u8]) -> Result<(), AllocError>
     requires { offset + length new.now ≤ file_limit }
     ensures ok { OnOk result (bytes.new ≡ written bytes.old offset new.now) }
     ensures err { OnErr result (bytes.new ≡ bytes.old) }
@@ -51,12 +46,7 @@ fn write_into(
 ///
 /// # Errors
 /// Out of memory, with the bytes unchanged.
-pub fn write_data(
-    alloc: Global,
-    bytes: &mut Data,
-    offset: u32,
-    new: Data,
-) -> Result<(), AllocError>
+pub fn write_data(alloc: Global, bytes: &mut Data, offset: u32, new: Data) -> Result<(), AllocError>
     requires { offset + length new ≤ file_limit }
     ensures ok { OnOk result (bytes.new ≡ written bytes.old offset new) }
     ensures err { OnErr result (bytes.new ≡ bytes.old) }

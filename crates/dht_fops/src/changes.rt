@@ -11,7 +11,8 @@ use crate::step::{Step, answer, ask, refuse};
 use crate::volume::Volume;
 use contents::find_attr;
 use fop_types::{
-    Answer, AppError, Aspect, Attr, Cell, Content, Data, Entry, FopAnswer, Job, Object, Seq, StoreOp,
+    Answer, AppError, Aspect, Attr, Cell, Content, Data, Entry, FopAnswer, Job, Object, Seq,
+    StoreOp,
 };
 use std::alloc::{AllocError, Global};
 

@@ -88,12 +88,7 @@ fn drop_attr(object: &mut FlatObject, name: &[u8])
     }
 }
 
-fn write(
-    alloc: Global,
-    object: &mut FlatObject,
-    offset: u32,
-    new: Data,
-) -> Result<(), AllocError>
+fn write(alloc: Global, object: &mut FlatObject, offset: u32, new: Data) -> Result<(), AllocError>
     requires { offset + length new ≤ file_limit }
     ensures ok { OnOk result (object.new ≡ edited (Edit.Write offset new) object.old) }
     ensures small { IsSmall object.old → IsSmall object.new }

@@ -55,12 +55,7 @@ impl StoreOp {
         }
     }
 
-    fn write_of(
-        alloc: Global,
-        gfid: Gfid,
-        offset: u32,
-        bytes: &Data,
-    ) -> Result<StoreOp, AllocError>
+    fn write_of(alloc: Global, gfid: Gfid, offset: u32, bytes: &Data) -> Result<StoreOp, AllocError>
         ensures { IfOk result (λ c. c ≡ op.Write gfid offset bytes.now) }
     {
         let bytes = bytes.copy(alloc)?;
