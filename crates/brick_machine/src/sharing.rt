@@ -32,29 +32,29 @@ fn last_bytes(message: &Bytes, count: usize) -> Result<Option<Bytes>, AllocError
 }
 
 // The same data, as a part of other bytes if it is there.
-fn as_part(part: Option<Bytes>, data: Data) -> Data
-    ensures { result ≡ data }
+fn as_part(part: Option<Bytes>, bytes: Data) -> Data
+    ensures { result ≡ bytes }
 {
     match part {
-        None => data,
+        None => bytes,
         Some(part) => {
-            if !is_same(part.as_slice(), data.as_slice()) {
+            if !is_same(part.as_slice(), bytes.as_slice()) {
                 drop(part);
-                return data;
+                return bytes;
             }
-            drop(data);
+            drop(bytes);
             Data::from_shared(part)
         }
     }
 }
 
-fn shared_data(message: &Bytes, data: Data) -> Result<Data, AllocError>
-    ensures { IfOk result (λ d. d ≡ data) }
+fn shared_data(message: &Bytes, bytes: Data) -> Result<Data, AllocError>
+    ensures { IfOk result (λ d. d ≡ bytes) }
 {
-    match last_bytes(message, data.len()) {
-        Ok(part) => Ok(as_part(part, data)),
+    match last_bytes(message, bytes.len()) {
+        Ok(part) => Ok(as_part(part, bytes)),
         Err(error) => {
-            drop(data);
+            drop(bytes);
             Err(error)
         }
     }
@@ -132,10 +132,7 @@ fn shared_input(message: &Bytes, input: Input) -> Result<Input, AllocError>
 ///
 /// # Errors
 /// Out of memory: the message has too many owners.
-pub(crate) fn shared(
-    message: &Bytes,
-    read: Message<Input>,
-) -> Result<Message<Input>, AllocError>
+pub(crate) fn shared(message: &Bytes, read: Message<Input>) -> Result<Message<Input>, AllocError>
     ensures { IfOk result (λ m. m ≡ read) }
 {
     match read {

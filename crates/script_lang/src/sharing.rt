@@ -42,16 +42,16 @@ impl Runs {
     }
 
     // The same data, as a front of a run where it is one.
-    fn shared(&mut self, alloc: Global, data: Data) -> Result<Data, AllocError>
-        ensures { IfOk result (λ d. d ≡ data) }
+    fn shared(&mut self, alloc: Global, bytes: Data) -> Result<Data, AllocError>
+        ensures { IfOk result (λ d. d ≡ bytes) }
     {
-        let Some(byte) = run_byte(data.as_slice()) else {
-            return Ok(data);
+        let Some(byte) = run_byte(bytes.as_slice()) else {
+            return Ok(bytes);
         };
         match self.add(alloc, byte) {
-            Ok(()) => front_of(self.by_byte.get(&byte), data),
+            Ok(()) => front_of(self.by_byte.get(&byte), bytes),
             Err(error) => {
-                drop(data);
+                drop(bytes);
                 Err(error)
             }
         }
@@ -59,12 +59,12 @@ impl Runs {
 }
 
 // The byte of which long data may be a run: that at its ends.
-fn run_byte(data: &[u8]) -> Option<u8> {
-    if data.len() < PAGE {
+fn run_byte(bytes: &[u8]) -> Option<u8> {
+    if bytes.len() < PAGE {
         return None;
     }
-    let first = *data.first()?;
-    let last = *data.last()?;
+    let first = *bytes.first()?;
+    let last = *bytes.last()?;
     if first == last { Some(first) } else { None }
 }
 
@@ -75,33 +75,33 @@ fn is_same(one: &[u8], other: &[u8]) -> bool
 }
 
 // Whether data is a front of a run.
-fn is_front(run: &[u8], data: &[u8]) -> bool
-    ensures { result ≡ true → take (length data.now) run.now ≡ data.now }
+fn is_front(run: &[u8], bytes: &[u8]) -> bool
+    ensures { result ≡ true → take (length bytes.now) run.now ≡ bytes.now }
 {
-    let count = data.len();
+    let count = bytes.len();
     if count > run.len() {
         return false;
     }
-    is_same(&run[..count], data)
+    is_same(&run[..count], bytes)
 }
 
-fn front_of(run: Option<&Bytes>, data: Data) -> Result<Data, AllocError>
-    ensures { IfOk result (λ d. d ≡ data) }
+fn front_of(run: Option<&Bytes>, bytes: Data) -> Result<Data, AllocError>
+    ensures { IfOk result (λ d. d ≡ bytes) }
 {
     match run {
-        None => Ok(data),
-        Some(run) => front_if(run, data),
+        None => Ok(bytes),
+        Some(run) => front_if(run, bytes),
     }
 }
 
-fn front_if(run: &Bytes, data: Data) -> Result<Data, AllocError>
-    ensures { IfOk result (λ d. d ≡ data) }
+fn front_if(run: &Bytes, bytes: Data) -> Result<Data, AllocError>
+    ensures { IfOk result (λ d. d ≡ bytes) }
 {
-    if !is_front(run.as_slice(), data.as_slice()) {
-        return Ok(data);
+    if !is_front(run.as_slice(), bytes.as_slice()) {
+        return Ok(bytes);
     }
-    let count = data.len();
-    drop(data);
+    let count = bytes.len();
+    drop(bytes);
     let mut front = run.clone()?;
     front.truncate(count);
     Ok(Data::from_shared(front))
