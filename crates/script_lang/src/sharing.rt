@@ -1,8 +1,8 @@
 //! Data of equal bytes, which is kept once for all calls that write it.
 //!
-//! The data of a script is no longer than its text, but for runs of one byte (`z:N`, `r:N:HH`). Each run of a page or more is
-//! made a front of the longest one of its byte, so that all of them take 16 MiB at most. What is kept is believed by nobody:
-//! data is compared with it, and only then shared.
+//! The data of a script is no longer than its text, but for runs of one byte (`z:N`, `r:N:HH`). Each run of a page or more
+//! becomes a prefix of the longest run of its byte, so that all runs take 16 MiB at most. Nothing is assumed of what is kept:
+//! bytes are compared with it before they share it.
 ghost use Rattle.std.specs.Prelude.{◌≡◌, true, take, length, IfOk, OnOk};
 
 use crate::scripts::{CallLine, Phase};
@@ -41,7 +41,7 @@ impl Runs {
         Ok(())
     }
 
-    // The same data, as a front of a run where it is one.
+    // The same data, as a prefix of a run where it is one.
     fn shared(&mut self, alloc: Global, bytes: Data) -> Result<Data, AllocError>
         ensures { IfOk result (λ d. d ≡ bytes) }
     {
@@ -49,7 +49,7 @@ impl Runs {
             return Ok(bytes);
         };
         match self.add(alloc, byte) {
-            Ok(()) => front_of(self.by_byte.get(&byte), bytes),
+            Ok(()) => prefix_of(self.by_byte.get(&byte), bytes),
             Err(error) => {
                 drop(bytes);
                 Err(error)
@@ -74,8 +74,8 @@ fn is_same(one: &[u8], other: &[u8]) -> bool
     one == other
 }
 
-// Whether data is a front of a run.
-fn is_front(run: &[u8], bytes: &[u8]) -> bool
+// Whether data is a prefix of a run.
+fn is_prefix(run: &[u8], bytes: &[u8]) -> bool
     ensures { result ≡ true → take (length bytes.now) run.now ≡ bytes.now }
 {
     let count = bytes.len();
@@ -85,26 +85,26 @@ fn is_front(run: &[u8], bytes: &[u8]) -> bool
     is_same(&run[..count], bytes)
 }
 
-fn front_of(run: Option<&Bytes>, bytes: Data) -> Result<Data, AllocError>
+fn prefix_of(run: Option<&Bytes>, bytes: Data) -> Result<Data, AllocError>
     ensures { IfOk result (λ d. d ≡ bytes) }
 {
     match run {
         None => Ok(bytes),
-        Some(run) => front_if(run, bytes),
+        Some(run) => prefix_if(run, bytes),
     }
 }
 
-fn front_if(run: &Bytes, bytes: Data) -> Result<Data, AllocError>
+fn prefix_if(run: &Bytes, bytes: Data) -> Result<Data, AllocError>
     ensures { IfOk result (λ d. d ≡ bytes) }
 {
-    if !is_front(run.as_slice(), bytes.as_slice()) {
+    if !is_prefix(run.as_slice(), bytes.as_slice()) {
         return Ok(bytes);
     }
     let count = bytes.len();
     drop(bytes);
-    let mut front = run.clone()?;
-    front.truncate(count);
-    Ok(Data::from_shared(front))
+    let mut prefix = run.clone()?;
+    prefix.truncate(count);
+    Ok(Data::from_shared(prefix))
 }
 
 // The same call, whose data is shared.
