@@ -5,7 +5,7 @@ ghost use Rattle.fop_types.specs.declared.messages.Input.TheVariants as input;
 ghost use Rattle.wire_xdr.specs.Limits.{max_data};
 ghost use Rattle.wire_xdr.specs.WireText.{IsInput};
 
-use fop_types::{BrickReq, Gfid, Input, Seq, StoreOp};
+use fop_types::{BrickReq, Data, Gfid, Input, StoreOp};
 use std::alloc::{AllocError, Global};
 use wire_xdr::{Decoded, decode_req, encode_req};
 
@@ -16,15 +16,16 @@ pub const SIZE: usize = 65536;
 const ABOVE_MESSAGE: usize = 98304;
 
 /// The bytes that are written.
-pub fn payload(alloc: Global) -> Result<Seq<u8>, AllocError>
+pub fn payload(alloc: Global) -> Result<Data, AllocError>
     ensures { IfOk result (λ bytes. length bytes ≡ max_data) }
 {
     let block = [7u8; SIZE];
-    Seq::from_bytes(alloc, &block)
+    let bytes = Vec::from_slice(alloc, &block)?;
+    Ok(Data::from_vec(bytes))
 }
 
 /// The request that writes these bytes.
-pub fn request(bytes: Seq<u8>) -> Input
+pub fn request(bytes: Data) -> Input
     requires { length bytes ≤ max_data }
     ensures encodable { IsInput result }
     ensures said { result ≡ input.Request 5 1 (req.Op 9 0 (op.Write (record { hi = 0; lo = 2 }) 0 bytes)) }

@@ -5,6 +5,7 @@ ghost use Rattle.cell_store.specs.Dump.{dumped};
 ghost use Rattle.brick_machine.specs.Machine.{state_of, texts_of};
 
 use crate::outs::Outs;
+use crate::sharing::shared;
 use crate::state::State;
 use bytes::Bytes;
 use cell_store::Store;
@@ -83,7 +84,8 @@ impl Brick {
         self.is_spent = true;
         self.inputs.reserve(1)?;
         let taken = self.inputs.len() as u64 + 1;
-        let message = input_of(alloc, input.as_slice())?;
+        let read = input_of(alloc, input.as_slice())?;
+        let message = shared(&input, read)?;
         let mut outs = Outs::new(alloc, taken);
         self.state.serve(alloc, &mut outs, message)?;
         let mut made = outs.into_made();

@@ -27,7 +27,8 @@
 //!
 //! A served input costs a few searches of the order log n in what the brick keeps, beside the bytes that it moves;
 //! an index looks at every cell, a Down at every lock that waits, and a dropped or released lock at those that it
-//! kept waiting. Inputs and outputs are buffers that are shared and not copied.
+//! kept waiting. Inputs and outputs are buffers that are shared and not copied, and the store keeps the long bytes of a
+//! write where they are in its input.
 //!
 //! `specs/` has the rules, one definition each, in the order in which `specs/Lib.antt` lists its files.
 #![tactic(auto)]
@@ -44,6 +45,7 @@ mod locking;
 mod machine;
 mod outs;
 mod serving;
+mod sharing;
 mod state;
 mod waiters;
 

@@ -6,7 +6,7 @@ ghost use Rattle.call_fops.specs.Walks.{Walked};
 use crate::objects::{brick_fd, file_object, open_fd};
 use crate::walk::Walk;
 use fd_table::FdTable;
-use fop_types::{Attr, Call, Fop, Gfid, Object, Path, Seq};
+use fop_types::{Attr, Call, Data, Fop, Gfid, Object, Path, Seq};
 use std::alloc::{AllocError, Global};
 
 fn last(alloc: Global, path: &Path) -> Result<Seq<u8>, AllocError>
@@ -120,7 +120,7 @@ fn write(
     fds: &FdTable,
     session: u8,
     fd: u8,
-    bytes: &Seq<u8>,
+    bytes: &Data,
 ) -> Result<Option<Fop>, AllocError>
     ensures { (w : Walked) (drawn : Gfid) → IfOk result (λ f. f ≡ last_fop_of (Call.Write fd bytes.now) w session drawn fds.now) }
 {

@@ -10,7 +10,7 @@ use crate::cell_map::CellMap;
 use crate::lookups::{data_cell, meta_cell, names_cell};
 use crate::steps::Step;
 use contents::Edit;
-use fop_types::{Cell, Content, Gfid, Item, Kind, Row, Seq, Span};
+use fop_types::{Cell, Content, Data, Gfid, Item, Kind, Row, Seq, Span};
 use std::alloc::{AllocError, Global};
 
 impl CellMap {
@@ -90,7 +90,7 @@ impl CellMap {
         let gfid = item.gfid;
         match item.kind {
             Kind::File => {
-                let bytes = Content::Bytes(Seq::new(alloc));
+                let bytes = Content::Bytes(Data::new(alloc));
                 let data = data_cell(gfid);
                 self.add_object(
                     alloc,

@@ -3,9 +3,15 @@ ghost use Rattle.std.specs.Prelude.{◌≡◌, true, Some};
 ghost use Rattle.dht_fops.specs.Answers.{added, change_of};
 ghost use Rattle.fop_types.specs.declared.flat.FlatOp.TheVariants as op;
 
-use fop_types::{Attr, FlatOp, Gfid, Item, Kind, Seq, StoreOp};
+use fop_types::{Attr, Data, FlatOp, Gfid, Item, Kind, Seq, StoreOp};
 
 fn are_same(a: &Seq<u8>, b: &Seq<u8>) -> bool
+    ensures { result ≡ true → a.now ≡ b.now }
+{
+    a == b
+}
+
+fn are_data(a: &Data, b: &Data) -> bool
     ensures { result ≡ true → a.now ≡ b.now }
 {
     a == b
@@ -24,7 +30,7 @@ fn is_attr(a: &Attr, b: &Attr) -> bool
     are_same(&a.name, &b.name) && are_same(&a.value, &b.value)
 }
 
-fn is_write(flat: &FlatOp, gfid: Gfid, offset: u32, bytes: &Seq<u8>) -> bool
+fn is_write(flat: &FlatOp, gfid: Gfid, offset: u32, bytes: &Data) -> bool
     ensures { result ≡ true → flat.now ≡ op.Write gfid offset bytes.now }
 {
     match flat {
@@ -32,7 +38,7 @@ fn is_write(flat: &FlatOp, gfid: Gfid, offset: u32, bytes: &Seq<u8>) -> bool
             gfid: g,
             offset: o,
             bytes: b,
-        } => is_gfid(*g, gfid) && *o == offset && are_same(b, bytes),
+        } => is_gfid(*g, gfid) && *o == offset && are_data(b, bytes),
         _ => false,
     }
 }

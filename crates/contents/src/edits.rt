@@ -1,5 +1,5 @@
 ghost use Rattle.std.specs.Prelude.{◌≡◌, ◌+◌, ◌≤◌, true, length, IsOk, OnOk, OnErr};
-ghost use Rattle.fop_types.specs.FileBytes.{file_limit, written};
+ghost use Rattle.fop_types.specs.FileBytes.{file_limit, written, resized};
 ghost use Rattle.fop_types.specs.StoreOps.{edited};
 ghost use Rattle.fop_types.specs.StoreOps.Edit.{PutBytes, Resize, PutMode, PutAttr, DropAttr, PutItem, DropItem, MarkRemoved};
 ghost use Rattle.contents.specs.Edits.{Fits, edited_by, is_sure};
@@ -10,16 +10,15 @@ use crate::attrs::{insert_attr_by, remove_attr_by};
 use crate::file_bytes;
 use crate::halves::Search;
 use crate::names::{insert_item_by, remove_item_by, rename_item_by};
-use fop_types::{Attr, Content, Item, Seq};
+use fop_types::{Attr, Content, Data, Item, Seq};
 use std::alloc::{AllocError, Global};
-use std::mem;
 
 /// An edit of one cell's content. Of a file's bytes: a write, or another length. Of metadata: the mode, or one attribute. Of a
 /// directory's names: one name put in, dropped or renamed to an item of another name, and the mark of a removed
 /// directory. An item or an attribute that is put in takes the place of one of an equal name.
 #[derive(Drop)]
 pub enum Edit {
-    Write { offset: u32, bytes: Seq<u8> },
+    Write { offset: u32, bytes: Data },
     Resize(u32),
     SetMode(u16),
     PutAttr(Attr),
@@ -30,13 +29,24 @@ pub enum Edit {
     Rename { name: Seq<u8>, item: Item },
 }
 
-// Bytes that cover the file take its place, and are not copied.
-fn write_over(
-    alloc: Global,
-    bytes: &mut Seq<u8>,
-    offset: u32,
-    new: Seq<u8>,
-) -> Result<(), AllocError>
+// Writes into the bytes, which are copied first where they are shared.
+fn write_into(alloc: Global, bytes: &mut Data, offset: u32, new: &[u8]) -> Result<(), AllocError>
+    requires { offset + length new.now ≤ file_limit }
+    ensures ok { OnOk result (bytes.new ≡ written bytes.old offset new.now) }
+    ensures err { OnErr result (bytes.new ≡ bytes.old) }
+{
+    let mut held = bytes.take(alloc)?;
+    let done = file_bytes::write_at(&mut held, offset as usize, new);
+    *bytes = Data::from_vec(held);
+    done
+}
+
+/// Writes bytes to a file from an offset on, as `write_at` does. Bytes that cover the file take its place, and are not copied;
+/// the file's own are copied first where they are shared.
+///
+/// # Errors
+/// Out of memory, with the bytes unchanged.
+pub fn write_data(alloc: Global, bytes: &mut Data, offset: u32, new: Data) -> Result<(), AllocError>
     requires { offset + length new ≤ file_limit }
     ensures ok { OnOk result (bytes.new ≡ written bytes.old offset new) }
     ensures err { OnErr result (bytes.new ≡ bytes.old) }
@@ -45,9 +55,22 @@ fn write_over(
         *bytes = new;
         return Ok(());
     }
-    let mut held = mem::replace(bytes, Seq::new(alloc)).into_vec();
-    let done = file_bytes::write_at(&mut held, offset as usize, new.as_slice());
-    *bytes = Seq::from_vec(held);
+    let done = write_into(alloc, bytes, offset, new.as_slice());
+    drop(new);
+    done
+}
+
+/// Gives a file's bytes another length, as `resize` does. They are copied first where they are shared.
+///
+/// # Errors
+/// Out of memory, with the bytes unchanged.
+pub fn resize_data(alloc: Global, bytes: &mut Data, size: u32) -> Result<(), AllocError>
+    ensures ok { OnOk result (bytes.new ≡ resized bytes.old size) }
+    ensures err { OnErr result (bytes.new ≡ bytes.old) }
+{
+    let mut held = bytes.take(alloc)?;
+    let done = file_bytes::resize(&mut held, size as usize);
+    *bytes = Data::from_vec(held);
     done
 }
 
@@ -55,16 +78,22 @@ fn write_bytes(
     alloc: Global,
     content: &mut Content,
     offset: u32,
-    new: Seq<u8>,
+    new: Data,
 ) -> Result<(), AllocError>
     requires { offset + length new ≤ file_limit }
     ensures ok { OnOk result (content.new ≡ edited (PutBytes offset new) content.old) }
     ensures err { OnErr result (content.new ≡ content.old) }
 {
     match content {
-        Content::Bytes(bytes) => write_over(alloc, bytes, offset, new),
-        Content::Meta { .. } => Ok(()),
-        Content::Names { .. } => Ok(()),
+        Content::Bytes(bytes) => write_data(alloc, bytes, offset, new),
+        Content::Meta { .. } => {
+            drop(new);
+            Ok(())
+        }
+        Content::Names { .. } => {
+            drop(new);
+            Ok(())
+        }
     }
 }
 
@@ -73,12 +102,7 @@ fn resize_bytes(alloc: Global, content: &mut Content, size: u32) -> Result<(), A
     ensures err { OnErr result (content.new ≡ content.old) }
 {
     match content {
-        Content::Bytes(bytes) => {
-            let mut held = mem::replace(bytes, Seq::new(alloc)).into_vec();
-            let done = file_bytes::resize(&mut held, size as usize);
-            *bytes = Seq::from_vec(held);
-            done
-        }
+        Content::Bytes(bytes) => resize_data(alloc, bytes, size),
         Content::Meta { .. } => Ok(()),
         Content::Names { .. } => Ok(()),
     }

@@ -5,7 +5,7 @@
 //!      |
 //!   Content      edit_content      what a store op makes of one cell
 //!      |
-//!   bytes        write_at, resize, read
+//!   bytes        write_data, resize_data, read             over write_at and resize of a vector
 //!   attributes   find_attr, insert_attr, remove_attr       by rising bytes of the name
 //!   names        remove_item, rename_item                  beside find_item and insert_item of `fop_types`
 //! ```
@@ -22,7 +22,7 @@ mod names;
 mod ordered;
 
 pub use attrs::{find_attr, insert_attr, remove_attr};
-pub use edits::{Edit, edit_content};
+pub use edits::{Edit, edit_content, resize_data, write_data};
 pub use file_bytes::{read, resize, write_at};
 pub use names::{remove_item, rename_item};
 pub use ordered::OrderedContent;

@@ -11,7 +11,8 @@ use crate::step::{Step, answer, ask, refuse};
 use crate::volume::Volume;
 use contents::find_attr;
 use fop_types::{
-    Answer, AppError, Aspect, Attr, Cell, Content, Entry, FopAnswer, Job, Object, Seq, StoreOp,
+    Answer, AppError, Aspect, Attr, Cell, Content, Data, Entry, FopAnswer, Job, Object, Seq,
+    StoreOp,
 };
 use std::alloc::{AllocError, Global};
 
@@ -196,7 +197,7 @@ fn write_some(
     object: Object,
     fd: u32,
     offset: u32,
-    bytes: Seq<u8>,
+    bytes: Data,
 ) -> Result<Step, AllocError>
     requires { nat_lt file_limit (offset + length bytes) ≡ false }
     ensures { IfOk result (λ step. course_of volume step ≡ writes_some volume object fd offset bytes) }
@@ -221,7 +222,7 @@ pub(crate) fn write(
     object: Object,
     fd: u32,
     offset: u32,
-    bytes: Seq<u8>,
+    bytes: Data,
 ) -> Result<Step, AllocError>
     ensures { IfOk result (λ step. course_of volume step ≡ writes volume object fd offset bytes) }
 {

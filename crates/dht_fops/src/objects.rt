@@ -10,7 +10,7 @@ use crate::state::{OnContents, OnNumber, State};
 use crate::step::{Step, answer, ask, refuse};
 use crate::volume::Volume;
 use contents::{find_attr, read as read_bytes};
-use fop_types::{Answer, AppError, Aspect, Content, Job, Kind, Object, Seq};
+use fop_types::{Answer, AppError, Aspect, Content, Data, Job, Kind, Object, Seq};
 use std::alloc::{AllocError, Global};
 
 /// A part of a file, in bytes.
@@ -147,16 +147,17 @@ pub(crate) fn attr_read(
 }
 
 // The part of the bytes, which are cut and not copied where it begins at the start.
-fn part_of(alloc: Global, bytes: Seq<u8>, range: Range) -> Result<Seq<u8>, AllocError>
+fn part_of(alloc: Global, bytes: Data, range: Range) -> Result<Seq<u8>, AllocError>
     ensures { IfOk result (λ part. part ≡ read_from bytes range.offset range.count) }
 {
     let count = range.count as usize;
     if range.offset != 0 {
         return read_bytes(alloc, bytes.as_slice(), range.offset as usize, count);
     }
-    let mut bytes = bytes.into_vec();
-    bytes.truncate(count);
-    Ok(Seq::from_vec(bytes))
+    let mut bytes = bytes;
+    let mut part = bytes.take(alloc)?;
+    part.truncate(count);
+    Ok(Seq::from_vec(part))
 }
 
 pub(crate) fn bytes_read(

@@ -5,7 +5,7 @@ ghost use Rattle.dht_fops.specs.Internal.{cells_in};
 ghost use Rattle.dht_fops.specs.Objects.{bytes_of, mode_of, second_content};
 ghost use Rattle.fop_types.specs.StoreOps.{attrs_of};
 
-use fop_types::{Attr, Cell, Content, IoError, Seq, SetReply};
+use fop_types::{Attr, Cell, Content, Data, IoError, Seq, SetReply};
 use std::alloc::Global;
 
 /// The contents that a read gave, and its place. A reply that answers no read, which no set gives to one, has none.
@@ -69,7 +69,7 @@ pub(crate) fn take_first(contents: &mut Seq<Option<Content>>) -> Option<Content>
 }
 
 /// A file's bytes; none where the content is no file's.
-pub(crate) fn bytes_of(alloc: Global, content: Option<Content>) -> Seq<u8>
+pub(crate) fn bytes_of(alloc: Global, content: Option<Content>) -> Data
     ensures { result ≡ bytes_of content }
 {
     match content {
@@ -80,14 +80,14 @@ pub(crate) fn bytes_of(alloc: Global, content: Option<Content>) -> Seq<u8>
                 attrs: _,
                 span: _,
             },
-        ) => Seq::new(alloc),
+        ) => Data::new(alloc),
         Some(
             Content::Names {
                 removed: _,
                 items: _,
             },
-        ) => Seq::new(alloc),
-        None => Seq::new(alloc),
+        ) => Data::new(alloc),
+        None => Data::new(alloc),
     }
 }
 

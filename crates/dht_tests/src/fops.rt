@@ -1,7 +1,7 @@
 //! Fops by their words.
 
 use crate::text::{cut, digit};
-use fop_types::{Attr, Fop, Gfid, Kind, Object, OpenFd, Seq};
+use fop_types::{Attr, Data, Fop, Gfid, Kind, Object, OpenFd, Seq};
 use std::alloc::{AllocError, Global};
 
 // The gfid of each file, which create draws, and that of a directory, which mkdir draws.
@@ -166,7 +166,7 @@ fn read(object: Object, offset: u32) -> Fop {
 }
 
 fn write(alloc: Global, object: Object, offset: u32, bytes: &[u8]) -> Result<Fop, AllocError> {
-    let bytes = Seq::from_bytes(alloc, bytes)?;
+    let bytes = Data::from_vec(Vec::from_slice(alloc, bytes)?);
     Ok(Fop::Write {
         fd: 1,
         object,

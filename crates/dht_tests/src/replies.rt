@@ -2,7 +2,8 @@
 
 use crate::text::{cut, digit};
 use fop_types::{
-    Aspect, Attr, Cell, Content, Gfid, IoError, Item, Kind, Mask, Seq, SetReply, SkipCause, Span,
+    Aspect, Attr, Cell, Content, Data, Gfid, IoError, Item, Kind, Mask, Seq, SetReply, SkipCause,
+    Span,
 };
 use std::alloc::{AllocError, Global};
 
@@ -31,14 +32,18 @@ fn shown_meta(alloc: Global, span: Option<Span>, place: u32) -> Result<SetReply,
     contents(alloc, Some(meta(alloc, span)?), place)
 }
 
+fn bytes_content(alloc: Global, bytes: &[u8]) -> Result<Content, AllocError> {
+    let bytes = Vec::from_slice(alloc, bytes)?;
+    Ok(Content::Bytes(Data::from_vec(bytes)))
+}
+
 fn shown_bytes(alloc: Global, place: u32) -> Result<SetReply, AllocError> {
-    let bytes = Seq::from_bytes(alloc, b"hello")?;
-    contents(alloc, Some(Content::Bytes(bytes)), place)
+    contents(alloc, Some(bytes_content(alloc, b"hello")?), place)
 }
 
 fn bytes_and_meta(alloc: Global, bytes: &[u8], place: u32) -> Result<SetReply, AllocError> {
     let mut all = Seq::new(alloc);
-    all.push(Some(Content::Bytes(Seq::from_bytes(alloc, bytes)?)))?;
+    all.push(Some(bytes_content(alloc, bytes)?))?;
     all.push(Some(meta(alloc, None)?))?;
     Ok(SetReply::Contents(all, place))
 }

@@ -2,10 +2,9 @@ ghost use Rattle.std.specs.Prelude.{◌≡◌, ◌+◌, ◌≤◌, length, OnOk}
 ghost use Rattle.fop_types.specs.FileBytes.{file_limit};
 ghost use Rattle.flat_fs.specs.Edits.{IsSmall, Fits, edited};
 
-use contents::{insert_attr, remove_attr, remove_item};
-use fop_types::{Attr, FlatObject, Item, Seq, insert_item};
+use contents::{insert_attr, remove_attr, remove_item, resize_data, write_data};
+use fop_types::{Attr, Data, FlatObject, Item, Seq, insert_item};
 use std::alloc::{AllocError, Global};
-use std::mem;
 
 /// A change of one part of an object: a directory's names or its mark, a mode, an attribute, a file's bytes.
 #[derive(Drop)]
@@ -16,7 +15,7 @@ pub(crate) enum Edit {
     SetMode(u16),
     PutAttr(Attr),
     DropAttr(Seq<u8>),
-    Write { offset: u32, bytes: Seq<u8> },
+    Write { offset: u32, bytes: Data },
     Resize(u32),
 }
 
@@ -89,24 +88,17 @@ fn drop_attr(object: &mut FlatObject, name: &[u8])
     }
 }
 
-fn write(
-    alloc: Global,
-    object: &mut FlatObject,
-    offset: u32,
-    new: &Seq<u8>,
-) -> Result<(), AllocError>
-    requires { offset + length new.now ≤ file_limit }
-    ensures ok { OnOk result (object.new ≡ edited (Edit.Write offset new.now) object.old) }
+fn write(alloc: Global, object: &mut FlatObject, offset: u32, new: Data) -> Result<(), AllocError>
+    requires { offset + length new ≤ file_limit }
+    ensures ok { OnOk result (object.new ≡ edited (Edit.Write offset new) object.old) }
     ensures small { IsSmall object.old → IsSmall object.new }
 {
     match object {
-        FlatObject::Directory { .. } => Ok(()),
-        FlatObject::File { bytes, .. } => {
-            let mut held = mem::replace(bytes, Seq::new(alloc)).into_vec();
-            contents::write_at(&mut held, offset as usize, new.as_slice())?;
-            *bytes = Seq::from_vec(held);
+        FlatObject::Directory { .. } => {
+            drop(new);
             Ok(())
         }
+        FlatObject::File { bytes, .. } => write_data(alloc, bytes, offset, new),
     }
 }
 
@@ -117,12 +109,7 @@ fn resize(alloc: Global, object: &mut FlatObject, size: u32) -> Result<(), Alloc
 {
     match object {
         FlatObject::Directory { .. } => Ok(()),
-        FlatObject::File { bytes, .. } => {
-            let mut held = mem::replace(bytes, Seq::new(alloc)).into_vec();
-            contents::resize(&mut held, size as usize)?;
-            *bytes = Seq::from_vec(held);
-            Ok(())
-        }
+        FlatObject::File { bytes, .. } => resize_data(alloc, bytes, size),
     }
 }
 
@@ -158,7 +145,7 @@ pub(crate) fn edit_object(
             drop_attr(object, name.as_slice());
             Ok(())
         }
-        Edit::Write { offset, bytes } => write(alloc, object, offset, &bytes),
+        Edit::Write { offset, bytes } => write(alloc, object, offset, bytes),
         Edit::Resize(size) => resize(alloc, object, size),
     }
 }

@@ -6,7 +6,7 @@ ghost use Rattle.flat_fs.specs.Walks.{objects};
 
 use crate::fds::Fds;
 use crate::walk::Found;
-use fop_types::{Call, FlatOp, Gfid, Path, Seq};
+use fop_types::{Call, Data, FlatOp, Gfid, Path, Seq};
 use std::alloc::{AllocError, Global};
 
 fn last(alloc: Global, path: &Path) -> Result<Seq<u8>, AllocError>
@@ -28,7 +28,7 @@ fn read_op(fds: &Fds, fd: u8, count: u32) -> Option<FlatOp>
     }
 }
 
-fn write_op(alloc: Global, fds: &Fds, fd: u8, bytes: &Seq<u8>) -> Result<Option<FlatOp>, AllocError>
+fn write_op(alloc: Global, fds: &Fds, fd: u8, bytes: &Data) -> Result<Option<FlatOp>, AllocError>
     ensures { IfOk result (λ o. o ≡ on_open (map.get fds.now fd) (λ d. FlatOp.Write d.file d.offset bytes.now)) }
 {
     match fds.get(fd) {

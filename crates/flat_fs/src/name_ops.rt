@@ -9,7 +9,7 @@ ghost use Rattle.flat_fs.specs.Outcomes.{made, removed_child, unlinked_child};
 use crate::edits::Edit;
 use crate::flat_fs::{FlatFs, new_directory};
 use fop_types::{
-    Answer, AppError, FlatAnswer, FlatObject, FlatOp, Gfid, Item, Kind, Seq, find_item,
+    Answer, AppError, Data, FlatAnswer, FlatObject, FlatOp, Gfid, Item, Kind, Seq, find_item,
 };
 use std::alloc::{AllocError, Global};
 
@@ -185,7 +185,7 @@ impl FlatFs {
             target: Seq::new(alloc),
         };
         let object = FlatObject::File {
-            bytes: Seq::new(alloc),
+            bytes: Data::new(alloc),
             mode,
             attrs: Seq::new(alloc),
         };

@@ -9,7 +9,7 @@ use crate::edits::Edit;
 use crate::flat_fs::FlatFs;
 use crate::name_ops::{done, refused};
 use contents::find_attr;
-use fop_types::{Answer, AppError, Attr, FlatAnswer, FlatObject, FlatOp, Gfid, Kind, Seq};
+use fop_types::{Answer, AppError, Attr, Data, FlatAnswer, FlatObject, FlatOp, Gfid, Kind, Seq};
 use std::alloc::{AllocError, Global};
 
 const FILE_LIMIT: usize = 65536;
@@ -238,7 +238,7 @@ impl FlatFs {
         alloc: Global,
         gfid: Gfid,
         offset: u32,
-        bytes: Seq<u8>,
+        bytes: Data,
     ) -> Result<FlatAnswer, AllocError>
         ensures answer { IfOk result (λ a. a ≡ flat_answer self.old (FlatOp.Write gfid offset bytes)) }
         ensures files { OnOk result (self.new ≡ flat_after self.old (FlatOp.Write gfid offset bytes)) }
@@ -262,7 +262,7 @@ impl FlatFs {
         alloc: Global,
         gfid: Gfid,
         offset: u32,
-        bytes: Seq<u8>,
+        bytes: Data,
     ) -> Result<FlatAnswer, AllocError>
         requires { offset + length bytes ≤ file_limit }
         ensures answer { IfOk result (λ a. a ≡ answer_in (write_of bytes (edited_at self.old gfid (Edit.Write offset bytes)))) }

@@ -1,7 +1,7 @@
 ghost use Rattle.std.specs.Prelude.{◌≤◌};
 
 use flat_fs::FlatMount;
-use fop_types::{Answer, Attr, Call, Item, Kind, Path, Seq};
+use fop_types::{Answer, Attr, Call, Data, Item, Kind, Path, Seq};
 use std::alloc::{AllocError, Global};
 
 // The text up to a mark, and what follows the mark.
@@ -138,7 +138,7 @@ fn open_call(alloc: Global, fd: u8, word: &[u8]) -> Result<Call, AllocError> {
 }
 
 fn write_call(alloc: Global, fd: u8, word: &[u8]) -> Result<Call, AllocError> {
-    let bytes = bytes(alloc, word)?;
+    let bytes = Data::from_vec(bytes(alloc, word)?.into_vec());
     Ok(Call::Write { fd, bytes })
 }
 

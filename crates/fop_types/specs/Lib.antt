@@ -1,6 +1,7 @@
 pub mod Bounds
 pub mod Calls
 pub mod Cells
+pub mod DataBytes
 pub mod Effects
 pub mod Errors
 pub mod FileBytes

@@ -1,4 +1,5 @@
 use crate::contents::Attr;
+use crate::data::Data;
 use crate::lists::Seq;
 
 /// A path as its components; the root's has none.
@@ -26,7 +27,7 @@ pub enum Call {
     GetAttr { path: Path, name: Seq<u8> },
     DelAttr { path: Path, name: Seq<u8> },
     Read { fd: u8, count: u32 },
-    Write { fd: u8, bytes: Seq<u8> },
+    Write { fd: u8, bytes: Data },
     Seek { fd: u8, offset: u32 },
     Close { fd: u8 },
 }

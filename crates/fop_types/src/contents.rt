@@ -1,4 +1,5 @@
 use crate::cells::{Gfid, Kind};
+use crate::data::Data;
 use crate::lists::Seq;
 
 /// A range of hashes, both ends within it: the part of the hash space that a directory's copy on one
@@ -29,7 +30,7 @@ pub struct Attr {
 /// directory, the copy's range; a directory's names by rising bytes.
 #[derive(Drop, PartialEq, Eq)]
 pub enum Content {
-    Bytes(Seq<u8>),
+    Bytes(Data),
     Meta {
         mode: u16,
         attrs: Seq<Attr>,

@@ -1,6 +1,7 @@
 use crate::answers::Answer;
 use crate::cells::{Gfid, Kind};
 use crate::contents::{Attr, Item};
+use crate::data::Data;
 use crate::lists::Seq;
 
 /// An object of the flat file system: a file with its bytes, or a directory with its names by rising
@@ -8,7 +9,7 @@ use crate::lists::Seq;
 #[derive(Drop, PartialEq, Eq)]
 pub enum FlatObject {
     File {
-        bytes: Seq<u8>,
+        bytes: Data,
         mode: u16,
         attrs: Seq<Attr>,
     },
@@ -91,7 +92,7 @@ pub enum FlatOp {
     Write {
         gfid: Gfid,
         offset: u32,
-        bytes: Seq<u8>,
+        bytes: Data,
     },
 }
 

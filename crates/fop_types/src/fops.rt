@@ -1,5 +1,6 @@
 use crate::cells::{Gfid, Kind};
 use crate::contents::Attr;
+use crate::data::Data;
 use crate::lists::Seq;
 
 /// An object that a fop names: its gfid, its kind, and the number of the set that a lookup or a descriptor
@@ -98,7 +99,7 @@ pub enum Fop {
         fd: u32,
         object: Object,
         offset: u32,
-        bytes: Seq<u8>,
+        bytes: Data,
     },
     Migrate {
         fds: Seq<OpenFd>,

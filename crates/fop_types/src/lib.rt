@@ -13,8 +13,8 @@
 //!   Jobs                 what a job of a set must meet, and which reply answers it
 //! ```
 //!
-//! A public list is a [`Seq`], which contracts see as a plain list, so a value of these types is plain
-//! data in every contract above.
+//! A public list is a [`Seq`], and bytes that are shared are a [`Data`]. Contracts see both as a plain list, so a value of
+//! these types is plain data in every contract above.
 #![tactic(auto)]
 
 mod answers;
@@ -25,6 +25,7 @@ mod cells;
 mod contents;
 mod copies;
 mod copy_jobs;
+mod data;
 mod flat;
 mod fops;
 mod history;
@@ -42,6 +43,7 @@ pub use causes::SkipCause;
 pub use cells::{Aspect, Cell, Gfid, Kind};
 pub use contents::{Attr, Content, Item, Mask, Row, Span};
 pub use copy_jobs::{CopyDone, CopyJob, CopyRecord, Out};
+pub use data::Data;
 pub use flat::{FlatAnswer, FlatObject, FlatOp};
 pub use fops::{Fop, Object, OpenFd};
 pub use history::Entry;

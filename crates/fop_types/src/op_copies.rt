@@ -3,6 +3,7 @@ ghost use Rattle.fop_types.specs.declared.store_ops.StoreOp.TheVariants as op;
 
 use crate::cells::Gfid;
 use crate::contents::{Attr, Item, Span};
+use crate::data::Data;
 use crate::lists::Seq;
 use crate::store_ops::StoreOp;
 use std::alloc::{AllocError, Global};
@@ -54,12 +55,7 @@ impl StoreOp {
         }
     }
 
-    fn write_of(
-        alloc: Global,
-        gfid: Gfid,
-        offset: u32,
-        bytes: &Seq<u8>,
-    ) -> Result<StoreOp, AllocError>
+    fn write_of(alloc: Global, gfid: Gfid, offset: u32, bytes: &Data) -> Result<StoreOp, AllocError>
         ensures { IfOk result (λ c. c ≡ op.Write gfid offset bytes.now) }
     {
         let bytes = bytes.copy(alloc)?;

@@ -1,5 +1,6 @@
 use crate::cells::Gfid;
 use crate::contents::{Attr, Item, Span};
+use crate::data::Data;
 use crate::lists::Seq;
 
 /// An alteration of a brick's cells. Each names the cells that it alters; `AddName` and `MakeCopy`
@@ -9,7 +10,7 @@ pub enum StoreOp {
     Write {
         gfid: Gfid,
         offset: u32,
-        bytes: Seq<u8>,
+        bytes: Data,
     },
     Truncate {
         gfid: Gfid,

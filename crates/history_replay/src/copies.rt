@@ -1,7 +1,7 @@
 //! Copies of operations.
 ghost use Rattle.std.specs.Prelude.{◌≡◌, IfOk};
 
-use fop_types::{Attr, FlatOp, Gfid, Seq};
+use fop_types::{Attr, Data, FlatOp, Gfid, Seq};
 use std::alloc::{AllocError, Global};
 
 fn lookup_of(alloc: Global, parent: Gfid, name: &Seq<u8>) -> Result<FlatOp, AllocError>
@@ -101,7 +101,7 @@ fn del_attr_of(alloc: Global, gfid: Gfid, name: &Seq<u8>) -> Result<FlatOp, Allo
     Ok(FlatOp::DelAttr { gfid, name })
 }
 
-fn write_of(alloc: Global, gfid: Gfid, offset: u32, bytes: &Seq<u8>) -> Result<FlatOp, AllocError>
+fn write_of(alloc: Global, gfid: Gfid, offset: u32, bytes: &Data) -> Result<FlatOp, AllocError>
     ensures { IfOk result (λ o. o ≡ FlatOp.Write gfid offset bytes.now) }
 {
     let bytes = bytes.copy(alloc)?;
@@ -112,7 +112,7 @@ fn write_of(alloc: Global, gfid: Gfid, offset: u32, bytes: &Seq<u8>) -> Result<F
     })
 }
 
-/// A copy of an operation, in time and memory of its bytes.
+/// A copy of an operation, in time and memory of its bytes, but for those of a write that are shared.
 ///
 /// # Errors
 /// Out of memory.

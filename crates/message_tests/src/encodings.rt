@@ -1,5 +1,5 @@
 use crate::units::{REPLACE, bytes_of};
-use fop_types::{Aspect, BrickReq, Cell, Content, Gfid, Input, OutKind, Output, Seq};
+use fop_types::{Aspect, BrickReq, Cell, Content, Data, Gfid, Input, OutKind, Output};
 use std::alloc::{AllocError, Global};
 use std::test::Fail;
 use wire_xdr::{Decoded, decode_rep, decode_req, encode_rep, encode_req};
@@ -121,7 +121,7 @@ fn unlock(alloc: Global) -> Result<Vec<u8>, AllocError> {
 
 // The replace of `REPLACE`.
 fn replace(alloc: Global) -> Result<Vec<u8>, AllocError> {
-    let content = Content::Bytes(Seq::from_bytes(alloc, b"ab")?);
+    let content = Content::Bytes(Data::from_vec(Vec::from_slice(alloc, b"ab")?));
     let cell = Cell {
         gfid: Gfid { hi: 0, lo: 2 },
         aspect: Aspect::Data,

@@ -7,7 +7,7 @@ use crate::errors::ScriptKind;
 use crate::numbers::{fd_of, mode_of, number_of};
 use crate::paths::path_of;
 use crate::words::data_of;
-use fop_types::Call;
+use fop_types::{Call, Data};
 use std::alloc::{AllocError, Global};
 
 // A call, or the kind of refusal.
@@ -55,6 +55,7 @@ pub(crate) fn write_of(alloc: Global, fd: &[u8], bytes: &[u8]) -> Result<Said, A
     let Some(bytes) = data_of(alloc, 65536, bytes)? else {
         return Ok(Err(ScriptKind::BadWord));
     };
+    let bytes = Data::shared(bytes.into_vec())?;
     Ok(Ok(Call::Write { fd, bytes }))
 }
 

@@ -44,6 +44,7 @@ mod phase_lines;
 mod places;
 mod readings;
 mod scripts;
+mod sharing;
 mod statements;
 mod words;
 

@@ -1,7 +1,8 @@
-ghost use Rattle.std.specs.Prelude.{◌≡◌, IfOk};
+ghost use Rattle.std.specs.Prelude.{◌≡◌, [], IfOk, OnOk};
 ghost use Rattle.script_lang.specs.Accepted.{IsAccepted};
 ghost use Rattle.script_lang.specs.code.Readings.{HasRead, reading_of};
 ghost use Rattle.script_lang.specs.ScriptText.{IsButForMemory, has_start as has_start_part, nothing_said, parsed, script_of, text_ended};
+ghost use Rattle.script_lang.specs.StatementText.{phases_read};
 ghost use Rattle.script_lang.specs.declared.drafts.Reading.TheVariants.{InScript};
 
 use crate::drafts::{Draft, Inside, Part};
@@ -10,6 +11,7 @@ use crate::few::Few;
 use crate::phase_lines::end_phase;
 use crate::readings::with_line;
 use crate::scripts::Script;
+use crate::sharing::share_data;
 use fop_types::Seq;
 use std::alloc::{AllocError, Global};
 use volfile::{first_line, line_after};
@@ -122,13 +124,21 @@ fn script(alloc: Global, draft: Draft) -> Result<Script, AllocError>
     ensures { IfOk result (λ script. script ≡ script_of draft) }
 {
     let mut draft = draft;
-    match end_phase(alloc, &mut draft) {
+    match end_last(alloc, &mut draft) {
         Ok(()) => Ok(into_script(draft)),
         Err(error) => {
             drop(draft);
             Err(error)
         }
     }
+}
+
+// Ends the last phase, and keeps the same data once.
+fn end_last(alloc: Global, draft: &mut Draft) -> Result<(), AllocError>
+    ensures { OnOk result (draft.new ≡ record draft.old { phases = phases_read draft.old; calls = []; controls = [] }) }
+{
+    end_phase(alloc, draft)?;
+    share_data(alloc, &mut draft.phases)
 }
 
 // The script of a draft whose phases have ended.

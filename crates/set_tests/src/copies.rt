@@ -3,8 +3,8 @@ use Needs::{Clear, Ends, Fetch, Replace, Wait};
 use Says::{Bytes, Done, Fault, Gone, Names, Unfit};
 use afr_phases::mask_of;
 use fop_types::{
-    Aspect, BrickRep, BrickReq, Cell, Content, CopyDone, CopyJob, DoneArm, Gfid, Mask, Row, Seq,
-    SplitRow,
+    Aspect, BrickRep, BrickReq, Cell, Content, CopyDone, CopyJob, Data, DoneArm, Gfid, Mask, Row,
+    Seq, SplitRow,
 };
 use self_heal::{CopyNeed, CopyRun};
 use std::alloc::{AllocError, Global};
@@ -52,7 +52,7 @@ fn start(alloc: Global, case: &Case) -> Result<(CopyRun, CopyNeed), AllocError> 
 
 fn reply(alloc: Global, says: Says) -> BrickRep {
     match says {
-        Bytes(last) => BrickRep::Done(DoneArm::Content(Content::Bytes(Seq::new(alloc)), last)),
+        Bytes(last) => BrickRep::Done(DoneArm::Content(Content::Bytes(Data::new(alloc)), last)),
         Names(last) => BrickRep::Done(DoneArm::Content(no_names(alloc), last)),
         Done => BrickRep::Done(DoneArm::Nothing),
         Gone => BrickRep::Gone,

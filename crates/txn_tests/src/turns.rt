@@ -4,7 +4,7 @@ use crate::jobs::{Work, cell};
 use crate::summary::{Want, summary};
 use afr_ledger::{Ledger, Unsettled};
 use afr_transaction::Txn;
-use fop_types::{BrickRep, Cell, Content, CopyDone, DoneArm, Mask, Out, Row, Seq};
+use fop_types::{BrickRep, Cell, Content, CopyDone, Data, DoneArm, Mask, Out, Row, Seq};
 use std::alloc::{AllocError, Global};
 
 /// What happens next: a job of its own begins, on so many replicas, of which these are live, with change 1 unsettled or not;
@@ -101,7 +101,7 @@ fn reply_of(alloc: Global, turn: Turn) -> Result<Reply, AllocError> {
             row(other, other_last, true),
         ),
         Turn::Absent(k) => rows_of(alloc, k, row(0, 0, false)),
-        Turn::Bytes(k) => Ok(content_of(k, Content::Bytes(Seq::new(alloc)))),
+        Turn::Bytes(k) => Ok(content_of(k, Content::Bytes(Data::new(alloc)))),
         Turn::Names(k) => Ok(names_of(alloc, k)),
         Turn::Cells(k) => cells_of(alloc, k),
         Turn::Fault(k) => Ok((k, BrickRep::Fault)),

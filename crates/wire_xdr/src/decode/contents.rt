@@ -4,7 +4,7 @@ ghost use Rattle.wire_xdr.specs.code.PartParsers.{span_arm_at, span_at, mode_at,
 use crate::decode::attrs::attrs;
 use crate::decode::faults::Fault;
 use crate::decode::items::items;
-use crate::decode::strings::owned_opaque;
+use crate::decode::strings::owned_data;
 use crate::decode::units::{flag, unit, unit_between};
 use crate::limits::{MAX_DATA, MAX_MODE};
 use fop_types::{Content, Span};
@@ -37,7 +37,7 @@ fn content_arm(alloc: Global, bytes: &[u8], kind: u32) -> Result<(Content, &[u8]
 {
     match kind {
         0 => {
-            let (value, rest) = owned_opaque(alloc, bytes, MAX_DATA)?;
+            let (value, rest) = owned_data(alloc, bytes, MAX_DATA)?;
             Ok((Content::Bytes(value), rest))
         }
         1 => {

@@ -10,7 +10,7 @@ use crate::decode::cells::gfid;
 use crate::decode::contents::{mode, span};
 use crate::decode::faults::Fault;
 use crate::decode::items::{item, item_name};
-use crate::decode::strings::owned_opaque;
+use crate::decode::strings::owned_data;
 use crate::decode::units::{unit, unit_between};
 use crate::limits::MAX_DATA;
 use fop_types::StoreOp;
@@ -21,7 +21,7 @@ fn write_op(alloc: Global, bytes: &[u8]) -> Result<(StoreOp, &[u8]), Fault>
 {
     let (gfid, rest) = gfid(bytes)?;
     let (offset, rest) = unit(rest)?;
-    let (bytes, rest) = owned_opaque(alloc, rest, MAX_DATA)?;
+    let (bytes, rest) = owned_data(alloc, rest, MAX_DATA)?;
     Ok((
         StoreOp::Write {
             gfid,

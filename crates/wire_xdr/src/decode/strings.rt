@@ -7,7 +7,7 @@ ghost use Rattle.wire_xdr.specs.code.Parsers.{Gives, is_less, left_of, is_greate
 use crate::decode::classes::Class;
 use crate::decode::faults::Fault;
 use crate::decode::units::unit_between;
-use fop_types::Seq;
+use fop_types::{Data, Seq};
 use std::alloc::Global;
 use std::cmp::Ordering;
 
@@ -173,6 +173,17 @@ pub fn owned_opaque(alloc: Global, bytes: &[u8], most: u32) -> Result<(Seq<u8>, 
 {
     let (value, rest) = opaque(bytes, most)?;
     Ok((Seq::from_bytes(alloc, value)?, rest))
+}
+
+/// A copy of the bytes of a file or of a write, of which there are at most `most`.
+///
+/// # Errors
+/// A fault of the bytes, or out of memory.
+pub fn owned_data(alloc: Global, bytes: &[u8], most: u32) -> Result<(Data, &[u8]), Fault>
+    ensures { Gives (λ x. (x.0, x.1.now)) result (bytes_at most bytes.now) }
+{
+    let (value, rest) = opaque(bytes, most)?;
+    Ok((Data::from_vec(Vec::from_slice(alloc, value)?), rest))
 }
 
 /// A copy of a name.
