@@ -1,5 +1,5 @@
--- What is seen of a hub: the script that it runs, with its plans, the log of the whole events, and why it stopped; what a stop
--- does to later calls; which actions may be carried out; and which event a call adds to the log. Ours.
+-- What is seen of a hub: the script that it runs, with its plans, the log of the whole events, what is due, and why it stopped;
+-- what a stop does to later calls; which actions may be carried out; and which event a call adds to the log. Ours.
 use Rattle.std.specs.Prelude.{◌≡◌, ℕ, nat_lt, Bool, false, ◌&&◌, List, [], ◌∷◌, Option, Some, Result, Err}
 use Rattle.graph_build.specs.declared.plans.Plan.{Plan}
 use Rattle.script_lang.specs.declared.scripts.CallLine.{CallLine}
@@ -16,11 +16,13 @@ use Rattle.script_lang.specs.declared.scripts.Action.TheVariants as action
 use Rattle.hub_tables.specs.Arming.{may_fail}
 use Rattle.hub_tables.specs.declared.actions.Turned.{Turned}
 use Rattle.hub_tables.specs.declared.actions.Turned.TheVariants as turn
+use Rattle.hub_calls.specs.Dues.{DueState}
 
 pub record HubState : Type 0 where
   pub script : Script
   pub plans : List Plan
   pub log : Log
+  pub due : DueState
   pub stop : Option Stop
 
 -- a call of what had stopped before it answers the same stop, and changes nothing; so a call that succeeds found no stop

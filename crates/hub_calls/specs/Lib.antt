@@ -1,4 +1,5 @@
--- In reading order: the script that a hub runs; what is seen of a hub, and what its calls add to the log; a list that grows.
+-- In reading order: the script that a hub runs; what is due in it; what is seen of a hub, and what its calls add to the log; a list that grows.
 pub mod Plans
+pub mod Dues
 pub mod Hubs
 pub mod Growing

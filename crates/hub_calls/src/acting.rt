@@ -1,5 +1,6 @@
 //! Moves of actions.
-ghost use Rattle.std.specs.Prelude.{◌≡◌, length};
+ghost use Rattle.std.specs.Prelude.{◌≡◌, true, length};
+ghost use Rattle.hub_calls.specs.Dues.{is_quiet};
 ghost use Rattle.hub_calls.specs.Hubs.{is_of_brick as of_brick};
 
 use crate::parts::Parts;
@@ -41,7 +42,9 @@ impl Parts {
 
     /// Whether the phase has nothing left but controls: its calls are answered, no internal call is under way, no task is
     /// ready, and each request, Down and Up has its output.
-    pub(crate) fn has_nothing_else(&self) -> bool {
+    pub(crate) fn has_nothing_else(&self) -> bool
+        ensures { result ≡ true → is_quiet self.now.progress self.now.internal self.now.turn.bricks.owed ≡ true }
+    {
         self.progress.is_answered()
             && self.internal.is_none()
             && self.turn.bricks.owed == 0

@@ -1,11 +1,18 @@
 //! What is due in a hub, and which calls have their replies.
+ghost use Rattle.std.specs.Prelude.{◌≡◌, true, Some, IfSome, Contains, slice_get};
+ghost use Rattle.hub_tables.specs.PhaseControls.{act_by};
+ghost use Rattle.hub_tables.specs.SmallSets.{numbers};
+ghost use Rattle.hub_tables.specs.declared.actions.Due.TheVariants as due;
+ghost use Rattle.hub_calls.specs.Dues.{IsRest};
 
 use crate::hub::Hub;
 use hub_tables::{Due, SmallSet};
 use mount_log::ReplyLine;
 use script_lang::Action;
 
-fn act_due(action: Option<Action>) -> Option<Due> {
+fn act_due(action: Option<Action>) -> Option<Due>
+    ensures { result ≡ act_by action }
+{
     match action {
         Some(action) => Some(Due::Act(action)),
         None => None,
@@ -14,12 +21,18 @@ fn act_due(action: Option<Action>) -> Option<Due> {
 
 impl Hub {
     /// The sessions that may submit a call.
-    pub fn submits(&self) -> SmallSet {
+    #[tactic(auto, unfolding(crate::specs::Dues::due_of))]
+    pub fn submits(&self) -> SmallSet
+        ensures { numbers result ≡ self.now.due.submits }
+    {
         self.parts.progress.ready()
     }
 
     /// The next control without a condition, where the one before it is finished.
-    pub fn plain(&self) -> Option<Action> {
+    #[tactic(auto, unfolding(crate::specs::Dues::due_of))]
+    pub fn plain(&self) -> Option<Action>
+        ensures { result ≡ self.now.due.plain }
+    {
         if self.parts.internal.is_none() {
             self.parts.turn.controls.plain()
         } else {
@@ -29,7 +42,10 @@ impl Hub {
 
     /// What goes before everything else: the first control of the phase that is to be armed, or else the first one whose
     /// request was sent.
-    pub fn first(&self) -> Option<Due> {
+    #[tactic(auto, unfolding(crate::specs::Dues::due_of))]
+    pub fn first(&self) -> Option<Due>
+        ensures { result ≡ self.now.due.first }
+    {
         self.parts.turn.controls.first()
     }
 
@@ -45,7 +61,9 @@ impl Hub {
 
     /// The item of this number, from 0, among the sessions that may submit, the ready tasks, and then the next control
     /// without a condition.
-    pub fn due(&self, k: u32) -> Option<Due> {
+    pub fn due(&self, k: u32) -> Option<Due>
+        ensures { IfSome (slice_get self.now.due.submits k) (λ session. result ≡ Some (due.Submit session)) }
+    {
         let submits = self.submits();
         if let Some(session) = submits.nth(k) {
             return Some(Due::Submit(session));
@@ -62,7 +80,10 @@ impl Hub {
     }
 
     /// The first control that is left, where the phase has nothing else left.
-    pub fn rest(&self) -> Option<Due> {
+    #[tactic(auto, unfolding(crate::specs::Dues::due_of))]
+    pub fn rest(&self) -> Option<Due>
+        ensures { IsRest self.now.due result }
+    {
         if !self.parts.has_nothing_else() {
             return None;
         }
@@ -70,12 +91,17 @@ impl Hub {
     }
 
     /// Whether each call has its reply, each control was carried out, and nothing else is left.
-    pub fn is_finished(&self) -> bool {
+    #[tactic(auto, unfolding(crate::specs::Dues::due_of))]
+    pub fn is_finished(&self) -> bool
+        ensures { result ≡ true → self.now.due.finished ≡ true }
+    {
         self.parts.is_through(&self.planned)
     }
 
     /// The reply of a call, by its number from 1.
-    pub fn reply_of(&self, call: u32) -> Option<&ReplyLine> {
+    pub fn reply_of(&self, call: u32) -> Option<&ReplyLine>
+        ensures { IfSome result (λ line. Contains self.now.log.replies line.now) }
+    {
         let at = self.parts.calls.reply_at(call)?;
         self.log().replies.as_slice().get(at)
     }

@@ -34,13 +34,20 @@ pub struct Hub {
 }
 
 impl Model for Hub {
-    ghost use Rattle.std.specs.Prelude.{MatchOption};
+    ghost use Rattle.std.specs.Prelude.{MatchOption, length};
+    ghost use Rattle.hub_calls.specs.Dues.{due_of};
     ghost use Rattle.hub_calls.specs.Hubs.{HubState};
     ghost use Rattle.hub_calls.specs.Plans.{AreLeft};
 
     ghost Value = { HubState };
 
-    ghost view = { λ h. record { script = h.planned.script; plans = h.planned.plans; log = h.log; stop = h.stop } };
+    ghost view = { λ h. record {
+        script = h.planned.script;
+        plans = h.planned.plans;
+        log = h.log;
+        due = due_of (length h.planned.script.phases) h.parts.progress h.parts.turn.controls h.parts.internal h.parts.turn.bricks.owed;
+        stop = h.stop
+    } };
 
     ghost invariant = { λ h. MatchOption h.stop (AreLeft h.planned.script h.log.events h.planned.left) (λ _. Unit {0}) };
 }
@@ -54,7 +61,7 @@ impl Hub {
     /// Out of memory.
     pub fn new(alloc: Global, script: Script, plans: Seq<Plan>) -> Result<Hub, AllocError>
         requires { IsScript script plans }
-        ensures start { IfOk result (λ h. h ≡ record { script = script; plans = plans; log = h.log; stop = None }) }
+        ensures start { IfOk result (λ h. h ≡ record { script = script; plans = plans; log = h.log; due = h.due; stop = None }) }
         ensures events { IfOk result (λ h. h.log.events ≡ []) }
     {
         let planned = Planned::new(alloc, script, plans)?;

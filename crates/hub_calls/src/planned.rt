@@ -1,5 +1,5 @@
 //! The script that a hub runs, with the plans of its volfiles, and what is left of it.
-ghost use Rattle.std.specs.Prelude.{◌≡◌, Some, [], IfSome, IfOk, slice_get};
+ghost use Rattle.std.specs.Prelude.{◌≡◌, nat_lt, Some, [], IfSome, IfOk, length, slice_get};
 ghost use Rattle.graph_nodes.specs.Plans.{IsPlan};
 ghost use Rattle.mount_log.specs.Lines.{line_of, TakesLine};
 ghost use Rattle.mount_log.specs.declared.places.LineAt.{LineAt as Place};
@@ -110,7 +110,9 @@ impl Planned {
         self.script.bricks.len().min(255) as u8
     }
 
-    pub(crate) fn has_phase(&self, phase: u32) -> bool {
+    pub(crate) fn has_phase(&self, phase: u32) -> bool
+        ensures { result ≡ nat_lt phase (length self.now.script.phases) }
+    {
         (phase as usize) < self.script.phases.len()
     }
 

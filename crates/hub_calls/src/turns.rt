@@ -1,5 +1,6 @@
 //! The turn of an event: what is to be done until nothing is left, and what closes it.
-ghost use Rattle.std.specs.Prelude.{◌≡◌, OnOk, IfErr};
+ghost use Rattle.std.specs.Prelude.{◌≡◌, true, false, nat_lt, length, OnOk, IfErr};
+ghost use Rattle.hub_calls.specs.Dues.{is_quiet};
 ghost use Rattle.hub_calls.specs.Hubs.{AddsEvent, IsAfterStop};
 
 use crate::parts::Parts;
@@ -218,7 +219,10 @@ impl Parts {
     }
 
     /// Whether all phases have ended, and nothing else is left.
-    pub(crate) fn is_through(&self, on: &Planned) -> bool {
+    pub(crate) fn is_through(&self, on: &Planned) -> bool
+        ensures through { result ≡ true → nat_lt self.now.progress.phase (length on.now.script.phases) ≡ false }
+        ensures quiet { result ≡ true → is_quiet self.now.progress self.now.internal self.now.turn.bricks.owed ≡ true }
+    {
         !on.has_phase(self.progress.phase()) && self.has_nothing_else()
     }
 

@@ -4,7 +4,7 @@ use Rattle.graph_build.specs.declared.plans.NodePlan.{NodePlan}
 use Rattle.hub_tables.specs.declared.small_set.SmallSet.{SmallSet}
 use Rattle.hub_tables.specs.SmallSets.{no_numbers, has}
 use Rattle.hub_tables.specs.PlanBricks.{is_client_of, has_client}
-use Rattle.hub_tables.proofs.Sessions.{none_has}
+use Rattle.hub_tables.proofs.SetsWhere.{none_has}
 
 -- the set has the bricks of these nodes but for those that only the rest of the nodes have
 abbrev pub AreBricksOf : List NodePlan → SmallSet → List NodePlan → Type 0

@@ -1,4 +1,5 @@
 //! The controls of a phase, and when each is due.
+ghost use Rattle.std.specs.Prelude.{◌≡◌, None, is_none, slice_get};
 
 use crate::actions::{Due, is_same};
 use crate::requests::Nth;
@@ -6,6 +7,7 @@ use fop_types::Proc;
 use script_lang::{Action, ControlLine, Phase, When};
 use std::alloc::{AllocError, Global};
 use std::collections::BTreeMap;
+use std::marker::Model;
 
 /// An action that is to be carried out before a request: its control's place in the phase, if it has one.
 #[derive(Clone, Copy)]
@@ -24,7 +26,7 @@ pub struct Rank {
 /// The controls of the current phase that were not carried out, by their places in the phase: all of them; those without
 /// a condition; those to be armed; those that wait for a request to be sent; and those whose request was sent. `armed`
 /// has the actions that are to go before a request, and `counts` how many requests of each procedure were sent to each
-/// brick in the phase.
+/// brick in the phase. Contracts see of the controls which one is due first, which without a condition, and which is left.
 #[derive(Drop)]
 pub struct Controls {
     left: BTreeMap<u32, ControlLine>,
@@ -37,10 +39,21 @@ pub struct Controls {
     extra: u32,
 }
 
+impl Model for Controls {
+    ghost use Rattle.hub_tables.specs.PhaseControls.{ControlsState, controls_of};
+
+    ghost Value = { ControlsState };
+
+    ghost view = { λ c. controls_of c.unarmed.entries c.come.entries c.plain.entries c.left.entries };
+}
+
 // Where the actions that belong to no control begin among those of one request.
 const EXTRA: u32 = 2147483648;
 
-fn first_of<T: Copy>(map: &BTreeMap<u32, T>) -> Option<(u32, T)> {
+#[tactic(auto, using(crate::proofs::PhaseControls::none_first))]
+fn first_of<T: Copy>(map: &BTreeMap<u32, T>) -> Option<(u32, T)>
+    ensures { result ≡ slice_get map.now.entries 0 }
+{
     match map.first_key_value() {
         Some((at, value)) => Some((*at, *value)),
         None => None,
@@ -81,7 +94,9 @@ fn come(
 
 impl Controls {
     /// No controls, which takes no memory.
-    pub fn new(alloc: Global) -> Controls {
+    pub fn new(alloc: Global) -> Controls
+        ensures { result ≡ record { first = None; plain = None; left = None } }
+    {
         Controls {
             left: BTreeMap::new(alloc),
             plain: BTreeMap::new(alloc),
@@ -135,13 +150,17 @@ impl Controls {
     }
 
     /// Whether each control was carried out.
-    pub fn is_empty(&self) -> bool {
+    pub fn is_empty(&self) -> bool
+        ensures { result ≡ is_none self.now.left }
+    {
         self.left.is_empty()
     }
 
     /// What goes before everything else: the first control that is to be armed, or else the first one whose request was
     /// sent.
-    pub fn first(&self) -> Option<Due> {
+    pub fn first(&self) -> Option<Due>
+        ensures { result ≡ self.now.first }
+    {
         match first_of(&self.unarmed) {
             Some((_, due)) => Some(due),
             None => match first_of(&self.come) {
@@ -152,7 +171,9 @@ impl Controls {
     }
 
     /// The next control without a condition.
-    pub fn plain(&self) -> Option<Action> {
+    pub fn plain(&self) -> Option<Action>
+        ensures { result ≡ self.now.plain }
+    {
         match first_of(&self.plain) {
             Some((_, action)) => Some(action),
             None => None,
@@ -160,7 +181,9 @@ impl Controls {
     }
 
     /// The first control that was not carried out.
-    pub fn rest(&self) -> Option<Action> {
+    pub fn rest(&self) -> Option<Action>
+        ensures { result ≡ self.now.left }
+    {
         match first_of(&self.left) {
             Some((_, control)) => Some(control.action),
             None => None,

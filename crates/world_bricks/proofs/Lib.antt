@@ -1,5 +1,7 @@
 pub mod Chosen
 pub mod Queues
+pub mod Picked
+pub mod Running
 pub mod Chains
 pub mod Places
 pub mod Sent

@@ -1,12 +1,14 @@
 -- The events that are enabled, in the order in which the schedule counts them, and the one that a value chooses: the
 -- submissions by session, the arrivals by brick, the services by brick, the tasks by graph and number, and then the next
--- control without a condition. Ours.
-use Rattle.std.specs.Prelude.{ℕ, List, [], ◌∷◌, ◌++◌, length, map, slice_get, Option, None, Some}
+-- control without a condition; and what is picked. Ours.
+use Rattle.std.specs.Prelude.{◌≡◌, ℕ, List, [], ◌∷◌, ◌++◌, length, map, slice_get, Option, None, Some}
 use Rattle.std.specs.List.{range_with_len}
 use Rattle.script_lang.specs.declared.scripts.Action.{Action}
 use Rattle.hub_tables.specs.SmallSets.{numbers}
 use Rattle.hub_tables.specs.declared.actions.Due.{Due}
 use Rattle.hub_tables.specs.declared.actions.Due.TheVariants as due
+use Rattle.hub_calls.specs.Dues.{DueState, IsRest}
+use Rattle.world_bricks.specs.Lines.{LinesState, may_serve, may_arrive, bricks_where}
 use Rattle.world_bricks.specs.Schedules.{chosen_of}
 use Rattle.world_bricks.specs.declared.enabled.Choice.{Choice}
 use Rattle.world_bricks.specs.declared.enabled.Choice.TheVariants as choice
@@ -41,14 +43,18 @@ abbrev pub act_of : Option Action → List Choice
 act_of None = []
 act_of (Some a) = choice.Event (event.Act a) ∷ []
 
--- what is enabled, in this order; a ready task is named by its place among them
+-- what is enabled, in this order, where these sessions may submit, these bricks have an output that has not arrived, these an
+-- input, and so many tasks are ready; a ready task is named by its place among them
+abbrev pub choices_of : List ℕ → List ℕ → List ℕ → ℕ → Option Action → List Choice
+choices_of submits arriving serving tasks plain =
+    map submit_of submits
+    ++ (map arrive_of arriving
+    ++ (map serve_of serving
+    ++ (map task_of (range_with_len 0 tasks)
+    ++ act_of plain)))
+
 abbrev pub choices : Enabled → List Choice
-choices e =
-    map submit_of (numbers e.submits)
-    ++ (map arrive_of (numbers e.arriving)
-    ++ (map serve_of (numbers e.serving)
-    ++ (map task_of (range_with_len 0 e.tasks)
-    ++ act_of e.plain)))
+choices e = choices_of (numbers e.submits) (numbers e.arriving) (numbers e.serving) e.tasks e.plain
 
 -- what a value chooses among these, None where there are none
 abbrev pub chosen_among : List Choice → ℕ → Option Choice
@@ -58,46 +64,44 @@ chosen_among (c ∷ cs) value = slice_get (c ∷ cs) (chosen_of value (length (c
 abbrev pub choice_by : Enabled → ℕ → Option Choice
 choice_by e value = chosen_among (choices e) value
 
--- ---- what the hub has due, as the choice reads it
+-- ---- what is picked
 
--- What goes before everything else; the sessions that may submit; the ready tasks, each with its graph; the next control
--- without a condition; and the first control that is left, where the phase has nothing else left.
-pub record DueState : Type 0 where
-  pub first : Option Due
-  pub submits : List ℕ
-  pub ready : List (ℕ × ℕ)
-  pub plain : Option Action
-  pub rest : Option Due
+-- what is enabled of what is due in the hub, where so many tasks are ready, and of what these bricks have
+abbrev pub enabled : DueState → LinesState → ℕ → List Choice
+enabled d lines tasks = choices_of d.submits (bricks_where (may_arrive lines)) (bricks_where (may_serve lines)) tasks d.plain
 
-abbrev pub run_of : ℕ × ℕ → Event
-run_of task = event.Run task.0 task.1
+abbrev pub run_of : Option (ℕ × ℕ) → Option Event
+run_of None = None
+run_of (Some task) = Some (event.Run task.0 task.1)
 
-abbrev pub plain_of : Option Action → List Event
-plain_of None = []
-plain_of (Some a) = event.Act a ∷ []
+abbrev pub event_by : Option (ℕ × ℕ) → Choice → Option Event
+event_by task (choice.Event e) = Some e
+event_by task (choice.Task place) = run_of task
 
--- the events that the schedule counts, where these bricks have an output that has not arrived, and these an input
-abbrev pub listed : DueState → List ℕ → List ℕ → List Event
-listed d arriving serving =
-    map (λ s. event.Submit s) d.submits
-    ++ (map (λ b. event.Arrive b) arriving
-    ++ (map (λ b. event.Serve b) serving
-    ++ (map run_of d.ready
-    ++ plain_of d.plain)))
+-- the event that is chosen, where the ready task of this place is this one of this graph
+abbrev pub chosen_event : Option (ℕ × ℕ) → Option Choice → Option Event
+chosen_event task None = None
+chosen_event task (Some c) = event_by task c
 
-abbrev pub taken_among : List Event → ℕ → Option Event
-taken_among [] value = None
-taken_among (e ∷ es) value = slice_get (e ∷ es) (chosen_of value (length (e ∷ es)))
+-- The event that a value chooses among those that are enabled. How many tasks are ready, and which the chosen one is, is not seen.
+pub record IsChosen (d : DueState) (lines : LinesState) (value : ℕ) (chosen : Option Event) : Type 0 where
+  pub tasks : ℕ
+  pub task : Option (ℕ × ℕ)
+  pub is : chosen ≡ chosen_event task (chosen_among (enabled d lines tasks) value)
 
 abbrev pub or_rest : Option Event → Option Due → Option Event
-or_rest (Some e) rest = Some e
 or_rest None rest = events_of rest
+or_rest (Some e) rest = Some e
 
-abbrev pub or_listed : Option Due → Option Event → Option Due → Option Event
-or_listed (Some d) taken rest = Some (event_of d)
-or_listed None taken rest = or_rest taken rest
+abbrev pub or_chosen : Option Due → Option Event → Option Due → Option Event
+or_chosen None chosen rest = or_rest chosen rest
+or_chosen (Some d) chosen rest = Some (event_of d)
 
--- The event that is picked: what goes before everything else; else one of those that are listed; else the first control
--- that is left.
-abbrev pub picked : DueState → List ℕ → List ℕ → ℕ → Option Event
-picked d arriving serving value = or_listed d.first (taken_among (listed d arriving serving) value) d.rest
+-- the event that a value picks: what goes before everything else; else the one that it chooses; else the first control that is
+-- left
+pub record IsPicked (d : DueState) (lines : LinesState) (value : ℕ) (picked : Option Event) : Type 0 where
+  pub chosen : Option Event
+  pub is_chosen : IsChosen d lines value chosen
+  pub rest : Option Due
+  pub is_rest : IsRest d rest
+  pub is : picked ≡ or_chosen d.first chosen rest

@@ -1,5 +1,5 @@
--- What contracts see of a world: its script with the plans, the log, the bricks with their lines, and why it has stopped; and
--- what each event makes of log and lines. Ours.
+-- What contracts see of a world: its script with the plans, the log, what is due in the hub, the bricks with their lines, and why
+-- it has stopped; and what each event makes of log and lines. Ours.
 use Rattle.std.specs.Prelude.{◌≡◌, ℕ, Bool, true, false, ◌&&◌, List, [], ◌∷◌, length, is_some, Option, Some}
 use Rattle.graph_build.specs.declared.plans.Plan.{Plan}
 use Rattle.script_lang.specs.StatementText.{is_great_action}
@@ -9,6 +9,7 @@ use Rattle.mount_log.specs.declared.logs.HubEvent.{HubEvent}
 use Rattle.mount_log.specs.declared.logs.HubEvent.TheVariants as logged
 use Rattle.mount_log.specs.declared.logs.Log.{Log}
 use Rattle.hub_tables.specs.Arming.{is_armable}
+use Rattle.hub_calls.specs.Dues.{DueState}
 use Rattle.hub_calls.specs.Hubs.{AddsEvent, AddsSubmission, is_of_brick}
 use Rattle.world_bricks.specs.Lines.{LinesState, with_sent, next_input, may_serve, with_served, next_output, with_arrival}
 use Rattle.world_bricks.specs.declared.events.Event.{Event}
@@ -18,6 +19,7 @@ pub record WorldState : Type 0 where
   pub script : Script
   pub plans : List Plan
   pub log : Log
+  pub due : DueState
   pub lines : LinesState
   pub stop : Option Stop
 

@@ -1,6 +1,7 @@
 //! The lines of all bricks.
-ghost use Rattle.std.specs.Prelude.{◌≡◌, ◌<◌, ◌-◌, ◌^◌, ◌∷◌, ◌++◌, [], ◌≤◌, true, false, length, is_some, slice_get, IfOk, OnOk, OnErr, MatchOption};
-ghost use Rattle.world_bricks.specs.Lines.{empty_line, new_lines, put_by, with_sent, next_input, may_serve, shortened_by, served_by, outputs_by, arrived_of, next_output, with_arrival};
+ghost use Rattle.std.specs.Prelude.{◌≡◌, ◌<◌, ◌-◌, ◌^◌, ◌∷◌, ◌++◌, [], ◌≤◌, true, false, min, length, is_some, slice_get, IfOk, OnOk, OnErr, MatchOption};
+ghost use Rattle.hub_tables.specs.SmallSets.{numbers};
+ghost use Rattle.world_bricks.specs.Lines.{empty_line, new_lines, put_by, with_sent, next_input, may_serve, shortened_by, served_by, outputs_by, arrived_of, next_output, may_arrive, with_arrival, bricks_where};
 ghost use Rattle.world_bricks.specs.Worlds.{Serves};
 
 use crate::line::Line;
@@ -13,15 +14,12 @@ use script_lang::Script;
 use std::alloc::{AllocError, Global};
 use std::marker::Model;
 
-/// The bricks with their lines. `delivered` is how many of the sent inputs are in the lines; `serving` has the bricks with
-/// an input, and `arriving` those with an output that has not arrived. Contracts see the bricks, the lines, and `delivered`.
+/// The bricks with their lines. `delivered` is how many of the sent inputs are in the lines.
 #[derive(Drop)]
 pub struct Lines {
     bricks: Vec<Brick>,
     queues: Vec<Line>,
     delivered: usize,
-    pub serving: SmallSet,
-    pub arriving: SmallSet,
 }
 
 impl Model for Lines {
@@ -50,8 +48,6 @@ impl Lines {
             bricks: Vec::new(alloc),
             queues: Vec::new(alloc),
             delivered: 0,
-            serving: SmallSet::new(),
-            arriving: SmallSet::new(),
         };
         let filled = lines.fill(alloc, script, plans, sent);
         filled.and(Ok(lines))
@@ -108,7 +104,6 @@ impl Lines {
         match self.queues.get_mut(sent.brick as usize) {
             Some(queue) => {
                 queue.put(sent)?;
-                self.serving = self.serving.with(sent.brick);
                 Ok(())
             }
             None => Ok(()),
@@ -169,24 +164,49 @@ impl Lines {
         }
     }
 
-    fn has_output(&self, brick: u8) -> bool {
+    // Whether a brick has an output that has not arrived.
+    #[tactic(auto, using(crate::proofs::Picked::some_output))]
+    fn may_arrive(&self, brick: u8) -> bool
+        ensures { result ≡ may_arrive self.now brick }
+    {
         self.arrived(brick) < self.outputs(brick).len()
     }
 
-    // Notes whether a brick has an input and an output left.
-    fn note(&mut self, brick: u8)
-        ensures { self.new ≡ self.old }
+    // How many bricks a set may have: all, as a script has 64 at most.
+    fn many(&self) -> u8
+        ensures { result ≡ min (length self.now.bricks) 64 }
     {
-        self.serving = if self.has_input(brick) {
-            self.serving.with(brick)
-        } else {
-            self.serving.without(brick)
-        };
-        self.arriving = if self.has_output(brick) {
-            self.arriving.with(brick)
-        } else {
-            self.arriving.without(brick)
-        };
+        self.bricks.len().min(64) as u8
+    }
+
+    /// The bricks with an input.
+    #[tactic(auto, using(crate::proofs::Picked::none_serving, crate::proofs::Picked::next_serving, crate::proofs::Picked::not_serving, crate::proofs::Picked::all_serving))]
+    pub(crate) fn serving(&self) -> SmallSet
+        ensures { numbers result ≡ bricks_where (may_serve self.now) }
+    {
+        let mut serving = SmallSet::new();
+        for brick in 0..self.many() {
+            if !self.may_serve(brick) {
+                continue;
+            }
+            serving = serving.with(brick);
+        }
+        serving
+    }
+
+    /// The bricks with an output that has not arrived.
+    #[tactic(auto, using(crate::proofs::Picked::none_arriving, crate::proofs::Picked::next_arriving, crate::proofs::Picked::not_arriving, crate::proofs::Picked::all_arriving))]
+    pub(crate) fn arriving(&self) -> SmallSet
+        ensures { numbers result ≡ bricks_where (may_arrive self.now) }
+    {
+        let mut arriving = SmallSet::new();
+        for brick in 0..self.many() {
+            if !self.may_arrive(brick) {
+                continue;
+            }
+            arriving = arriving.with(brick);
+        }
+        arriving
     }
 
     // The next output of a brick, which shares its bytes with the brick's list.
@@ -226,7 +246,6 @@ impl Lines {
         match self.next_output(brick)? {
             Some(output) => {
                 self.note_arrival(brick);
-                self.note(brick);
                 Ok(Some(output))
             }
             None => Ok(None),
@@ -259,7 +278,6 @@ impl Lines {
         match self.take_input(brick) {
             Some(input) => {
                 self.serve_input(alloc, brick, input)?;
-                self.note(brick);
                 Ok(true)
             }
             None => unreachable!(),

@@ -1,7 +1,10 @@
 ghost use Rattle.std.specs.Prelude.{◌≡◌, [], None, Some, true, false, length, OnOk, IfOk, IfErr};
 ghost use Rattle.hub_calls.specs.Hubs.{StaysStopped};
 ghost use Rattle.mount_log.specs.Scripts.{IsScript};
-ghost use Rattle.world_bricks.specs.Lines.{new_lines, with_sent};
+ghost use Rattle.hub_tables.specs.SmallSets.{numbers};
+ghost use Rattle.world_bricks.specs.Choices.{run_of, IsChosen, IsPicked};
+ghost use Rattle.world_bricks.specs.Lines.{new_lines, with_sent, may_serve, may_arrive, bricks_where};
+ghost use Rattle.world_bricks.specs.Runs.{IsRunOf};
 ghost use Rattle.world_bricks.specs.Worlds.{Happens, HappensWhere, IsReached};
 
 use crate::enabled::{Choice, Enabled};
@@ -16,6 +19,16 @@ use script_lang::Script;
 use std::alloc::{AllocError, Global};
 use std::marker::Model;
 use xlator_law::Stop;
+
+// The event of a ready task of a graph.
+fn run_event(task: Option<(u32, u32)>) -> Option<Event>
+    ensures { result ≡ run_of task }
+{
+    match task {
+        Some((graph, task)) => Some(Event::Run(graph, task)),
+        None => None,
+    }
+}
 
 // The events of a run, at most.
 const EVENTS: u64 = 18446744073709551615;
@@ -35,7 +48,7 @@ impl Model for World {
 
     ghost Value = { WorldState };
 
-    ghost view = { λ w. record { script = w.parts.hub.script; plans = w.parts.hub.plans; log = w.parts.hub.log; lines = w.parts.lines; stop = w.stop } };
+    ghost view = { λ w. record { script = w.parts.hub.script; plans = w.parts.hub.plans; log = w.parts.hub.log; due = w.parts.hub.due; lines = w.parts.lines; stop = w.stop } };
 }
 
 impl World {
@@ -45,7 +58,7 @@ impl World {
     /// Out of memory.
     pub fn new(alloc: Global, script: Script, plans: Seq<Plan>) -> Result<World, AllocError>
         requires { IsScript script plans }
-        ensures start { IfOk result (λ w. w ≡ record { script = script; plans = plans; log = w.log; lines = with_sent (new_lines script plans (length script.bricks)) w.log.sent; stop = None }) }
+        ensures start { IfOk result (λ w. w ≡ record { script = script; plans = plans; log = w.log; due = w.due; lines = with_sent (new_lines script plans (length script.bricks)) w.log.sent; stop = None }) }
         ensures events { IfOk result (λ w. w.log.events ≡ []) }
     {
         let hub = Hub::new(alloc, script, plans)?;
@@ -86,27 +99,40 @@ impl World {
         }
     }
 
-    // One of the events that are enabled, by a value of the schedule.
-    fn choose(&self, value: u64) -> Option<Event> {
-        let enabled = Enabled {
+    fn enabled(&self) -> Enabled
+        ensures submits { numbers result.submits ≡ self.now.due.submits }
+        ensures arriving { numbers result.arriving ≡ bricks_where (may_arrive self.now.lines) }
+        ensures serving { numbers result.serving ≡ bricks_where (may_serve self.now.lines) }
+        ensures plain { result.plain ≡ self.now.due.plain }
+    {
+        Enabled {
             submits: self.parts.hub.submits(),
-            arriving: self.parts.lines.arriving,
-            serving: self.parts.lines.serving,
+            arriving: self.parts.lines.arriving(),
+            serving: self.parts.lines.serving(),
             tasks: self.parts.hub.ready_len(),
             plain: self.parts.hub.plain(),
-        };
-        match enabled.chosen(value)? {
-            Choice::Event(event) => Some(event),
-            Choice::Task(at) => match self.parts.hub.ready_at(at) {
-                Some((graph, task)) => Some(Event::Run(graph, task)),
-                None => None,
-            },
+        }
+    }
+
+    // One of the events that are enabled, by a value of the schedule.
+    #[tactic(auto, using(crate::proofs::Picked::none_chosen, crate::proofs::Picked::event_chosen, crate::proofs::Picked::task_chosen))]
+    fn choose(&self, value: u64) -> Option<Event>
+        ensures { IsChosen self.now.due self.now.lines value result }
+    {
+        let enabled = self.enabled();
+        match enabled.chosen(value) {
+            Some(Choice::Event(event)) => Some(event),
+            Some(Choice::Task(at)) => run_event(self.parts.hub.ready_at(at)),
+            None => None,
         }
     }
 
     /// The next event, by a value of the schedule: what goes before everything else; else one of the events that are
     /// enabled; else the first control that is left.
-    pub fn pick(&self, value: u64) -> Option<Event> {
+    #[tactic(auto, using(crate::proofs::Picked::first_picked, crate::proofs::Picked::chosen_picked, crate::proofs::Picked::rest_picked))]
+    pub fn pick(&self, value: u64) -> Option<Event>
+        ensures { IsPicked self.now.due self.now.lines value result }
+    {
         match self.parts.hub.first() {
             Some(due) => Some(event_of(due)),
             None => match self.choose(value) {
@@ -123,6 +149,7 @@ impl World {
     pub fn run(&mut self, alloc: Global, seed: u64) -> Result<(), Stop>
         ensures same { (self.new.script ≡ self.old.script) × (self.new.plans ≡ self.old.plans) }
         ensures reached { OnOk result (IsReached self.old.script self.old.log self.old.lines self.new.log self.new.lines) }
+        ensures run { OnOk result (IsRunOf seed self.old self.new) }
         ensures spent { StaysStopped self.old.stop self.old self.new result }
         ensures goes { OnOk result (self.new.stop ≡ None) }
         ensures stops { IfErr result (λ s. self.new.stop ≡ Some s) }
@@ -138,6 +165,7 @@ impl World {
         requires { self.old.stop ≡ None }
         ensures same { (self.new.script ≡ self.old.script) × (self.new.plans ≡ self.old.plans) }
         ensures reached { OnOk result (IsReached self.old.script self.old.log self.old.lines self.new.log self.new.lines) }
+        ensures run { OnOk result (IsRunOf seed self.old self.new) }
         ensures goes { OnOk result (self.new.stop ≡ None) }
         ensures stops { IfErr result (λ s. self.new.stop ≡ Some s) }
     {
@@ -154,7 +182,9 @@ impl World {
     }
 
     /// Whether each call has its reply, each control was carried out, and nothing else is left.
-    pub fn is_finished(&self) -> bool {
+    pub fn is_finished(&self) -> bool
+        ensures { result ≡ true → self.now.due.finished ≡ true }
+    {
         self.parts.hub.is_finished()
     }
 

@@ -1,0 +1,70 @@
+-- The run of a seed, one event after another.
+use Rattle.std.proofs.Common.{◌≡◌, refl, sym, ap, subst, ◌∙◌, inl, inr, arith}
+use Rattle.std.specs.Prelude.{ℕ, zero, suc, ◌+◌, false, List, [], ◌∷◌, ◌++◌, length, Option, None, Some}
+use Rattle.std.proofs.lemmas.List.{length_push}
+use Rattle.world_bricks.specs.Choices.{IsPicked}
+use Rattle.world_bricks.specs.Runs.{drawn, PicksThen, ArePicked, IsRunOf}
+use Rattle.world_bricks.specs.Schedules.{moved}
+use Rattle.world_bricks.specs.Worlds.{WorldState, Happens, HappensWhere}
+use Rattle.world_bricks.specs.declared.events.Event.{Event}
+
+drawn_next : (n x : ℕ) → drawn x (suc n) ≡ moved (drawn x n)
+drawn_next zero x = refl
+drawn_next (suc n) x = drawn_next n (moved x)
+
+-- so many events have happened, and the generator's state is this
+pub record IsUnderWay (seed : ℕ) (w now : WorldState) (x many : ℕ) : Type 0 where
+  pub events : List Event
+  pub picked : ArePicked seed events w now
+  pub state : x ≡ drawn seed (length events)
+  pub long : many ≡ length events
+
+pub begins : (seed : ℕ) (w : WorldState) → IsUnderWay seed w w seed 0
+begins seed w = record { events = []; picked = refl; state = refl; long = refl; }
+
+module _ (e : Event) (mid after : WorldState) (happens : Happens mid.script e mid.log mid.lines after.log after.lines) (same : (after.script ≡ mid.script) × (after.plans ≡ mid.plans)) where
+  behind : (es : List Event) (x : ℕ) (w : WorldState) → IsPicked mid.due mid.lines (moved (drawn x (length es))) (Some e) → ArePicked x es w mid → ArePicked x (es ++ e ∷ []) w after
+  behind [] x w picked is =
+      subst (λ (m : WorldState). PicksThen (moved x) e m (λ next. after ≡ next)) is (record { after = after; picked = picked; happens = happens; same = same; then_follows = refl; })
+  behind (y ∷ ys) x w picked h = record {
+    after = h.after;
+    picked = h.picked;
+    happens = h.happens;
+    same = h.same;
+    then_follows = behind ys (moved x) h.after picked h.then_follows;
+  }
+
+  pub goes_on : (seed : ℕ) (w : WorldState) (x many value : ℕ) → value ≡ moved x → IsPicked mid.due mid.lines value (Some e) → IsUnderWay seed w mid x many → IsUnderWay seed w after (moved x) (many + 1)
+  goes_on seed w x many value draws picked way = record {
+    events = way.events ++ e ∷ [];
+    picked = behind way.events seed w (subst (λ (v : ℕ). IsPicked mid.due mid.lines v (Some e)) (draws ∙ ap moved way.state) picked) way.picked;
+    state =
+        let long : length (way.events ++ e ∷ []) ≡ suc (length way.events) = omega (arith, length_push way.events e) in
+        ap moved way.state ∙ sym (drawn_next (length way.events) seed) ∙ ap (drawn seed) (sym long);
+    long = omega (arith, way.long, length_push way.events e);
+  }
+
+module _ (seed : ℕ) (w now : WorldState) (x many value : ℕ) (draws : value ≡ moved x) (way : IsUnderWay seed w now x many) where
+  abbrev next : ℕ
+  next = moved (drawn seed (length way.events))
+
+  pub nothing_left : IsPicked now.due now.lines value None → IsRunOf seed w now
+  nothing_left picked = record {
+    events = way.events;
+    picked = way.picked;
+    ended = inl (subst (λ (v : ℕ). IsPicked now.due now.lines v None) (draws ∙ ap moved way.state) picked);
+  }
+
+  pub in_vain : (after : WorldState) (e : Event) → IsPicked now.due now.lines value (Some e) → HappensWhere e now.script now.lines false → after ≡ now → IsRunOf seed w after
+  in_vain after e picked vain same = subst (λ (a : WorldState). IsRunOf seed w a) (sym same) (record {
+    events = way.events;
+    picked = way.picked;
+    ended = inr (inl (record {
+      event = e;
+      picked = subst (λ (v : ℕ). IsPicked now.due now.lines v (Some e)) (draws ∙ ap moved way.state) picked;
+      vain = vain;
+    }));
+  })
+
+pub all_happened : (seed : ℕ) (w now : WorldState) (x many : ℕ) → many ≡ 18446744073709551615 → IsUnderWay seed w now x many → IsRunOf seed w now
+all_happened seed w now x many all way = record { events = way.events; picked = way.picked; ended = inr (inr (sym way.long ∙ all)); }
