@@ -1,5 +1,5 @@
 //! The lines of all bricks.
-ghost use Rattle.std.specs.Prelude.{◌≡◌, ◌<◌, ◌-◌, ◌^◌, ◌∷◌, ◌++◌, [], ◌≤◌, true, false, min, length, is_some, slice_get, IfOk, OnOk, OnErr, MatchOption};
+ghost use Rattle.std.specs.Prelude.{◌≡◌, ◌<◌, ◌-◌, ◌^◌, ◌∷◌, ◌++◌, [], ◌≤◌, true, false, length, is_some, slice_get, IfOk, OnOk, OnErr, MatchOption};
 ghost use Rattle.hub_tables.specs.SmallSets.{numbers};
 ghost use Rattle.world_bricks.specs.Lines.{empty_line, new_lines, put_by, with_sent, next_input, may_serve, shortened_by, served_by, outputs_by, arrived_of, next_output, may_arrive, with_arrival, bricks_where};
 ghost use Rattle.world_bricks.specs.Worlds.{Serves};
@@ -172,20 +172,13 @@ impl Lines {
         self.arrived(brick) < self.outputs(brick).len()
     }
 
-    // How many bricks a set may have: all, as a script has 64 at most.
-    fn many(&self) -> u8
-        ensures { result ≡ min (length self.now.bricks) 64 }
-    {
-        self.bricks.len().min(64) as u8
-    }
-
-    /// The bricks with an input.
+    /// The bricks with an input, of which a script has 64 at most.
     #[tactic(auto, using(crate::proofs::Picked::none_serving, crate::proofs::Picked::next_serving, crate::proofs::Picked::not_serving, crate::proofs::Picked::all_serving))]
     pub(crate) fn serving(&self) -> SmallSet
         ensures { numbers result ≡ bricks_where (may_serve self.now) }
     {
         let mut serving = SmallSet::new();
-        for brick in 0..self.many() {
+        for brick in 0..self.bricks.len().min(64) as u8 {
             if !self.may_serve(brick) {
                 continue;
             }
@@ -200,7 +193,7 @@ impl Lines {
         ensures { numbers result ≡ bricks_where (may_arrive self.now) }
     {
         let mut arriving = SmallSet::new();
-        for brick in 0..self.many() {
+        for brick in 0..self.bricks.len().min(64) as u8 {
             if !self.may_arrive(brick) {
                 continue;
             }
