@@ -96,13 +96,13 @@ module _ (d : DueState) (lines : LinesState) (value : ℕ) where
           ∙ ap (λ (ns : List ℕ). choices_of d.submits (bricks_where (may_arrive lines)) ns e.tasks e.plain) serving
           ∙ ap (λ (p : Option Action). choices_of d.submits (bricks_where (may_arrive lines)) (bricks_where (may_serve lines)) e.tasks p) plain
 
-  any : IsChosen d lines value (chosen_event None (chosen_among (enabled d lines 0) value))
-  any = record { tasks = 0; task = None; is = refl; }
+  any_chosen : IsChosen d lines value (chosen_event None (chosen_among (enabled d lines 0) value))
+  any_chosen = record { tasks = 0; task = None; is = refl; }
 
   pub first_picked : (due : Due) → d.first ≡ Some due → IsPicked d lines value (Some (event_of due))
   first_picked due is = record {
     chosen = chosen_event None (chosen_among (enabled d lines 0) value);
-    is_chosen = any;
+    is_chosen = any_chosen;
     rest = None;
     is_rest = tt;
     is = ap (λ (f : Option Due). or_chosen f (chosen_event None (chosen_among (enabled d lines 0) value)) None) (sym is);
