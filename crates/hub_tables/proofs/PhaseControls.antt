@@ -1,12 +1,12 @@
 -- The first of the entries of a map, where it has some.
 use Rattle.std.proofs.Common.{◌≡◌, refl, arith}
-use Rattle.std.specs.Prelude.{ℕ, ◌<◌, List, [], ◌∷◌, length, is_none, slice_get, Option, None, Some}
+use Rattle.std.specs.Prelude.{ℕ, ◌<◌, true, false, List, [], ◌∷◌, length, is_none, slice_get, Option, None, Some}
 use Rattle.script_lang.specs.declared.scripts.ControlLine.{ControlLine}
 use Rattle.hub_tables.specs.PhaseControls.{value_of, action_by}
 
 pub none_first : {X : Type 0} (xs : List X) → (0 < length xs → ⊥) → None ≡ slice_get xs 0
-none_first [] no = refl
-none_first (x ∷ xs) no = absurd (no (omega arith))
+none_first [] none = refl
+none_first (x ∷ xs) none = absurd (none (omega arith))
 
 -- none is left exactly where there is no entry
 pub none_left : (entries : List (ℕ × ControlLine)) → length entries ≡ 0 → is_none (action_by (value_of (slice_get entries 0))) ≡ true
