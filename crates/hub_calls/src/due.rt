@@ -99,6 +99,7 @@ impl Hub {
     }
 
     /// The reply of a call, by its number from 1.
+    #[tactic(auto, using(crate::proofs::Finding::is_contained))]
     pub fn reply_of(&self, call: u32) -> Option<&ReplyLine>
         ensures { IfSome result (λ line. Contains self.now.log.replies line.now) }
     {
