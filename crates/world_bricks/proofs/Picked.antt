@@ -1,5 +1,5 @@
 -- The bricks that have inputs and outputs, as sets; and what is picked.
-use Rattle.std.proofs.Common.{◌≡◌, refl, sym, ap, ◌∙◌, inl, inr, arith, lt-ltb, le-ltb}
+use Rattle.std.proofs.Common.{◌≡◌, refl, sym, ap, subst, ◌∙◌, inl, inr, arith, lt-ltb, le-ltb}
 use Rattle.std.proofs.lemmas.Option.{slice_get_past, slice_get_cases}
 use Rattle.std.specs.Prelude.{ℕ, zero, suc, ◌<◌, ◌≤◌, ◌+◌, nat_lt, cond, min, Bool, true, false, ◌&&◌, List, [], ◌∷◌, length, is_some, slice_get, Option, None, Some}
 use Rattle.std.specs.List.{filter, range_with_len}
@@ -10,9 +10,10 @@ use Rattle.hub_tables.proofs.SetsWhere.{AreBelow, none_below, next_below, skippe
 use Rattle.hub_tables.specs.SmallSets.{no_numbers, has, Adds, with_number, numbers, numbers_from}
 use Rattle.hub_tables.specs.declared.actions.Due.{Due}
 use Rattle.hub_tables.specs.declared.small_set.SmallSet.{SmallSet}
-use Rattle.world_bricks.specs.Choices.{event_of, events_of, choices_of, choice_by, chosen_among, enabled, chosen_event, or_chosen, IsChosen, IsPicked}
+use Rattle.world_bricks.specs.Choices.{event_of, events_of, choices_of, choice_by, chosen_among, enabled, run_of, chosen_event, or_chosen, IsChosen, IsPicked}
 use Rattle.world_bricks.specs.Lines.{LinesState, next_input, outputs_by, arrived_of, may_serve, may_arrive, bricks_where}
 use Rattle.world_bricks.specs.declared.enabled.Choice.{Choice}
+use Rattle.world_bricks.specs.declared.enabled.Choice.TheVariants as choice
 use Rattle.world_bricks.specs.declared.enabled.Enabled.{Enabled}
 use Rattle.world_bricks.specs.declared.events.Event.{Event}
 
@@ -40,6 +41,7 @@ module _ (set : SmallSet) (test : ℕ → Bool) (same : (k : ℕ) → k < 64 →
       first ∙ rest ∙ as_filtered (test n) n (filter test (range_with_len (n + 1) more))
 
   numbers_where : numbers set ≡ bricks_where test
+  unfolding bricks_where
   numbers_where = same_from 64 0 (omega arith)
 
 -- ---- the bricks with an input
@@ -81,7 +83,7 @@ module _ (lines : LinesState) where
 
 module _ (d : DueState) (lines : LinesState) (value : ℕ) where
   -- what is enabled, by what the world has found of it
-  pub is_chosen : (e : Enabled) (task : Option (ℕ × ℕ)) (c : Option Choice) → numbers e.submits ≡ d.submits → numbers e.arriving ≡ bricks_where (may_arrive lines) → numbers e.serving ≡ bricks_where (may_serve lines)
+  is_chosen : (e : Enabled) (task : Option (ℕ × ℕ)) (c : Option Choice) → numbers e.submits ≡ d.submits → numbers e.arriving ≡ bricks_where (may_arrive lines) → numbers e.serving ≡ bricks_where (may_serve lines)
       → e.plain ≡ d.plain → c ≡ choice_by e value → IsChosen d lines value (chosen_event task c)
   is_chosen e task c submits arriving serving plain is = record {
     tasks = e.tasks;
@@ -95,6 +97,19 @@ module _ (d : DueState) (lines : LinesState) (value : ℕ) where
           ∙ ap (λ (ns : List ℕ). choices_of d.submits ns (numbers e.serving) e.tasks e.plain) arriving
           ∙ ap (λ (ns : List ℕ). choices_of d.submits (bricks_where (may_arrive lines)) ns e.tasks e.plain) serving
           ∙ ap (λ (p : Option Action). choices_of d.submits (bricks_where (may_arrive lines)) (bricks_where (may_serve lines)) e.tasks p) plain
+
+  module _ (e : Enabled) (c : Option Choice) (submits : numbers e.submits ≡ d.submits) (arriving : numbers e.arriving ≡ bricks_where (may_arrive lines)) (serving : numbers e.serving ≡ bricks_where (may_serve lines)) (plain : e.plain ≡ d.plain)
+      (is : c ≡ choice_by e value) where
+    pub none_chosen : c ≡ None → IsChosen d lines value None
+    none_chosen none = subst (λ (x : Option Choice). IsChosen d lines value (chosen_event None x)) none (is_chosen e None c submits arriving serving plain is)
+
+    pub event_chosen : (ev : Event) → c ≡ Some (choice.Event ev) → IsChosen d lines value (Some ev)
+    event_chosen ev some = subst (λ (x : Option Choice). IsChosen d lines value (chosen_event None x)) some (is_chosen e None c submits arriving serving plain is)
+
+    pub task_chosen : (at : ℕ) (task : Option (ℕ × ℕ)) (o : Option Event) → c ≡ Some (choice.Task at) → o ≡ run_of task → IsChosen d lines value o
+    task_chosen at task o some gives =
+        subst (λ (x : Option Event). IsChosen d lines value x) (sym gives)
+        (subst (λ (x : Option Choice). IsChosen d lines value (chosen_event task x)) some (is_chosen e task c submits arriving serving plain is))
 
   any_chosen : IsChosen d lines value (chosen_event None (chosen_among (enabled d lines 0) value))
   any_chosen = record { tasks = 0; task = None; is = refl; }

@@ -104,5 +104,5 @@ with_arrival lines brick = record lines { queues = noted_by (slice_get lines.que
 
 -- ---- the bricks of which something holds, rising; there are 64 at most
 
-abbrev pub bricks_where : (ℕ → Bool) → List ℕ
+unfoldable pub bricks_where : (ℕ → Bool) → List ℕ
 bricks_where test = filter test (range_with_len 0 64)

@@ -173,7 +173,7 @@ impl Lines {
     }
 
     /// The bricks with an input, of which a script has 64 at most.
-    #[tactic(auto, using(crate::proofs::Picked::none_serving, crate::proofs::Picked::next_serving, crate::proofs::Picked::not_serving, crate::proofs::Picked::all_serving))]
+    #[tactic(auto, using(crate::proofs::Picked::none_serving, crate::proofs::Picked::next_serving, crate::proofs::Picked::not_serving))]
     pub(crate) fn serving(&self) -> SmallSet
         ensures { numbers result ≡ bricks_where (may_serve self.now) }
     {
@@ -188,7 +188,7 @@ impl Lines {
     }
 
     /// The bricks with an output that has not arrived.
-    #[tactic(auto, using(crate::proofs::Picked::none_arriving, crate::proofs::Picked::next_arriving, crate::proofs::Picked::not_arriving, crate::proofs::Picked::all_arriving))]
+    #[tactic(auto, using(crate::proofs::Picked::none_arriving, crate::proofs::Picked::next_arriving, crate::proofs::Picked::not_arriving))]
     pub(crate) fn arriving(&self) -> SmallSet
         ensures { numbers result ≡ bricks_where (may_arrive self.now) }
     {

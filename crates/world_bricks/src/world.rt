@@ -161,6 +161,7 @@ impl World {
     }
 
     // Runs the events of a seed's schedule where nothing has stopped.
+    #[tactic(auto, using(crate::proofs::Running::begins, crate::proofs::Running::nothing_left, crate::proofs::Running::in_vain, crate::proofs::Running::all_happened))]
     fn run_on(&mut self, alloc: Global, seed: u64) -> Result<(), Stop>
         requires { self.old.stop ≡ None }
         ensures same { (self.new.script ≡ self.old.script) × (self.new.plans ≡ self.old.plans) }
