@@ -1,7 +1,7 @@
-use Rattle.std.proofs.Common.{◌≡◌, subst, ◌∙◌}
-use Rattle.std.specs.Prelude.{Option}
+use Rattle.std.proofs.Common.{◌≡◌, sym, subst, ◌∙◌}
+use Rattle.std.specs.Prelude.{ℕ, ◌+◌, Option}
 use Rattle.world_bricks.proofs.Chains.{next_reached}
-use Rattle.world_bricks.proofs.Running.{goes_on}
+use Rattle.world_bricks.proofs.Running.{IsUnderWay, goes_on}
 use Rattle.world_bricks.specs.Choices.{IsPicked}
 use Rattle.world_bricks.specs.declared.events.Event.{Event}
 use Rattle.world_bricks.proofs.world.World.run_on.Goals as goal
@@ -16,5 +16,6 @@ loop-preserved c =
       same.1 ∙ kept.1,
       c.in_ok-apply.ensures.goes,
       next_reached c.args.self.now.script c.loop.self.script c.in-Some.event c.args.self.now.log c.args.self.now.lines c.loop.self.log c.loop.self.lines c.apply.new.self.log c.apply.new.self.lines kept.0 happens kept.3,
-      ?,
+      subst (λ (x : ℕ). IsUnderWay c.args.seed c.args.self.now c.apply.new.self x (c.loop.counter + 1)) (sym c.draw.ensures.state)
+          (goes_on c.in-Some.event c.loop.self c.apply.new.self happens same c.args.seed c.args.self.now c.loop.schedule c.loop.counter c.draw.result c.draw.ensures.value picked kept.4),
     )
