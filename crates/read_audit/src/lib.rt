@@ -47,15 +47,18 @@ mod names;
 mod naming;
 mod objects;
 mod offsets;
+mod operations;
 mod paths;
 mod quorums;
 mod reached;
 mod readings;
 mod replies;
+mod rooms;
 mod runs;
 mod showing;
 mod submissions;
 mod taken;
+mod unlinks;
 mod works;
 
 pub use names::names_are_read;
