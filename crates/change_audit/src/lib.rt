@@ -7,8 +7,8 @@
 //!
 //!   brick 0    journal .. Op 12 .. Post 12 ..   in the call's graph, on winds of the call
 //!   brick 2    journal .. Op 12 .. Post 12 ..   one change number, one store op, which makes the operation
-//!              a quorum of the bricks of one set; a new file's name on the set of its hash; a name that is taken away on the set
-//!              that is handed in for the entry
+//!              a quorum of the bricks of one set; a new file's name on the set of its hash; a change for which a set is handed
+//!              in on that set
 //!   events     .. Op 12 is answered Done .. Post 12 goes out .. it is answered Done .. the call is answered
 //!
 //!   copies     cell, from brick 0 to brick 2, last change 12

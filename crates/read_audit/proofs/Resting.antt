@@ -156,6 +156,10 @@ module _ (script : Script) (plans : List Plan) (log : Log) (bricks : List Journa
     from_is = refl;
   }
 
+  pub name_on : (call number : ℕ) (dir : Gfid) (name : List ℕ) (found : Option Object) (object : Object) (set : ℕ) → found ≡ Some object → IfSome found (λ to. IsStep script plans log bricks call number dir name to) → object.set ≡ set
+      → IsNameTaken script plans log bricks call number dir name (Some set)
+  name_on call number dir name found object set is step same = subst (λ (s : ℕ). IsNameTaken script plans log bricks call number dir name (Some s)) same (name_is call number dir name found object is step)
+
   -- ---- one entry
 
   pub rests_for : (ops : List FlatOp) (calls : List Submission) (call number : ℕ) (made : Submission) (operation : FlatOp) (found : Option ℕ) → calls ≡ submissions_of script log → Some made ≡ call_numbered calls call

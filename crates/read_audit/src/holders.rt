@@ -15,7 +15,9 @@ use change_audit::arrivals::{arrived, written_output};
 use change_audit::bearers::has_member;
 use change_audit::copy_requests::is_cell;
 use change_audit::journals::{brick_at, bytes_at, whole_input};
-use fop_types::{BrickRep, BrickReq, Cell, DoneArm, Input, OutKind, Output, Row, Seq, SetPlan, SplitRow};
+use fop_types::{
+    BrickRep, BrickReq, Cell, DoneArm, Input, OutKind, Output, Row, Seq, SetPlan, SplitRow,
+};
 use mount_log::Log;
 use std::alloc::{AllocError, Global};
 

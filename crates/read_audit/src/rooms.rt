@@ -17,6 +17,12 @@ use std::alloc::{AllocError, Global};
 
 // ---- the set of the move
 
+fn is_set(set: u8, other: u8) -> bool
+    ensures { result ≡ true → set ≡ other }
+{
+    set == other
+}
+
 // Whether a name of a directory means an object on a set, by the answer to a fetch of its names.
 fn is_taken_by(
     alloc: Global,
@@ -32,7 +38,7 @@ fn is_taken_by(
 {
     let to = step_by(alloc, run, by, dir, name, at)?;
     match to {
-        Some(object) => Ok(object.set == set),
+        Some(object) => Ok(is_set(object.set, set)),
         None => Ok(false),
     }
 }
@@ -131,7 +137,11 @@ pub(crate) fn has_room(
     ensures { IfOk result (λ yes. yes ≡ true → HasRoom run.now.script.now run.now.plans.now run.now.log.now run.now.bricks.now ops.now by.call by.number operation.now from) }
 {
     match operation {
-        FlatOp::Rename { target, new_name, .. } => {
+        FlatOp::Rename {
+            target,
+            new_name,
+            ..
+        } => {
             let yes = is_freed(alloc, run, by, ops, unlinks, from, *target, new_name)?;
             Ok(yes)
         }

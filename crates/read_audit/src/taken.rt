@@ -134,12 +134,7 @@ fn key_of(call: u32, set: u8) -> u64
 }
 
 // Takes the set of an entry's call for the entry, if it has a set. It is false where that was taken for another entry.
-fn take_set(
-    log: &Log,
-    claims: &mut Claims,
-    k: usize,
-    from: Option<u8>,
-) -> Result<bool, AllocError>
+fn take_set(log: &Log, claims: &mut Claims, k: usize, from: Option<u8>) -> Result<bool, AllocError>
     ensures claimed { IfOk result (λ yes. yes ≡ true → IsSetClaimed log.now claims.new k from) }
     ensures keeps { IfOk result (λ yes. KeepClaims claims.old claims.new) }
 {
