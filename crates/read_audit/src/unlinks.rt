@@ -38,6 +38,12 @@ pub(crate) fn unlinks_of(alloc: Global, log: &Log, ops: &[FlatOp]) -> Result<Unl
     Ok(Unlinks { places })
 }
 
+fn is_call(one: u32, other: u32) -> bool
+    ensures { result ≡ true → one ≡ other }
+{
+    one == other
+}
+
 // Whether the entry at a place is one of the call and unlinks the name of a directory.
 fn is_unlinked_at(
     log: &Log,
@@ -55,7 +61,7 @@ fn is_unlinked_at(
     let Some(op) = op_at(ops, place) else {
         return false;
     };
-    if entry.call != call {
+    if !is_call(entry.call, call) {
         return false;
     }
     is_unlink(op, dir, name)
