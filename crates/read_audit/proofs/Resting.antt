@@ -117,10 +117,10 @@ module _ (script : Script) (plans : List Plan) (log : Log) (bricks : List Journa
       → found ≡ Some object → IfSome found (λ o. LeadsTo script plans log bricks call number path root_object o) → object.gfid ≡ gfid → set ≡ home object → RestsOnNames script plans log bricks ops call number c operation (Some set)
   object_is ops call number c operation gfid path found object set changed path_is is leads same set_is = record {
     works = subst (λ (o : Option Gfid). Reaches script plans log bricks call number (path_for c operation) o) (sym alone.0) (record { object = object; leads = own; is = same });
-    moves = subst (λ (o : Option Gfid). Reaches script plans log bricks call number (second_path (looked_up c)) o) (sym alone.1.0) tt;
-    takes = alone.1.1.0;
+    moves = subst (λ (o : Option Gfid). Reaches script plans log bricks call number (second_path (looked_up c)) o) (sym alone.1) tt;
+    takes = alone.2;
     changes = subst (λ (o : Option Gfid). IfSome o (IsAtHome script plans log bricks call number (path_for c operation) (Some set))) (sym changed) (record { object = object; leads = own; is = (same, ap Some set_is) });
-    room = alone.1.1.1;
+    room = alone.3;
   } where
     own : LeadsTo script plans log bricks call number (path_for c operation) root_object object
     own =

@@ -8,4 +8,4 @@ pub returns-then-branch : goal.returns-then-branch
 returns-then-branch c = λ _. Replaced (c.in_ok-is_replaced.ensures c.if-branch.true)
 
 pub returns : goal.returns
-returns c = λ yes. Unused (c.in_ok-yes.ensures yes)
+returns c = λ yes. Unused (rw c.as_slice.ensures at (c.in_ok-yes.ensures yes))
