@@ -1,5 +1,5 @@
 -- Sets that have no copy of a cell.
-use Rattle.std.proofs.Common.{◌≡◌, subst, sym, ap}
+use Rattle.std.proofs.Common.{◌≡◌, subst, sym}
 use Rattle.std.specs.Prelude.{ℕ, ◌<◌, ◌-◌, List, [], ◌∷◌, ◌++◌, Some, Contains, slice_get}
 use Rattle.std.specs.List.{AllByRecursion}
 use Rattle.fop_types.specs.declared.cells.Cell.{Cell}
