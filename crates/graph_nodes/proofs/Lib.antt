@@ -19,4 +19,5 @@ pub mod Wired
 pub mod Plans
 pub mod Parking
 pub mod Living
+pub mod PlanLoads
 pub mod Together

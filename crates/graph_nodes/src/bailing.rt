@@ -4,10 +4,10 @@ ghost use Rattle.frame_driver.specs.Bailing.{AreOurs};
 ghost use Rattle.graph_nodes.specs.Live.{HasLive, HasWork, KeepsWork, KeepsGraph, Settles, KeepsMount, StaysLive};
 
 use crate::graph::Graph;
+use crate::loads::at_most_u32;
 use crate::locals::Local;
 use crate::moved::{Mount, Moved};
 use crate::outer::{AtBrick, Waiting, take_first};
-use crate::tree::at_most_u32;
 use frame_driver::{Bailed, Board};
 use graph_items::{BrickReply, Down, Up};
 use std::alloc::{AllocError, Global};

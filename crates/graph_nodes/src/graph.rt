@@ -1,7 +1,9 @@
-ghost use Rattle.std.specs.Prelude.{◌≡◌, ◌<◌, ◌↔◌, IfOk, IsTrue, length, map};
+ghost use Rattle.std.specs.Prelude.{◌≡◌, ◌<◌, ◌+◌, ◌↔◌, ◌&&◌, min, nat_le, IfOk, IsTrue, length, map, slice_get};
+ghost use Rattle.std.specs.BTreeSet.{contains_by};
+ghost use Rattle.std.specs.Ordering.{nat_cmp};
 ghost use Rattle.frame_driver.specs.Follows.{Fits};
 ghost use Rattle.frame_driver.specs.Machine.{empty_board};
-ghost use Rattle.graph_items.specs.Clients.{connection_at, last_at};
+ghost use Rattle.graph_items.specs.Clients.{connection_at, last_at, connected_at};
 ghost use Rattle.graph_nodes.specs.Plans.{IsPlan};
 ghost use Rattle.graph_nodes.specs.Promises.{node_promise};
 
@@ -127,6 +129,8 @@ impl Graph {
     pub fn connect(&mut self, brick: u8) -> u32
         requires there { brick < length self.old.cx.clients }
         requires last { last_at self.old.cx.clients brick < 4294967295 }
+        ensures number { result ≡ last_at self.old.cx.clients brick + 1 }
+        ensures clients { self.new.cx.clients ≡ connected_at self.old.cx.clients brick }
         ensures board { self.new.board ≡ self.old.board }
         ensures nodes { self.new.nodes.items ≡ self.old.nodes.items }
         ensures wiring { self.new.wiring ≡ self.old.wiring }
@@ -150,17 +154,16 @@ impl Graph {
     }
 
     /// How many tasks are ready: the io-threads nodes in which a frame waits.
-    pub fn ready_len(&self) -> u32 {
-        let count = self.cx.ready.len();
-        if count > u32::MAX as usize {
-            u32::MAX
-        } else {
-            count as u32
-        }
+    pub fn ready_len(&self) -> u32
+        ensures { result ≡ min (length self.now.cx.ready.keys) 4294967295 }
+    {
+        self.cx.ready.len().min(u32::MAX as usize) as u32
     }
 
     /// The ready task with so many lower ones.
-    pub fn ready_at(&self, at: u32) -> Option<u32> {
+    pub fn ready_at(&self, at: u32) -> Option<u32>
+        ensures { result ≡ slice_get self.now.cx.ready.keys at }
+    {
         match self.cx.ready.iter().nth(at as usize) {
             Some(task) => Some(*task as u32),
             None => None,
@@ -168,7 +171,9 @@ impl Graph {
     }
 
     /// Whether a task is ready.
-    pub fn is_ready(&self, task: u32) -> bool {
+    pub fn is_ready(&self, task: u32) -> bool
+        ensures { result ≡ (nat_le task 65535 && contains_by (nat_cmp task) self.now.cx.ready) }
+    {
         task <= u16::MAX as u32 && self.cx.ready.contains(&(task as u16))
     }
 
