@@ -65,7 +65,7 @@ pub record AreFirst (nodes : List NodePlan) (sets : List SetPlan) (at : ℕ) (lo
   pub last : top ≡ get_or (first_loads nodes sets at) (at - 1) no_load
 
 pub none_first : (nodes : List NodePlan) (sets : List SetPlan) → AreFirst nodes sets 0 (replicate 1024 no_load) no_load
-none_first nodes sets = record { kept = refl; last = refl; }
+none_first nodes sets = record { kept = refl; last = refl }
 
 module _ (nodes : List NodePlan) (sets : List SetPlan) (at : ℕ) (n : NodePlan) (loads : List Load) (top : Load) (there : at < length nodes) (few : length nodes ≤ 1024)
     (read : n ≡ get_or nodes at n) (are : AreFirst nodes sets at loads top) where
@@ -102,7 +102,7 @@ module _ (nodes : List NodePlan) (sets : List SetPlan) (at : ℕ) (n : NodePlan)
       let back : at ≡ at + 1 - 1 = omega arith in
       let last_of : load ≡ get_or (so_far ++ load ∷ []) at no_load = sym (get_or_at so_far load [] no_load at long) in
       let by_place : get_or (first_loads nodes sets (at + 1)) at no_load ≡ get_or (first_loads nodes sets (at + 1)) (at + 1 - 1) no_load
-          = ap (λ (k : ℕ). get_or (first_loads nodes sets (at + 1)) k no_load) back in
+      = ap (λ (k : ℕ). get_or (first_loads nodes sets (at + 1)) k no_load) back in
       record {
         kept = ap (λ (l : Load). slice_set loads at l) made ∙ set ∙ put ∙ apart ∙ ap (λ (ls : List Load). ls ++ left) (sym grown);
         last = made ∙ last_of ∙ ap (λ (ls : List Load). get_or ls at no_load) (sym grown) ∙ by_place;
@@ -137,5 +137,5 @@ all_first plan at loads top all are =
     let whole : take at plan.nodes ≡ plan.nodes = take_all at plan.nodes (omega (arith, all)) in
     let first : top ≡ get_or (loads_behind plan.nodes plan.sets []) (at - 1) no_load = are.last ∙ ap (λ (ns : List NodePlan). get_or (loads_behind ns plan.sets []) (at - 1) no_load) whole in
     let last_of : get_or (loads_behind plan.nodes plan.sets []) (at - 1) no_load ≡ get_or (loads_behind plan.nodes plan.sets []) (length plan.nodes - 1) no_load
-        = ap (λ (k : ℕ). get_or (loads_behind plan.nodes plan.sets []) (k - 1) no_load) all in
+    = ap (λ (k : ℕ). get_or (loads_behind plan.nodes plan.sets []) (k - 1) no_load) all in
     ap (λ (l : Load). l.weight) (first ∙ last_of)
