@@ -4,11 +4,13 @@ ghost use Rattle.std.specs.Ordering.{nat_cmp};
 ghost use Rattle.frame_driver.specs.Follows.{Fits};
 ghost use Rattle.frame_driver.specs.Machine.{empty_board};
 ghost use Rattle.graph_items.specs.Clients.{connection_at, last_at, connected_at};
+ghost use Rattle.graph_nodes.specs.Caching.{cached_by, retired, without_pages};
 ghost use Rattle.graph_nodes.specs.Plans.{IsPlan};
 ghost use Rattle.graph_nodes.specs.Promises.{node_promise};
 
+use crate::caches::{drop_pages_at, retire_at};
 use crate::context::Context;
-use crate::kinds::{Kind, Node};
+use crate::kinds::Node;
 use crate::ledgers::MountLedger;
 use crate::locals::Local;
 use crate::outer::AtBrick;
@@ -130,11 +132,11 @@ impl Graph {
         requires there { brick < length self.old.cx.clients }
         requires last { last_at self.old.cx.clients brick < 4294967295 }
         ensures number { result ≡ last_at self.old.cx.clients brick + 1 }
-        ensures clients { self.new.cx.clients ≡ connected_at self.old.cx.clients brick }
         ensures board { self.new.board ≡ self.old.board }
         ensures nodes { self.new.nodes.items ≡ self.old.nodes.items }
         ensures wiring { self.new.wiring ≡ self.old.wiring }
         ensures top { self.new.top ≡ self.old.top }
+        ensures connected { self.new.cx ≡ record self.old.cx { clients = connected_at self.old.cx.clients brick } }
     {
         self.cx.clients.connect(brick)
     }
@@ -183,6 +185,7 @@ impl Graph {
         ensures promises { map node_promise self.new.nodes.items ≡ map node_promise self.old.nodes.items }
         ensures wiring { self.new.wiring ≡ self.old.wiring }
         ensures top { self.new.top ≡ self.old.top }
+        ensures nodes { self.new.nodes.items ≡ cached_by (without_pages gfid) self.old.cache self.old.nodes.items }
     {
         let Some(at) = self.cache else {
             return;
@@ -196,6 +199,7 @@ impl Graph {
         ensures promises { map node_promise self.new.nodes.items ≡ map node_promise self.old.nodes.items }
         ensures wiring { self.new.wiring ≡ self.old.wiring }
         ensures top { self.new.top ≡ self.old.top }
+        ensures nodes { self.new.nodes.items ≡ cached_by retired self.old.cache self.old.nodes.items }
     {
         let Some(at) = self.cache else {
             return;
@@ -208,53 +212,5 @@ impl Graph {
         ensures { IsTrue result ↔ (self.now.board.frames ≡ 0) }
     {
         self.board.frames == 0
-    }
-}
-
-// Drops the pages of a file in the node with this number, if it is an io-cache.
-fn drop_pages_at(nodes: &mut Vec<Node>, at: u16, gfid: Gfid)
-    ensures { map node_promise nodes.new.items ≡ map node_promise nodes.old.items }
-{
-    if at as usize >= nodes.len() {
-        return;
-    }
-    clear_file(&mut nodes[at as usize], gfid);
-}
-
-// Drops the pages of a file. It says whether the node is an io-cache.
-#[tactic(auto, using(crate::proofs::Living::cache_promise))]
-fn clear_file(node: &mut Node, gfid: Gfid) -> bool
-    ensures { node_promise node.new ≡ node_promise node.old }
-{
-    match &mut node.kind {
-        Kind::IoCache(cache) => {
-            cache.pages.drop_file(gfid);
-            true
-        }
-        _ => false,
-    }
-}
-
-// Retires the node with this number, if it is an io-cache.
-fn retire_at(nodes: &mut Vec<Node>, at: u16)
-    ensures { map node_promise nodes.new.items ≡ map node_promise nodes.old.items }
-{
-    if at as usize >= nodes.len() {
-        return;
-    }
-    retire_cache(&mut nodes[at as usize]);
-}
-
-// Retires the node. It says whether the node is an io-cache.
-#[tactic(auto, using(crate::proofs::Living::cache_promise))]
-fn retire_cache(node: &mut Node) -> bool
-    ensures { node_promise node.new ≡ node_promise node.old }
-{
-    match &mut node.kind {
-        Kind::IoCache(cache) => {
-            cache.retire();
-            true
-        }
-        _ => false,
     }
 }

@@ -20,6 +20,7 @@
 
 mod arriving;
 mod bailing;
+mod caches;
 mod calls;
 mod context;
 mod costs;
@@ -34,11 +35,14 @@ mod mounted;
 mod moved;
 mod names;
 mod nodes;
+mod opening;
 mod outer;
+mod owning;
 mod parked;
 mod planned;
 mod reading;
 mod running;
+mod sending;
 mod tree;
 
 pub use context::{Context, HoldWait};
