@@ -1,7 +1,7 @@
 -- Acknowledged changes are on the bricks: each entry of a call that was answered well has a change of its own, and a quorum of
 -- the bricks of one set has answered Done to the store op of that change, which makes the entry, and then to its post, each of
 -- the call's graph and for a wind of the call. What they answered arrived by the event of the call's reply. Where the entry makes
--- an object, the set is that of its name; where a list has a set for the entry, from which it takes a name, it is that one.
+-- an object, the set is that of its name; where a list has a set for the entry, it is that one.
 use Rattle.std.specs.Prelude.{◌≡◌, ℕ, ◌<◌, true, List, Option, None, Some, Contains, get_or, slice_get, IfSome}
 use Rattle.dht_fops.specs.Answers.{change_of}
 use Rattle.fop_types.specs.Replies.{is_ok}
@@ -49,7 +49,7 @@ pub record IsBearer (log : Log) (bricks : List Journal) (plan : SetPlan) (call g
   pub borne : IsBorneBy log bricks call graph change number o brick
 
 -- By the event of this number, a change of a call makes the operation, and a quorum of the bricks of one set bears it: that of the
--- name of the object which it makes, if it does, and the one from which it takes a name, if one is given.
+-- name of the object which it makes, if it does, and the one that is given, if one is.
 pub record IsBorne (script : Script) (plans : List Plan) (log : Log) (bricks : List Journal) (ops : List FlatOp) (call change number : ℕ) (operation : FlatOp) (from : Option ℕ) : Type 0 where
   pub set : ℕ
   pub plan : SetPlan
@@ -78,7 +78,7 @@ pub record HasChange (script : Script) (plans : List Plan) (log : Log) (bricks :
 
 -- Each change has the place of the entry that it makes, so no two entries have the same change; nor, as an op and its post name
 -- their change, the same request. The number is that of the event of any reply by which the entry's call was answered well. The
--- list has for each entry the set from which it takes a name, or none.
+-- list has for each entry the set of its change, or none.
 pub record AreBorne (script : Script) (plans : List Plan) (log : Log) (bricks : List Journal) (ops : List FlatOp) (from : List (Option ℕ)) : Type 0 where
   pub entry_of : ℕ → ℕ
   pub each : (k number : ℕ) (entry : Entry) (operation : FlatOp) → slice_get log.history k ≡ Some entry → slice_get ops k ≡ Some operation

@@ -19,16 +19,20 @@ use Rattle.mount_log.specs.Graphs.{volfiles_of}
 use Rattle.mount_log.specs.declared.logs.Log.{Log}
 use Rattle.change_audit.specs.Answered.{IsDoneIn, IsWindFor, IsOpenedIn}
 
--- the row of a brick among those that a copy names, if there is one
+-- the row of a brick among some rows of a cell, if there is one
 abbrev pub row_for : List SplitRow → ℕ → Option Row
 row_for [] brick = None
 row_for (r ∷ rows) brick = if r.brick == brick then Some r.row else row_for rows brick
 
--- by the rows that a copy names its source is sound
-pub record HasSoundSource (plan : SetPlan) (copy : CopyRecord) : Type 0 where
+-- by these rows of a cell this brick of the set is sound
+pub record IsSoundBy (plan : SetPlan) (rows : List SplitRow) (brick : ℕ) : Type 0 where
   pub replica : ℕ
-  pub source_is : slice_get plan.bricks replica ≡ Some copy.source
-  pub sound : IsSound (map (row_for copy.rows) plan.bricks) (length plan.bricks) plan.q replica
+  pub brick_is : slice_get plan.bricks replica ≡ Some brick
+  pub sound : IsSound (map (row_for rows) plan.bricks) (length plan.bricks) plan.q replica
+
+-- by the rows that a copy names its source is sound
+abbrev pub HasSoundSource : SetPlan → CopyRecord → Type 0
+HasSoundSource plan copy = IsSoundBy plan copy.rows copy.source
 
 -- the source and the sink of a copy are two bricks of one set of a graph, and the source is sound
 pub record IsWithinSet (script : Script) (plans : List Plan) (log : Log) (graph : ℕ) (copy : CopyRecord) : Type 0 where

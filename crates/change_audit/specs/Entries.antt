@@ -16,8 +16,7 @@ pub record AreNotesOf (script : Script) (log : Log) (notes : Notes) : Type 0 whe
   pub graphs : AreGraphsOf script log notes.graphs
   pub marks : AreMarked log.replies notes.marks
 
--- a change that makes the operation by the event of a number, and takes a name from this set, if there is one, was taken for the
--- entry at a place
+-- a change that makes the operation by the event of a number, on this set, if there is one, was taken for the entry at a place
 pub record IsClaimed (script : Script) (plans : List Plan) (log : Log) (bricks : List Journal) (ops : List FlatOp) (claims : List (ℕ × ℕ)) (k call number : ℕ) (operation : FlatOp) (from : Option ℕ) : Type 0 where
   pub change : ℕ
   pub claimed : claim_of claims change ≡ Some k

@@ -27,7 +27,7 @@ fn set_of(plans: &[Plan], graphs: &CallGraphs, graph: usize, change: &Candidate)
     set_with(plans, graphs, graph, first.brick)
 }
 
-// Whether a set is the one from which a name is taken, if one is given.
+// Whether a set is the one that is given, if one is.
 fn is_from(from: Option<u8>, set: u8) -> bool
     ensures { result ≡ true → IfSome from (λ one. set ≡ one) }
 {
@@ -38,7 +38,7 @@ fn is_from(from: Option<u8>, set: u8) -> bool
 }
 
 // Whether the bricks of a set bear this change of a call by the event of a number, and it makes the operation, on the set of the
-// name of the object that this makes, or on the one from which it takes a name.
+// name of the object that this makes, or on the one that is given.
 fn is_borne(
     alloc: Global,
     script: &Script,
@@ -175,7 +175,7 @@ fn take_due(
     Ok(yes)
 }
 
-// The set from which the entry at a place takes a name, if the list has one.
+// The set of the change of the entry at a place, if the list has one.
 fn set_at(from: &[Option<u8>], k: usize) -> Option<u8>
     ensures { result ≡ get_or from.now k None }
 {
@@ -253,9 +253,8 @@ fn are_borne(
 /// Whether each entry of the history whose call was answered well has a change of its own on the bricks. A quorum of the bricks
 /// of one set have answered Done to the op of the change, which makes the entry's operation, and then to its post. Both were for
 /// winds of the call; the post was sent when the first answer had arrived, and the second arrived by the event of the call's
-/// reply. Where the operation makes an object, the set is that of its name; where `from` has a set for the entry, from which it
-/// takes a name, it is that one. `ops` are the operations of the entries, in their order; where they are fewer than the entries, it
-/// is false.
+/// reply. Where the operation makes an object, the set is that of its name; where `from` has a set for the entry, it is that one.
+/// `ops` are the operations of the entries, in their order; where they are fewer than the entries, it is false.
 ///
 /// # Errors
 /// Out of memory.

@@ -24,7 +24,7 @@ impl Model for Claims {
 #[tactic(auto, using(crate::proofs::Claiming::claimed_now, crate::proofs::Claiming::claims_kept))]
 impl Claims {
     /// Nothing was taken. It allocates nothing.
-    pub(crate) fn new(alloc: Global) -> Claims
+    pub fn new(alloc: Global) -> Claims
         ensures { result ≡ [] }
     {
         Claims {
@@ -43,7 +43,7 @@ impl Claims {
     ///
     /// # Errors
     /// Out of memory.
-    pub(crate) fn take(&mut self, change: u64, place: usize) -> Result<bool, AllocError>
+    pub fn take(&mut self, change: u64, place: usize) -> Result<bool, AllocError>
         ensures taken { IfOk result (λ did. did ≡ true → claim_of self.new change ≡ Some place) }
         ensures keeps { IfOk result (λ did. KeepClaims self.old self.new) }
     {

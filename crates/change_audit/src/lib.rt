@@ -7,8 +7,8 @@
 //!
 //!   brick 0    journal .. Op 12 .. Post 12 ..   in the call's graph, on winds of the call
 //!   brick 2    journal .. Op 12 .. Post 12 ..   one change number, one store op, which makes the operation
-//!              a quorum of the bricks of one set; a new file's name on the set of its hash; a name that is taken away on the set
-//!              that is handed in for the entry
+//!              a quorum of the bricks of one set; a new file's name on the set of its hash; a change for which a set is handed
+//!              in on that set
 //!   events     .. Op 12 is answered Done .. Post 12 goes out .. it is answered Done .. the call is answered
 //!
 //!   copies     cell, from brick 0 to brick 2, last change 12
@@ -31,7 +31,7 @@ pub mod bearers;
 pub mod call_graphs;
 mod candidates;
 mod changes;
-mod claims;
+pub mod claims;
 mod copies;
 mod copy_finding;
 pub mod copy_requests;
@@ -40,14 +40,14 @@ pub mod history;
 mod index_requests;
 pub mod journals;
 mod listings;
-mod making;
+pub mod making;
 mod notes;
 pub mod openings;
 mod placing;
 mod replacing;
 mod served;
 mod skips;
-mod sources;
+pub mod sources;
 
 pub use changes::changes_are_borne;
 pub use copies::copies_are_made;

@@ -127,7 +127,8 @@ fn is_added(flat: &FlatOp, parent: Gfid, item: &Item, mode: u16) -> bool
     }
 }
 
-fn is_unlink(flat: &FlatOp, parent: Gfid, name: &Seq<u8>) -> bool
+/// Whether an operation unlinks the name of a directory.
+pub fn is_unlink(flat: &FlatOp, parent: Gfid, name: &Seq<u8>) -> bool
     ensures { result ≡ true → flat.now ≡ op.Unlink parent name.now }
 {
     match flat {

@@ -1,15 +1,15 @@
-//! Whether the source of a copy is sound by the rows that the copy names.
+//! Whether a brick of a set, such as the source of a copy, is sound by rows of a cell.
 ghost use Rattle.std.specs.Prelude.{◌≡◌, ◌+◌, ◌/◌, ◌%◌, ◌<◌, ◌≤◌, ◌↔◌, ℕ, true, Some, length, map, slice_get, IfOk};
 ghost use Rattle.afr_changelog.specs.Masks.{Names};
 ghost use Rattle.afr_changelog.specs.Soundness.{IsSound};
-ghost use Rattle.change_audit.specs.Copied.{row_for as row_of, HasSoundSource};
+ghost use Rattle.change_audit.specs.Copied.{row_for as row_of, IsSoundBy, HasSoundSource};
 ghost use Rattle.change_audit.specs.Sources.{IsSized};
 
 use afr_changelog::sound;
 use fop_types::{CopyRecord, Mask, Row, SetPlan, SplitRow};
 use std::alloc::{AllocError, Global};
 
-// The row of a brick among those that a copy names.
+// The row of a brick among some rows of a cell.
 fn row_for(rows: &[SplitRow], brick: u8) -> Option<Row>
     ensures { result ≡ row_of rows.now brick }
 {
@@ -65,19 +65,46 @@ fn is_brick(plan: &SetPlan, replica: usize, brick: u8) -> bool
     }
 }
 
-// Whether a replica that the mask names is the source of the copy.
-fn has_source(plan: &SetPlan, rows: &[Option<Row>], mask: Mask, copy: &CopyRecord) -> bool
-    requires sound { (k : ℕ) → Names mask k ↔ IsSound rows.now (length plan.now.bricks) plan.now.q k }
-    requires rows { rows.now ≡ map (row_of copy.now.rows) plan.now.bricks }
-    ensures { result ≡ true → HasSoundSource plan.now copy.now }
+// Whether a replica that the mask names is this brick.
+fn has_brick(
+    plan: &SetPlan,
+    found: &[Option<Row>],
+    mask: Mask,
+    rows: &[SplitRow],
+    brick: u8,
+) -> bool
+    requires sound { (k : ℕ) → Names mask k ↔ IsSound found.now (length plan.now.bricks) plan.now.q k }
+    requires rows { found.now ≡ map (row_of rows.now) plan.now.bricks }
+    ensures { result ≡ true → IsSoundBy plan.now rows.now brick }
 {
+    let _ = found;
     let _ = rows;
     for replica in 0..5u8 {
-        if is_brick(plan, replica as usize, copy.source) && names(mask, replica) {
+        if is_brick(plan, replica as usize, brick) && names(mask, replica) {
             return true;
         }
     }
     false
+}
+
+/// Whether a brick is one of the set, and sound by these rows of a cell. A brick without a row among them was not reached.
+///
+/// # Errors
+/// Out of memory.
+pub fn is_sound_by(
+    alloc: Global,
+    plan: &SetPlan,
+    rows: &[SplitRow],
+    brick: u8,
+) -> Result<bool, AllocError>
+    ensures { IfOk result (λ yes. yes ≡ true → IsSoundBy plan.now rows.now brick) }
+{
+    if !is_sized(plan) {
+        return Ok(false);
+    }
+    let found = rows_for(alloc, rows, plan.bricks.as_slice())?;
+    let mask = sound_by(plan, found.as_slice());
+    Ok(has_brick(plan, found.as_slice(), mask, rows, brick))
 }
 
 /// Whether the source of a copy is a brick of the set, and sound by the rows that the copy names.
@@ -91,10 +118,6 @@ pub(crate) fn has_sound_source(
 ) -> Result<bool, AllocError>
     ensures { IfOk result (λ yes. yes ≡ true → HasSoundSource plan.now copy.now) }
 {
-    if !is_sized(plan) {
-        return Ok(false);
-    }
-    let rows = rows_for(alloc, copy.rows.as_slice(), plan.bricks.as_slice())?;
-    let mask = sound_by(plan, rows.as_slice());
-    Ok(has_source(plan, rows.as_slice(), mask, copy))
+    let yes = is_sound_by(alloc, plan, copy.rows.as_slice(), copy.source)?;
+    Ok(yes)
 }

@@ -19,4 +19,8 @@ pub mod Wired
 pub mod Plans
 pub mod Parking
 pub mod Living
+pub mod Giving
+pub mod Caching
+pub mod PlanLoads
 pub mod Together
+pub mod Among

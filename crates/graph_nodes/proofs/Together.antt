@@ -380,6 +380,11 @@ has_put live live_new n put q = sym (has_is live_new q) ∙ put q ∙ ap (λ (b 
 pub has_gone : (live live_new : BTreeMap ℕ Graph) (n : ℕ) (done : Bool) → ((q : ℕ) → is_some (get nat_cmp live_new q) ≡ (not (done && is_at (nat_cmp n) q) && is_some (get nat_cmp live q))) → (q : ℕ) → has (keys live_new) q ≡ (not (done && is_at (nat_cmp n) q) && has (keys live) q)
 has_gone live live_new n done gone q = sym (has_is live_new q) ∙ gone q ∙ ap (λ (b : Bool). not (done && is_at (nat_cmp n) q) && b) (has_is live q)
 
+-- no graph that was found has a number that is not there
+pub not_there : (A : Type 0) (live : BTreeMap ℕ Graph) (n : ℕ) (g : Graph) (numbers : List ℕ) → keys live ≡ numbers → get nat_cmp live n ≡ Some g → has numbers n ≡ false → A
+not_there A live n g numbers are found off =
+    let there : has numbers n ≡ true = sym (ap (λ (ns : List ℕ). has ns n) are) ∙ sym (has_is live n) ∙ ap is_some found in absurd cc
+
 -- a graph that was found is there
 pub not_absent : (A : Type 0) (g : Graph) (o : Option Graph) → Some g ≡ o → is_some o ≡ false → A
 not_absent A g o found off = let there : is_some o ≡ true = sym (ap is_some found) in absurd cc

@@ -1,13 +1,17 @@
 //! The ends of connections: each ends all winds that are open at its brick.
-ghost use Rattle.std.specs.Prelude.{ℕ, List, OnOk, IfOk};
+ghost use Rattle.std.specs.Prelude.{ℕ, List, ◌≡◌, ◌++◌, OnOk, IfOk, IsErrOf};
+ghost use Rattle.std.specs.BTreeMap.{values};
 ghost use Rattle.frame_driver.specs.Bailing.{AreOurs};
+ghost use Rattle.graph_nodes.specs.Calls.{running, Gives, EndsEarly, CallGives, CallEndsEarly, Bails, BailsSome, EndsAt, is_ours, gone_in, gone_of};
+ghost use Rattle.graph_nodes.specs.OpenWinds.{winds_at};
 ghost use Rattle.graph_nodes.specs.Live.{HasLive, HasWork, KeepsWork, KeepsGraph, Settles, KeepsMount, StaysLive};
 
 use crate::graph::Graph;
+use crate::loads::at_most_u32;
 use crate::locals::Local;
 use crate::moved::{Mount, Moved};
 use crate::outer::{AtBrick, Waiting, take_first};
-use crate::tree::at_most_u32;
+use crate::owning::is_ours;
 use frame_driver::{Bailed, Board};
 use graph_items::{BrickReply, Down, Up};
 use std::alloc::{AllocError, Global};
@@ -29,6 +33,8 @@ impl Graph {
         requires live { HasLive self.old mount.old }
         ensures kept { KeepsMount self.old mount.old self.new mount.new }
         ensures live { OnOk result (StaysLive self.old mount.old self.new mount.new) }
+        ensures gives { IfOk result (λ r. CallGives (Bails brick r.0) self.old mount.old r.1 self.new mount.new) }
+        ensures winds { IsErrOf result Stop.Winds → CallEndsEarly (BailsSome brick) self.old mount.old self.new mount.new }
     {
         self.borrow_from(mount);
         let bailed = self.bailed(alloc, brick, &mut mount.parked);
@@ -45,6 +51,8 @@ impl Graph {
         requires work { HasWork self.old parked.old.keys }
         ensures kept { KeepsGraph self.old self.new }
         ensures well { OnOk result (Settles self.old parked.old.keys self.new parked.new.keys) }
+        ensures gives { IfOk result (λ r. Gives (Bails brick r.0 self.old) self.old r.1 (running self.new)) }
+        ensures winds { IsErrOf result Stop.Winds → EndsEarly (BailsSome brick self.old) self.old (running self.new) }
     {
         let won = self.end_at(alloc, brick)?;
         let moved = self.run(alloc, parked)?;
@@ -55,6 +63,7 @@ impl Graph {
     fn end_at(&mut self, alloc: Global, brick: u8) -> Result<u64, AllocError>
         ensures kept { KeepsGraph self.old self.new }
         ensures works { OnOk result ((parked : List ℕ) → KeepsWork self.old parked self.new parked) }
+        ensures ends { IfOk result (λ won. EndsAt brick won self.old (running self.new)) }
     {
         self.cx.clients.end(brick);
         let mark = self.cx.clients.last(brick) as u64;
@@ -66,7 +75,9 @@ impl Graph {
 }
 
 // Takes all winds that are open at a brick.
-fn take_at(alloc: Global, outer: &mut Vec<AtBrick>, brick: u8) -> BTreeMap<u64, Waiting> {
+fn take_at(alloc: Global, outer: &mut Vec<AtBrick>, brick: u8) -> BTreeMap<u64, Waiting>
+    ensures { values result ≡ winds_at outer.old.items brick }
+{
     match outer.get_mut(brick as usize) {
         Some(at) => at.take_all(alloc),
         None => BTreeMap::new(alloc),
@@ -80,9 +91,10 @@ fn push_gone(
     wind: WindNo,
     mark: u64,
 ) -> Result<(), AllocError>
-    ensures { OnOk result (AreOurs board.now.stack board.now.graph winds.old.items → AreOurs board.now.stack board.now.graph winds.new.items) }
+    ensures ours { OnOk result (AreOurs board.now.stack board.now.graph winds.old.items → AreOurs board.now.stack board.now.graph winds.new.items) }
+    ensures gone { OnOk result (winds.new.items ≡ winds.old.items ++ gone_in (is_ours board.now wind) wind mark) }
 {
-    let ours = board.owns(wind);
+    let ours = is_ours(board, wind);
     if ours {
         winds.push(Bailed {
             wind,
@@ -101,7 +113,8 @@ fn gone_of(
     waiting: BTreeMap<u64, Waiting>,
     mark: u64,
 ) -> Result<Vec<Bailed<Up>>, AllocError>
-    ensures { IfOk result (λ winds. AreOurs board.now.stack board.now.graph winds.items) }
+    ensures ours { IfOk result (λ winds. AreOurs board.now.stack board.now.graph winds.items) }
+    ensures gone { IfOk result (λ winds. winds.items ≡ gone_of board.now mark (values waiting)) }
 {
     let mut rest = waiting;
     let mut winds = Vec::new(alloc);

@@ -1,7 +1,10 @@
 //! The calls of a graph. Each borrows the mount's stack and ledger, does its part, runs the tasks that are left, and gives
 //! both back.
-ghost use Rattle.std.specs.Prelude.{ℕ, List, ◌≡◌, ◌<◌, length, map, OnOk};
+ghost use Rattle.std.specs.Prelude.{ℕ, List, ◌≡◌, ◌<◌, None, length, map, IfOk, OnOk, IsErrOf, MatchOption};
+ghost use Rattle.std.specs.BTreeMap.{get};
+ghost use Rattle.std.specs.Ordering.{nat_cmp};
 ghost use Rattle.fop_types.specs.Bounds.{IsFop};
+ghost use Rattle.graph_nodes.specs.Calls.{running, Gives, EndsEarly, CallGives, CallEndsEarly, Enters, Wakes, turn_by, turn_at, TurnIs, TakesTurn, RunsTask};
 ghost use Rattle.graph_nodes.specs.Live.{HasLive, HasWork, KeepsWork, KeepsGraph, Settles, exchanged, borrowing, lending, KeepsMount, StaysLive};
 ghost use Rattle.graph_nodes.specs.Promises.{node_promise};
 
@@ -59,6 +62,8 @@ impl Graph {
         requires live { HasLive self.old mount.old }
         ensures kept { KeepsMount self.old mount.old self.new mount.new }
         ensures live { OnOk result (StaysLive self.old mount.old self.new mount.new) }
+        ensures gives { IfOk result (λ moved. CallGives (Enters call fop) self.old mount.old moved self.new mount.new) }
+        ensures winds { IsErrOf result Stop.Winds → CallEndsEarly (Enters call fop) self.old mount.old self.new mount.new }
     {
         self.borrow_from(mount);
         let moved = self.entered(alloc, call, fop, &mut mount.parked);
@@ -78,6 +83,8 @@ impl Graph {
         requires top { self.old.top < length self.old.nodes.items }
         ensures kept { KeepsGraph self.old self.new }
         ensures well { OnOk result (Settles self.old parked.old.keys self.new parked.new.keys) }
+        ensures gives { IfOk result (λ moved. Gives (Enters call fop self.old) self.old moved (running self.new)) }
+        ensures winds { IsErrOf result Stop.Winds → EndsEarly (Enters call fop self.old) self.old (running self.new) }
     {
         self.put(alloc, call, fop)?;
         self.run(alloc, parked)
@@ -89,6 +96,7 @@ impl Graph {
         requires top { self.old.top < length self.old.nodes.items }
         ensures kept { KeepsGraph self.old self.new }
         ensures works { OnOk result ((parked : List ℕ) → KeepsWork self.old parked self.new parked) }
+        ensures enters { OnOk result (Enters call fop self.old (running self.new)) }
     {
         self.board
             .submit(alloc, call, self.top, Down::Fop(FileOp::new(fop)))?;
@@ -103,6 +111,8 @@ impl Graph {
         requires live { HasLive self.old mount.old }
         ensures kept { KeepsMount self.old mount.old self.new mount.new }
         ensures live { OnOk result (StaysLive self.old mount.old self.new mount.new) }
+        ensures gives { IfOk result (λ moved. CallGives (Wakes mount.old.parked.keys (get nat_cmp self.old.waits call)) self.old mount.old moved self.new mount.new) }
+        ensures winds { IsErrOf result Stop.Winds → CallEndsEarly (Wakes mount.old.parked.keys (get nat_cmp self.old.waits call)) self.old mount.old self.new mount.new }
     {
         let frame = self.waits.remove(&call);
         self.resumed(alloc, frame, mount)
@@ -118,6 +128,8 @@ impl Graph {
         requires live { HasLive self.old mount.old }
         ensures kept { KeepsMount self.old mount.old self.new mount.new }
         ensures live { OnOk result (StaysLive self.old mount.old self.new mount.new) }
+        ensures gives { IfOk result (λ moved. CallGives (Wakes mount.old.parked.keys frame) self.old mount.old moved self.new mount.new) }
+        ensures winds { IsErrOf result Stop.Winds → CallEndsEarly (Wakes mount.old.parked.keys frame) self.old mount.old self.new mount.new }
     {
         self.borrow_from(mount);
         let moved = self.woken(alloc, frame, &mut mount.parked);
@@ -134,6 +146,8 @@ impl Graph {
         requires work { HasWork self.old parked.old.keys }
         ensures kept { KeepsGraph self.old self.new }
         ensures well { OnOk result (Settles self.old parked.old.keys self.new parked.new.keys) }
+        ensures gives { IfOk result (λ moved. Gives (Wakes parked.old.keys frame self.old) self.old moved (running self.new)) }
+        ensures winds { IsErrOf result Stop.Winds → EndsEarly (Wakes parked.old.keys frame self.old) self.old (running self.new) }
     {
         self.wake_parked(alloc, frame, parked)?;
         self.run(alloc, parked)
@@ -148,6 +162,7 @@ impl Graph {
     ) -> Result<(), AllocError>
         ensures kept { KeepsGraph self.old self.new }
         ensures works { OnOk result (KeepsWork self.old parked.old.keys self.new parked.new.keys) }
+        ensures wakes { OnOk result (Wakes parked.old.keys frame self.old (running self.new)) }
     {
         wake(alloc, &mut self.board, parked, frame)
     }
@@ -166,6 +181,8 @@ impl Graph {
         requires live { HasLive self.old mount.old }
         ensures kept { KeepsMount self.old mount.old self.new mount.new }
         ensures live { OnOk result (StaysLive self.old mount.old self.new mount.new) }
+        ensures gives { IfOk result (λ moved. MatchOption moved (turn_at self.old.nodes.items task ≡ None) (λ m. CallGives (RunsTask task mount.old.parked.keys) self.old mount.old m self.new mount.new)) }
+        ensures winds { IsErrOf result Stop.Winds → CallEndsEarly (RunsTask task mount.old.parked.keys) self.old mount.old self.new mount.new }
     {
         let Some(frame) = take_turn(&mut self.nodes, &mut self.cx, task) else {
             return Ok(None);
@@ -177,7 +194,8 @@ impl Graph {
 
 // Takes the frame whose turn it is in the io-threads node with this number.
 fn take_turn(nodes: &mut Vec<Node>, cx: &mut Context, task: u32) -> Option<u32>
-    ensures { map node_promise nodes.new.items ≡ map node_promise nodes.old.items }
+    ensures promises { map node_promise nodes.new.items ≡ map node_promise nodes.old.items }
+    ensures turn { MatchOption result (turn_at nodes.old.items task ≡ None) (λ key. TakesTurn task nodes.old.items cx.old key nodes.new.items cx.new) }
 {
     if task as usize >= nodes.len() {
         return None;
@@ -187,10 +205,16 @@ fn take_turn(nodes: &mut Vec<Node>, cx: &mut Context, task: u32) -> Option<u32>
 
 #[tactic(auto, using(crate::proofs::Living::queue_promise))]
 fn take_turn_in(node: &mut Node, cx: &mut Context) -> Option<u32>
-    ensures { node_promise node.new ≡ node_promise node.old }
+    ensures promise { node_promise node.new ≡ node_promise node.old }
+    ensures turn { MatchOption result (turn_by node.old.kind ≡ None) (λ key. TurnIs node.old cx.old key node.new cx.new) }
 {
     match &mut node.kind {
         Kind::IoThreads(queue) => queue.take(cx),
-        _ => None,
+        Kind::Root => None,
+        Kind::Pass => None,
+        Kind::IoCache(_) => None,
+        Kind::Distribute(_) => None,
+        Kind::Replicate(_) => None,
+        Kind::Client(_) => None,
     }
 }

@@ -1,12 +1,16 @@
-ghost use Rattle.std.specs.Prelude.{◌≡◌, ◌<◌, ◌↔◌, IfOk, IsTrue, length, map};
+ghost use Rattle.std.specs.Prelude.{◌≡◌, ◌<◌, ◌+◌, ◌↔◌, ◌&&◌, min, nat_le, IfOk, IsTrue, length, map, slice_get};
+ghost use Rattle.std.specs.BTreeSet.{contains_by};
+ghost use Rattle.std.specs.Ordering.{nat_cmp};
 ghost use Rattle.frame_driver.specs.Follows.{Fits};
 ghost use Rattle.frame_driver.specs.Machine.{empty_board};
-ghost use Rattle.graph_items.specs.Clients.{connection_at, last_at};
+ghost use Rattle.graph_items.specs.Clients.{connection_at, last_at, connected_at};
+ghost use Rattle.graph_nodes.specs.Caching.{cached_by, retired, without_pages};
 ghost use Rattle.graph_nodes.specs.Plans.{IsPlan};
 ghost use Rattle.graph_nodes.specs.Promises.{node_promise};
 
+use crate::caches::{drop_pages_at, retire_at};
 use crate::context::Context;
-use crate::kinds::{Kind, Node};
+use crate::kinds::Node;
 use crate::ledgers::MountLedger;
 use crate::locals::Local;
 use crate::outer::AtBrick;
@@ -127,10 +131,12 @@ impl Graph {
     pub fn connect(&mut self, brick: u8) -> u32
         requires there { brick < length self.old.cx.clients }
         requires last { last_at self.old.cx.clients brick < 4294967295 }
+        ensures number { result ≡ last_at self.old.cx.clients brick + 1 }
         ensures board { self.new.board ≡ self.old.board }
         ensures nodes { self.new.nodes.items ≡ self.old.nodes.items }
         ensures wiring { self.new.wiring ≡ self.old.wiring }
         ensures top { self.new.top ≡ self.old.top }
+        ensures connected { self.new.cx ≡ record self.old.cx { clients = connected_at self.old.cx.clients brick } }
     {
         self.cx.clients.connect(brick)
     }
@@ -150,17 +156,16 @@ impl Graph {
     }
 
     /// How many tasks are ready: the io-threads nodes in which a frame waits.
-    pub fn ready_len(&self) -> u32 {
-        let count = self.cx.ready.len();
-        if count > u32::MAX as usize {
-            u32::MAX
-        } else {
-            count as u32
-        }
+    pub fn ready_len(&self) -> u32
+        ensures { result ≡ min (length self.now.cx.ready.keys) 4294967295 }
+    {
+        self.cx.ready.len().min(u32::MAX as usize) as u32
     }
 
     /// The ready task with so many lower ones.
-    pub fn ready_at(&self, at: u32) -> Option<u32> {
+    pub fn ready_at(&self, at: u32) -> Option<u32>
+        ensures { result ≡ slice_get self.now.cx.ready.keys at }
+    {
         match self.cx.ready.iter().nth(at as usize) {
             Some(task) => Some(*task as u32),
             None => None,
@@ -168,7 +173,9 @@ impl Graph {
     }
 
     /// Whether a task is ready.
-    pub fn is_ready(&self, task: u32) -> bool {
+    pub fn is_ready(&self, task: u32) -> bool
+        ensures { result ≡ (nat_le task 65535 && contains_by (nat_cmp task) self.now.cx.ready) }
+    {
         task <= u16::MAX as u32 && self.cx.ready.contains(&(task as u16))
     }
 
@@ -178,6 +185,7 @@ impl Graph {
         ensures promises { map node_promise self.new.nodes.items ≡ map node_promise self.old.nodes.items }
         ensures wiring { self.new.wiring ≡ self.old.wiring }
         ensures top { self.new.top ≡ self.old.top }
+        ensures nodes { self.new.nodes.items ≡ cached_by (without_pages gfid) self.old.cache self.old.nodes.items }
     {
         let Some(at) = self.cache else {
             return;
@@ -191,6 +199,7 @@ impl Graph {
         ensures promises { map node_promise self.new.nodes.items ≡ map node_promise self.old.nodes.items }
         ensures wiring { self.new.wiring ≡ self.old.wiring }
         ensures top { self.new.top ≡ self.old.top }
+        ensures nodes { self.new.nodes.items ≡ cached_by retired self.old.cache self.old.nodes.items }
     {
         let Some(at) = self.cache else {
             return;
@@ -203,53 +212,5 @@ impl Graph {
         ensures { IsTrue result ↔ (self.now.board.frames ≡ 0) }
     {
         self.board.frames == 0
-    }
-}
-
-// Drops the pages of a file in the node with this number, if it is an io-cache.
-fn drop_pages_at(nodes: &mut Vec<Node>, at: u16, gfid: Gfid)
-    ensures { map node_promise nodes.new.items ≡ map node_promise nodes.old.items }
-{
-    if at as usize >= nodes.len() {
-        return;
-    }
-    clear_file(&mut nodes[at as usize], gfid);
-}
-
-// Drops the pages of a file. It says whether the node is an io-cache.
-#[tactic(auto, using(crate::proofs::Living::cache_promise))]
-fn clear_file(node: &mut Node, gfid: Gfid) -> bool
-    ensures { node_promise node.new ≡ node_promise node.old }
-{
-    match &mut node.kind {
-        Kind::IoCache(cache) => {
-            cache.pages.drop_file(gfid);
-            true
-        }
-        _ => false,
-    }
-}
-
-// Retires the node with this number, if it is an io-cache.
-fn retire_at(nodes: &mut Vec<Node>, at: u16)
-    ensures { map node_promise nodes.new.items ≡ map node_promise nodes.old.items }
-{
-    if at as usize >= nodes.len() {
-        return;
-    }
-    retire_cache(&mut nodes[at as usize]);
-}
-
-// Retires the node. It says whether the node is an io-cache.
-#[tactic(auto, using(crate::proofs::Living::cache_promise))]
-fn retire_cache(node: &mut Node) -> bool
-    ensures { node_promise node.new ≡ node_promise node.old }
-{
-    match &mut node.kind {
-        Kind::IoCache(cache) => {
-            cache.retire();
-            true
-        }
-        _ => false,
     }
 }

@@ -1,9 +1,10 @@
 //! The graphs of a mount by their numbers, with what they share.
-ghost use Rattle.std.specs.Prelude.{ℕ, ◌≡◌, ◌||◌, ◌&&◌, not, true, false, [], None, is_some, IfOk, OnOk, OnErr};
+ghost use Rattle.std.specs.Prelude.{ℕ, ◌≡◌, ◌||◌, ◌&&◌, not, true, false, [], None, is_some, IfSome, IfOk, OnOk, OnErr};
 ghost use Rattle.std.specs.BTreeMap.{is_at};
 ghost use Rattle.std.specs.Ordering.{nat_cmp};
 ghost use Rattle.std.specs.FinMap as map;
 ghost use Rattle.fop_types.specs.Bounds.{IsFop, IsRep};
+ghost use Rattle.graph_nodes.specs.Among.{SeemsToGive, submits, holds, arrives, bails, runs_task};
 ghost use Rattle.graph_nodes.specs.Mounted.{has, KeepsMounted, IsSpentBy};
 ghost use Rattle.graph_nodes.specs.Plans.{IsPlan};
 ghost use Rattle.inode_table.specs.Inodes.{CanLink, inode_at, with_link, with_release};
@@ -106,6 +107,7 @@ impl Graphs {
     ) -> Result<Option<Moved>, Stop>
         requires { IsFop fop }
         ensures ok { OnOk result (KeepsMounted self.old self.new) }
+        ensures gives { IfOk result (λ moved. IfSome moved (λ m. SeemsToGive number (submits call fop) self.old m self.new)) }
         ensures there { IfOk result (λ moved. is_some moved ≡ has self.old.numbers number) }
         ensures err { OnErr result (IsSpentBy self.old self.new) }
     {
@@ -125,6 +127,7 @@ impl Graphs {
     /// As for [`Graphs::submit`].
     pub fn held(&mut self, alloc: Global, number: u32, call: u32) -> Result<Option<Moved>, Stop>
         ensures ok { OnOk result (KeepsMounted self.old self.new) }
+        ensures gives { IfOk result (λ moved. IfSome moved (λ m. SeemsToGive number (holds call) self.old m self.new)) }
         ensures there { IfOk result (λ moved. is_some moved ≡ has self.old.numbers number) }
         ensures err { OnErr result (IsSpentBy self.old self.new) }
     {
@@ -151,6 +154,7 @@ impl Graphs {
     ) -> Result<Option<(Option<Settled>, Moved)>, Stop>
         requires { IsRep true rep }
         ensures ok { OnOk result (KeepsMounted self.old self.new) }
+        ensures gives { IfOk result (λ arrived. IfSome arrived (λ r. SeemsToGive number (arrives wind rep taken r.0) self.old r.1 self.new)) }
         ensures there { IfOk result (λ arrived. is_some arrived ≡ has self.old.numbers number) }
         ensures err { OnErr result (IsSpentBy self.old self.new) }
     {
@@ -183,6 +187,7 @@ impl Graphs {
         brick: u8,
     ) -> Result<Option<(u32, Moved)>, Stop>
         ensures ok { OnOk result (KeepsMounted self.old self.new) }
+        ensures gives { IfOk result (λ bailed. IfSome bailed (λ r. SeemsToGive number (bails brick r.0) self.old r.1 self.new)) }
         ensures there { IfOk result (λ bailed. is_some bailed ≡ has self.old.numbers number) }
         ensures err { OnErr result (IsSpentBy self.old self.new) }
     {
@@ -201,6 +206,7 @@ impl Graphs {
     /// As for [`Graphs::submit`].
     pub fn run_task(&mut self, alloc: Global, number: u32, task: u32) -> Result<Option<Moved>, Stop>
         ensures ok { OnOk result (KeepsMounted self.old self.new) }
+        ensures gives { IfOk result (λ moved. IfSome moved (λ m. SeemsToGive number (runs_task task) self.old m self.new)) }
         ensures absent { has self.old.numbers number ≡ false → IfOk result (λ moved. moved ≡ None) }
         ensures err { OnErr result (IsSpentBy self.old self.new) }
     {

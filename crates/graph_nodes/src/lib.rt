@@ -20,6 +20,7 @@
 
 mod arriving;
 mod bailing;
+mod caches;
 mod calls;
 mod context;
 mod costs;
@@ -28,16 +29,20 @@ mod graph;
 mod graphs;
 mod kinds;
 mod ledgers;
+mod loads;
 mod locals;
 mod mounted;
 mod moved;
 mod names;
 mod nodes;
+mod opening;
 mod outer;
+mod owning;
 mod parked;
 mod planned;
 mod reading;
 mod running;
+mod sending;
 mod tree;
 
 pub use context::{Context, HoldWait};
@@ -45,7 +50,7 @@ pub use graph::Graph;
 pub use graphs::Graphs;
 pub use kinds::{BrickClient, Distribute, IoCache, IoThreads, Kind, Node, Replicate};
 pub use ledgers::MountLedger;
+pub use loads::cost;
 pub use locals::{FopFrame, FopState, JobState, Local, PageRange, PageRead, SetFrame};
 pub use moved::{HoldAsk, Mount, Moved};
 pub use reading::Owner;
-pub use tree::cost;

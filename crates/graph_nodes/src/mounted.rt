@@ -1,10 +1,11 @@
 //! Calls of one graph among those of a mount: what they leave of the others.
-ghost use Rattle.std.specs.Prelude.{ℕ, ◌≡◌, ◌<◌, ◌||◌, ◌&&◌, not, true, false, None, length, is_some, IsSomeAnd, IfOk, OnOk, OnErr};
+ghost use Rattle.std.specs.Prelude.{ℕ, ◌≡◌, ◌<◌, ◌||◌, ◌&&◌, not, true, false, None, length, is_some, IsSomeAnd, IfSome, IfOk, OnOk, OnErr};
 ghost use Rattle.std.specs.BTreeMap.{get, is_at, keys};
 ghost use Rattle.std.specs.Ordering.{nat_cmp};
 ghost use Rattle.fop_types.specs.Bounds.{IsFop, IsRep};
 ghost use Rattle.graph_items.specs.Clients.{last_at};
 ghost use Rattle.graph_nodes.specs.declared.moved.Mount.{Mount};
+ghost use Rattle.graph_nodes.specs.Among.{GivesAt, submits, holds, arrives, bails, runs_task};
 ghost use Rattle.graph_nodes.specs.Live.{AllLive, KeepsMount, StaysLive};
 ghost use Rattle.graph_nodes.specs.Plans.{IsPlan};
 
@@ -79,6 +80,7 @@ pub(crate) fn submit_in(
     requires fop { IsFop fop }
     requires live { AllLive live.old mount.old }
     ensures live { OnOk result (AllLive live.new mount.new) }
+    ensures gives { IfOk result (λ moved. IfSome moved (λ m. GivesAt number (submits call fop) live.old mount.old m live.new mount.new)) }
     ensures there { IfOk result (λ moved. is_some moved ≡ is_some (get nat_cmp live.old number)) }
     ensures numbers { keys live.new ≡ keys live.old }
     ensures inodes { mount.new.inodes ≡ mount.old.inodes }
@@ -108,6 +110,7 @@ pub(crate) fn held_in(
 ) -> Result<Option<Moved>, Stop>
     requires live { AllLive live.old mount.old }
     ensures live { OnOk result (AllLive live.new mount.new) }
+    ensures gives { IfOk result (λ moved. IfSome moved (λ m. GivesAt number (holds call) live.old mount.old m live.new mount.new)) }
     ensures there { IfOk result (λ moved. is_some moved ≡ is_some (get nat_cmp live.old number)) }
     ensures numbers { keys live.new ≡ keys live.old }
     ensures inodes { mount.new.inodes ≡ mount.old.inodes }
@@ -137,6 +140,7 @@ pub(crate) fn arrive_in(
     requires encoded { IsRep true rep }
     requires live { AllLive live.old mount.old }
     ensures live { OnOk result (AllLive live.new mount.new) }
+    ensures gives { IfOk result (λ arrived. IfSome arrived (λ r. GivesAt number (arrives wind rep taken r.0) live.old mount.old r.1 live.new mount.new)) }
     ensures there { IfOk result (λ arrived. is_some arrived ≡ is_some (get nat_cmp live.old number)) }
     ensures numbers { keys live.new ≡ keys live.old }
     ensures inodes { mount.new.inodes ≡ mount.old.inodes }
@@ -166,6 +170,7 @@ pub(crate) fn bail_in(
 ) -> Result<Option<(u32, Moved)>, Stop>
     requires live { AllLive live.old mount.old }
     ensures live { OnOk result (AllLive live.new mount.new) }
+    ensures gives { IfOk result (λ bailed. IfSome bailed (λ r. GivesAt number (bails brick r.0) live.old mount.old r.1 live.new mount.new)) }
     ensures there { IfOk result (λ bailed. is_some bailed ≡ is_some (get nat_cmp live.old number)) }
     ensures numbers { keys live.new ≡ keys live.old }
     ensures inodes { mount.new.inodes ≡ mount.old.inodes }
@@ -192,6 +197,7 @@ pub(crate) fn run_task_in(
 ) -> Result<Option<Moved>, Stop>
     requires live { AllLive live.old mount.old }
     ensures live { OnOk result (AllLive live.new mount.new) }
+    ensures gives { IfOk result (λ moved. IfSome moved (λ m. GivesAt number (runs_task task) live.old mount.old m live.new mount.new)) }
     ensures absent { is_some (get nat_cmp live.old number) ≡ false → IfOk result (λ moved. moved ≡ None) }
     ensures numbers { keys live.new ≡ keys live.old }
     ensures inodes { mount.new.inodes ≡ mount.old.inodes }

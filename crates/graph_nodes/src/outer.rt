@@ -1,9 +1,12 @@
 //! The winds that a run has handed out of the graph and that are open at their bricks.
-ghost use Rattle.std.specs.Prelude.{◌<◌, length, IfSome};
+ghost use Rattle.std.specs.Prelude.{◌≡◌, ◌<◌, ◌∷◌, [], length, OnOk, IfSome, MatchOption};
+ghost use Rattle.std.specs.BTreeMap.{values};
+ghost use Rattle.graph_nodes.specs.OpenWinds.{no_winds, opened_with, waiting_at, without_wind, emptied};
 
 use fop_types::Gfid;
 use std::alloc::{AllocError, Global};
 use std::collections::BTreeMap;
+use std::marker::Model;
 use std::mem;
 use xlator_law::WindNo;
 
@@ -17,7 +20,8 @@ pub(crate) struct Waiting {
 }
 
 /// The winds that are open at a brick, in the order in which they were opened, and the place of each in that order by
-/// its number. The numbers themselves don't rise with time: a wind may take a slot that was used before.
+/// its number. The numbers themselves don't rise with time: a wind may take a slot that was used before. Contracts see the
+/// entries of both.
 #[derive(Drop)]
 pub(crate) struct AtBrick {
     opened: u64,
@@ -25,9 +29,19 @@ pub(crate) struct AtBrick {
     places: BTreeMap<u64, u64>,
 }
 
+impl Model for AtBrick {
+    ghost use Rattle.graph_nodes.specs.OpenWinds.{WindsState};
+
+    ghost Value = { WindsState };
+
+    ghost view = { λ a. record { opened = a.opened; winds = a.winds.entries; places = a.places.entries } };
+}
+
 impl AtBrick {
     /// No winds, which takes no memory.
-    pub fn new(alloc: Global) -> AtBrick {
+    pub fn new(alloc: Global) -> AtBrick
+        ensures { result ≡ no_winds }
+    {
         AtBrick {
             opened: 0,
             winds: BTreeMap::new(alloc),
@@ -39,7 +53,9 @@ impl AtBrick {
     ///
     /// # Errors
     /// Out of memory. It would come too after 18,446,744,073,709,551,615 winds.
-    pub fn open(&mut self, waiting: Waiting) -> Result<(), AllocError> {
+    pub fn open(&mut self, waiting: Waiting) -> Result<(), AllocError>
+        ensures { OnOk result (self.new ≡ opened_with self.old waiting) }
+    {
         let Some(opened) = self.opened.checked_add(1) else {
             return Err(AllocError);
         };
@@ -50,20 +66,32 @@ impl AtBrick {
     }
 
     /// A wind that is open.
-    pub fn get(&self, wind: WindNo) -> Option<Waiting> {
-        let place = self.places.get(&wind.number())?;
-        self.winds.get(place).copied()
+    pub fn get(&self, wind: WindNo) -> Option<Waiting>
+        ensures { result ≡ waiting_at self.now wind }
+    {
+        match self.places.get(&wind.number()) {
+            Some(place) => self.winds.get(place).copied(),
+            None => None,
+        }
     }
 
     /// A wind is open no more.
-    pub fn close(&mut self, wind: WindNo) {
-        if let Some(place) = self.places.remove(&wind.number()) {
-            self.winds.remove(&place);
+    pub fn close(&mut self, wind: WindNo)
+        ensures { self.new ≡ without_wind self.old wind }
+    {
+        match self.places.remove(&wind.number()) {
+            Some(place) => {
+                self.winds.remove(&place);
+            }
+            None => {}
         }
     }
 
     /// Takes all winds, in the order in which they were opened.
-    pub fn take_all(&mut self, alloc: Global) -> BTreeMap<u64, Waiting> {
+    pub fn take_all(&mut self, alloc: Global) -> BTreeMap<u64, Waiting>
+        ensures winds { result.entries ≡ self.old.winds }
+        ensures rest { self.new ≡ emptied self.old }
+    {
         self.places = BTreeMap::new(alloc);
         mem::replace(&mut self.winds, BTreeMap::new(alloc))
     }
@@ -71,7 +99,8 @@ impl AtBrick {
 
 /// Takes the wind that was opened first.
 pub(crate) fn take_first(winds: &mut BTreeMap<u64, Waiting>) -> Option<Waiting>
-    ensures { IfSome result (λ _. length winds.new.entries < length winds.old.entries) }
+    ensures first { MatchOption result (values winds.old ≡ []) (λ first. values winds.old ≡ first ∷ values winds.new) }
+    ensures less { IfSome result (λ _. length winds.new.entries < length winds.old.entries) }
 {
     match winds.pop_first() {
         Some((_, first)) => Some(first),

@@ -1,5 +1,5 @@
 //! What is asked of the graphs of a mount without changing them.
-ghost use Rattle.std.specs.Prelude.{◌≡◌};
+ghost use Rattle.std.specs.Prelude.{◌≡◌, false, None};
 ghost use Rattle.graph_nodes.specs.Mounted.{has};
 
 use crate::graphs::Graphs;
@@ -21,8 +21,10 @@ impl Graphs {
         self.live.contains_key(&number)
     }
 
-    /// Whether no frame of a graph is open. There is one of this number.
-    pub fn is_drained(&self, number: u32) -> bool {
+    /// Whether no frame of a graph is open. It is false where there is no such graph.
+    pub fn is_drained(&self, number: u32) -> bool
+        ensures { has self.now.numbers number ≡ false → result ≡ false }
+    {
         match self.live.get(&number) {
             Some(graph) => graph.is_drained(),
             None => false,
@@ -30,12 +32,19 @@ impl Graphs {
     }
 
     /// The number of a graph's open connection to a brick.
-    pub fn connection(&self, number: u32, brick: u8) -> Option<u32> {
-        self.live.get(&number)?.connection(brick)
+    pub fn connection(&self, number: u32, brick: u8) -> Option<u32>
+        ensures { has self.now.numbers number ≡ false → result ≡ None }
+    {
+        match self.live.get(&number) {
+            Some(graph) => graph.connection(brick),
+            None => None,
+        }
     }
 
     /// How many tasks of a graph are ready.
-    pub fn ready_len(&self, number: u32) -> u32 {
+    pub fn ready_len(&self, number: u32) -> u32
+        ensures { has self.now.numbers number ≡ false → result ≡ 0 }
+    {
         match self.live.get(&number) {
             Some(graph) => graph.ready_len(),
             None => 0,
@@ -43,12 +52,19 @@ impl Graphs {
     }
 
     /// The ready task of a graph with so many lower ones.
-    pub fn ready_at(&self, number: u32, at: u32) -> Option<u32> {
-        self.live.get(&number)?.ready_at(at)
+    pub fn ready_at(&self, number: u32, at: u32) -> Option<u32>
+        ensures { has self.now.numbers number ≡ false → result ≡ None }
+    {
+        match self.live.get(&number) {
+            Some(graph) => graph.ready_at(at),
+            None => None,
+        }
     }
 
     /// Whether a task of a graph is ready.
-    pub fn is_ready(&self, number: u32, task: u32) -> bool {
+    pub fn is_ready(&self, number: u32, task: u32) -> bool
+        ensures { has self.now.numbers number ≡ false → result ≡ false }
+    {
         match self.live.get(&number) {
             Some(graph) => graph.is_ready(task),
             None => false,

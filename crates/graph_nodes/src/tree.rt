@@ -4,13 +4,13 @@ ghost use Rattle.frame_driver.specs.Follows.{Fits};
 ghost use Rattle.graph_nodes.specs.Plans.{IsPlan};
 ghost use Rattle.graph_nodes.specs.Promises.{node_promise};
 
-use crate::costs::{Shape, breadth_of, fop_units, shape_of, weight_of};
+use crate::costs::shape_of;
 use crate::fits::fits;
 use crate::kinds::{Kind, Node};
+use crate::loads::{Load, below, load_of, sets_in};
 use crate::planned::kind_of;
-use fop_types::{Fop, SetPlan};
 use frame_driver::{Child, Wiring};
-use graph_build::{NodeKind, NodePlan, Plan};
+use graph_build::{NodePlan, Plan};
 use std::alloc::{AllocError, Global};
 
 /// The nodes of a graph, and which is below which. The last node is the root.
@@ -20,106 +20,12 @@ pub struct Tree {
     pub wiring: Wiring,
 }
 
-// What one unit costs at a node, and the most winds that a frame of it and all below it have open at once.
-#[derive(Clone, Copy)]
-struct Load {
-    weight: u32,
-    breadth: u32,
-}
-
-// The greatest of the loads of a node's children.
-fn below(loads: &[Load], children: &[u16]) -> Load {
-    let mut most = Load {
-        weight: 0,
-        breadth: 0,
-    };
-    for child in children {
-        if let Some(load) = loads.get(*child as usize) {
-            most.weight = most.weight.max(load.weight);
-            most.breadth = most.breadth.max(load.breadth);
-        }
-    }
-    most
-}
-
-/// A number that does not fit is the greatest one.
-pub(crate) fn at_most_u32(n: u64) -> u32 {
-    if n > u32::MAX as u64 {
-        u32::MAX
-    } else {
-        n as u32
-    }
-}
-
 fn at_most_u16(n: usize) -> u16 {
     if n > u16::MAX as usize {
         u16::MAX
     } else {
         n as u16
     }
-}
-
-// The load of a node over children with this one.
-fn load_of(shape: Shape, sets: u8, under: Load) -> Load {
-    Load {
-        weight: at_most_u32(weight_of(shape, sets, under.weight)),
-        breadth: at_most_u32(breadth_of(shape, under.breadth)),
-    }
-}
-
-// How many replicas a set has, which are at most five.
-fn replicas_of(set: &SetPlan) -> u8 {
-    let count = set.bricks.len();
-    if count > 5 { 5 } else { count as u8 }
-}
-
-fn planned_shape(plan: &Plan, kind: NodeKind) -> Shape {
-    match kind {
-        NodeKind::Client(_) => Shape::Client,
-        NodeKind::Replicate(number) => match plan.sets.as_slice().get(number as usize) {
-            Some(set) => Shape::Set(replicas_of(set)),
-            None => Shape::Relay,
-        },
-        NodeKind::Distribute => Shape::Distribute,
-        NodeKind::IoCache => Shape::Cache,
-        NodeKind::IoThreads => Shape::Queue,
-        NodeKind::Pass => Shape::Relay,
-    }
-}
-
-/// The most winds that a fop causes in a graph of this plan, which is one that `build` gives.
-pub fn cost(plan: &Plan, fop: &Fop) -> u64
-    requires { IsPlan plan.now }
-{
-    let sets = sets_in(plan);
-    fop_units(fop, sets) * (1 + top_weight(plan, sets) as u64)
-}
-
-// How many sets a plan has.
-fn sets_in(plan: &Plan) -> u8
-    requires { IsPlan plan.now }
-    ensures { result ≡ length plan.now.sets }
-{
-    plan.sets.len() as u8
-}
-
-// What one unit costs at the top of a plan, which takes no memory: a plan has fewer than 1,024 nodes.
-fn top_weight(plan: &Plan, sets: u8) -> u32 {
-    let none = Load {
-        weight: 0,
-        breadth: 0,
-    };
-    let mut loads = [none; 1024];
-    let mut top = none;
-    let nodes = plan.nodes.as_slice();
-    for at in 0..nodes.len() {
-        let under = below(&loads, nodes[at].children.as_slice());
-        top = load_of(planned_shape(plan, nodes[at].kind), sets, under);
-        if let Some(load) = loads.get_mut(at) {
-            *load = top;
-        }
-    }
-    top.weight
 }
 
 // The greatest number of children that a node has, and at least 1: the root and each client have one.

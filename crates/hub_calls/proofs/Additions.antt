@@ -18,7 +18,7 @@ adds_event old new none lines e empty one added = record {
 }
 
 pub adds_no_event : (old new lines : Log) → lines.events ≡ [] → new ≡ with_lines old lines → new.events ≡ old.events
-adds_no_event old new lines none added = ap (λ (l : Log). l.events) added ∙ ap (λ (es : List HubEvent). old.events ++ es) none ∙ sym (append-nil old.events)
+adds_no_event old new lines none added = ap (λ (l : Log). l.events) added ∙ ap (λ (es : List HubEvent). old.events ++ es) none ∙ append-nil old.events
 
 -- the events are those before, and this one
 pub one_event_more : (old new : Log) (e : HubEvent) → AddsEvent old new e → new.events ≡ old.events ++ e ∷ []
@@ -30,7 +30,7 @@ pub has_cut : (old new lines : Log) → new ≡ with_cut old lines → HasCut ol
 has_cut old new lines cut = record { lines = lines; cut = cut }
 
 pub nothing_cut : (old new : Log) → new ≡ old → HasCut old new
-nothing_cut old new same = has_cut old new empty_log (same ∙ ap (λ (winds : List WindLine). record old { winds = winds }) (append-nil old.winds))
+nothing_cut old new same = has_cut old new empty_log (same ∙ ap (λ (winds : List WindLine). record old { winds = winds }) (sym (append-nil old.winds)))
 
 pub after_same : (s : Stop) (log : Log) → IsAfterStop s log log
 after_same stopped.Mem log = refl

@@ -86,15 +86,13 @@ get_first zero xs = refl
 get_first (suc n) [] = refl
 get_first (suc n) (x ∷ xs) = get_first n xs
 
-pub left_submitted : (script : Script) (old new : Log) (left after : List (List LineAt)) (stop : Option Stop) (session line : ℕ) (at : LineAt) → MatchOption stop (AreLeft script old.events left) (λ _. Unit {0}) → stop ≡ None
-    → TakesLine left session at after → AddsEvent old new (logged.Submit session line) → AreLeft script new.events after
-left_submitted script old new left after stop session line at are goes takes adds = λ s. by s (cases_eq session s)
+-- one line fewer is left of the session that submits it
+left_after : (script : Script) (old new : Log) (left after : List (List LineAt)) (session line : ℕ) (at : LineAt) → AreLeft script old.events left → TakesLine left session at after
+    → AddsEvent old new (logged.Submit session line) → AreLeft script new.events after
+left_after script old new left after session line at now takes adds = λ s. by s (cases_eq session s)
   where
     e : HubEvent
     e = logged.Submit session line
-
-    now : AreLeft script old.events left
-    now = left_now script old.events left stop are goes
 
     more : (s : ℕ) → queue_of after s ≡ drop (submits_of s (old.events ++ e ∷ [])) (places_from s 0 script.phases) → queue_of after s ≡ drop (submits_of s new.events) (places_from s 0 script.phases)
     more s is = is ∙ ap (λ (events : List HubEvent). drop (submits_of s events) (places_from s 0 script.phases)) (sym (one_event_more old new e adds))
@@ -108,6 +106,12 @@ left_submitted script old new left after stop session line at are goes takes add
     by s (inr apart) =
         let none : is_submit_of s e ≡ 0 = ap (λ (b : Bool). if b then 1 else 0) (ne_eqb session s apart) in
         more s (takes.others s (λ is. apart (sym is)) ∙ same_left script old.events left e s (now s) none)
+
+pub left_submitted : (on after : PlannedScript) (old new : Log) (stop : Option Stop) (session number : ℕ) (at : LineAt) → MatchOption stop (AreLeft on.script old.events on.left) (λ _. Unit {0}) → stop ≡ None
+    → IsNext on session at number → ((a : LineAt) → first_line on.left session ≡ Some a → TakesLine on.left session a after.left) → after.script ≡ on.script → AddsEvent old new (logged.Submit session number)
+    → AreLeft after.script new.events after.left
+left_submitted on after old new stop session number at are goes is takes same adds =
+    rw same (left_after on.script old new on.left after.left session number at (left_now on.script old.events on.left stop are goes) (takes at is.first) adds)
 
 pub adds_submission : (script : Script) (old new : Log) (on : PlannedScript) (stop : Option Stop) (session number : ℕ) (at : LineAt) → MatchOption stop (AreLeft on.script old.events on.left) (λ _. Unit {0}) → stop ≡ None
     → on.script ≡ script → IsNext on session at number → AddsEvent old new (logged.Submit session number) → AddsSubmission script old new session

@@ -1,20 +1,25 @@
+ghost use Rattle.std.specs.Prelude.{◌≡◌};
 ghost use Rattle.mount_log.specs.Scripts.{IsScript};
 
 use crate::links::Links;
+use crate::mounting::Mounting;
 use brick_link::HubEnd;
 use fop_types::Seq;
 use graph_build::Plan;
 use hub_calls::{Due, Hub, Log, Turned};
 use script_lang::Script;
 use std::alloc::{AllocError, Global};
+use std::marker::PhantomData;
 use xlator_law::Stop;
 
-/// What the workers share under a lock: the hub, and its ends of the links.
+/// What the workers share under a lock: the hub, which runs the script of the mount, and its ends of the links.
 #[derive(Drop)]
-pub struct Desk {
+pub struct Desk<M: Mounting> {
     hub: Hub,
     links: Links,
     stop: Option<Stop>,
+    of: PhantomData<M>,
+    ghost runs: { (hub.script ≡ M.script) × (hub.plans ≡ M.plans) },
 }
 
 /// What a run leaves beside its bricks: the script, the plans of its volfiles, the log, and why the hub stopped, if it did.
@@ -26,7 +31,7 @@ pub struct Ended {
     pub stop: Option<Stop>,
 }
 
-impl Desk {
+impl<M: Mounting> Desk<M> {
     /// The hub of a script, with its ends of the links. What it sends at the start is in them.
     ///
     /// # Errors
@@ -36,8 +41,9 @@ impl Desk {
         script: Script,
         plans: Seq<Plan>,
         ends: Vec<HubEnd>,
-    ) -> Result<Desk, AllocError>
-        requires { IsScript script plans }
+    ) -> Result<Desk<M>, AllocError>
+        requires script { IsScript script plans }
+        requires picked { (script ≡ M.script) × (plans ≡ M.plans) }
     {
         let mut links = Links::new(alloc, ends);
         match Hub::new(alloc, script, plans) {
@@ -47,6 +53,7 @@ impl Desk {
                     hub,
                     links,
                     stop: None,
+                    of: PhantomData,
                 };
                 match sent {
                     Ok(()) => Ok(desk),
@@ -117,8 +124,15 @@ impl Desk {
     }
 
     /// What the run leaves.
-    pub fn into_ended(self) -> Ended {
-        let Desk { hub, links, stop } = self;
+    pub fn into_ended(self) -> Ended
+        ensures { (result.script ≡ M.script) × (result.plans ≡ M.plans) }
+    {
+        let Desk {
+            hub,
+            links,
+            stop,
+            ..
+        } = self;
         drop(links);
         let (script, plans, log) = hub.into_log();
         Ended {

@@ -20,6 +20,7 @@ mod gate;
 mod idle;
 mod links;
 mod mounted;
+mod mounting;
 mod places;
 mod side;
 

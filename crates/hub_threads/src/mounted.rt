@@ -1,8 +1,10 @@
+ghost use Rattle.std.specs.Prelude.{◌≡◌, IfOk, IsErrOf};
 ghost use Rattle.mount_log.specs.Scripts.{IsScript};
 
 use crate::desk::{Desk, Ended};
 use crate::gate::Gate;
 use crate::idle::Idle;
+use crate::mounting::Mounting;
 use crate::places::{Places, Post, bricks_of, places_of};
 use crate::side::BrickSide;
 use fop_types::Seq;
@@ -10,6 +12,7 @@ use graph_build::Plan;
 use hub_calls::Rack;
 use script_lang::Script;
 use std::alloc::Global;
+use std::marker::Brand;
 use std::sync::atomic::{AtomicBool, Ordering};
 use std::sync::{Mutex, Wait};
 use std::thread::Threads;
@@ -18,7 +21,12 @@ use std::{mem, thread};
 use xlator_law::Stop;
 
 // Takes the hub's turns until the log is finished, or somebody stopped.
-fn work<R: Wait + Clock>(rt: &R, alloc: Global, desk: &Mutex<Desk>, ended: &AtomicBool) {
+fn work<M: Mounting, R: Wait + Clock>(
+    rt: &R,
+    alloc: Global,
+    desk: &Mutex<Desk<M>>,
+    ended: &AtomicBool,
+) {
     let mut idle = Idle::new();
     for _ in rt.forever() {
         if ended.load(Ordering::SeqCst) {
@@ -38,7 +46,7 @@ fn work<R: Wait + Clock>(rt: &R, alloc: Global, desk: &Mutex<Desk>, ended: &Atom
 }
 
 // One turn under the lock: whether something was done, and whether no turn is left.
-fn take_turn<R: Wait>(rt: &R, alloc: Global, desk: &Mutex<Desk>) -> (bool, bool) {
+fn take_turn<M: Mounting, R: Wait>(rt: &R, alloc: Global, desk: &Mutex<Desk<M>>) -> (bool, bool) {
     let mut desk = desk.lock(rt);
     let did = desk.turn(alloc);
     (did, desk.has_ended())
@@ -69,10 +77,10 @@ fn own<R: Wait + Clock, G: Gate>(
 }
 
 // Goes on in one thread until the log is finished or somebody stops. It is false where a brick ran out of memory.
-fn go_on_alone<R: Wait, G: Gate>(
+fn go_on_alone<M: Mounting, R: Wait, G: Gate>(
     rt: &R,
     alloc: Global,
-    desk: &mut Desk,
+    desk: &mut Desk<M>,
     posts: &mut [Post],
     gate: &G,
 ) -> bool {
@@ -100,11 +108,11 @@ pub struct Ran {
 }
 
 // A thread does what its post is.
-fn take_post<R: Wait + Clock, G: Gate>(
+fn take_post<M: Mounting, R: Wait + Clock, G: Gate>(
     rt: &R,
     alloc: Global,
     post: &mut Post,
-    desk: &Mutex<Desk>,
+    desk: &Mutex<Desk<M>>,
     gate: &G,
     ended: &AtomicBool,
 ) {
@@ -115,13 +123,13 @@ fn take_post<R: Wait + Clock, G: Gate>(
 }
 
 // Each post has a thread, until the log is finished or somebody stopped.
-fn run_threads<R: Threads + Wait + Clock + Sync, G: Gate + Sync>(
+fn run_threads<M: Mounting + Send + Sync, R: Threads + Wait + Clock + Sync, G: Gate + Sync>(
     rt: &R,
     alloc: Global,
-    desk: Desk,
+    desk: Desk<M>,
     posts: &mut [Post],
     gate: &G,
-) -> Desk {
+) -> Desk<M> {
     let desk = Mutex::new(desk);
     let ended = AtomicBool::new(false);
     let count = posts.len().max(1);
@@ -142,14 +150,39 @@ fn came_to_end(stop: Option<Stop>, whole: bool) -> Result<(), Stop> {
     }
 }
 
-// What a run has left goes into the rack.
+// What a run has left goes into the rack, but for one that ran out of memory.
+fn put_left(end: Result<(), Stop>, ran: Ran, left: Rack, rack: &mut Rack) -> Result<Ran, Stop>
+    ensures kept { IfOk result (λ r. r ≡ ran) }
+    ensures memory { IsErrOf result Stop.Mem → rack.new ≡ rack.old }
+{
+    match end {
+        Ok(()) => {
+            drop(mem::replace(rack, left));
+            Ok(ran)
+        }
+        Err(Stop::Winds) => {
+            drop(mem::replace(rack, left));
+            drop(ran);
+            Err(Stop::Winds)
+        }
+        Err(Stop::Mem) => {
+            drop(left);
+            drop(ran);
+            Err(Stop::Mem)
+        }
+    }
+}
+
 fn leave(
     alloc: Global,
     ended: Ended,
     posts: Vec<Post>,
     whole: bool,
     rack: &mut Rack,
-) -> Result<Ran, Stop> {
+) -> Result<Ran, Stop>
+    ensures kept { IfOk result (λ ran. (ran.script ≡ ended.script) × (ran.plans ≡ ended.plans)) }
+    ensures memory { IsErrOf result Stop.Mem → rack.new ≡ rack.old }
+{
     let Ended {
         script,
         plans,
@@ -158,10 +191,7 @@ fn leave(
     } = ended;
     let ran = Ran { script, plans };
     match bricks_of(alloc, posts) {
-        Ok(bricks) => {
-            drop(mem::replace(rack, Rack { bricks, log }));
-            came_to_end(stop, whole).and(Ok(ran))
-        }
+        Ok(bricks) => put_left(came_to_end(stop, whole), ran, Rack { bricks, log }, rack),
         Err(_) => {
             drop(log);
             drop(ran);
@@ -170,13 +200,8 @@ fn leave(
     }
 }
 
-/// Runs a script, which is one that `script_lang::parse` gives, with the plans of its volfiles, by one thread for each
-/// brick and so many that take the hub's turns, at least one. The rack, which is empty, has the bricks and the log
-/// afterwards.
-///
-/// # Errors
-/// `Winds` where a further wind was needed and 4,294,967,295 were opened, and the rack is filled; else out of memory.
-pub fn mount<R: Threads + Wait + Clock + Sync, G: Gate + Sync>(
+// The mount of the script that was picked.
+fn mount_picked<M: Mounting + Send + Sync, R: Threads + Wait + Clock + Sync, G: Gate + Sync>(
     rt: &R,
     alloc: Global,
     script: Script,
@@ -185,12 +210,15 @@ pub fn mount<R: Threads + Wait + Clock + Sync, G: Gate + Sync>(
     gate: &G,
     rack: &mut Rack,
 ) -> Result<Ran, Stop>
-    requires { IsScript script plans }
+    requires script { IsScript script plans }
+    requires picked { (script ≡ M.script) × (plans ≡ M.plans) }
+    ensures kept { IfOk result (λ ran. (ran.script ≡ M.script) × (ran.plans ≡ M.plans)) }
+    ensures memory { IsErrOf result Stop.Mem → rack.new ≡ rack.old }
 {
     match places_of(alloc, &script, plans.as_slice(), workers) {
         Ok(Places { ends, posts }) => {
             let mut posts = posts;
-            match Desk::new(alloc, script, plans, ends) {
+            match Desk::<M>::new(alloc, script, plans, ends) {
                 Ok(desk) => {
                     let mut desk = run_threads(rt, alloc, desk, posts.as_mut_slice(), gate);
                     let whole = go_on_alone(rt, alloc, &mut desk, posts.as_mut_slice(), gate);
@@ -208,4 +236,27 @@ pub fn mount<R: Threads + Wait + Clock + Sync, G: Gate + Sync>(
             Err(Stop::Mem)
         }
     }
+}
+
+/// Runs a script, which is one that `script_lang::parse` gives, with the plans of its volfiles, by one thread for each
+/// brick and so many that take the hub's turns, at least one. The rack, which is empty, has the bricks and the log
+/// afterwards, and the script is given back with its plans.
+///
+/// # Errors
+/// `Winds` where a further wind was needed and 4,294,967,295 were opened, and the rack is filled; else out of memory, and
+/// the rack is as it was.
+pub fn mount<R: Threads + Wait + Clock + Sync, G: Gate + Sync>(
+    rt: &R,
+    alloc: Global,
+    script: Script,
+    plans: Seq<Plan>,
+    workers: u8,
+    gate: &G,
+    rack: &mut Rack,
+) -> Result<Ran, Stop>
+    requires { IsScript script plans }
+    ensures kept { IfOk result (λ ran. (ran.script ≡ script) × (ran.plans ≡ plans)) }
+    ensures memory { IsErrOf result Stop.Mem → rack.new ≡ rack.old }
+{
+    mount_picked::<Brand, R, G>(rt, alloc, script, plans, workers, gate, rack)
 }

@@ -1,6 +1,8 @@
 pub mod Absent
+pub mod Apart
 pub mod ErrorReplies
 pub mod Fetching
+pub mod Later
 pub mod Leading
 pub mod Listing
 pub mod NameReplies

@@ -1,5 +1,5 @@
 -- Sets that have no copy of a cell.
-use Rattle.std.proofs.Common.{◌≡◌, subst, sym, ap}
+use Rattle.std.proofs.Common.{◌≡◌, subst, sym}
 use Rattle.std.specs.Prelude.{ℕ, ◌<◌, ◌-◌, List, [], ◌∷◌, ◌++◌, Some, Contains, slice_get}
 use Rattle.std.specs.List.{AllByRecursion}
 use Rattle.fop_types.specs.declared.cells.Cell.{Cell}
@@ -12,6 +12,7 @@ use Rattle.brick_machine.specs.Journal.{Journal}
 use Rattle.mount_log.specs.Causes.{set_of_plan, plan_of_volfile}
 use Rattle.mount_log.specs.Connections.{graph_of_call}
 use Rattle.mount_log.specs.declared.logs.Log.{Log}
+use Rattle.change_audit.proofs.Items.{all_push}
 use Rattle.change_audit.specs.Answered.{IsQuorum}
 use Rattle.change_audit.specs.CallGraphs.{AreGraphsOf}
 use Rattle.change_audit.specs.declared.call_graphs.CallGraphs.{CallGraphs}
@@ -37,10 +38,6 @@ without_is log bricks plan call graph cell number brick event rows in_time membe
 }
 
 -- ---- a quorum
-
-pub all_push : {X : Type 0} (P : X → Type 0) (xs : List X) (x : X) → AllByRecursion P xs → P x → AllByRecursion P (xs ++ x ∷ [])
-all_push P [] x all p = (p, tt)
-all_push P (y ∷ xs) x all p = (all.0, all_push P xs x all.1 p)
 
 pub without_next : (log : Log) (bricks : List Journal) (plan : SetPlan) (call graph : ℕ) (cell : Cell) (number brick : ℕ) (list more : List ℕ) → more ≡ list ++ brick ∷ [] → IsWithout log bricks plan call graph cell number brick
     → AllByRecursion (IsWithout log bricks plan call graph cell number) list → AllByRecursion (IsWithout log bricks plan call graph cell number) more

@@ -10,7 +10,7 @@ use Rattle.script_lang.specs.declared.scripts.Script.{Script}
 use Rattle.brick_machine.specs.Journal.{Journal}
 use Rattle.mount_log.proofs.Items.{some_is}
 use Rattle.mount_log.specs.declared.logs.Log.{Log}
-use Rattle.read_audit.proofs.NoCopies.{all_push}
+use Rattle.change_audit.proofs.Items.{all_push}
 use Rattle.read_audit.specs.Erring.{IsReached}
 use Rattle.read_audit.specs.Errors.{LeadsUpTo}
 use Rattle.read_audit.specs.Names.{IsStep, LeadsTo}

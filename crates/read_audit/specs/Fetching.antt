@@ -1,5 +1,6 @@
 -- What is found of one content: the fetch that a brick has answered by it, and the bricks that had granted locks before.
-use Rattle.std.specs.Prelude.{◌≡◌, ℕ, Bool, List, Some, Contains, slice_get}
+use Rattle.std.specs.Prelude.{◌≡◌, ℕ, Bool, List, Some, slice_get}
+use Rattle.fop_types.specs.declared.answers.SplitRow.{SplitRow}
 use Rattle.fop_types.specs.declared.cells.Cell.{Cell}
 use Rattle.fop_types.specs.declared.contents.Content.{Content as Held}
 use Rattle.fop_types.specs.declared.contents.Row.{Row}
@@ -10,9 +11,9 @@ use Rattle.fop_types.specs.declared.messages.Input.TheVariants.{Request}
 use Rattle.wire_xdr.specs.WireText.{input_text}
 use Rattle.brick_machine.specs.Journal.{Journal}
 use Rattle.mount_log.specs.declared.logs.Log.{Log}
-use Rattle.change_audit.specs.Answered.{IsDoneIn, IsWindFor, IsQuorum}
+use Rattle.change_audit.specs.Answered.{IsDoneIn, IsWindFor}
 use Rattle.change_audit.specs.Copying.{IsSentAs}
-use Rattle.read_audit.specs.Read.{IsGrantedIn, IsHolder}
+use Rattle.read_audit.specs.Read.{IsGrantedIn, IsHolder, IsGroup}
 
 -- ---- fetches
 
@@ -49,10 +50,10 @@ pub record IsGrantIn (log : Log) (bricks : List Journal) (call graph : ℕ) (cel
   pub granted : IsGrantedIn log bricks brick wind graph event (Lock call shared cells) rows
 
 -- a quorum of the set's bricks, the source among them, had granted a call locks of the same cells before the event at a place, of
--- which the cell is one
+-- which the cell is one, and by the rows that they showed of it the source is sound
 pub record HasHolders (log : Log) (bricks : List Journal) (plan : SetPlan) (call graph : ℕ) (cell : Cell) (until source : ℕ) : Type 0 where
   pub cells : List Cell
-  pub has : Contains cells cell
-  pub holders : List ℕ
-  pub quorum : IsQuorum plan holders (IsHolder log bricks plan call graph cells until)
-  pub among : Contains holders source
+  pub place : ℕ
+  pub has : slice_get cells place ≡ Some cell
+  pub rows : List SplitRow
+  pub group : IsGroup plan rows source (IsHolder log bricks plan call graph cells place until)

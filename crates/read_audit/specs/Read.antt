@@ -1,13 +1,16 @@
 -- Answers were read from bricks: where a stat, a getattr, or a read without an io-cache was answered well, a brick had answered a
 -- fetch of the call, by the event of the reply, by the content that the answer shows; and before that a quorum of the brick's set,
--- the brick among them, had granted the call locks of the same cells, of which the cell that was fetched is one.
-use Rattle.std.specs.Prelude.{◌≡◌, ℕ, ◌-◌, ◌<◌, ◌||◌, Bool, true, false, List, [], ◌∷◌, Option, None, Some, Contains, length, slice_get}
+-- the brick among them, had granted the call locks of the same cells, of which the cell that was fetched is one, and by the rows that
+-- they showed of it the brick was sound.
+use Rattle.std.specs.Prelude.{◌≡◌, ℕ, ◌-◌, ◌<◌, ◌≤◌, ◌==◌, ◌||◌, Bool, true, false, List, [], ◌∷◌, Option, None, Some, Contains, length, map, slice_get}
+use Rattle.std.specs.List.{AllByRecursion, IsDistinct}
 use Rattle.fop_types.specs.Calls.{Submission, call_numbered}
 use Rattle.fop_types.specs.Cells.{data_cell, meta_cell}
 use Rattle.fop_types.specs.FileBytes.{read_from}
 use Rattle.fop_types.specs.Names.{attr_named}
 use Rattle.fop_types.specs.declared.answers.Answer.{Answer}
 use Rattle.fop_types.specs.declared.answers.Answer.TheVariants as answer
+use Rattle.fop_types.specs.declared.answers.SplitRow.{SplitRow}
 use Rattle.fop_types.specs.declared.calls.Call.{Call}
 use Rattle.fop_types.specs.declared.calls.Call.TheVariants as call
 use Rattle.fop_types.specs.declared.cells.Cell.{Cell}
@@ -40,7 +43,8 @@ use Rattle.mount_log.specs.Submissions.{submissions_of}
 use Rattle.mount_log.specs.declared.logs.HubEvent.TheVariants.{Arrive}
 use Rattle.mount_log.specs.declared.logs.Log.{Log}
 use Rattle.mount_log.specs.declared.logs.ReplyLine.{ReplyLine}
-use Rattle.change_audit.specs.Answered.{IsDoneIn, IsWindFor, IsQuorum}
+use Rattle.change_audit.specs.Answered.{IsDoneIn, IsWindFor}
+use Rattle.change_audit.specs.Copied.{IsSoundBy}
 
 -- ---- a content that was fetched after locks had been granted
 
@@ -55,15 +59,29 @@ pub record IsGrantedIn (log : Log) (bricks : List Journal) (brick wind graph eve
   pub behind : place < taken
   pub arrived : slice_get log.events event ≡ Some (Arrive brick (output_text (record { taken = taken; kind = Reply wind (Done (Rows rows)) })))
 
--- a brick of the set granted the call a lock of these cells, by what had arrived before the event at a place, from 0
-pub record IsHolder (log : Log) (bricks : List Journal) (plan : SetPlan) (call graph : ℕ) (cells : List Cell) (until brick : ℕ) : Type 0 where
-  pub member : Contains plan.bricks brick
+-- The brick of a row is one of the set and granted the call a lock of these cells, by what had arrived before the event at a place,
+-- from 0; and the row is the one that it showed of the cell at a place among them.
+pub record IsHolder (log : Log) (bricks : List Journal) (plan : SetPlan) (call graph : ℕ) (cells : List Cell) (place until : ℕ) (r : SplitRow) : Type 0 where
+  pub member : Contains plan.bricks r.brick
   pub wind : ℕ
   pub shared : Bool
   pub rows : List Row
   pub event : ℕ
-  pub granted : IsGrantedIn log bricks brick wind graph event (Lock call shared cells) rows
+  pub granted : IsGrantedIn log bricks r.brick wind graph event (Lock call shared cells) rows
+  pub row_is : slice_get rows place ≡ Some r.row
   pub before : event < until
+
+abbrev pub brick_in : SplitRow → ℕ
+brick_in r = r.brick
+
+-- The rows are of different bricks, at least as many as the quorum of their set, of each something holds, and by them this brick, which
+-- is one of these, is sound.
+pub record IsGroup (plan : SetPlan) (rows : List SplitRow) (source : ℕ) (Holds : SplitRow → Type 0) : Type 0 where
+  pub differ : IsDistinct ◌==◌ (map brick_in rows)
+  pub enough : plan.q ≤ length (map brick_in rows)
+  pub each : AllByRecursion Holds rows
+  pub among : Contains (map brick_in rows) source
+  pub sound : IsSoundBy plan rows source
 
 -- in this call the content of the cell arrived by the event of this number, from a brick of this set of the call's graph
 pub record IsFetched (script : Script) (plans : List Plan) (log : Log) (bricks : List Journal) (call number set : ℕ) (cell : Cell) (content : Held) : Type 0 where
@@ -77,12 +95,12 @@ pub record IsFetched (script : Script) (plans : List Plan) (log : Log) (bricks :
   pub answered : IsDoneIn log bricks source wind (graph_of_call log call) event (Fetch fd cell) (Content content last)
   pub of_call : IsWindFor log.winds call wind
   pub in_time : event < number
-  -- a quorum of the set's bricks had granted locks, the source among them
+  -- a quorum of the set's bricks had granted locks, the source among them; by the rows that they showed of the cell it is sound
   pub cells : List Cell
-  pub has : Contains cells cell
-  pub holders : List ℕ
-  pub quorum : IsQuorum plan holders (IsHolder log bricks plan call (graph_of_call log call) cells event)
-  pub among : Contains holders source
+  pub place : ℕ
+  pub has : slice_get cells place ≡ Some cell
+  pub rows : List SplitRow
+  pub group : IsGroup plan rows source (IsHolder log bricks plan call (graph_of_call log call) cells place event)
 
 -- ---- what an answer shows
 

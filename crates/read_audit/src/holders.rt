@@ -1,5 +1,5 @@
-//! Whether a brick of a set had granted a call a lock of cells, where it is said to.
-ghost use Rattle.std.specs.Prelude.{◌≡◌, true, IfOk, IfSome};
+//! The rows by which a brick of a set had granted a call a lock of cells, where it is said to.
+ghost use Rattle.std.specs.Prelude.{◌≡◌, true, slice_get, IfOk, IfSome};
 ghost use Rattle.fop_types.specs.declared.messages.BrickRep.TheVariants.{Done};
 ghost use Rattle.fop_types.specs.declared.messages.BrickReq.TheVariants.{Lock};
 ghost use Rattle.fop_types.specs.declared.messages.DoneArm.TheVariants.{Rows};
@@ -15,7 +15,9 @@ use change_audit::arrivals::{arrived, written_output};
 use change_audit::bearers::has_member;
 use change_audit::copy_requests::is_cell;
 use change_audit::journals::{brick_at, bytes_at, whole_input};
-use fop_types::{BrickRep, BrickReq, Cell, DoneArm, Input, OutKind, Output, Row, Seq, SetPlan};
+use fop_types::{
+    BrickRep, BrickReq, Cell, DoneArm, Input, OutKind, Output, Row, Seq, SetPlan, SplitRow,
+};
 use mount_log::Log;
 use std::alloc::{AllocError, Global};
 
@@ -190,12 +192,18 @@ pub(crate) fn granted_rows(
     Ok(Some(rows))
 }
 
-/// Whether a brick of the set has granted the lock of these cells that is said to be where, by what arrived before the event at a
-/// place.
+fn row_at(rows: &[Row], place: usize) -> Option<Row>
+    ensures { result ≡ slice_get rows.now place }
+{
+    rows.get(place).copied()
+}
+
+/// The row of the cell at a place among these that a brick of the set has shown by granting the lock of them which is said to be
+/// where, by what arrived before the event at another place.
 ///
 /// # Errors
 /// Out of memory.
-pub(crate) fn is_holder(
+pub(crate) fn row_shown(
     alloc: Global,
     log: &Log,
     bricks: &[Brick],
@@ -203,20 +211,25 @@ pub(crate) fn is_holder(
     call: u32,
     graph: usize,
     cells: &[Cell],
+    cell: Cell,
+    place: usize,
     until: usize,
     grant: Grant,
     brick: u8,
-) -> Result<bool, AllocError>
-    ensures { IfOk result (λ yes. yes ≡ true → IsHolder log.now bricks.now plan.now call graph cells.now until brick) }
+) -> Result<Option<SplitRow>, AllocError>
+    ensures { IfOk result (λ found. IfSome found (λ row. IsHolder log.now bricks.now plan.now call graph cells.now place until row)) }
 {
     if grant.event >= until {
-        return Ok(false);
+        return Ok(None);
     }
     if !has_member(plan, brick) {
-        return Ok(false);
+        return Ok(None);
     }
-    match granted_rows(alloc, log, bricks, call, graph, cells, grant, brick)? {
-        Some(_rows) => Ok(true),
-        None => Ok(false),
-    }
+    let Some(rows) = granted_rows(alloc, log, bricks, call, graph, cells, grant, brick)? else {
+        return Ok(None);
+    };
+    let Some(row) = row_at(rows.as_slice(), place) else {
+        return Ok(None);
+    };
+    Ok(Some(SplitRow { cell, brick, row }))
 }

@@ -140,8 +140,11 @@ fn is_on_none(
     Ok(true)
 }
 
-// Whether no set of the call's graph has a file or a directory of the name.
-fn is_nowhere(
+/// Whether no set of the call's graph has a file or a directory of the name.
+///
+/// # Errors
+/// Out of memory.
+pub(crate) fn is_nowhere(
     alloc: Global,
     run: &Run,
     by: Replied,

@@ -3,7 +3,7 @@ ghost use Rattle.std.specs.Prelude.{◌≡◌, true, Some, IfOk};
 ghost use Rattle.call_fops.specs.Walks.{second_path as second_of};
 ghost use Rattle.fop_types.specs.Calls.{looked_up};
 ghost use Rattle.mount_log.specs.Connections.{graph_of_call};
-ghost use Rattle.read_audit.specs.Taken.{worked_on as worked_on_by, moved_into as moved_into_by, unlinking_path as unlinking_path_of, path_for as path_of, Reaches};
+ghost use Rattle.read_audit.specs.Taken.{worked_on as worked_on_by, changed_by, moved_into as moved_into_by, unlinking_path as unlinking_path_of, path_for as path_of, Reaches};
 
 use crate::cells::is_gfid;
 use crate::paths::object_at;
@@ -33,6 +33,19 @@ fn worked_on(operation: &FlatOp) -> Option<Gfid>
     }
 }
 
+/// The object that an operation changes where it makes, drops and moves no name.
+pub(crate) fn changed(operation: &FlatOp) -> Option<Gfid>
+    ensures { result ≡ changed_by operation.now }
+{
+    match operation {
+        FlatOp::Chmod { gfid, .. } => Some(*gfid),
+        FlatOp::Truncate { gfid, .. } => Some(*gfid),
+        FlatOp::SetAttr { gfid, .. } => Some(*gfid),
+        FlatOp::DelAttr { gfid, .. } => Some(*gfid),
+        _ => None,
+    }
+}
+
 // The directory to which an operation moves a name.
 fn moved_into(operation: &FlatOp) -> Option<Gfid>
     ensures { result ≡ moved_into_by operation.now }
@@ -53,8 +66,8 @@ fn unlinking_path(call: &Call) -> &[Seq<u8>]
     }
 }
 
-// The path that leads to what an operation of a call works on.
-fn path_for<'a>(call: &'a Call, operation: &FlatOp) -> &'a [Seq<u8>]
+/// The path that leads to what an operation of a call works on.
+pub(crate) fn path_for<'a>(call: &'a Call, operation: &FlatOp) -> &'a [Seq<u8>]
     ensures { result.now ≡ path_of call.now operation.now }
 {
     match operation {

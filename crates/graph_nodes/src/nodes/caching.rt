@@ -1,9 +1,9 @@
 //! The io-cache node: a read of which all pages are held is answered at once; any other asks below for whole pages, keeps
 //! those that come back, and is answered from them alone. All else passes.
-ghost use Rattle.std.specs.Prelude.{◌≡◌, ◌≤◌, ◌<◌, ◌+◌, ◌-◌, IfOk, IfSome, OnOk, length, take, drop, nat_lt, true};
+ghost use Rattle.std.specs.Prelude.{◌≡◌, ◌≤◌, ◌<◌, ◌+◌, ◌-◌, IfOk, IfSome, OnOk, length, take, drop, nat_lt};
 ghost use Rattle.std.specs.List.{range_with_len};
 ghost use Rattle.fop_types.specs.Bounds.{IsFop, IsObject, IsOpenFd};
-ghost use Rattle.io_cache.specs.Pages.{no_pages};
+ghost use Rattle.graph_nodes.specs.Caching.{retired};
 ghost use Rattle.graph_nodes.specs.IoCache.{IsRead, EntersBy, IsEntered, PagesCome, IsAnswered, asked_for, hit_or_miss, read_in, range_in, bytes_in, put_of, kept, kept_by};
 ghost use Rattle.graph_nodes.specs.Moves.{IsMove};
 ghost use Rattle.graph_nodes.specs.Pages.{IsRange, start_of, pages_of, page_bytes, answer_of};
@@ -338,8 +338,7 @@ impl IoCache {
 
     /// Drops all pages, and keeps none from now on.
     pub(crate) fn retire(&mut self)
-        ensures pages { self.new.pages ≡ no_pages self.old.pages.capacity }
-        ensures retired { self.new.retired ≡ true }
+        ensures { self.new ≡ retired self.old }
     {
         self.pages.clear();
         self.retired = true;

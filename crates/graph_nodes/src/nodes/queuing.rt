@@ -1,7 +1,8 @@
 //! The io-threads node: what enters it waits in the queue of its priority until a task of the node is run. Replies pass at
 //! once.
-ghost use Rattle.std.specs.Prelude.{◌≡◌, IfOk, OnOk};
+ghost use Rattle.std.specs.Prelude.{◌≡◌, IfOk, IfSome, OnOk};
 ghost use Rattle.io_threads.specs.Lanes.{first_of, in_turn, without_first};
+ghost use Rattle.graph_nodes.specs.Calls.{after_turn, rested};
 ghost use Rattle.graph_nodes.specs.IoThreads.{IsQueued, go_on_of, priority_of, priority_of_fop, queued, ready_with};
 ghost use Rattle.graph_nodes.specs.Moves.{IsMove};
 
@@ -98,13 +99,22 @@ impl IoThreads {
     pub(crate) fn take(&mut self, cx: &mut Context) -> Option<u32>
         ensures frame { result ≡ first_of (in_turn self.old.queues) }
         ensures rest { self.new.queues ≡ without_first self.old.queues }
+        ensures node { IfSome result (λ _. self.new ≡ after_turn self.old) }
+        ensures cx { IfSome result (λ _. cx.new ≡ rested (after_turn self.old) cx.old) }
     {
         let frame = self.queues.pop()?;
         self.waiting = self.waiting.saturating_sub(1);
+        self.rest(cx);
+        Some(frame)
+    }
+
+    // The node is ready no more, where nobody waits in it.
+    fn rest(&self, cx: &mut Context)
+        ensures { cx.new ≡ rested self.now cx.old }
+    {
         if self.waiting == 0 {
             cx.ready.remove(&self.number);
         }
-        Some(frame)
     }
 }
 

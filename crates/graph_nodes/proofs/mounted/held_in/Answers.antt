@@ -3,6 +3,8 @@ use Rattle.std.specs.Prelude.{ℕ, is_some}
 use Rattle.std.specs.BTreeMap.{BTreeMap, keys}
 use Rattle.graph_nodes.specs.declared.graph.Graph.{Graph}
 use Rattle.graph_nodes.proofs.Together.{one_found, called_through, all_same}
+use Rattle.graph_nodes.specs.Among.{holds}
+use Rattle.graph_nodes.proofs.Among.{gives_at}
 use Rattle.graph_nodes.proofs.mounted.held_in.Goals as goal
 
 pub held-requires : goal.held-requires
@@ -35,3 +37,6 @@ returns-in_ok-moved-in-Some-clause-there c = ap is_some c.in-Some.ensures.value
 
 pub returns-in-None-clause-there : goal.returns-in-None-clause-there
 returns-in-None-clause-there c = ap is_some c.in-None.ensures.value
+
+pub returns-in_ok-moved-in-Some-clause-gives : goal.returns-in_ok-moved-in-Some-clause-gives
+returns-in_ok-moved-in-Some-clause-gives c = gives_at c.args.number (holds c.args.call) c.args.live.now _ c.in-Some.graph.now c.held.new.self c.args.mount.now c.held.new.mount c.in_ok-moved-in-Some.moved c.in-Some.ensures.value (c.get_mut.follows.holds c.held.new.self) c.in_ok-moved-in-Some.ensures.gives

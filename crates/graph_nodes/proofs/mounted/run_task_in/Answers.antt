@@ -5,6 +5,9 @@ use Rattle.std.specs.BTreeMap.{BTreeMap, get, keys}
 use Rattle.std.specs.Ordering.{nat_cmp}
 use Rattle.graph_nodes.specs.declared.graph.Graph.{Graph}
 use Rattle.graph_nodes.proofs.Together.{one_found, called_through, all_same, not_absent}
+use Rattle.graph_nodes.specs.Among.{runs_task}
+use Rattle.graph_nodes.proofs.Among.{gives_at, some_weaker}
+use Rattle.graph_nodes.proofs.Giving.{if_ok_weaker}
 use Rattle.graph_nodes.proofs.mounted.run_task_in.Goals as goal
 
 pub run_task-requires : goal.run_task-requires
@@ -28,3 +31,6 @@ returns-in-None-clause-numbers c = ap (λ (m : BTreeMap ℕ Graph). keys m) c.ge
 
 pub returns-in-Some-clause-absent : goal.returns-in-Some-clause-absent
 returns-in-Some-clause-absent c = not_absent _ c.in-Some.graph.now (get nat_cmp c.args.live.now c.args.number) c.in-Some.ensures.value
+
+pub returns-in-Some-clause-gives : goal.returns-in-Some-clause-gives
+returns-in-Some-clause-gives c = if_ok_weaker _ _ c.run_task.result (λ moved gives. some_weaker moved _ _ _ (λ m it. gives_at c.args.number (runs_task c.args.task) c.args.live.now _ c.in-Some.graph.now c.run_task.new.self c.args.mount.now c.run_task.new.mount m c.in-Some.ensures.value (c.get_mut.follows.holds c.run_task.new.self) it) gives) c.run_task.ensures.gives

@@ -8,7 +8,7 @@ use Rattle.graph_nodes.proofs.parked.wake.Goals as goal
 
 pub returns-then-ours-clause-works : goal.returns-then-ours-clause-works
 returns-then-ours-clause-works c =
-    let ours = c.may_go-ours.ensures c.if-ours.true in
+    let ours = c.may_go-ours.ensures.there c.if-ours.true in
     woken_works c.args.board.now c.go_on.new.self c.args.parked.now.keys _ c.in-Some.frame ours.0 ours.1 c.remove.ensures.keys
     (ap (λ (b : Board Down Up Local). b.graph) c.in_ok-go_on.ensures.going) c.in_ok-go_on.ensures.sound c.in_ok-go_on.ensures.held
 

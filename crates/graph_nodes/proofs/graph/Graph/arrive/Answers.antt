@@ -1,5 +1,7 @@
 use Rattle.std.proofs.Common.{refl}
 use Rattle.graph_nodes.proofs.Living.{work_of, called_keeps, called_clause}
+use Rattle.graph_nodes.specs.Calls.{CallGives, Gives, TakesOutput, TakesSome, running}
+use Rattle.graph_nodes.proofs.Giving.{called_gives, called_early, if_ok_weaker}
 use Rattle.graph_nodes.proofs.graph.Graph.arrive.Goals as goal
 
 pub arrived-arrived-requires-clause-work : goal.arrived-arrived-requires-clause-work
@@ -12,3 +14,12 @@ returns-clause-kept c = called_keeps c.args.self.now c.borrow_from.new.self c.ar
 pub returns-clause-live : goal.returns-clause-live
 returns-clause-live c = called_clause c.args.self.now c.borrow_from.new.self c.arrived-arrived.new.self c.give_back.new.self c.args.mount.now c.borrow_from.new.mount (record c.borrow_from.new.mount { parked = c.arrived-arrived.new.parked }) c.give_back.new.mount
     c.borrow_from.ensures.graph c.borrow_from.ensures.mount refl c.give_back.ensures.graph c.give_back.ensures.mount c.arrived-arrived.ensures.kept c.arrived-arrived.result c.arrived-arrived.ensures.well
+
+pub returns-clause-gives : goal.returns-clause-gives
+returns-clause-gives c = if_ok_weaker (λ r. Gives ((TakesOutput c.args.w c.args.rep c.args.taken r.0) c.borrow_from.new.self) c.borrow_from.new.self r.1 (running c.arrived-arrived.new.self)) (λ r. CallGives (TakesOutput c.args.w c.args.rep c.args.taken r.0) c.args.self.now c.args.mount.now r.1 c.give_back.new.self c.give_back.new.mount) c.arrived-arrived.result
+    (λ r gives. called_gives c.args.self.now c.borrow_from.new.self c.arrived-arrived.new.self c.give_back.new.self c.args.mount.now c.borrow_from.new.mount (record c.borrow_from.new.mount { parked = c.arrived-arrived.new.parked }) c.give_back.new.mount
+    c.borrow_from.ensures.graph c.give_back.ensures.graph c.give_back.ensures.mount (TakesOutput c.args.w c.args.rep c.args.taken r.0) r.1 gives) c.arrived-arrived.ensures.gives
+
+pub returns-clause-winds : goal.returns-clause-winds
+returns-clause-winds c = λ is. called_early c.args.self.now c.borrow_from.new.self c.arrived-arrived.new.self c.give_back.new.self c.args.mount.now c.borrow_from.new.mount (record c.borrow_from.new.mount { parked = c.arrived-arrived.new.parked }) c.give_back.new.mount
+    c.borrow_from.ensures.graph c.give_back.ensures.graph c.give_back.ensures.mount (TakesSome c.args.w c.args.rep c.args.taken) (c.arrived-arrived.ensures.winds is)

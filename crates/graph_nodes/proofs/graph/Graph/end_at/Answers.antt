@@ -1,9 +1,10 @@
 use Rattle.std.proofs.Common.{refl}
 use Rattle.graph_nodes.proofs.Living.{others_same, ended_works}
+use Rattle.graph_nodes.proofs.Giving.{ends_at}
 use Rattle.graph_nodes.proofs.graph.Graph.end_at.Goals as goal
 
 pub bail-requires : goal.bail-requires
-bail-requires c = record { ours = c.in_ok-winds.ensures }
+bail-requires c = record { ours = c.in_ok-winds.ensures.ours }
 
 pub returns-clause-kept : goal.returns-clause-kept
 returns-clause-kept c = record { number = c.bail.ensures.leads.same; top = refl; wiring = refl; promises = refl; others = c.bail.ensures.leads.others }
@@ -16,3 +17,6 @@ returns-in_err-winds-clause-kept c = record { number = refl; top = refl; wiring 
 
 pub returns-in_err-won-clause-kept : goal.returns-in_err-won-clause-kept
 returns-in_err-won-clause-kept c = record { number = c.bail.ensures.leads.same; top = refl; wiring = refl; promises = refl; others = c.bail.ensures.leads.others }
+
+pub returns-clause-ends : goal.returns-clause-ends
+returns-clause-ends c = ends_at c.args.self.now c.bail.new.self c.args.brick c.in_ok-won.won c.last-mark.result c.end.new.self _ _ c.end.ensures c.last-mark.ensures c.take_at-waiting.ensures c.in_ok-winds.ensures.gone c.in_ok-won.ensures.bailed

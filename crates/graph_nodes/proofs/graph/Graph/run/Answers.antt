@@ -2,8 +2,10 @@ use Rattle.std.proofs.Common.{refl, ap, ◌∙◌}
 use Rattle.frame_driver.specs.declared.board.Board.{Board}
 use Rattle.graph_items.specs.declared.items.Down.{Down}
 use Rattle.graph_items.specs.declared.items.Up.{Up}
+use Rattle.frame_driver.proofs.Looping.{handed_on}
 use Rattle.graph_nodes.specs.declared.locals.Local.{Local}
 use Rattle.graph_nodes.proofs.Living.{fine_with, others_same, others_both, others_listed, ran_works, parked_once, ran_settles}
+use Rattle.graph_nodes.proofs.Giving.{run_gives, run_early}
 use Rattle.graph_nodes.proofs.graph.Graph.run.Goals as goal
 
 pub run-requires-clause-fits : goal.run-requires-clause-fits
@@ -43,3 +45,9 @@ returns-in_err-moved-clause-kept c = record {
   promises = c.run.ensures.same;
   others = others_both c.args.self.now.board.graph c.args.self.now.board.stack c.run.new.self.stack _ c.run.ensures.leads.others (others_same c.args.self.now.board.graph c.run.new.self.stack _ c.in_err-moved.ensures.err.1);
 }
+
+pub returns-clause-gives : goal.returns-clause-gives
+returns-clause-gives c = run_gives c.args.self.now c.run.new.nodes.items c.as_slice.result.now c.run.new.cx _ c.run.new.self _ c.in_ok-moved.moved c.in_ok-run.ensures.ran c.in_ok-run.ensures.empty c.as_slice.ensures.value c.in_ok-moved.ensures.moved c.in_ok-moved.ensures.cx c.in_ok-moved.ensures.board
+
+pub returns-in_err-run-clause-winds : goal.returns-in_err-run-clause-winds
+returns-in_err-run-clause-winds c = λ is. run_early c.args.self.now _ (c.in_err-run.ensures.winds (handed_on c.from_residual.result c.in_err-run.field-0.0 _ c.from_residual.ensures.1 is))

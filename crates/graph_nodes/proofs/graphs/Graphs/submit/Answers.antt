@@ -2,6 +2,9 @@ use Rattle.std.proofs.Common.{ap, ◌∙◌}
 use Rattle.graph_nodes.specs.Mounted.{Mounted, has}
 use Rattle.graph_nodes.specs.Live.{AllLive}
 use Rattle.graph_nodes.proofs.Together.{usable, has_is}
+use Rattle.graph_nodes.specs.declared.moved.Moved.{Moved}
+use Rattle.graph_nodes.specs.Among.{submits}
+use Rattle.graph_nodes.proofs.Among.{seems_to_give}
 use Rattle.graph_nodes.proofs.graphs.Graphs.submit.Goals as goal
 
 pub submit_in-requires-clause-live : goal.submit_in-requires-clause-live
@@ -9,3 +12,7 @@ submit_in-requires-clause-live c = usable c.self.inside.is_spent (AllLive c.self
 
 pub returns-clause-there : goal.returns-clause-there
 returns-clause-there c = c.in_ok-moved.ensures.there ∙ has_is c.self.inside.live c.args.number ∙ ap (λ (m : Mounted). has m.numbers c.args.number) c.self.view_is
+
+pub returns-clause-gives : goal.returns-clause-gives
+returns-clause-gives c = seems_to_give (λ (m : Moved). m) (λ _. submits c.args.call c.args.fop) c.args.number c.args.self.now c.self.inside.live c.submit_in.new.live c.self.inside.mount c.submit_in.new.mount c.self.inside.is_spent c.in_ok-moved.moved c.self.view_is c.if-self.false
+    (usable c.self.inside.is_spent (AllLive c.self.inside.live c.self.inside.mount) c.self.invariant c.if-self.false) c.in_ok-moved.ensures.gives
