@@ -22,5 +22,6 @@ pub mod Living
 pub mod Giving
 pub mod Caching
 pub mod PlanLoads
+pub mod Ready
 pub mod Together
 pub mod Among

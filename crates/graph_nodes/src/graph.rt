@@ -186,6 +186,7 @@ impl Graph {
         ensures wiring { self.new.wiring ≡ self.old.wiring }
         ensures top { self.new.top ≡ self.old.top }
         ensures nodes { self.new.nodes.items ≡ cached_by (without_pages gfid) self.old.cache self.old.nodes.items }
+        ensures cx { self.new.cx ≡ self.old.cx }
     {
         let Some(at) = self.cache else {
             return;
@@ -200,6 +201,7 @@ impl Graph {
         ensures wiring { self.new.wiring ≡ self.old.wiring }
         ensures top { self.new.top ≡ self.old.top }
         ensures nodes { self.new.nodes.items ≡ cached_by retired self.old.cache self.old.nodes.items }
+        ensures cx { self.new.cx ≡ self.old.cx }
     {
         let Some(at) = self.cache else {
             return;

@@ -26,7 +26,7 @@ use xlator_law::{Settled, Stop, WindNo};
 /// The graphs of a mount and what they share. Each call names a graph by its number, and answers `None` where there is
 /// no such graph.
 ///
-/// Contracts see the numbers, the inodes in use, the history, and whether the graphs are spent: once a call failed, each
+/// Contracts see the numbers, the ready tasks, the inodes in use, the history, and whether the graphs are spent: once a call failed, each
 /// answers so from then on.
 #[derive(Drop)]
 pub struct Graphs {
@@ -40,12 +40,13 @@ impl Model for Graphs {
     ghost use Rattle.std.specs.BTreeMap.{keys};
     ghost use Rattle.graph_nodes.specs.Live.{AllLive};
     ghost use Rattle.graph_nodes.specs.Mounted.{Mounted, mounted_code};
+    ghost use Rattle.graph_nodes.specs.Ready.{tasks_in};
 
     ghost Value = { Mounted };
 
     ghost coded = { mounted_code };
 
-    ghost view = { λ g. record { numbers = keys g.live; inodes = g.mount.inodes; history = g.mount.ledger.history; spent = g.is_spent } };
+    ghost view = { λ g. record { numbers = keys g.live; tasks = tasks_in g.live.entries; inodes = g.mount.inodes; history = g.mount.ledger.history; spent = g.is_spent } };
 
     ghost invariant = { λ g. MatchBool g.is_spent (Unit {0}) (AllLive g.live g.mount) };
 }
@@ -53,7 +54,7 @@ impl Model for Graphs {
 impl Graphs {
     /// No graphs, in a mount whose first graph will have so many sets. It takes no memory.
     pub fn new(alloc: Global, root_sets: u8) -> Graphs
-        ensures { result ≡ record { numbers = []; inodes = map.empty; history = []; spent = false } }
+        ensures { result ≡ record { numbers = []; tasks = []; inodes = map.empty; history = []; spent = false } }
     {
         Graphs {
             live: BTreeMap::new(alloc),

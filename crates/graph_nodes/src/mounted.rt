@@ -8,6 +8,7 @@ ghost use Rattle.graph_nodes.specs.declared.moved.Mount.{Mount};
 ghost use Rattle.graph_nodes.specs.Among.{GivesAt, submits, holds, arrives, bails, runs_task};
 ghost use Rattle.graph_nodes.specs.Live.{AllLive, KeepsMount, StaysLive};
 ghost use Rattle.graph_nodes.specs.Plans.{IsPlan};
+ghost use Rattle.graph_nodes.specs.Ready.{tasks_in};
 
 use crate::graph::Graph;
 use crate::moved::{Mount, Moved};
@@ -213,6 +214,7 @@ pub(crate) fn run_task_in(
 fn connect_next(graph: &mut Graph, brick: u8) -> Option<u32>
     ensures stays { (mount : Mount) → StaysLive graph.old mount graph.new mount }
     ensures kept { (mount : Mount) → KeepsMount graph.old mount graph.new mount }
+    ensures ready { graph.new.cx.ready.keys ≡ graph.old.cx.ready.keys }
 {
     let free = may_connect(graph, brick);
     if free {
@@ -236,6 +238,7 @@ pub(crate) fn connect_in(live: &mut BTreeMap<u32, Graph>, number: u32, brick: u8
     ensures live { (mount : Mount) → AllLive live.old mount → AllLive live.new mount }
     ensures absent { is_some (get nat_cmp live.old number) ≡ false → result ≡ None }
     ensures numbers { keys live.new ≡ keys live.old }
+    ensures tasks { tasks_in live.new.entries ≡ tasks_in live.old.entries }
 {
     match live.get_mut(&number) {
         Some(graph) => connect_next(graph, brick),
@@ -246,6 +249,7 @@ pub(crate) fn connect_in(live: &mut BTreeMap<u32, Graph>, number: u32, brick: u8
 fn drop_pages_of(graph: &mut Graph, gfid: Gfid)
     ensures stays { (mount : Mount) → StaysLive graph.old mount graph.new mount }
     ensures kept { (mount : Mount) → KeepsMount graph.old mount graph.new mount }
+    ensures ready { graph.new.cx.ready.keys ≡ graph.old.cx.ready.keys }
 {
     graph.drop_pages(gfid);
 }
@@ -255,6 +259,7 @@ pub(crate) fn drop_pages_in(live: &mut BTreeMap<u32, Graph>, number: u32, gfid: 
     ensures live { (mount : Mount) → AllLive live.old mount → AllLive live.new mount }
     ensures there { result ≡ is_some (get nat_cmp live.old number) }
     ensures numbers { keys live.new ≡ keys live.old }
+    ensures tasks { tasks_in live.new.entries ≡ tasks_in live.old.entries }
 {
     match live.get_mut(&number) {
         Some(graph) => {
@@ -268,6 +273,7 @@ pub(crate) fn drop_pages_in(live: &mut BTreeMap<u32, Graph>, number: u32, gfid: 
 fn retire_of(graph: &mut Graph)
     ensures stays { (mount : Mount) → StaysLive graph.old mount graph.new mount }
     ensures kept { (mount : Mount) → KeepsMount graph.old mount graph.new mount }
+    ensures ready { graph.new.cx.ready.keys ≡ graph.old.cx.ready.keys }
 {
     graph.retire();
 }
@@ -277,6 +283,7 @@ pub(crate) fn retire_in(live: &mut BTreeMap<u32, Graph>, number: u32) -> bool
     ensures live { (mount : Mount) → AllLive live.old mount → AllLive live.new mount }
     ensures there { result ≡ is_some (get nat_cmp live.old number) }
     ensures numbers { keys live.new ≡ keys live.old }
+    ensures tasks { tasks_in live.new.entries ≡ tasks_in live.old.entries }
 {
     match live.get_mut(&number) {
         Some(graph) => {

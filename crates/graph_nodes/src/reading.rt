@@ -1,5 +1,5 @@
 //! What is asked of the graphs of a mount without changing them.
-ghost use Rattle.std.specs.Prelude.{◌≡◌, false, None};
+ghost use Rattle.std.specs.Prelude.{◌≡◌, false, None, min, length, slice_get};
 ghost use Rattle.graph_nodes.specs.Mounted.{has};
 
 use crate::graphs::Graphs;
@@ -41,24 +41,31 @@ impl Graphs {
         }
     }
 
-    /// How many tasks of a graph are ready.
-    pub fn ready_len(&self, number: u32) -> u32
-        ensures { has self.now.numbers number ≡ false → result ≡ 0 }
+    /// How many tasks are ready, over all graphs; 4,294,967,295 where they are more.
+    #[tactic(auto, using(crate::proofs::Ready::counted, crate::proofs::Ready::all_counted))]
+    pub fn tasks_len(&self) -> u32
+        ensures { result ≡ min (length self.now.tasks) 4294967295 }
     {
-        match self.live.get(&number) {
-            Some(graph) => graph.ready_len(),
-            None => 0,
+        let mut count = 0u32;
+        for graph in self.live.values() {
+            count = count.saturating_add(graph.ready_len());
         }
+        count
     }
 
-    /// The ready task of a graph with so many lower ones.
-    pub fn ready_at(&self, number: u32, at: u32) -> Option<u32>
-        ensures { has self.now.numbers number ≡ false → result ≡ None }
+    /// The ready task of this place, from 0, by graph and then by node.
+    #[tactic(auto, using(crate::proofs::Ready::task_found, crate::proofs::Ready::task_past))]
+    pub fn task_at(&self, at: u32) -> Option<(u32, u32)>
+        ensures { result ≡ slice_get self.now.tasks at }
     {
-        match self.live.get(&number) {
-            Some(graph) => graph.ready_at(at),
-            None => None,
+        let mut left = at;
+        for (number, graph) in self.live.iter() {
+            match graph.ready_at(left) {
+                Some(task) => return Some((*number, task)),
+                None => left = left.saturating_sub(graph.ready_len()),
+            }
         }
+        None
     }
 
     /// Whether a task of a graph is ready.

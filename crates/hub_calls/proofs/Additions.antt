@@ -1,6 +1,6 @@
 -- What a call adds to the log.
 use Rattle.std.proofs.Common.{◌≡◌, refl, sym, ap, ◌∙◌, append-nil}
-use Rattle.std.specs.Prelude.{ℕ, List, [], ◌∷◌, ◌++◌, Option, Some, option_to_list}
+use Rattle.std.specs.Prelude.{ℕ, List, [], ◌∷◌, ◌++◌, slice_get, Option, Some, option_to_list}
 use Rattle.xlator_law.specs.declared.winds.Stop.{Stop}
 use Rattle.xlator_law.specs.declared.winds.Stop.TheVariants as stopped
 use Rattle.mount_log.specs.declared.logs.HubEvent.{HubEvent}
@@ -38,11 +38,11 @@ after_same stopped.Winds log = nothing_cut log log refl
 
 -- ---- a turn
 
-pub turn_takes : (before after : List (ℕ × List ℕ)) (first : Option (ℕ × List ℕ)) (brick : ℕ) (output : List ℕ) (old new : Log) → before ≡ option_to_list first ++ after → first ≡ Some (brick, output)
-    → AddsEvent old new (logged.Arrive brick output) → TakesFirst before after old new
-turn_takes before after first brick output old new taken is event =
+pub turn_takes : (tasks : List (ℕ × ℕ)) (before after : List (ℕ × List ℕ)) (first : Option (ℕ × List ℕ)) (brick : ℕ) (output : List ℕ) (old new : Log) → before ≡ option_to_list first ++ after → first ≡ Some (brick, output)
+    → AddsEvent old new (logged.Arrive brick output) → TakesFirst tasks before after old new
+turn_takes tasks before after first brick output old new taken is event =
     let whole : before ≡ (brick, output) ∷ after = taken ∙ ap (λ (x : Option (ℕ × List ℕ)). option_to_list x ++ after) is in
     rw whole (refl, event)
 
-pub turn_runs : (before after : List (ℕ × List ℕ)) (graph task : ℕ) (old new : Log) → before ≡ [] → after ≡ [] → AddsEvent old new (logged.Run graph task) → TakesFirst before after old new
-turn_runs before after graph task old new none left event = rw none (left, record { graph = graph; task = task; event = event })
+pub turn_runs : (tasks : List (ℕ × ℕ)) (before after : List (ℕ × List ℕ)) (graph task : ℕ) (old new : Log) → before ≡ [] → after ≡ [] → slice_get tasks 0 ≡ Some (graph, task) → AddsEvent old new (logged.Run graph task) → TakesFirst tasks before after old new
+turn_runs tasks before after graph task old new none left first event = rw none (left, record { graph = graph; task = task; first = first; event = event })

@@ -1,6 +1,6 @@
 -- What is seen of a hub: the script that it runs, with its plans, the log of the whole events, what is due, and why it stopped;
 -- what a stop does to later calls; which actions may be carried out; and which event a call adds to the log. Ours.
-use Rattle.std.specs.Prelude.{◌≡◌, ℕ, nat_lt, Bool, false, ◌&&◌, List, [], ◌∷◌, Option, Some, Result, Err}
+use Rattle.std.specs.Prelude.{◌≡◌, ℕ, nat_lt, Bool, false, ◌&&◌, List, [], ◌∷◌, slice_get, Option, None, Some, Result, Err}
 use Rattle.graph_build.specs.declared.plans.Plan.{Plan}
 use Rattle.script_lang.specs.declared.scripts.CallLine.{CallLine}
 use Rattle.script_lang.specs.declared.scripts.Script.{Script}
@@ -52,21 +52,22 @@ pub record AddsSubmission (script : Script) (old new : Log) (session : ℕ) : Ty
   pub next : session_line script session (submits_of session old.events) ≡ Some line
   pub event : AddsEvent old new (logged.Submit session line.line)
 
--- a task of a graph is run
-pub record AddsRun (old new : Log) : Type 0 where
+-- the first of the ready tasks is run
+pub record AddsRun (tasks : List (ℕ × ℕ)) (old new : Log) : Type 0 where
   pub graph : ℕ
   pub task : ℕ
+  pub first : slice_get tasks 0 ≡ Some (graph, task)
   pub event : AddsEvent old new (logged.Run graph task)
 
--- a turn takes the first of the outputs that have arrived, each with its brick; where there is none it runs a task
-abbrev pub TakesFirst : List (ℕ × List ℕ) → List (ℕ × List ℕ) → Log → Log → Type 0
-TakesFirst [] after old new = (after ≡ []) × AddsRun old new
-TakesFirst (output ∷ outputs) after old new = (after ≡ outputs) × AddsEvent old new (logged.Arrive output.0 output.1)
+-- a turn takes the first of the outputs that have arrived, each with its brick; where there is none, the first of the ready tasks
+abbrev pub TakesFirst : List (ℕ × ℕ) → List (ℕ × List ℕ) → List (ℕ × List ℕ) → Log → Log → Type 0
+TakesFirst tasks [] after old new = (after ≡ []) × AddsRun tasks old new
+TakesFirst tasks (output ∷ outputs) after old new = (after ≡ outputs) × AddsEvent old new (logged.Arrive output.0 output.1)
 
--- a turn that was quiet has found no output, and changes nothing
+-- a turn that was quiet has found no output and no ready task, and changes nothing
 abbrev pub IsTurn : Turned → List (ℕ × List ℕ) → List (ℕ × List ℕ) → HubState → HubState → Type 0
-IsTurn turn.Did before after old new = TakesFirst before after old.log new.log
-IsTurn (turn.Quiet ready arrived) before after old new = (before ≡ []) × ((after ≡ []) × (new ≡ old))
+IsTurn turn.Did before after old new = TakesFirst old.due.tasks before after old.log new.log
+IsTurn (turn.Quiet ready arrived) before after old new = (before ≡ []) × ((after ≡ []) × ((slice_get old.due.tasks 0 ≡ None) × (new ≡ old)))
 
 -- ---- the log after a call that stopped
 

@@ -43,12 +43,12 @@ impl Parts {
     /// Whether the phase has nothing left but controls: its calls are answered, no internal call is under way, no task is
     /// ready, and each request, Down and Up has its output.
     pub(crate) fn has_nothing_else(&self) -> bool
-        ensures { result ≡ true → is_quiet self.now.progress self.now.internal self.now.turn.bricks.owed ≡ true }
+        ensures { result ≡ is_quiet self.now.progress self.now.internal self.now.turn.bricks.owed self.now.graphs.nodes.tasks }
     {
         self.progress.is_answered()
             && self.internal.is_none()
             && self.turn.bricks.owed == 0
-            && self.graphs.ready_len() == 0
+            && self.graphs.nodes.tasks_len() == 0
     }
 
     /// An action is carried out, and with it the control that is due and has this action.

@@ -1,9 +1,8 @@
 //! What is due in a hub, and which calls have their replies.
-ghost use Rattle.std.specs.Prelude.{◌≡◌, true, Some, IfSome, Contains, slice_get};
+ghost use Rattle.std.specs.Prelude.{◌≡◌, Some, IfSome, Contains, min, length, slice_get};
 ghost use Rattle.hub_tables.specs.PhaseControls.{act_by};
 ghost use Rattle.hub_tables.specs.SmallSets.{numbers};
 ghost use Rattle.hub_tables.specs.declared.actions.Due.TheVariants as due;
-ghost use Rattle.hub_calls.specs.Dues.{IsRest};
 
 use crate::hub::Hub;
 use hub_tables::{Due, SmallSet};
@@ -49,14 +48,20 @@ impl Hub {
         self.parts.turn.controls.first()
     }
 
-    /// How many tasks are ready.
-    pub fn ready_len(&self) -> u32 {
-        self.parts.graphs.ready_len()
+    /// How many tasks are ready; 4,294,967,295 where they are more.
+    #[tactic(auto, unfolding(crate::specs::Dues::due_of))]
+    pub fn ready_len(&self) -> u32
+        ensures { result ≡ min (length self.now.due.tasks) 4294967295 }
+    {
+        self.parts.graphs.nodes.tasks_len()
     }
 
     /// The ready task of this place, from 0, by graph and then by task.
-    pub fn ready_at(&self, at: u32) -> Option<(u32, u32)> {
-        self.parts.graphs.ready_at(at)
+    #[tactic(auto, unfolding(crate::specs::Dues::due_of))]
+    pub fn ready_at(&self, at: u32) -> Option<(u32, u32)>
+        ensures { result ≡ slice_get self.now.due.tasks at }
+    {
+        self.parts.graphs.nodes.task_at(at)
     }
 
     /// The item of this number, from 0, among the sessions that may submit, the ready tasks, and then the next control
@@ -82,7 +87,7 @@ impl Hub {
     /// The first control that is left, where the phase has nothing else left.
     #[tactic(auto, unfolding(crate::specs::Dues::due_of))]
     pub fn rest(&self) -> Option<Due>
-        ensures { IsRest self.now.due result }
+        ensures { result ≡ self.now.due.rest }
     {
         if !self.parts.has_nothing_else() {
             return None;
@@ -93,7 +98,7 @@ impl Hub {
     /// Whether each call has its reply, each control was carried out, and nothing else is left.
     #[tactic(auto, unfolding(crate::specs::Dues::due_of))]
     pub fn is_finished(&self) -> bool
-        ensures { result ≡ true → self.now.due.finished ≡ true }
+        ensures { result ≡ self.now.due.finished }
     {
         self.parts.is_through(&self.planned)
     }

@@ -135,27 +135,6 @@ impl Graphs {
         Ok(())
     }
 
-    /// How many tasks are ready, over all live graphs.
-    pub(crate) fn ready_len(&self) -> u32 {
-        let mut count = 0u32;
-        for (number, _) in &self.live.graphs {
-            count = count.saturating_add(self.nodes.ready_len(*number));
-        }
-        count
-    }
-
-    /// The ready task of this place, from 0, among those of all live graphs, by graph and then by task.
-    pub(crate) fn ready_at(&self, at: u32) -> Option<(u32, u32)> {
-        let mut left = at;
-        for (number, _) in &self.live.graphs {
-            match self.nodes.ready_at(*number, left) {
-                Some(task) => return Some((*number, task)),
-                None => left = left.saturating_sub(self.nodes.ready_len(*number)),
-            }
-        }
-        None
-    }
-
     /// Drops the pages of a file in every live graph.
     pub(crate) fn drop_pages(&mut self, gfid: Gfid) {
         let mut from = 0;

@@ -45,7 +45,7 @@ impl Model for Hub {
         script = h.planned.script;
         plans = h.planned.plans;
         log = h.log;
-        due = due_of (length h.planned.script.phases) h.parts.progress h.parts.turn.controls h.parts.internal h.parts.turn.bricks.owed;
+        due = due_of (length h.planned.script.phases) h.parts.progress h.parts.turn.controls h.parts.internal h.parts.turn.bricks.owed h.parts.graphs.nodes.tasks;
         stop = h.stop
     } };
 
@@ -245,7 +245,7 @@ impl Hub {
             self.arrive(alloc, brick, output)?;
             return Ok(Turned::Did);
         }
-        match self.parts.graphs.ready_at(0) {
+        match self.ready_at(0) {
             Some((graph, task)) => {
                 self.run_ready(alloc, graph, task)?;
                 Ok(Turned::Did)

@@ -220,8 +220,7 @@ impl Parts {
 
     /// Whether all phases have ended, and nothing else is left.
     pub(crate) fn is_through(&self, on: &Planned) -> bool
-        ensures through { result ≡ true → nat_lt self.now.progress.phase (length on.now.script.phases) ≡ false }
-        ensures quiet { result ≡ true → is_quiet self.now.progress self.now.internal self.now.turn.bricks.owed ≡ true }
+        ensures { result ≡ (not (nat_lt self.now.progress.phase (length on.now.script.phases)) && is_quiet self.now.progress self.now.internal self.now.turn.bricks.owed self.now.graphs.nodes.tasks) }
     {
         !on.has_phase(self.progress.phase()) && self.has_nothing_else()
     }

@@ -1,16 +1,15 @@
--- The bricks that have inputs and outputs, as sets; and what is picked.
+-- The bricks that have inputs and outputs, as sets; and what is chosen.
 use Rattle.std.proofs.Common.{◌≡◌, refl, sym, ap, subst, ◌∙◌, inl, inr, arith, lt-ltb, le-ltb}
 use Rattle.std.proofs.lemmas.Option.{slice_get_past, slice_get_cases}
 use Rattle.std.specs.Prelude.{ℕ, zero, suc, ◌<◌, ◌≤◌, ◌+◌, nat_lt, cond, min, Bool, true, false, ◌&&◌, List, [], ◌∷◌, length, is_some, slice_get, Option, None, Some}
 use Rattle.std.specs.List.{filter, range_with_len}
 use Rattle.script_lang.specs.declared.scripts.Action.{Action}
 use Rattle.brick_machine.specs.Journal.{Journal}
-use Rattle.hub_calls.specs.Dues.{DueState, IsRest}
+use Rattle.hub_calls.specs.Dues.{DueState}
 use Rattle.hub_tables.proofs.SetsWhere.{AreBelow, none_below, next_below, skipped_below, all_below}
 use Rattle.hub_tables.specs.SmallSets.{no_numbers, has, Adds, with_number, numbers, numbers_from}
-use Rattle.hub_tables.specs.declared.actions.Due.{Due}
 use Rattle.hub_tables.specs.declared.small_set.SmallSet.{SmallSet}
-use Rattle.world_bricks.specs.Choices.{event_of, events_of, choices_of, choice_by, chosen_among, enabled, run_of, chosen_event, or_chosen, IsChosen, IsPicked}
+use Rattle.world_bricks.specs.Choices.{choices_of, choice_by, chosen_among, enabled, run_of, event_in, chosen_event}
 use Rattle.world_bricks.specs.Lines.{LinesState, next_input, outputs_by, arrived_of, may_serve, may_arrive, bricks_where}
 use Rattle.world_bricks.specs.declared.enabled.Choice.{Choice}
 use Rattle.world_bricks.specs.declared.enabled.Choice.TheVariants as choice
@@ -79,64 +78,28 @@ module _ (lines : LinesState) where
   pub all_arriving : (n : ℕ) (set : SmallSet) → min (length lines.bricks) 64 ≤ n → AreBelow (may_arrive lines) n set → numbers set ≡ bricks_where (may_arrive lines)
   all_arriving n set all so_far = numbers_where set (may_arrive lines) (all_below (may_arrive lines) n set (λ k low past. past_arriving k (omega (arith, all, low, past))) so_far)
 
--- ---- what is chosen, and what is picked
+-- ---- what is chosen
 
-module _ (d : DueState) (lines : LinesState) (value : ℕ) where
-  -- what is enabled, by what the world has found of it
-  is_chosen : (e : Enabled) (task : Option (ℕ × ℕ)) (c : Option Choice) → numbers e.submits ≡ d.submits → numbers e.arriving ≡ bricks_where (may_arrive lines) → numbers e.serving ≡ bricks_where (may_serve lines)
-      → e.plain ≡ d.plain → c ≡ choice_by e value → IsChosen d lines value (chosen_event task c)
-  is_chosen e task c submits arriving serving plain is = record {
-    tasks = e.tasks;
-    task = task;
-    is = ap (λ (x : Option Choice). chosen_event task (x)) is ∙ ap (λ (cs : List Choice). chosen_event task (chosen_among cs value)) same;
-  }
-    where
-      same : choices_of (numbers e.submits) (numbers e.arriving) (numbers e.serving) e.tasks e.plain ≡ enabled d lines e.tasks
-      same =
-          ap (λ (ns : List ℕ). choices_of ns (numbers e.arriving) (numbers e.serving) e.tasks e.plain) submits
-          ∙ ap (λ (ns : List ℕ). choices_of d.submits ns (numbers e.serving) e.tasks e.plain) arriving
-          ∙ ap (λ (ns : List ℕ). choices_of d.submits (bricks_where (may_arrive lines)) ns e.tasks e.plain) serving
-          ∙ ap (λ (p : Option Action). choices_of d.submits (bricks_where (may_arrive lines)) (bricks_where (may_serve lines)) e.tasks p) plain
+-- what is enabled, by what the world has found of it
+module _ (d : DueState) (lines : LinesState) (value : ℕ) (e : Enabled) (c : Option Choice) (submits : numbers e.submits ≡ d.submits) (arriving : numbers e.arriving ≡ bricks_where (may_arrive lines)) (serving : numbers e.serving ≡ bricks_where (may_serve lines))
+    (tasks : e.tasks ≡ min (length d.tasks) 4294967295) (plain : e.plain ≡ d.plain) (is : c ≡ choice_by e value) where
+  same : choices_of (numbers e.submits) (numbers e.arriving) (numbers e.serving) e.tasks e.plain ≡ enabled d lines
+  same =
+      ap (λ (ns : List ℕ). choices_of ns (numbers e.arriving) (numbers e.serving) e.tasks e.plain) submits
+      ∙ ap (λ (ns : List ℕ). choices_of d.submits ns (numbers e.serving) e.tasks e.plain) arriving
+      ∙ ap (λ (ns : List ℕ). choices_of d.submits (bricks_where (may_arrive lines)) ns e.tasks e.plain) serving
+      ∙ ap (λ (n : ℕ). choices_of d.submits (bricks_where (may_arrive lines)) (bricks_where (may_serve lines)) n e.plain) tasks
+      ∙ ap (λ (p : Option Action). choices_of d.submits (bricks_where (may_arrive lines)) (bricks_where (may_serve lines)) (min (length d.tasks) 4294967295) p) plain
 
-  module _ (e : Enabled) (c : Option Choice) (submits : numbers e.submits ≡ d.submits) (arriving : numbers e.arriving ≡ bricks_where (may_arrive lines)) (serving : numbers e.serving ≡ bricks_where (may_serve lines)) (plain : e.plain ≡ d.plain)
-      (is : c ≡ choice_by e value) where
-    pub none_chosen : c ≡ None → IsChosen d lines value None
-    none_chosen none = subst (λ (x : Option Choice). IsChosen d lines value (chosen_event None x)) none (is_chosen e None c submits arriving serving plain is)
+  is_chosen : event_in d.tasks c ≡ chosen_event d lines value
+  unfolding chosen_event
+  is_chosen = ap (λ (x : Option Choice). event_in d.tasks x) is ∙ ap (λ (cs : List Choice). event_in d.tasks (chosen_among cs value)) same
 
-    pub event_chosen : (ev : Event) → c ≡ Some (choice.Event ev) → IsChosen d lines value (Some ev)
-    event_chosen ev some = subst (λ (x : Option Choice). IsChosen d lines value (chosen_event None x)) some (is_chosen e None c submits arriving serving plain is)
+  pub none_chosen : c ≡ None → None ≡ chosen_event d lines value
+  none_chosen none = sym (ap (λ (x : Option Choice). event_in d.tasks x) none) ∙ is_chosen
 
-    pub task_chosen : (at : ℕ) (task : Option (ℕ × ℕ)) (o : Option Event) → c ≡ Some (choice.Task at) → o ≡ run_of task → IsChosen d lines value o
-    task_chosen at task o some gives =
-        subst (λ (x : Option Event). IsChosen d lines value x) (sym gives)
-        (subst (λ (x : Option Choice). IsChosen d lines value (chosen_event task x)) some (is_chosen e task c submits arriving serving plain is))
+  pub event_chosen : (ev : Event) → c ≡ Some (choice.Event ev) → Some ev ≡ chosen_event d lines value
+  event_chosen ev some = sym (ap (λ (x : Option Choice). event_in d.tasks x) some) ∙ is_chosen
 
-  any_chosen : IsChosen d lines value (chosen_event None (chosen_among (enabled d lines 0) value))
-  any_chosen = record { tasks = 0; task = None; is = refl; }
-
-  pub first_picked : (due : Due) → d.first ≡ Some due → IsPicked d lines value (Some (event_of due))
-  first_picked due is = record {
-    chosen = chosen_event None (chosen_among (enabled d lines 0) value);
-    is_chosen = any_chosen;
-    rest = None;
-    is_rest = tt;
-    is = ap (λ (f : Option Due). or_chosen f (chosen_event None (chosen_among (enabled d lines 0) value)) None) (sym is);
-  }
-
-  pub chosen_picked : (e : Event) → d.first ≡ None → IsChosen d lines value (Some e) → IsPicked d lines value (Some e)
-  chosen_picked e none chosen = record {
-    chosen = Some e;
-    is_chosen = chosen;
-    rest = None;
-    is_rest = tt;
-    is = ap (λ (f : Option Due). or_chosen f (Some e) None) (sym none);
-  }
-
-  pub rest_picked : (rest : Option Due) → d.first ≡ None → IsChosen d lines value None → IsRest d rest → IsPicked d lines value (events_of rest)
-  rest_picked rest none chosen is_rest = record {
-    chosen = None;
-    is_chosen = chosen;
-    rest = rest;
-    is_rest = is_rest;
-    is = ap (λ (f : Option Due). or_chosen f None rest) (sym none);
-  }
+  pub task_chosen : (at : ℕ) (o : Option Event) → c ≡ Some (choice.Task at) → o ≡ run_of (slice_get d.tasks at) → o ≡ chosen_event d lines value
+  task_chosen at o some gives = gives ∙ sym (ap (λ (x : Option Choice). event_in d.tasks x) some) ∙ is_chosen

@@ -1,13 +1,13 @@
 -- The events that are enabled, in the order in which the schedule counts them, and the one that a value chooses: the
 -- submissions by session, the arrivals by brick, the services by brick, the tasks by graph and number, and then the next
 -- control without a condition; and what is picked. Ours.
-use Rattle.std.specs.Prelude.{◌≡◌, ℕ, List, [], ◌∷◌, ◌++◌, length, map, slice_get, Option, None, Some}
+use Rattle.std.specs.Prelude.{ℕ, List, [], ◌∷◌, ◌++◌, length, map, min, slice_get, Option, None, Some}
 use Rattle.std.specs.List.{range_with_len}
 use Rattle.script_lang.specs.declared.scripts.Action.{Action}
 use Rattle.hub_tables.specs.SmallSets.{numbers}
 use Rattle.hub_tables.specs.declared.actions.Due.{Due}
 use Rattle.hub_tables.specs.declared.actions.Due.TheVariants as due
-use Rattle.hub_calls.specs.Dues.{DueState, IsRest}
+use Rattle.hub_calls.specs.Dues.{DueState}
 use Rattle.world_bricks.specs.Lines.{LinesState, may_serve, may_arrive, bricks_where}
 use Rattle.world_bricks.specs.Schedules.{chosen_of}
 use Rattle.world_bricks.specs.declared.enabled.Choice.{Choice}
@@ -66,28 +66,26 @@ choice_by e value = chosen_among (choices e) value
 
 -- ---- what is picked
 
--- what is enabled of what is due in the hub, where so many tasks are ready, and of what these bricks have
-abbrev pub enabled : DueState → LinesState → ℕ → List Choice
-enabled d lines tasks = choices_of d.submits (bricks_where (may_arrive lines)) (bricks_where (may_serve lines)) tasks d.plain
+-- what is enabled of what is due in the hub and of what these bricks have
+abbrev pub enabled : DueState → LinesState → List Choice
+enabled d lines = choices_of d.submits (bricks_where (may_arrive lines)) (bricks_where (may_serve lines)) (min (length d.tasks) 4294967295) d.plain
 
 abbrev pub run_of : Option (ℕ × ℕ) → Option Event
 run_of None = None
 run_of (Some task) = Some (event.Run task.0 task.1)
 
-abbrev pub event_by : Option (ℕ × ℕ) → Choice → Option Event
-event_by task (choice.Event e) = Some e
-event_by task (choice.Task place) = run_of task
+abbrev pub event_by : List (ℕ × ℕ) → Choice → Option Event
+event_by tasks (choice.Event e) = Some e
+event_by tasks (choice.Task place) = run_of (slice_get tasks place)
 
--- the event that is chosen, where the ready task of this place is this one of this graph
-abbrev pub chosen_event : Option (ℕ × ℕ) → Option Choice → Option Event
-chosen_event task None = None
-chosen_event task (Some c) = event_by task c
+-- the event of a choice, where these tasks are ready
+abbrev pub event_in : List (ℕ × ℕ) → Option Choice → Option Event
+event_in tasks None = None
+event_in tasks (Some c) = event_by tasks c
 
--- The event that a value chooses among those that are enabled. How many tasks are ready, and which the chosen one is, is not seen.
-pub record IsChosen (d : DueState) (lines : LinesState) (value : ℕ) (chosen : Option Event) : Type 0 where
-  pub tasks : ℕ
-  pub task : Option (ℕ × ℕ)
-  pub is : chosen ≡ chosen_event task (chosen_among (enabled d lines tasks) value)
+-- the event that a value chooses among those that are enabled
+unfoldable pub chosen_event : DueState → LinesState → ℕ → Option Event
+chosen_event d lines value = event_in d.tasks (chosen_among (enabled d lines) value)
 
 abbrev pub or_rest : Option Event → Option Due → Option Event
 or_rest None rest = events_of rest
@@ -99,9 +97,5 @@ or_chosen (Some d) chosen rest = Some (event_of d)
 
 -- the event that a value picks: what goes before everything else; else the one that it chooses; else the first control that is
 -- left
-pub record IsPicked (d : DueState) (lines : LinesState) (value : ℕ) (picked : Option Event) : Type 0 where
-  pub chosen : Option Event
-  pub is_chosen : IsChosen d lines value chosen
-  pub rest : Option Due
-  pub is_rest : IsRest d rest
-  pub is : picked ≡ or_chosen d.first chosen rest
+unfoldable pub picked : DueState → LinesState → ℕ → Option Event
+picked d lines value = or_chosen d.first (chosen_event d lines value) d.rest

@@ -1,6 +1,6 @@
 -- The run of a seed: which events happen in it, and where it ends. Ours.
 use Rattle.std.specs.Prelude.{◌≡◌, ◌⊎◌, ℕ, zero, suc, false, List, [], ◌∷◌, length, None, Some}
-use Rattle.world_bricks.specs.Choices.{IsPicked}
+use Rattle.world_bricks.specs.Choices.{picked}
 use Rattle.world_bricks.specs.Schedules.{moved}
 use Rattle.world_bricks.specs.Worlds.{WorldState, Happens, HappensWhere}
 use Rattle.world_bricks.specs.declared.events.Event.{Event}
@@ -13,7 +13,7 @@ drawn x (suc n) = drawn (moved x) n
 -- the event that this value picks happens in a world, and then what follows of the world that it leaves
 pub record PicksThen (value : ℕ) (e : Event) (w : WorldState) (follows : WorldState → Type 0) : Type 0 where
   pub after : WorldState
-  pub picked : IsPicked w.due w.lines value (Some e)
+  pub is_picked : picked w.due w.lines value ≡ Some e
   pub happens : Happens w.script e w.log w.lines after.log after.lines
   pub same : (after.script ≡ w.script) × (after.plans ≡ w.plans)
   pub then_follows : follows after
@@ -26,15 +26,15 @@ ArePicked x (e ∷ es) w after = PicksThen (moved x) e w (λ next. ArePicked (mo
 -- what this value picks does not happen
 pub record PicksInVain (value : ℕ) (w : WorldState) : Type 0 where
   pub event : Event
-  pub picked : IsPicked w.due w.lines value (Some event)
+  pub is_picked : picked w.due w.lines value ≡ Some event
   pub vain : HappensWhere event w.script w.lines false
 
 -- a run has ended, after so many events: no event is left, or what is picked does not happen, or they are as many as a u64 counts
 abbrev pub HasEnded : ℕ → ℕ → WorldState → Type 0
-HasEnded x many w = IsPicked w.due w.lines (moved x) None ⊎ PicksInVain (moved x) w ⊎ (many ≡ 18446744073709551615)
+HasEnded x many w = (picked w.due w.lines (moved x) ≡ None) ⊎ PicksInVain (moved x) w ⊎ (many ≡ 18446744073709551615)
 
 -- the run of a seed leads from one world to the other
 pub record IsRunOf (seed : ℕ) (w after : WorldState) : Type 0 where
   pub events : List Event
-  pub picked : ArePicked seed events w after
+  pub are_picked : ArePicked seed events w after
   pub ended : HasEnded (drawn seed (length events)) (length events) after

@@ -1,8 +1,8 @@
-ghost use Rattle.std.specs.Prelude.{◌≡◌, [], None, Some, true, false, length, OnOk, IfOk, IfErr};
+ghost use Rattle.std.specs.Prelude.{◌≡◌, [], None, Some, true, false, length, min, OnOk, IfOk, IfErr};
 ghost use Rattle.hub_calls.specs.Hubs.{StaysStopped};
 ghost use Rattle.mount_log.specs.Scripts.{IsScript};
 ghost use Rattle.hub_tables.specs.SmallSets.{numbers};
-ghost use Rattle.world_bricks.specs.Choices.{run_of, IsChosen, IsPicked};
+ghost use Rattle.world_bricks.specs.Choices.{run_of, chosen_event, picked};
 ghost use Rattle.world_bricks.specs.Lines.{new_lines, with_sent, may_serve, may_arrive, bricks_where};
 ghost use Rattle.world_bricks.specs.Runs.{IsRunOf};
 ghost use Rattle.world_bricks.specs.Worlds.{Happens, HappensWhere, IsReached};
@@ -103,6 +103,7 @@ impl World {
         ensures submits { numbers result.submits ≡ self.now.due.submits }
         ensures arriving { numbers result.arriving ≡ bricks_where (may_arrive self.now.lines) }
         ensures serving { numbers result.serving ≡ bricks_where (may_serve self.now.lines) }
+        ensures tasks { result.tasks ≡ min (length self.now.due.tasks) 4294967295 }
         ensures plain { result.plain ≡ self.now.due.plain }
     {
         Enabled {
@@ -117,7 +118,7 @@ impl World {
     // One of the events that are enabled, by a value of the schedule.
     #[tactic(auto, using(crate::proofs::Picked::none_chosen, crate::proofs::Picked::event_chosen, crate::proofs::Picked::task_chosen))]
     fn choose(&self, value: u64) -> Option<Event>
-        ensures { IsChosen self.now.due self.now.lines value result }
+        ensures { result ≡ chosen_event self.now.due self.now.lines value }
     {
         let enabled = self.enabled();
         match enabled.chosen(value) {
@@ -129,9 +130,9 @@ impl World {
 
     /// The next event, by a value of the schedule: what goes before everything else; else one of the events that are
     /// enabled; else the first control that is left.
-    #[tactic(auto, using(crate::proofs::Picked::first_picked, crate::proofs::Picked::chosen_picked, crate::proofs::Picked::rest_picked))]
+    #[tactic(auto, unfolding(crate::specs::Choices::picked))]
     pub fn pick(&self, value: u64) -> Option<Event>
-        ensures { IsPicked self.now.due self.now.lines value result }
+        ensures { result ≡ picked self.now.due self.now.lines value }
     {
         match self.parts.hub.first() {
             Some(due) => Some(event_of(due)),
@@ -184,7 +185,7 @@ impl World {
 
     /// Whether each call has its reply, each control was carried out, and nothing else is left.
     pub fn is_finished(&self) -> bool
-        ensures { result ≡ true → self.now.due.finished ≡ true }
+        ensures { result ≡ self.now.due.finished }
     {
         self.parts.hub.is_finished()
     }

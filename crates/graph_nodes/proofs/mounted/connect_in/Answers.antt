@@ -3,6 +3,8 @@ use Rattle.std.specs.Prelude.{ℕ}
 use Rattle.std.specs.BTreeMap.{BTreeMap, get, keys}
 use Rattle.std.specs.Ordering.{nat_cmp}
 use Rattle.graph_nodes.specs.declared.graph.Graph.{Graph}
+use Rattle.graph_nodes.specs.Ready.{tasks_in}
+use Rattle.graph_nodes.proofs.Ready.{called_tasks}
 use Rattle.graph_nodes.proofs.Together.{called_through, all_same, not_absent}
 use Rattle.graph_nodes.proofs.mounted.connect_in.Goals as goal
 
@@ -21,3 +23,9 @@ returns-in-None-clause-numbers c = ap (λ (m : BTreeMap ℕ Graph). keys m) c.ge
 
 pub returns-in-Some-clause-absent : goal.returns-in-Some-clause-absent
 returns-in-Some-clause-absent c = not_absent _ c.in-Some.graph.now (get nat_cmp c.args.live.now c.args.number) c.in-Some.ensures.value
+
+pub returns-in-Some-clause-tasks : goal.returns-in-Some-clause-tasks
+returns-in-Some-clause-tasks c = called_tasks c.args.live.now _ c.args.number c.in-Some.graph.now c.connect_next.new.graph c.in-Some.ensures.value (c.get_mut.follows.holds c.connect_next.new.graph) c.connect_next.ensures.ready
+
+pub returns-in-None-clause-tasks : goal.returns-in-None-clause-tasks
+returns-in-None-clause-tasks c = ap (λ (m : BTreeMap ℕ Graph). tasks_in m.entries) c.get_mut.follows.holds-at-none

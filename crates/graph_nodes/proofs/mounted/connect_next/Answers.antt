@@ -3,6 +3,7 @@ use Rattle.std.specs.Prelude.{map}
 use Rattle.frame_driver.specs.declared.board.Board.{Board}
 use Rattle.graph_items.specs.declared.items.Down.{Down}
 use Rattle.graph_items.specs.declared.items.Up.{Up}
+use Rattle.graph_nodes.specs.declared.context.Context.{Context}
 use Rattle.graph_nodes.specs.declared.locals.Local.{Local}
 use Rattle.graph_nodes.specs.Promises.{node_promise}
 use Rattle.graph_nodes.proofs.Living.{turned_live, keeps_all}
@@ -19,3 +20,6 @@ returns-clause-stays c = λ mount ps live. live
 
 pub returns-clause-kept : goal.returns-clause-kept
 returns-clause-kept c = λ mount. keeps_all c.args.graph.now c.args.graph.now mount refl
+
+pub returns-then-free-clause-ready : goal.returns-then-free-clause-ready
+returns-then-free-clause-ready c = ap (λ (x : Context). x.ready.keys) c.connect-number.ensures.connected

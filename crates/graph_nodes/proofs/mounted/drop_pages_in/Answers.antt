@@ -2,6 +2,8 @@ use Rattle.std.proofs.Common.{ap}
 use Rattle.std.specs.Prelude.{ℕ, is_some}
 use Rattle.std.specs.BTreeMap.{BTreeMap, keys}
 use Rattle.graph_nodes.specs.declared.graph.Graph.{Graph}
+use Rattle.graph_nodes.specs.Ready.{tasks_in}
+use Rattle.graph_nodes.proofs.Ready.{called_tasks}
 use Rattle.graph_nodes.proofs.Together.{called_through, all_same}
 use Rattle.graph_nodes.proofs.mounted.drop_pages_in.Goals as goal
 
@@ -23,3 +25,9 @@ returns-in-Some-clause-there c = ap is_some c.in-Some.ensures.value
 
 pub returns-in-None-clause-there : goal.returns-in-None-clause-there
 returns-in-None-clause-there c = ap is_some c.in-None.ensures.value
+
+pub returns-in-Some-clause-tasks : goal.returns-in-Some-clause-tasks
+returns-in-Some-clause-tasks c = called_tasks c.args.live.now _ c.args.number c.in-Some.graph.now c.drop_pages_of.new.graph c.in-Some.ensures.value (c.get_mut.follows.holds c.drop_pages_of.new.graph) c.drop_pages_of.ensures.ready
+
+pub returns-in-None-clause-tasks : goal.returns-in-None-clause-tasks
+returns-in-None-clause-tasks c = ap (λ (m : BTreeMap ℕ Graph). tasks_in m.entries) c.get_mut.follows.holds-at-none
