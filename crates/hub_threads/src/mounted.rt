@@ -1,4 +1,4 @@
-ghost use Rattle.std.specs.Prelude.{◌≡◌, IfOk, IsErrOf};
+ghost use Rattle.std.specs.Prelude.{◌≡◌, IfOk, OnErr};
 ghost use Rattle.mount_log.specs.Scripts.{IsScript};
 
 use crate::desk::{Desk, Ended};
@@ -11,7 +11,7 @@ use fop_types::Seq;
 use graph_build::Plan;
 use hub_calls::Rack;
 use script_lang::Script;
-use std::alloc::Global;
+use std::alloc::{AllocError, Global};
 use std::marker::Brand;
 use std::sync::atomic::{AtomicBool, Ordering};
 use std::sync::{Mutex, Wait};
@@ -100,11 +100,13 @@ fn go_on_alone<M: Mounting, R: Wait, G: Gate>(
     true
 }
 
-/// The script that was run, with the plans of its volfiles.
+/// What a mount gives back: the script that it ran, with the plans of its volfiles, and whether a further wind was needed
+/// where 4,294,967,295 were opened.
 #[derive(Drop)]
 pub struct Ran {
     pub script: Script,
     pub plans: Seq<Plan>,
+    pub is_out_of_winds: bool,
 }
 
 // A thread does what its post is.
@@ -142,33 +144,40 @@ fn run_threads<M: Mounting + Send + Sync, R: Threads + Wait + Clock + Sync, G: G
     desk.into_inner()
 }
 
-// Why a run did not come to its end, if it did not.
-fn came_to_end(stop: Option<Stop>, whole: bool) -> Result<(), Stop> {
+// Whether a run needed a further wind; an error where it ran out of memory.
+fn ran_out(stop: Option<Stop>, whole: bool) -> Result<bool, AllocError> {
     match stop {
-        Some(stop) => Err(stop),
-        None => { if whole { Ok(()) } else { Err(Stop::Mem) } }
+        Some(Stop::Winds) => Ok(true),
+        Some(Stop::Mem) => Err(AllocError),
+        None => { if whole { Ok(false) } else { Err(AllocError) } }
     }
 }
 
 // What a run has left goes into the rack, but for one that ran out of memory.
-fn put_left(end: Result<(), Stop>, ran: Ran, left: Rack, rack: &mut Rack) -> Result<Ran, Stop>
-    ensures kept { IfOk result (λ r. r ≡ ran) }
-    ensures memory { IsErrOf result Stop.Mem → rack.new ≡ rack.old }
+fn put_left(
+    ended: Result<bool, AllocError>,
+    script: Script,
+    plans: Seq<Plan>,
+    left: Rack,
+    rack: &mut Rack,
+) -> Result<Ran, AllocError>
+    ensures kept { IfOk result (λ ran. (ran.script ≡ script) × (ran.plans ≡ plans)) }
+    ensures memory { OnErr result (rack.new ≡ rack.old) }
 {
-    match end {
-        Ok(()) => {
+    match ended {
+        Ok(is_out_of_winds) => {
             drop(mem::replace(rack, left));
-            Ok(ran)
+            Ok(Ran {
+                script,
+                plans,
+                is_out_of_winds,
+            })
         }
-        Err(Stop::Winds) => {
-            drop(mem::replace(rack, left));
-            drop(ran);
-            Err(Stop::Winds)
-        }
-        Err(Stop::Mem) => {
+        Err(error) => {
             drop(left);
-            drop(ran);
-            Err(Stop::Mem)
+            drop(script);
+            drop(plans);
+            Err(error)
         }
     }
 }
@@ -179,9 +188,9 @@ fn leave(
     posts: Vec<Post>,
     whole: bool,
     rack: &mut Rack,
-) -> Result<Ran, Stop>
+) -> Result<Ran, AllocError>
     ensures kept { IfOk result (λ ran. (ran.script ≡ ended.script) × (ran.plans ≡ ended.plans)) }
-    ensures memory { IsErrOf result Stop.Mem → rack.new ≡ rack.old }
+    ensures memory { OnErr result (rack.new ≡ rack.old) }
 {
     let Ended {
         script,
@@ -189,13 +198,19 @@ fn leave(
         log,
         stop,
     } = ended;
-    let ran = Ran { script, plans };
     match bricks_of(alloc, posts) {
-        Ok(bricks) => put_left(came_to_end(stop, whole), ran, Rack { bricks, log }, rack),
-        Err(_) => {
+        Ok(bricks) => put_left(
+            ran_out(stop, whole),
+            script,
+            plans,
+            Rack { bricks, log },
+            rack,
+        ),
+        Err(error) => {
             drop(log);
-            drop(ran);
-            Err(Stop::Mem)
+            drop(script);
+            drop(plans);
+            Err(error)
         }
     }
 }
@@ -209,11 +224,11 @@ fn mount_picked<M: Mounting + Send + Sync, R: Threads + Wait + Clock + Sync, G: 
     workers: u8,
     gate: &G,
     rack: &mut Rack,
-) -> Result<Ran, Stop>
+) -> Result<Ran, AllocError>
     requires script { IsScript script plans }
     requires picked { (script ≡ M.script) × (plans ≡ M.plans) }
     ensures kept { IfOk result (λ ran. (ran.script ≡ M.script) × (ran.plans ≡ M.plans)) }
-    ensures memory { IsErrOf result Stop.Mem → rack.new ≡ rack.old }
+    ensures memory { OnErr result (rack.new ≡ rack.old) }
 {
     match places_of(alloc, &script, plans.as_slice(), workers) {
         Ok(Places { ends, posts }) => {
@@ -224,27 +239,26 @@ fn mount_picked<M: Mounting + Send + Sync, R: Threads + Wait + Clock + Sync, G: 
                     let whole = go_on_alone(rt, alloc, &mut desk, posts.as_mut_slice(), gate);
                     leave(alloc, desk.into_ended(), posts, whole, rack)
                 }
-                Err(_) => {
+                Err(error) => {
                     drop(posts);
-                    Err(Stop::Mem)
+                    Err(error)
                 }
             }
         }
-        Err(_) => {
+        Err(error) => {
             drop(script);
             drop(plans);
-            Err(Stop::Mem)
+            Err(error)
         }
     }
 }
 
 /// Runs a script, which is one that `script_lang::parse` gives, with the plans of its volfiles, by one thread for each
-/// brick and so many that take the hub's turns, at least one. The rack, which is empty, has the bricks and the log
-/// afterwards, and the script is given back with its plans.
+/// brick and so many that take the hub's turns, one where that is 0. The rack, which is empty, has the bricks and the log
+/// afterwards, also where the winds ran out, and the script is given back with its plans.
 ///
 /// # Errors
-/// `Winds` where a further wind was needed and 4,294,967,295 were opened, and the rack is filled; else out of memory, and
-/// the rack is as it was.
+/// Out of memory, and the rack is as it was.
 pub fn mount<R: Threads + Wait + Clock + Sync, G: Gate + Sync>(
     rt: &R,
     alloc: Global,
@@ -253,10 +267,10 @@ pub fn mount<R: Threads + Wait + Clock + Sync, G: Gate + Sync>(
     workers: u8,
     gate: &G,
     rack: &mut Rack,
-) -> Result<Ran, Stop>
+) -> Result<Ran, AllocError>
     requires { IsScript script plans }
     ensures kept { IfOk result (λ ran. (ran.script ≡ script) × (ran.plans ≡ plans)) }
-    ensures memory { IsErrOf result Stop.Mem → rack.new ≡ rack.old }
+    ensures memory { OnErr result (rack.new ≡ rack.old) }
 {
     mount_picked::<Brand, R, G>(rt, alloc, script, plans, workers, gate, rack)
 }

@@ -71,13 +71,13 @@ impl Places {
     }
 
     fn add_workers(&mut self, workers: u8) -> Result<(), AllocError> {
-        for _ in 0..workers {
+        for _ in 0..workers.max(1) {
             self.add_post(Post::Worker)?;
         }
         Ok(())
     }
 
-    // Each brick of a script has its owner, and then there are so many workers.
+    // Each brick of a script has its owner, and then there are so many workers, one at least.
     fn fill(
         &mut self,
         alloc: Global,

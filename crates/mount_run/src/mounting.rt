@@ -15,40 +15,52 @@ use std::time::Clock;
 use xl_base::Sink;
 use xlator_law::Stop;
 
-/// Runs a script by one thread for each brick and so many that take the hub's turns, and writes its report. The mount shows
-/// nobody its script, so it is here twice: for the threads, and for the audits of what they leave.
+/// Runs a script by one thread for each brick and so many that take the hub's turns, and writes its report.
 pub fn mount_read<R: Threads + Wait + Clock + Sync, K: Sink>(
     rt: &R,
     alloc: Global,
     read: Accepted,
-    again: Accepted,
     workers: u8,
     sink: &mut K,
     rack: &mut Rack,
 ) -> u8
     requires sink { K.faults sink.old < 2 ^ 64 - 1 }
-    requires first { IsScript read.script read.plans }
-    requires script { IsScript again.script again.plans }
+    requires script { IsScript read.script read.plans }
     ensures statuses { IsRunStatus result }
-    ensures ran { result ≡ 0 → IsWritten again.script again.plans (K.taken sink.old) (K.taken sink.new) rack.new }
-    ensures write_fault { result ≡ 4 → (K.faults sink.old < K.faults sink.new) × IsCutShort again.script again.plans (K.taken sink.old) (K.taken sink.new) rack.new }
+    ensures ran { result ≡ 0 → IsWritten read.script read.plans (K.taken sink.old) (K.taken sink.new) rack.new }
+    ensures write_fault { result ≡ 4 → (K.faults sink.old < K.faults sink.new) × IsCutShort read.script read.plans (K.taken sink.old) (K.taken sink.new) rack.new }
     ensures memory { result ≡ 5 → (sink.new ≡ sink.old) × (rack.new ≡ rack.old) }
     ensures unlawful { result ≡ 6 → (sink.new ≡ sink.old) × (rack.new ≡ rack.old) }
-    ensures winds { result ≡ 7 → (sink.new ≡ sink.old) × IsStopped again.script rack.new.log rack.new.bricks }
+    ensures winds { result ≡ 7 → (sink.new ≡ sink.old) × IsStopped read.script rack.new.log rack.new.bricks }
 {
     let Accepted { script, plans } = read;
     let mut left = Rack::new(alloc);
-    let ran = mount(rt, alloc, script, plans, workers, &OpenGate, &mut left);
-    let made = report_left(
-        alloc,
-        &again.script,
-        again.plans.as_slice(),
-        ran_well(ran),
-        left,
-        rack,
-    );
-    drop(again);
-    match made {
+    match mount(rt, alloc, script, plans, workers, &OpenGate, &mut left) {
+        Ok(ran) => write_left(alloc, ran, left, sink, rack),
+        Err(_) => {
+            drop(left);
+            5
+        }
+    }
+}
+
+// What a mount has left goes into the rack, and its report is written, where it passes the audits.
+fn write_left<K: Sink>(alloc: Global, ran: Ran, left: Rack, sink: &mut K, rack: &mut Rack) -> u8
+    requires sink { K.faults sink.old < 2 ^ 64 - 1 }
+    requires script { IsScript ran.script ran.plans }
+    ensures statuses { IsRunStatus result }
+    ensures ran { result ≡ 0 → IsWritten ran.script ran.plans (K.taken sink.old) (K.taken sink.new) rack.new }
+    ensures write_fault { result ≡ 4 → (K.faults sink.old < K.faults sink.new) × IsCutShort ran.script ran.plans (K.taken sink.old) (K.taken sink.new) rack.new }
+    ensures memory { result ≡ 5 → (sink.new ≡ sink.old) × (rack.new ≡ rack.old) }
+    ensures unlawful { result ≡ 6 → (sink.new ≡ sink.old) × (rack.new ≡ rack.old) }
+    ensures winds { result ≡ 7 → (sink.new ≡ sink.old) × IsStopped ran.script rack.new.log rack.new.bricks }
+{
+    let Ran {
+        script,
+        plans,
+        is_out_of_winds,
+    } = ran;
+    match report_left(alloc, &script, plans.as_slice(), end_of(is_out_of_winds), left, rack) {
         Ok(Some(report)) => write(sink, report.as_slice(), 0),
         Ok(None) => 6,
         Err(Stop::Mem) => 5,
@@ -56,9 +68,6 @@ pub fn mount_read<R: Threads + Wait + Clock + Sync, K: Sink>(
     }
 }
 
-fn ran_well(ran: Result<Ran, Stop>) -> Result<(), Stop> {
-    match ran {
-        Ok(_) => Ok(()),
-        Err(stop) => Err(stop),
-    }
+fn end_of(is_out_of_winds: bool) -> Result<(), Stop> {
+    if is_out_of_winds { Err(Stop::Winds) } else { Ok(()) }
 }

@@ -9,7 +9,7 @@ use crate::mounting::mount_read;
 use crate::running::run_read;
 use hub_calls::Rack;
 use script_commands::{
-    Command, check_read, command_in, read_script, read_twice, refuse_all, write_verdict,
+    Command, check_read, command_in, read_script, refuse_all, write_verdict,
 };
 use std::alloc::Global;
 use std::sync::Wait;
@@ -156,8 +156,8 @@ pub fn top_mount<R: Threads + Wait + Clock + Sync, S: Source, K: Sink>(
     let Some(Command::Mount(workers)) = command_in(words) else {
         return 2;
     };
-    match read_twice(alloc, source) {
-        Ok((read, again)) => mount_read(rt, alloc, read, again, workers, sink, rack),
+    match read_script(alloc, source) {
+        Ok(read) => mount_read(rt, alloc, read, workers, sink, rack),
         Err(not_read) => refuse_all(alloc, not_read, sink),
     }
 }

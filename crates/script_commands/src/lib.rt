@@ -30,7 +30,7 @@ pub use generator::{Draws, generated};
 pub use head_sinks::HeadSink;
 pub use meanings::{Meaning, meaning_of};
 pub use plans::{Accepted, accept};
-pub use readings::{NotRead, read_script, read_twice};
+pub use readings::{NotRead, read_script};
 pub use refusals::Refusal;
 pub use verdicts::write_verdict;
 pub use writes::{check_read, refuse_all, write};
