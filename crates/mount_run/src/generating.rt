@@ -1,10 +1,11 @@
 //! A script that a number generates, which is run and summed up.
-ghost use Rattle.std.specs.Prelude.{◌≡◌, ◌<◌, ◌-◌, ◌^◌, None, IfOk, IfSome, IfNone, IsErrOf};
+ghost use Rattle.std.specs.Prelude.{◌≡◌, ◌<◌, ◌-◌, ◌^◌, None, IsOk, IfOk, IfSome, IfNone, IsErrOf};
 ghost use Rattle.mount_log.specs.Scripts.{IsScript};
 ghost use Rattle.run_report.specs.Summaries.{summary_text};
 ghost use Rattle.run_judge.specs.Headline.{IsLawfulRun};
 ghost use Rattle.run_judge.specs.Stopped.{IsStopped};
 ghost use Rattle.mount_run.specs.Outcomes.{empty_rack, IsRunStatus, IsSummedUp, IsSummedUpShort, Generated, GeneratedUnwritten, WindsRanOut};
+ghost use Rattle.mount_run.specs.Seeds.{IsSeeded, RanBySeed};
 
 use crate::racks::{put_left, stopped};
 use fop_types::Seq;
@@ -53,6 +54,7 @@ pub fn generate<K: Sink>(alloc: Global, number: u64, sink: &mut K, rack: &mut Ra
     ensures memory { result ≡ 5 → (sink.new ≡ sink.old) × (rack.new ≡ empty_rack) }
     ensures unlawful { result ≡ 6 → (sink.new ≡ sink.old) × (rack.new ≡ empty_rack) }
     ensures winds { result ≡ 7 → (sink.new ≡ sink.old) × WindsRanOut None rack.new }
+    ensures seeded { result ≡ 0 → RanBySeed number None rack.new }
 {
     let Ok(text) = generated_by(alloc, number) else {
         return 5;
@@ -82,6 +84,7 @@ fn generate_read<K: Sink>(
     ensures memory { result ≡ 5 → (sink.new ≡ sink.old) × (rack.new ≡ rack.old) }
     ensures unlawful { result ≡ 6 → (sink.new ≡ sink.old) × (rack.new ≡ rack.old) }
     ensures winds { result ≡ 7 → (sink.new ≡ sink.old) × IsStopped read.script rack.new.log rack.new.bricks }
+    ensures seeded { result ≡ 0 → IsSeeded number read.script read.plans rack.new }
 {
     let Accepted { script, plans } = read;
     match run_generated(alloc, script, plans, number, rack) {
@@ -105,6 +108,7 @@ fn run_generated(
     ensures unlawful { IfOk result (λ o. IfNone o (rack.new ≡ rack.old)) }
     ensures winds { IsErrOf result Stop.Winds → IsStopped script rack.new.log rack.new.bricks }
     ensures memory { IsErrOf result Stop.Mem → rack.new ≡ rack.old }
+    ensures seeded { IfOk result (λ o. IfSome o (λ line. IsSeeded number script plans rack.new)) }
 {
     let mut world = World::new(alloc, script, plans)?;
     let ran = world.run(alloc, number);
@@ -128,6 +132,7 @@ fn line_left(
     ensures unlawful { IfOk result (λ o. IfNone o (rack.new ≡ rack.old)) }
     ensures winds { IsErrOf result Stop.Winds → IsStopped script.now rack.new.log rack.new.bricks }
     ensures memory { IsErrOf result Stop.Mem → rack.new ≡ rack.old }
+    ensures kept { IfOk result (λ o. IfSome o (λ line. (rack.new ≡ left) × IsOk ran)) }
 {
     match ran {
         Ok(()) => {

@@ -1,9 +1,10 @@
 //! A script that is run in one thread, and the report of what a run left.
-ghost use Rattle.std.specs.Prelude.{◌≡◌, ◌<◌, ◌-◌, ◌^◌, IfOk, IfSome, IfNone, IsErrOf};
+ghost use Rattle.std.specs.Prelude.{◌≡◌, ◌<◌, ◌-◌, ◌^◌, IsOk, IfOk, IfSome, IfNone, IsErrOf};
 ghost use Rattle.mount_log.specs.Scripts.{IsScript};
 ghost use Rattle.run_judge.specs.Headline.{IsLawfulRun};
 ghost use Rattle.run_judge.specs.Stopped.{IsStopped};
 ghost use Rattle.mount_run.specs.Outcomes.{text_of, IsRunStatus, IsWritten, IsCutShort};
+ghost use Rattle.mount_run.specs.Seeds.{IsSeeded};
 
 use crate::racks::{put_left, stopped};
 use fop_types::Seq;
@@ -33,6 +34,7 @@ pub fn run_read<K: Sink>(
     ensures memory { result ≡ 5 → (sink.new ≡ sink.old) × (rack.new ≡ rack.old) }
     ensures unlawful { result ≡ 6 → (sink.new ≡ sink.old) × (rack.new ≡ rack.old) }
     ensures winds { result ≡ 7 → (sink.new ≡ sink.old) × IsStopped read.script rack.new.log rack.new.bricks }
+    ensures seeded { result ≡ 0 → IsSeeded seed read.script read.plans rack.new }
 {
     let Accepted { script, plans } = read;
     match run_script(alloc, script, plans, seed, rack) {
@@ -58,6 +60,7 @@ fn run_script(
     ensures unlawful { IfOk result (λ o. IfNone o (rack.new ≡ rack.old)) }
     ensures winds { IsErrOf result Stop.Winds → IsStopped script rack.new.log rack.new.bricks }
     ensures memory { IsErrOf result Stop.Mem → rack.new ≡ rack.old }
+    ensures seeded { IfOk result (λ o. IfSome o (λ report. IsSeeded seed script plans rack.new)) }
 {
     let mut world = World::new(alloc, script, plans)?;
     let ran = world.run(alloc, seed);
@@ -80,6 +83,7 @@ pub fn report_left(
     ensures unlawful { IfOk result (λ o. IfNone o (rack.new ≡ rack.old)) }
     ensures winds { IsErrOf result Stop.Winds → IsStopped script.now rack.new.log rack.new.bricks }
     ensures memory { IsErrOf result Stop.Mem → rack.new ≡ rack.old }
+    ensures kept { IfOk result (λ o. IfSome o (λ report. (rack.new ≡ left) × IsOk ran)) }
 {
     match ran {
         Ok(()) => {

@@ -3,6 +3,7 @@ ghost use Rattle.std.specs.String.{string_bytes};
 ghost use Rattle.script_commands.specs.Commands.{command_of, without_threads, mount_command};
 ghost use Rattle.script_commands.specs.declared.commands.Command.TheVariants.{Replay};
 ghost use Rattle.mount_run.specs.Outcomes.{empty_rack, Succeeded, IsUnlawful, RunHeldBack, RefusedBy, Refused, RefusedUnwritten, RefusedLine, RefusedLineUnwritten, Unwritten, Checked, CheckedUnwritten, Ran, RanUnwritten, Judged, JudgedUnwritten, RanOutOfWinds, WindsRanOut};
+ghost use Rattle.mount_run.specs.Seeds.{RanBySeed, RanAsSeeded};
 
 use crate::generating::generate;
 use crate::mounting::mount_read;
@@ -51,6 +52,7 @@ pub fn top<S: Source, K: Sink>(
     ensures unlawful { result ≡ 6 → IsUnlawful (without_threads (command_of (map string_bytes words.now))) (S.left source.old) (K.taken sink.old) (K.taken sink.new) rack.new }
     ensures held_back { result ≡ 6 → (without_threads (command_of (map string_bytes words.now)) ≡ Some Replay) ⊎ (sink.new ≡ sink.old) }
     ensures winds { result ≡ 7 → (sink.new ≡ sink.old) × RanOutOfWinds (without_threads (command_of (map string_bytes words.now))) (S.left source.old) rack.new }
+    ensures seeded { result ≡ 0 → RanAsSeeded (without_threads (command_of (map string_bytes words.now))) (S.left source.old) rack.new }
 {
     match command_in(words) {
         None => 2,
@@ -120,6 +122,7 @@ fn run<S: Source, K: Sink>(
     ensures memory { result ≡ 5 → (sink.new ≡ sink.old) × (rack.new ≡ empty_rack) }
     ensures unlawful { result ≡ 6 → (sink.new ≡ sink.old) × RunHeldBack (S.left source.old) (K.taken sink.old) (K.taken sink.new) rack.new }
     ensures winds { result ≡ 7 → (sink.new ≡ sink.old) × WindsRanOut (S.left source.old) rack.new }
+    ensures seeded { result ≡ 0 → RanBySeed seed (S.left source.old) rack.new }
 {
     match read_script(alloc, source) {
         Ok(read) => run_read(alloc, read, seed, sink, rack),
