@@ -1,5 +1,5 @@
 //! Moves of actions.
-ghost use Rattle.std.specs.Prelude.{◌≡◌, true, length};
+ghost use Rattle.std.specs.Prelude.{◌≡◌, length};
 ghost use Rattle.hub_calls.specs.Dues.{is_quiet};
 ghost use Rattle.hub_calls.specs.Hubs.{is_of_brick as of_brick};
 

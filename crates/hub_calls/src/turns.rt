@@ -1,5 +1,5 @@
 //! The turn of an event: what is to be done until nothing is left, and what closes it.
-ghost use Rattle.std.specs.Prelude.{◌≡◌, true, false, nat_lt, length, OnOk, IfErr};
+ghost use Rattle.std.specs.Prelude.{◌≡◌, ◌&&◌, not, nat_lt, length, OnOk, IfErr};
 ghost use Rattle.hub_calls.specs.Dues.{is_quiet};
 ghost use Rattle.hub_calls.specs.Hubs.{AddsEvent, IsAfterStop};
 
