@@ -9,7 +9,7 @@ pub returns-clause-happens : goal.returns-clause-happens
 returns-clause-happens c = λ _.
     let old : LinesState = c.args.self.now.lines in
     let taken : c.take_output.new.self ≡ with_arrival old c.args.brick =
-        subst (λ (o : Option (List ℕ)). MatchOption o (c.take_output.new.self ≡ old) (λ _. c.take_output.new.self ≡ with_arrival old c.args.brick)) c.in-Some.is c.in_ok-output.ensures.taken in
+    subst (λ (o : Option (List ℕ)). MatchOption o (c.take_output.new.self ≡ old) (λ _. c.take_output.new.self ≡ with_arrival old c.args.brick)) c.in-Some.is c.in_ok-output.ensures.taken in
     let hub : c.deliver.new.self.hub ≡ c.arrive.new.self = c.in_ok-deliver.ensures.hub in
     record {
       output = c.in-Some.output;
