@@ -42,11 +42,11 @@ impl Model for Hub {
     ghost Value = { HubState };
 
     ghost view = { λ h. record {
-        script = h.planned.script;
-        plans = h.planned.plans;
-        log = h.log;
-        due = due_of (length h.planned.script.phases) h.parts.progress h.parts.turn.controls h.parts.internal h.parts.turn.bricks.owed h.parts.graphs.nodes.tasks;
-        stop = h.stop
+      script = h.planned.script;
+      plans = h.planned.plans;
+      log = h.log;
+      due = due_of (length h.planned.script.phases) h.parts.progress h.parts.turn.controls h.parts.internal h.parts.turn.bricks.owed h.parts.graphs.nodes.tasks;
+      stop = h.stop;
     } };
 
     ghost invariant = { λ h. MatchOption h.stop (AreLeft h.planned.script h.log.events h.planned.left) (λ _. Unit {0}) };

@@ -60,7 +60,14 @@ fn write_left<K: Sink>(alloc: Global, ran: Ran, left: Rack, sink: &mut K, rack: 
         plans,
         is_out_of_winds,
     } = ran;
-    match report_left(alloc, &script, plans.as_slice(), end_of(is_out_of_winds), left, rack) {
+    match report_left(
+        alloc,
+        &script,
+        plans.as_slice(),
+        end_of(is_out_of_winds),
+        left,
+        rack,
+    ) {
         Ok(Some(report)) => write(sink, report.as_slice(), 0),
         Ok(None) => 6,
         Err(Stop::Mem) => 5,
@@ -69,5 +76,9 @@ fn write_left<K: Sink>(alloc: Global, ran: Ran, left: Rack, sink: &mut K, rack: 
 }
 
 fn end_of(is_out_of_winds: bool) -> Result<(), Stop> {
-    if is_out_of_winds { Err(Stop::Winds) } else { Ok(()) }
+    if is_out_of_winds {
+        Err(Stop::Winds)
+    } else {
+        Ok(())
+    }
 }

@@ -9,9 +9,7 @@ use crate::generating::generate;
 use crate::mounting::mount_read;
 use crate::running::run_read;
 use hub_calls::Rack;
-use script_commands::{
-    Command, check_read, command_in, read_script, refuse_all, write_verdict,
-};
+use script_commands::{Command, check_read, command_in, read_script, refuse_all, write_verdict};
 use std::alloc::Global;
 use std::sync::Wait;
 use std::thread::Threads;

@@ -34,9 +34,9 @@ module _ (set : SmallSet) (test : ℕ → Bool) (same : (k : ℕ) → k < 64 →
   same_from zero n le = refl
   same_from (suc more) n le =
       let first : with_number (has set n) n (numbers_from set (n + 1) more) ≡ with_number (test n) n (numbers_from set (n + 1) more)
-          = ap (λ (b : Bool). with_number b n (numbers_from set (n + 1) more)) (same n (omega (arith, le))) in
+      = ap (λ (b : Bool). with_number b n (numbers_from set (n + 1) more)) (same n (omega (arith, le))) in
       let rest : with_number (test n) n (numbers_from set (n + 1) more) ≡ with_number (test n) n (filter test (range_with_len (n + 1) more))
-          = ap (λ (ns : List ℕ). with_number (test n) n ns) (same_from more (n + 1) (omega (arith, le))) in
+      = ap (λ (ns : List ℕ). with_number (test n) n ns) (same_from more (n + 1) (omega (arith, le))) in
       first ∙ rest ∙ as_filtered (test n) n (filter test (range_with_len (n + 1) more))
 
   numbers_where : numbers set ≡ bricks_where test
@@ -61,7 +61,7 @@ module _ (lines : LinesState) where
   pub all_serving : (n : ℕ) (set : SmallSet) → min (length lines.bricks) 64 ≤ n → AreBelow (may_serve lines) n set → numbers set ≡ bricks_where (may_serve lines)
   all_serving n set all so_far = numbers_where set (may_serve lines) (all_below (may_serve lines) n set (λ k low past. past_serving k (omega (arith, all, low, past))) so_far)
 
--- ---- the bricks with an output that has not arrived
+  -- ---- the bricks with an output that has not arrived
 
   past_arriving : (k : ℕ) → length lines.bricks ≤ k → may_arrive lines k ≡ false
   past_arriving k past = ap (λ (b : Option Journal). is_some (slice_get (outputs_by b) (arrived_of lines k))) (slice_get_past lines.bricks k past)

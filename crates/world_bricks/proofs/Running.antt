@@ -20,12 +20,12 @@ pub record IsUnderWay (seed : ℕ) (w now : WorldState) (x many : ℕ) : Type 0 
   pub long : many ≡ length events
 
 pub begins : (seed : ℕ) (w : WorldState) → IsUnderWay seed w w seed 0
-begins seed w = record { events = []; are_picked = refl; state = refl; long = refl; }
+begins seed w = record { events = []; are_picked = refl; state = refl; long = refl }
 
 module _ (e : Event) (mid after : WorldState) (happens : Happens mid.script e mid.log mid.lines after.log after.lines) (same : (after.script ≡ mid.script) × (after.plans ≡ mid.plans)) where
   behind : (es : List Event) (x : ℕ) (w : WorldState) → picked mid.due mid.lines (moved (drawn x (length es))) ≡ Some e → ArePicked x es w mid → ArePicked x (es ++ e ∷ []) w after
   behind [] x w will is =
-      subst (λ (m : WorldState). PicksThen (moved x) e m (λ next. after ≡ next)) is (record { after = after; is_picked = will; happens = happens; same = same; then_follows = refl; })
+      subst (λ (m : WorldState). PicksThen (moved x) e m (λ next. after ≡ next)) is (record { after = after; is_picked = will; happens = happens; same = same; then_follows = refl })
   behind (y ∷ ys) x w will h = record {
     after = h.after;
     is_picked = h.is_picked;
@@ -67,4 +67,4 @@ module _ (seed : ℕ) (w now : WorldState) (x many value : ℕ) (draws : value �
   })
 
 pub all_happened : (seed : ℕ) (w now : WorldState) (x many : ℕ) → many ≡ 18446744073709551615 → IsUnderWay seed w now x many → IsRunOf seed w now
-all_happened seed w now x many all way = record { events = way.events; are_picked = way.are_picked; ended = inr (inr (sym way.long ∙ all)); }
+all_happened seed w now x many all way = record { events = way.events; are_picked = way.are_picked; ended = inr (inr (sym way.long ∙ all)) }
