@@ -111,11 +111,15 @@ fn next_item<'a>(
     Ok((item, rest))
 }
 
-/// A list of this many items, by rising name.
+// The bytes of an item, at least: a length and four bytes of a name, a gfid, a kind and the length of a target.
+const LEAST_ITEM: usize = 32;
+
+/// A list of this many items, by rising name. Room is made for as many at once as the bytes can hold.
 fn some_items(alloc: Global, bytes: &[u8], count: u32) -> Result<(Seq<Item>, &[u8]), Fault>
     ensures { Gives (λ x. (x.0, x.1.now)) result (items_at item_at None count bytes.now) }
 {
     let mut items = Vec::new(alloc);
+    items.reserve((count as usize).min(bytes.len() / LEAST_ITEM))?;
     let mut rest = bytes;
     let mut left = count;
     while left > 0 {
