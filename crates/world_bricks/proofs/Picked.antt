@@ -1,7 +1,7 @@
 -- The bricks that have inputs and outputs, as sets; and what is chosen.
-use Rattle.std.proofs.Common.{◌≡◌, refl, sym, ap, subst, ◌∙◌, inl, inr, arith, lt-ltb, le-ltb}
+use Rattle.std.proofs.Common.{◌≡◌, refl, sym, ap, ◌∙◌, inl, inr, arith, lt-ltb, le-ltb}
 use Rattle.std.proofs.lemmas.Option.{slice_get_past, slice_get_cases}
-use Rattle.std.specs.Prelude.{ℕ, zero, suc, ◌<◌, ◌≤◌, ◌+◌, nat_lt, cond, min, Bool, true, false, ◌&&◌, List, [], ◌∷◌, length, is_some, slice_get, Option, None, Some}
+use Rattle.std.specs.Prelude.{ℕ, zero, suc, ◌<◌, ◌≤◌, ◌+◌, nat_lt, cond, min, Bool, true, false, ◌&&◌, List, ◌∷◌, length, is_some, slice_get, Option, None, Some}
 use Rattle.std.specs.List.{filter, range_with_len}
 use Rattle.script_lang.specs.declared.scripts.Action.{Action}
 use Rattle.brick_machine.specs.Journal.{Journal}

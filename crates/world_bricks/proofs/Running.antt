@@ -1,6 +1,6 @@
 -- The run of a seed, one event after another.
 use Rattle.std.proofs.Common.{◌≡◌, refl, sym, ap, subst, ◌∙◌, inl, inr, arith}
-use Rattle.std.specs.Prelude.{ℕ, zero, suc, ◌+◌, false, List, [], ◌∷◌, ◌++◌, length, Option, None, Some}
+use Rattle.std.specs.Prelude.{ℕ, zero, suc, ◌+◌, false, List, [], ◌∷◌, ◌++◌, length, None, Some}
 use Rattle.std.proofs.lemmas.List.{length_push}
 use Rattle.world_bricks.specs.Choices.{picked}
 use Rattle.world_bricks.specs.Runs.{drawn, PicksThen, ArePicked, IsRunOf}

@@ -1,4 +1,4 @@
-use Rattle.std.proofs.Common.{◌≡◌, arith}
+use Rattle.std.proofs.Common.{arith}
 use Rattle.world_bricks.proofs.Chosen.{counted}
 use Rattle.world_bricks.proofs.enabled.Enabled.count.Goals as goal
 

@@ -1,4 +1,4 @@
-use Rattle.std.proofs.Common.{◌≡◌, ap, arith}
+use Rattle.std.proofs.Common.{ap, arith}
 use Rattle.std.specs.Prelude.{length}
 use Rattle.world_bricks.specs.Lines.{LinesState}
 use Rattle.world_bricks.proofs.Picked.{all_arriving}

@@ -1,4 +1,4 @@
-use Rattle.std.proofs.Common.{◌≡◌, sym, subst, ◌∙◌}
+use Rattle.std.proofs.Common.{sym, subst, ◌∙◌}
 use Rattle.std.specs.Prelude.{ℕ, ◌+◌}
 use Rattle.world_bricks.proofs.Chains.{next_reached}
 use Rattle.world_bricks.proofs.Running.{IsUnderWay, goes_on}
