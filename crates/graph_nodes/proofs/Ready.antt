@@ -64,10 +64,11 @@ task_past number g es all at left low so_far none =
 
 tasks_kept : (n : ℕ) (es : List (ℕ × Graph)) (old new : Graph) → lookup (is_at (nat_cmp n)) es ≡ Some old → new.cx.ready.keys ≡ old.cx.ready.keys → tasks_in (set_value (is_at (nat_cmp n)) es new) ≡ tasks_in es
 tasks_kept n [] old new found same = refl
-tasks_kept n (e ∷ es) old new found same = by (is_at (nat_cmp n) e.0) found where
-  by : (b : Bool) → cond b (Some e.1) (lookup (is_at (nat_cmp n)) es) ≡ Some old → tasks_in (cond b ((e.0, new) ∷ es) (e ∷ set_value (is_at (nat_cmp n)) es new)) ≡ tasks_in (e ∷ es)
-  by true found = let is : old ≡ e.1 = cc in ap (λ (ks : List ℕ). map (task_of e.0) ks ++ tasks_in es) (same ∙ ap (λ (g : Graph). g.cx.ready.keys) is)
-  by false found = ap (λ (ts : List (ℕ × ℕ)). tasks_of e.0 e.1 ++ ts) (tasks_kept n es old new found same)
+tasks_kept n (e ∷ es) old new found same = by (is_at (nat_cmp n) e.0) found (λ later. tasks_kept n es old new later same) where
+  by : (b : Bool) → cond b (Some e.1) (lookup (is_at (nat_cmp n)) es) ≡ Some old → (lookup (is_at (nat_cmp n)) es ≡ Some old → tasks_in (set_value (is_at (nat_cmp n)) es new) ≡ tasks_in es)
+      → tasks_in (cond b ((e.0, new) ∷ es) (e ∷ set_value (is_at (nat_cmp n)) es new)) ≡ tasks_in (e ∷ es)
+  by true found rest = let is : old ≡ e.1 = cc in ap (λ (ks : List ℕ). map (task_of e.0) ks ++ tasks_in es) (same ∙ ap (λ (g : Graph). g.cx.ready.keys) is)
+  by false found rest = ap (λ (ts : List (ℕ × ℕ)). tasks_of e.0 e.1 ++ ts) (rest found)
 
 pub called_tasks : (live live_new : BTreeMap ℕ Graph) (n : ℕ) (old new : Graph) → Some old ≡ get nat_cmp live n → WritesThrough nat_cmp (nat_cmp n) live new live_new → new.cx.ready.keys ≡ old.cx.ready.keys → tasks_in live_new.entries ≡ tasks_in live.entries
 called_tasks live live_new n old new found through same = ap tasks_in through.0 ∙ tasks_kept n live.entries old new (sym found) same
