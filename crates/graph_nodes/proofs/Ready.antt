@@ -2,7 +2,7 @@
 use Rattle.std.proofs.Common.{◌≡◌, refl, sym, ap, ◌∙◌, arith}
 use Rattle.std.proofs.lemmas.List.{length-append, length-map}
 use Rattle.std.specs.Prelude.{ℕ, zero, suc, ◌≤◌, ◌+◌, ◌-◌, cond, min, Bool, true, false, List, [], ◌∷◌, ◌++◌, map, length, slice_get, Option, None, Some, IsSome}
-use Rattle.std.specs.BTreeMap.{BTreeMap, get, is_at, WritesThrough}
+use Rattle.std.specs.BTreeMap.{BTreeMap, get, is_at}
 use Rattle.std.specs.Map.{lookup, set_value, values_of}
 use Rattle.std.specs.Ordering.{nat_cmp}
 use Rattle.graph_nodes.specs.declared.graph.Graph.{Graph}
@@ -70,5 +70,6 @@ tasks_kept n (e ∷ es) old new found same = by (is_at (nat_cmp n) e.0) found (�
   by true found rest = let is : old ≡ e.1 = cc in ap (λ (ks : List ℕ). map (task_of e.0) ks ++ tasks_in es) (same ∙ ap (λ (g : Graph). g.cx.ready.keys) is)
   by false found rest = ap (λ (ts : List (ℕ × ℕ)). tasks_of e.0 e.1 ++ ts) (rest found)
 
-pub called_tasks : (live live_new : BTreeMap ℕ Graph) (n : ℕ) (old new : Graph) → Some old ≡ get nat_cmp live n → WritesThrough nat_cmp (nat_cmp n) live new live_new → new.cx.ready.keys ≡ old.cx.ready.keys → tasks_in live_new.entries ≡ tasks_in live.entries
-called_tasks live live_new n old new found through same = ap tasks_in through.0 ∙ tasks_kept n live.entries old new (sym found) same
+pub called_tasks : (live : BTreeMap ℕ Graph) (written : List (ℕ × Graph)) (n : ℕ) (old new : Graph) → Some old ≡ get nat_cmp live n → written ≡ set_value (is_at (nat_cmp n)) live.entries new → new.cx.ready.keys ≡ old.cx.ready.keys
+    → tasks_in written ≡ tasks_in live.entries
+called_tasks live written n old new found is same = ap tasks_in is ∙ tasks_kept n live.entries old new (sym found) same

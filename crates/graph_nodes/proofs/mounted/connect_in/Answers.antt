@@ -25,7 +25,7 @@ pub returns-in-Some-clause-absent : goal.returns-in-Some-clause-absent
 returns-in-Some-clause-absent c = not_absent _ c.in-Some.graph.now (get nat_cmp c.args.live.now c.args.number) c.in-Some.ensures.value
 
 pub returns-in-Some-clause-tasks : goal.returns-in-Some-clause-tasks
-returns-in-Some-clause-tasks c = called_tasks c.args.live.now _ c.args.number c.in-Some.graph.now c.connect_next.new.graph c.in-Some.ensures.value (c.get_mut.follows.holds c.connect_next.new.graph) c.connect_next.ensures.ready
+returns-in-Some-clause-tasks c = called_tasks c.args.live.now _ c.args.number c.in-Some.graph.now c.connect_next.new.graph c.in-Some.ensures.value (c.get_mut.follows.holds c.connect_next.new.graph).0 c.connect_next.ensures.ready
 
 pub returns-in-None-clause-tasks : goal.returns-in-None-clause-tasks
 returns-in-None-clause-tasks c = ap (λ (m : BTreeMap ℕ Graph). tasks_in m.entries) c.get_mut.follows.holds-at-none

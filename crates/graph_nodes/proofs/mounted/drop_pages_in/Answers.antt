@@ -27,7 +27,7 @@ pub returns-in-None-clause-there : goal.returns-in-None-clause-there
 returns-in-None-clause-there c = ap is_some c.in-None.ensures.value
 
 pub returns-in-Some-clause-tasks : goal.returns-in-Some-clause-tasks
-returns-in-Some-clause-tasks c = called_tasks c.args.live.now _ c.args.number c.in-Some.graph.now c.drop_pages_of.new.graph c.in-Some.ensures.value (c.get_mut.follows.holds c.drop_pages_of.new.graph) c.drop_pages_of.ensures.ready
+returns-in-Some-clause-tasks c = called_tasks c.args.live.now _ c.args.number c.in-Some.graph.now c.drop_pages_of.new.graph c.in-Some.ensures.value (c.get_mut.follows.holds c.drop_pages_of.new.graph).0 c.drop_pages_of.ensures.ready
 
 pub returns-in-None-clause-tasks : goal.returns-in-None-clause-tasks
 returns-in-None-clause-tasks c = ap (λ (m : BTreeMap ℕ Graph). tasks_in m.entries) c.get_mut.follows.holds-at-none
