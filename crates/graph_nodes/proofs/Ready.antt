@@ -1,7 +1,7 @@
 -- The ready tasks of a mount, as they are counted and looked up, and what leaves them as they are.
 use Rattle.std.proofs.Common.{◌≡◌, refl, sym, ap, ◌∙◌, arith}
 use Rattle.std.proofs.lemmas.List.{length-append, length-map}
-use Rattle.std.specs.Prelude.{ℕ, zero, suc, ◌≤◌, ◌+◌, ◌-◌, cond, min, Bool, true, false, List, [], ◌∷◌, ◌++◌, map, length, slice_get, Option, None, Some, IsSome}
+use Rattle.std.specs.Prelude.{ℕ, zero, suc, ◌≤◌, ◌+◌, ◌-◌, cond, min, Bool, true, false, List, [], ◌∷◌, ◌++◌, map, length, slice_get, None, Some}
 use Rattle.std.specs.BTreeMap.{BTreeMap, get, is_at}
 use Rattle.std.specs.Map.{lookup, set_value, values_of}
 use Rattle.std.specs.Ordering.{nat_cmp}
