@@ -5,7 +5,7 @@ use Rattle.wire_xdr.proofs.ListParsers.{list_step, list_stop}
 use Rattle.wire_xdr.proofs.decode.items.some_items.Goals as goal
 
 pub returns-in-Err : goal.returns-in-Err
-returns-in-Err c = list_stop item_at c.in-Err.fault _ _ _ _ _ _ c.loop-left-test.true c.reserve.ensures.items c.as_slice.ensures.value c.loop-left.invariant c.in-Err.ensures
+returns-in-Err c = list_stop item_at c.in-Err.fault _ _ _ _ _ _ c.loop-left-test.true c.reserve-in-loop-left.ensures.items c.as_slice.ensures.value c.loop-left.invariant c.in-Err.ensures
 
 pub loop-left-preserved : goal.loop-left-preserved
-loop-left-preserved c = list_step item_at _ _ _ _ _ _ _ _ _ c.loop-left-test.true c.reserve.ensures.items c.as_slice.ensures.value c.push_reserved.ensures.items c.loop-left.invariant c.in-Ok.ensures
+loop-left-preserved c = list_step item_at _ _ _ _ _ _ _ _ _ c.loop-left-test.true c.reserve-in-loop-left.ensures.items c.as_slice.ensures.value c.push_reserved.ensures.items c.loop-left.invariant c.in-Ok.ensures
