@@ -1,5 +1,4 @@
-use Rattle.hub_calls.specs.declared.racks.Rack.{Rack}
-use Rattle.std.specs.Prelude.{IsOk}
+use Rattle.std.specs.Prelude.{◌≡◌, IsOk}
 use Rattle.mount_run.specs.Seeds.{IsSeeded}
 use Rattle.mount_run.proofs.Seeding.{starts, seeded, where_made}
 use Rattle.mount_run.proofs.generating.run_generated.Goals as goal
