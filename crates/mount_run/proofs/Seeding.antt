@@ -20,6 +20,7 @@ starts script plans w is none = record {
   plans_are = ap (λ (x : WorldState). x.plans) is;
   no_events = none;
   lines_are = ap (λ (x : WorldState). x.lines) is;
+  goes = ap (λ (x : WorldState). x.stop) is;
 }
 
 pub seeded : {T E : Type 0} (seed : ℕ) (script : Script) (plans : List Plan) (start after : WorldState) (ran : Result T E) (left rack : Rack)

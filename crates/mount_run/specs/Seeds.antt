@@ -18,6 +18,7 @@ pub record IsStart (script : Script) (plans : List Plan) (w : WorldState) : Type
   pub plans_are : w.plans ≡ plans
   pub no_events : w.log.events ≡ []
   pub lines_are : w.lines ≡ with_sent (new_lines script plans (length script.bricks)) w.log.sent
+  pub goes : w.stop ≡ None
 
 -- the rack has the log and the bricks that the run of a seed has left
 pub record IsSeeded (seed : ℕ) (script : Script) (plans : List Plan) (rack : Rack) : Type 0 where

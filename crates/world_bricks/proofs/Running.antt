@@ -5,7 +5,7 @@ use Rattle.std.proofs.lemmas.List.{length_push}
 use Rattle.world_bricks.specs.Choices.{picked}
 use Rattle.world_bricks.specs.Runs.{drawn, PicksThen, ArePicked, IsRunOf}
 use Rattle.world_bricks.specs.Schedules.{moved}
-use Rattle.world_bricks.specs.Worlds.{WorldState, Happens, HappensWhere}
+use Rattle.world_bricks.specs.Worlds.{WorldState, Happens, HappensWhere, KeepsDue}
 use Rattle.world_bricks.specs.declared.events.Event.{Event}
 
 drawn_next : (n x : ℕ) → drawn x (suc n) ≡ moved (drawn x n)
@@ -22,15 +22,16 @@ pub record IsUnderWay (seed : ℕ) (w now : WorldState) (x many : ℕ) : Type 0 
 pub begins : (seed : ℕ) (w : WorldState) → IsUnderWay seed w w seed 0
 begins seed w = record { events = []; are_picked = refl; state = refl; long = refl }
 
-module _ (e : Event) (mid after : WorldState) (happens : Happens mid.script e mid.log mid.lines after.log after.lines) (same : (after.script ≡ mid.script) × (after.plans ≡ mid.plans)) where
+module _ (e : Event) (mid after : WorldState) (happens : Happens mid.script e mid.log mid.lines after.log after.lines) (same : (after.script ≡ mid.script) × (after.plans ≡ mid.plans)) (keeps : KeepsDue e mid.due after.due) where
   behind : (es : List Event) (x : ℕ) (w : WorldState) → picked mid.due mid.lines (moved (drawn x (length es))) ≡ Some e → ArePicked x es w mid → ArePicked x (es ++ e ∷ []) w after
   behind [] x w will is =
-      subst (λ (m : WorldState). PicksThen (moved x) e m (λ next. after ≡ next)) is (record { after = after; is_picked = will; happens = happens; same = same; then_follows = refl })
+      subst (λ (m : WorldState). PicksThen (moved x) e m (λ next. after ≡ next)) is (record { after = after; is_picked = will; happens = happens; same = same; due = keeps; then_follows = refl })
   behind (y ∷ ys) x w will h = record {
     after = h.after;
     is_picked = h.is_picked;
     happens = h.happens;
     same = h.same;
+    due = h.due;
     then_follows = behind ys (moved x) h.after will h.then_follows;
   }
 

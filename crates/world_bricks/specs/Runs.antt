@@ -2,7 +2,7 @@
 use Rattle.std.specs.Prelude.{◌≡◌, ◌⊎◌, ℕ, zero, suc, false, List, [], ◌∷◌, length, None, Some}
 use Rattle.world_bricks.specs.Choices.{picked}
 use Rattle.world_bricks.specs.Schedules.{moved}
-use Rattle.world_bricks.specs.Worlds.{WorldState, Happens, HappensWhere}
+use Rattle.world_bricks.specs.Worlds.{WorldState, Happens, HappensWhere, KeepsDue}
 use Rattle.world_bricks.specs.declared.events.Event.{Event}
 
 -- the generator's state after so many moves
@@ -10,12 +10,14 @@ abbrev pub drawn : ℕ → ℕ → ℕ
 drawn x zero = x
 drawn x (suc n) = drawn (moved x) n
 
--- the event that this value picks happens in a world, and then what follows of the world that it leaves
+-- The event that this value picks happens in a world, and then what follows of the world that it leaves. What is due there is known
+-- only after a service.
 pub record PicksThen (value : ℕ) (e : Event) (w : WorldState) (follows : WorldState → Type 0) : Type 0 where
   pub after : WorldState
   pub is_picked : picked w.due w.lines value ≡ Some e
   pub happens : Happens w.script e w.log w.lines after.log after.lines
   pub same : (after.script ≡ w.script) × (after.plans ≡ w.plans)
+  pub due : KeepsDue e w.due after.due
   pub then_follows : follows after
 
 -- these events happen, one after another, each picked by the generator's next value

@@ -57,6 +57,11 @@ Happens script (event.Run graph task) log lines log_after lines_after = HubDoes 
 Happens script (event.Act action) log lines log_after lines_after = HubDoes (logged.Act action) log lines log_after lines_after
 Happens script (event.Arm brick p count action) log lines log_after lines_after = HubDoes (logged.Arm brick p count action) log lines log_after lines_after
 
+-- what is due in the hub after an event, where that is known: a service leaves it as it was
+abbrev pub KeepsDue : Event → DueState → DueState → Type 0
+KeepsDue (event.Serve brick) due due_after = due_after ≡ due
+KeepsDue other due due_after = Unit {0}
+
 -- which events happen: an output arrives where one is left, and a brick serves where it has an input; an action that is no heal
 -- and no switch is carried out where it is of a brick of the script, and armed where it may be. Of a submission, a task, a heal and
 -- a switch nothing is said.

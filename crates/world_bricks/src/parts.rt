@@ -5,7 +5,7 @@ ghost use Rattle.mount_log.specs.declared.logs.HubEvent.TheVariants as logged;
 ghost use Rattle.hub_tables.specs.Arming.{is_armable};
 ghost use Rattle.hub_calls.specs.Hubs.{is_of_brick};
 ghost use Rattle.world_bricks.specs.Lines.{with_sent, may_serve, next_output};
-ghost use Rattle.world_bricks.specs.Worlds.{HubDoes, Submits, Arrives, Serves, Happens, HappensWhere};
+ghost use Rattle.world_bricks.specs.Worlds.{HubDoes, Submits, Arrives, Serves, Happens, HappensWhere, KeepsDue};
 
 use crate::events::Event;
 use crate::lines::Lines;
@@ -126,6 +126,7 @@ impl Parts {
         ensures happens { IfOk result (λ did. did ≡ true → Happens self.old.hub.script happening self.old.hub.log self.old.lines self.new.hub.log self.new.lines) }
         ensures unchanged { IfOk result (λ did. did ≡ false → self.new ≡ self.old) }
         ensures enabled { IfOk result (λ did. HappensWhere happening self.old.hub.script self.old.lines did) }
+        ensures due { KeepsDue happening self.old.hub.due self.new.hub.due }
     {
         match happening {
             Event::Submit(session) => self.submit(alloc, session),

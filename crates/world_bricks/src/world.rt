@@ -5,7 +5,7 @@ ghost use Rattle.hub_tables.specs.SmallSets.{numbers};
 ghost use Rattle.world_bricks.specs.Choices.{run_of, chosen_event, picked};
 ghost use Rattle.world_bricks.specs.Lines.{new_lines, with_sent, may_serve, may_arrive, bricks_where};
 ghost use Rattle.world_bricks.specs.Runs.{IsRunOf};
-ghost use Rattle.world_bricks.specs.Worlds.{Happens, HappensWhere, IsReached};
+ghost use Rattle.world_bricks.specs.Worlds.{Happens, HappensWhere, KeepsDue, IsReached};
 
 use crate::enabled::{Choice, Enabled};
 use crate::events::{Event, due_event, event_of};
@@ -83,6 +83,7 @@ impl World {
         ensures happens { IfOk result (λ did. did ≡ true → Happens self.old.script event self.old.log self.old.lines self.new.log self.new.lines) }
         ensures unchanged { IfOk result (λ did. did ≡ false → self.new ≡ self.old) }
         ensures enabled { IfOk result (λ did. HappensWhere event self.old.script self.old.lines did) }
+        ensures due { KeepsDue event self.old.due self.new.due }
         ensures spent { StaysStopped self.old.stop self.old self.new result }
         ensures goes { OnOk result (self.new.stop ≡ None) }
         ensures stops { IfErr result (λ s. self.new.stop ≡ Some s) }
