@@ -1,3 +1,3 @@
--- In reading order: the statuses; the run of a seed.
-pub mod Outcomes
+-- In reading order: the run of a seed; the statuses.
 pub mod Seeds
+pub mod Outcomes

@@ -21,6 +21,7 @@ use Rattle.script_commands.specs.declared.plans.Accepted.{Accepted}
 use Rattle.script_commands.specs.declared.refusals.Refusal.{Refusal}
 use Rattle.run_judge.specs.Headline.{Headline, IsLawfulRun}
 use Rattle.run_judge.specs.Stopped.{IsStopped}
+use Rattle.mount_run.specs.Seeds.{IsSeeded}
 
 -- a rack before a run: no bricks, and an empty log
 abbrev pub empty_rack : Rack
@@ -75,6 +76,15 @@ pub record Ran (known taken taken_after : Option (List ℕ)) (rack : Rack) : Typ
   pub headline : Headline text report rack.log rack.bricks
   pub wrote : Appends taken taken_after report
 
+-- so by the schedule of a seed, which has left the log and the bricks
+pub record RanBySeed (seed : ℕ) (known taken taken_after : Option (List ℕ)) (rack : Rack) : Type 0 where
+  pub text : List ℕ
+  pub report : List ℕ
+  pub read : IsRead known text
+  pub headline : Headline text report rack.log rack.bricks
+  pub wrote : Appends taken taken_after report
+  pub seeded : IsSeeded seed headline.read.script headline.read.plans rack
+
 -- a script was checked, and its one line was written
 pub record Checked (known taken taken_after : Option (List ℕ)) (rack : Rack) : Type 0 where
   pub text : List ℕ
@@ -84,13 +94,14 @@ pub record Checked (known taken taken_after : Option (List ℕ)) (rack : Rack) :
   pub wrote : Appends taken taken_after (check_text read.script)
   pub empty : rack ≡ empty_rack
 
--- some accepted script was run, and the line that sums it up under this number was written; which script a number generates is
--- not said
+-- some accepted script was run by the schedule of this number, and the line that sums it up was written; which script a number
+-- generates is not said
 pub record Generated (number : ℕ) (taken taken_after : Option (List ℕ)) (rack : Rack) : Type 0 where
   pub text : List ℕ
   pub read : Accepted
   pub accepted_as : accepted text ≡ Ok read
   pub summed : IsSummedUp read.script read.plans number taken taken_after rack
+  pub seeded : IsSeeded number read.script read.plans rack
 
 -- a script with its report was judged, and the line of the verdict was written
 pub record Judged (status : ℕ) (known taken taken_after : Option (List ℕ)) (rack : Rack) : Type 0 where
@@ -101,7 +112,7 @@ pub record Judged (status : ℕ) (known taken taken_after : Option (List ℕ)) (
 abbrev pub Succeeded : Option Command → Option (List ℕ) → Option (List ℕ) → Option (List ℕ) → Rack → Type 0
 Succeeded None known taken taken_after rack = ⊥
 Succeeded (Some Check) known taken taken_after rack = Checked known taken taken_after rack
-Succeeded (Some (Run seed)) known taken taken_after rack = Ran known taken taken_after rack
+Succeeded (Some (Run seed)) known taken taken_after rack = RanBySeed seed known taken taken_after rack
 Succeeded (Some (Mount workers)) known taken taken_after rack = Ran known taken taken_after rack
 Succeeded (Some (Generate number)) known taken taken_after rack = Generated number taken taken_after rack
 Succeeded (Some Replay) known taken taken_after rack = Judged 0 known taken taken_after rack
@@ -167,6 +178,14 @@ pub record RanUnwritten (known taken taken_after : Option (List ℕ)) (rack : Ra
   pub headline : Headline text report rack.log rack.bricks
   pub wrote : WrotePrefix taken taken_after report
 
+pub record RanBySeedUnwritten (seed : ℕ) (known taken taken_after : Option (List ℕ)) (rack : Rack) : Type 0 where
+  pub text : List ℕ
+  pub report : List ℕ
+  pub read : IsRead known text
+  pub headline : Headline text report rack.log rack.bricks
+  pub wrote : WrotePrefix taken taken_after report
+  pub seeded : IsSeeded seed headline.read.script headline.read.plans rack
+
 pub record CheckedUnwritten (known taken taken_after : Option (List ℕ)) (rack : Rack) : Type 0 where
   pub text : List ℕ
   pub read : Accepted
@@ -180,6 +199,7 @@ pub record GeneratedUnwritten (number : ℕ) (taken taken_after : Option (List �
   pub read : Accepted
   pub accepted_as : accepted text ≡ Ok read
   pub summed : IsSummedUpShort read.script read.plans number taken taken_after rack
+  pub seeded : IsSeeded number read.script read.plans rack
 
 pub record JudgedUnwritten (known taken taken_after : Option (List ℕ)) (rack : Rack) : Type 0 where
   pub verdict : VerdictIsCutShort known taken taken_after
@@ -198,7 +218,7 @@ pub record RefusedUnwritten (known taken taken_after : Option (List ℕ)) (rack 
 abbrev pub Unwritten : Option Command → Option (List ℕ) → Option (List ℕ) → Option (List ℕ) → Rack → Type 0
 Unwritten None known taken taken_after rack = ⊥
 Unwritten (Some Check) known taken taken_after rack = CheckedUnwritten known taken taken_after rack ⊎ RefusedUnwritten known taken taken_after rack
-Unwritten (Some (Run seed)) known taken taken_after rack = RanUnwritten known taken taken_after rack ⊎ RefusedUnwritten known taken taken_after rack
+Unwritten (Some (Run seed)) known taken taken_after rack = RanBySeedUnwritten seed known taken taken_after rack ⊎ RefusedUnwritten known taken taken_after rack
 Unwritten (Some (Mount workers)) known taken taken_after rack = RanUnwritten known taken taken_after rack ⊎ RefusedUnwritten known taken taken_after rack
 Unwritten (Some (Generate number)) known taken taken_after rack = GeneratedUnwritten number taken taken_after rack
 Unwritten (Some Replay) known taken taken_after rack = JudgedUnwritten known taken taken_after rack ⊎ RefusedLineUnwritten known taken taken_after rack

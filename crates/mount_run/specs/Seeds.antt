@@ -1,13 +1,8 @@
 -- The run of a seed, and what it leaves in a rack. Ours.
-use Rattle.std.specs.Prelude.{◌≡◌, ℕ, List, [], length, Option, None, Some, Ok}
+use Rattle.std.specs.Prelude.{◌≡◌, ℕ, List, [], length, None}
 use Rattle.graph_build.specs.declared.plans.Plan.{Plan}
 use Rattle.script_lang.specs.declared.scripts.Script.{Script}
 use Rattle.hub_calls.specs.declared.racks.Rack.{Rack}
-use Rattle.script_commands.specs.Plans.{accepted}
-use Rattle.script_commands.specs.Readings.{IsRead}
-use Rattle.script_commands.specs.declared.commands.Command.{Command}
-use Rattle.script_commands.specs.declared.commands.Command.TheVariants.{Run, Generate}
-use Rattle.script_commands.specs.declared.plans.Accepted.{Accepted}
 use Rattle.world_bricks.specs.Lines.{new_lines, with_sent}
 use Rattle.world_bricks.specs.Runs.{IsRunOf}
 use Rattle.world_bricks.specs.Worlds.{WorldState}
@@ -27,17 +22,3 @@ pub record IsSeeded (seed : ℕ) (script : Script) (plans : List Plan) (rack : R
   pub begins : IsStart script plans start
   pub run : IsRunOf seed start after
   pub rack_is : rack ≡ record { bricks = after.lines.bricks; log = after.log }
-
--- so of an accepted text
-pub record RanBySeed (seed : ℕ) (known : Option (List ℕ)) (rack : Rack) : Type 0 where
-  pub text : List ℕ
-  pub read : Accepted
-  pub is_text : IsRead known text
-  pub accepted_as : accepted text ≡ Ok read
-  pub seeded : IsSeeded seed read.script read.plans rack
-
--- the text of `gen` is the program's own
-abbrev pub RanAsSeeded : Option Command → Option (List ℕ) → Rack → Type 0
-RanAsSeeded (Some (Run seed)) known rack = RanBySeed seed known rack
-RanAsSeeded (Some (Generate number)) known rack = RanBySeed number None rack
-RanAsSeeded other known rack = Unit {0}

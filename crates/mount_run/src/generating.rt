@@ -1,11 +1,11 @@
 //! A script that a number generates, which is run and summed up.
-ghost use Rattle.std.specs.Prelude.{◌≡◌, ◌<◌, ◌-◌, ◌^◌, None, IsOk, IfOk, IfSome, IfNone, IsErrOf};
+ghost use Rattle.std.specs.Prelude.{◌≡◌, ◌<◌, ◌-◌, ◌^◌, ◌⊎◌, None, IsOk, IfOk, IfSome, IfNone, IsErrOf};
 ghost use Rattle.mount_log.specs.Scripts.{IsScript};
 ghost use Rattle.run_report.specs.Summaries.{summary_text};
 ghost use Rattle.run_judge.specs.Headline.{IsLawfulRun};
 ghost use Rattle.run_judge.specs.Stopped.{IsStopped};
 ghost use Rattle.mount_run.specs.Outcomes.{empty_rack, IsRunStatus, IsSummedUp, IsSummedUpShort, Generated, GeneratedUnwritten, WindsRanOut};
-ghost use Rattle.mount_run.specs.Seeds.{IsSeeded, RanBySeed};
+ghost use Rattle.mount_run.specs.Seeds.{IsSeeded};
 
 use crate::racks::{put_left, stopped};
 use fop_types::Seq;
@@ -54,7 +54,6 @@ pub fn generate<K: Sink>(alloc: Global, number: u64, sink: &mut K, rack: &mut Ra
     ensures memory { result ≡ 5 → (sink.new ≡ sink.old) × (rack.new ≡ empty_rack) }
     ensures unlawful { result ≡ 6 → (sink.new ≡ sink.old) × (rack.new ≡ empty_rack) }
     ensures winds { result ≡ 7 → (sink.new ≡ sink.old) × WindsRanOut None rack.new }
-    ensures seeded { result ≡ 0 → RanBySeed number None rack.new }
 {
     let Ok(text) = generated_by(alloc, number) else {
         return 5;
@@ -84,7 +83,7 @@ fn generate_read<K: Sink>(
     ensures memory { result ≡ 5 → (sink.new ≡ sink.old) × (rack.new ≡ rack.old) }
     ensures unlawful { result ≡ 6 → (sink.new ≡ sink.old) × (rack.new ≡ rack.old) }
     ensures winds { result ≡ 7 → (sink.new ≡ sink.old) × IsStopped read.script rack.new.log rack.new.bricks }
-    ensures seeded { result ≡ 0 → IsSeeded number read.script read.plans rack.new }
+    ensures seeded { (result ≡ 0) ⊎ (result ≡ 4) → IsSeeded number read.script read.plans rack.new }
 {
     let Accepted { script, plans } = read;
     match run_generated(alloc, script, plans, number, rack) {

@@ -1,5 +1,5 @@
 //! A script that is run in one thread, and the report of what a run left.
-ghost use Rattle.std.specs.Prelude.{◌≡◌, ◌<◌, ◌-◌, ◌^◌, IsOk, IfOk, IfSome, IfNone, IsErrOf};
+ghost use Rattle.std.specs.Prelude.{◌≡◌, ◌<◌, ◌-◌, ◌^◌, ◌⊎◌, IsOk, IfOk, IfSome, IfNone, IsErrOf};
 ghost use Rattle.mount_log.specs.Scripts.{IsScript};
 ghost use Rattle.run_judge.specs.Headline.{IsLawfulRun};
 ghost use Rattle.run_judge.specs.Stopped.{IsStopped};
@@ -34,7 +34,7 @@ pub fn run_read<K: Sink>(
     ensures memory { result ≡ 5 → (sink.new ≡ sink.old) × (rack.new ≡ rack.old) }
     ensures unlawful { result ≡ 6 → (sink.new ≡ sink.old) × (rack.new ≡ rack.old) }
     ensures winds { result ≡ 7 → (sink.new ≡ sink.old) × IsStopped read.script rack.new.log rack.new.bricks }
-    ensures seeded { result ≡ 0 → IsSeeded seed read.script read.plans rack.new }
+    ensures seeded { (result ≡ 0) ⊎ (result ≡ 4) → IsSeeded seed read.script read.plans rack.new }
 {
     let Accepted { script, plans } = read;
     match run_script(alloc, script, plans, seed, rack) {

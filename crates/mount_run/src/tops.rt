@@ -2,8 +2,7 @@ ghost use Rattle.std.specs.Prelude.{◌≡◌, ◌<◌, ◌≤◌, ◌-◌, ◌^
 ghost use Rattle.std.specs.String.{string_bytes};
 ghost use Rattle.script_commands.specs.Commands.{command_of, without_threads, mount_command};
 ghost use Rattle.script_commands.specs.declared.commands.Command.TheVariants.{Replay};
-ghost use Rattle.mount_run.specs.Outcomes.{empty_rack, Succeeded, IsUnlawful, RunHeldBack, RefusedBy, Refused, RefusedUnwritten, RefusedLine, RefusedLineUnwritten, Unwritten, Checked, CheckedUnwritten, Ran, RanUnwritten, Judged, JudgedUnwritten, RanOutOfWinds, WindsRanOut};
-ghost use Rattle.mount_run.specs.Seeds.{RanBySeed, RanAsSeeded};
+ghost use Rattle.mount_run.specs.Outcomes.{empty_rack, Succeeded, IsUnlawful, RunHeldBack, RefusedBy, Refused, RefusedUnwritten, RefusedLine, RefusedLineUnwritten, Unwritten, Checked, CheckedUnwritten, RanBySeed, RanBySeedUnwritten, Judged, JudgedUnwritten, RanOutOfWinds, WindsRanOut};
 
 use crate::generating::generate;
 use crate::mounting::mount_read;
@@ -50,7 +49,6 @@ pub fn top<S: Source, K: Sink>(
     ensures unlawful { result ≡ 6 → IsUnlawful (without_threads (command_of (map string_bytes words.now))) (S.left source.old) (K.taken sink.old) (K.taken sink.new) rack.new }
     ensures held_back { result ≡ 6 → (without_threads (command_of (map string_bytes words.now)) ≡ Some Replay) ⊎ (sink.new ≡ sink.old) }
     ensures winds { result ≡ 7 → (sink.new ≡ sink.old) × RanOutOfWinds (without_threads (command_of (map string_bytes words.now))) (S.left source.old) rack.new }
-    ensures seeded { result ≡ 0 → RanAsSeeded (without_threads (command_of (map string_bytes words.now))) (S.left source.old) rack.new }
 {
     match command_in(words) {
         None => 2,
@@ -112,15 +110,14 @@ fn run<S: Source, K: Sink>(
     requires rack { rack.old ≡ empty_rack }
     ensures statuses { result ≤ 7 }
     ensures no_usage { result ≡ 2 → ⊥ }
-    ensures ran { result ≡ 0 → Ran (S.left source.old) (K.taken sink.old) (K.taken sink.new) rack.new }
+    ensures ran { result ≡ 0 → RanBySeed seed (S.left source.old) (K.taken sink.old) (K.taken sink.new) rack.new }
     ensures refused { result ≡ 1 → Refused (S.left source.old) (K.taken sink.old) (K.taken sink.new) rack.new }
     ensures read_fault { result ≡ 3 → (S.faults source.old < S.faults source.new) × (sink.new ≡ sink.old) × (rack.new ≡ empty_rack) }
     ensures write_fault { result ≡ 4 → K.faults sink.old < K.faults sink.new }
-    ensures short { result ≡ 4 → RanUnwritten (S.left source.old) (K.taken sink.old) (K.taken sink.new) rack.new ⊎ RefusedUnwritten (S.left source.old) (K.taken sink.old) (K.taken sink.new) rack.new }
+    ensures short { result ≡ 4 → RanBySeedUnwritten seed (S.left source.old) (K.taken sink.old) (K.taken sink.new) rack.new ⊎ RefusedUnwritten (S.left source.old) (K.taken sink.old) (K.taken sink.new) rack.new }
     ensures memory { result ≡ 5 → (sink.new ≡ sink.old) × (rack.new ≡ empty_rack) }
     ensures unlawful { result ≡ 6 → (sink.new ≡ sink.old) × RunHeldBack (S.left source.old) (K.taken sink.old) (K.taken sink.new) rack.new }
     ensures winds { result ≡ 7 → (sink.new ≡ sink.old) × WindsRanOut (S.left source.old) rack.new }
-    ensures seeded { result ≡ 0 → RanBySeed seed (S.left source.old) rack.new }
 {
     match read_script(alloc, source) {
         Ok(read) => run_read(alloc, read, seed, sink, rack),
