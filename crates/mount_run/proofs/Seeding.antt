@@ -1,5 +1,5 @@
 -- The run of a seed leaves its log and its bricks in the rack.
-use Rattle.std.proofs.Common.{◌≡◌, ap, ◌∙◌}
+use Rattle.std.proofs.Common.{◌≡◌, refl, ap, ◌∙◌}
 use Rattle.std.specs.Prelude.{ℕ, List, [], length, Option, None, Some, Result, Ok, Err, IsOk, OnOk, IfOk, IfSome}
 use Rattle.graph_build.specs.declared.plans.Plan.{Plan}
 use Rattle.script_lang.specs.declared.scripts.Script.{Script}
@@ -7,7 +7,10 @@ use Rattle.hub_calls.specs.declared.racks.Rack.{Rack}
 use Rattle.world_bricks.specs.Lines.{new_lines, with_sent}
 use Rattle.world_bricks.specs.Runs.{IsRunOf}
 use Rattle.world_bricks.specs.Worlds.{WorldState}
+use Rattle.script_commands.specs.Readings.{IsAccepted}
+use Rattle.script_commands.specs.declared.plans.Accepted.{Accepted}
 use Rattle.mount_run.specs.Seeds.{IsStart, IsSeeded}
+use Rattle.mount_run.specs.Outcomes.{text_of, IsWritten, IsCutShort, RanBySeed, RanBySeedUnwritten}
 
 well : {T E : Type 0} (r : Result T E) (A : Type 0) → OnOk r A → IsOk r → A
 well (Ok x) A h is = h
@@ -38,3 +41,26 @@ pub where_made : {T E : Type 0} (r : Result (Option T) E) (A B : Type 0) → (A 
 where_made (Ok None) A B f h = tt
 where_made (Ok (Some x)) A B f h = f h
 where_made (Err e) A B f h = tt
+
+-- ---- the run of a text that was read
+
+module _ (seed : ℕ) (known taken taken_after : Option (List ℕ)) (rack : Rack) (read : Accepted) (is_read : IsAccepted known read) (of_seed : IsSeeded seed read.script read.plans rack) where
+  pub ran_by_seed : IsWritten read.script read.plans taken taken_after rack → RanBySeed seed known taken taken_after rack
+  ran_by_seed ran = record {
+    text = is_read.text;
+    report = text_of read.script read.plans rack;
+    read = is_read.is_text;
+    headline = record { read = read; accepted_as = is_read.accepted_as; run = ran.run; written = refl };
+    wrote = ran.wrote;
+    seeded = of_seed;
+  }
+
+  pub cut_short : IsCutShort read.script read.plans taken taken_after rack → RanBySeedUnwritten seed known taken taken_after rack
+  cut_short ran = record {
+    text = is_read.text;
+    report = text_of read.script read.plans rack;
+    read = is_read.is_text;
+    headline = record { read = read; accepted_as = is_read.accepted_as; run = ran.run; written = refl };
+    wrote = ran.wrote;
+    seeded = of_seed;
+  }
