@@ -1,8 +1,8 @@
 //! What is due in a hub, and which calls have their replies.
-ghost use Rattle.std.specs.Prelude.{◌≡◌, Some, IfSome, Contains, min, length, slice_get};
+ghost use Rattle.std.specs.Prelude.{◌≡◌, IfSome, Contains, min, length, slice_get};
 ghost use Rattle.hub_tables.specs.PhaseControls.{act_by};
 ghost use Rattle.hub_tables.specs.SmallSets.{numbers};
-ghost use Rattle.hub_tables.specs.declared.actions.Due.TheVariants as due;
+ghost use Rattle.hub_calls.specs.Dues.{dues};
 
 use crate::hub::Hub;
 use hub_tables::{Due, SmallSet};
@@ -66,8 +66,9 @@ impl Hub {
 
     /// The item of this number, from 0, among the sessions that may submit, the ready tasks, and then the next control
     /// without a condition.
+    #[tactic(auto, using(crate::proofs::Dues::of_submits, crate::proofs::Dues::of_tasks, crate::proofs::Dues::of_control, crate::proofs::Dues::past_dues))]
     pub fn due(&self, k: u32) -> Option<Due>
-        ensures { IfSome (slice_get self.now.due.submits k) (λ session. result ≡ Some (due.Submit session)) }
+        ensures { result ≡ slice_get (dues self.now.due) k }
     {
         let submits = self.submits();
         if let Some(session) = submits.nth(k) {
