@@ -1,5 +1,6 @@
 //! What is due in a hub, and which calls have their replies.
 ghost use Rattle.std.specs.Prelude.{◌≡◌, IfSome, Contains, min, length, slice_get};
+ghost use Rattle.graph_nodes.specs.Ready.{has_task};
 ghost use Rattle.hub_tables.specs.PhaseControls.{act_by};
 ghost use Rattle.hub_tables.specs.SmallSets.{numbers};
 ghost use Rattle.hub_calls.specs.Dues.{dues};
@@ -62,6 +63,14 @@ impl Hub {
         ensures { result ≡ slice_get self.now.due.tasks at }
     {
         self.parts.graphs.nodes.task_at(at)
+    }
+
+    /// Whether a task of a graph is ready.
+    #[tactic(auto, unfolding(crate::specs::Dues::due_of))]
+    pub(crate) fn is_ready(&self, graph: u32, task: u32) -> bool
+        ensures { result ≡ has_task self.now.due.tasks graph task }
+    {
+        self.parts.graphs.nodes.is_ready(graph, task)
     }
 
     /// The item of this number, from 0, among the sessions that may submit, the ready tasks, and then the next control
