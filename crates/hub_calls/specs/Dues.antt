@@ -1,10 +1,15 @@
 -- What is due in a hub. Ours.
-use Rattle.std.specs.Prelude.{ℕ, ◌==◌, nat_lt, Bool, true, false, ◌&&◌, not, List, length, Option, None, Some, is_none}
+use Rattle.std.specs.Prelude.{ℕ, ◌==◌, nat_lt, Bool, true, false, ◌&&◌, not, List, [], ◌∷◌, ◌++◌, map, length, Option, None, Some, is_none, is_some}
+use Rattle.std.specs.List.{list_any}
+use Rattle.mount_log.specs.declared.logs.Log.{Log}
+use Rattle.mount_log.specs.Submissions.{session_line, submits_of}
 use Rattle.script_lang.specs.declared.scripts.Action.{Action}
+use Rattle.script_lang.specs.declared.scripts.Script.{Script}
 use Rattle.hub_tables.specs.PhaseControls.{ControlsState, act_by}
 use Rattle.hub_tables.specs.Sessions.{ProgressState}
 use Rattle.hub_tables.specs.SmallSets.{numbers}
 use Rattle.hub_tables.specs.declared.actions.Due.{Due}
+use Rattle.hub_tables.specs.declared.actions.Due.TheVariants as due
 
 -- What goes before everything else; the sessions that may submit, rising; the ready tasks, by graph and then by number; the next
 -- control without a condition; where nothing is left but controls, the first of these; and whether the last phase has ended, with
@@ -40,3 +45,20 @@ due_of phases progress controls internal owed tasks = record {
   rest = where_quiet (is_quiet progress internal owed tasks) controls.left;
   finished = not (nat_lt progress.phase phases) && is_quiet progress internal owed tasks;
 }
+
+-- ---- what may happen next
+
+abbrev pub due_task : ℕ × ℕ → Due
+due_task task = due.Run task.0 task.1
+
+abbrev pub due_control : Option Action → List Due
+due_control None = []
+due_control (Some a) = due.Act a ∷ []
+
+-- the submissions by session, the ready tasks, and then the next control without a condition
+unfoldable pub dues : DueState → List Due
+dues d = map due.Submit d.submits ++ (map due_task d.tasks ++ due_control d.plain)
+
+-- whether a session may submit, and has a line left that it has not submitted
+unfoldable pub may_submit : DueState → Script → Log → ℕ → Bool
+may_submit d script log session = list_any (λ s. session == s) d.submits && is_some (session_line script session (submits_of session log.events))

@@ -64,10 +64,10 @@ abbrev pub TakesFirst : List (ℕ × ℕ) → List (ℕ × List ℕ) → List (�
 TakesFirst tasks [] after old new = (after ≡ []) × AddsRun tasks old new
 TakesFirst tasks (output ∷ outputs) after old new = (after ≡ outputs) × AddsEvent old new (logged.Arrive output.0 output.1)
 
--- a turn that was quiet has found no output and no ready task, and changes nothing
+-- a turn that was quiet has found no output and no ready task, and counts none, and changes nothing
 abbrev pub IsTurn : Turned → List (ℕ × List ℕ) → List (ℕ × List ℕ) → HubState → HubState → Type 0
 IsTurn turn.Did before after old new = TakesFirst old.due.tasks before after old.log new.log
-IsTurn (turn.Quiet ready arrived) before after old new = (before ≡ []) × ((after ≡ []) × ((slice_get old.due.tasks 0 ≡ None) × (new ≡ old)))
+IsTurn (turn.Quiet ready arrived) before after old new = (ready ≡ 0) × ((arrived ≡ 0) × ((before ≡ []) × ((after ≡ []) × ((slice_get old.due.tasks 0 ≡ None) × (new ≡ old)))))
 
 -- ---- the log after a call that stopped
 

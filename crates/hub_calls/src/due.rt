@@ -1,8 +1,9 @@
 //! What is due in a hub, and which calls have their replies.
-ghost use Rattle.std.specs.Prelude.{◌≡◌, Some, IfSome, Contains, min, length, slice_get};
+ghost use Rattle.std.specs.Prelude.{◌≡◌, IfSome, Contains, min, length, slice_get};
+ghost use Rattle.graph_nodes.specs.Ready.{has_task};
 ghost use Rattle.hub_tables.specs.PhaseControls.{act_by};
 ghost use Rattle.hub_tables.specs.SmallSets.{numbers};
-ghost use Rattle.hub_tables.specs.declared.actions.Due.TheVariants as due;
+ghost use Rattle.hub_calls.specs.Dues.{dues};
 
 use crate::hub::Hub;
 use hub_tables::{Due, SmallSet};
@@ -64,10 +65,19 @@ impl Hub {
         self.parts.graphs.nodes.task_at(at)
     }
 
+    /// Whether a task of a graph is ready.
+    #[tactic(auto, unfolding(crate::specs::Dues::due_of))]
+    pub(crate) fn is_ready(&self, graph: u32, task: u32) -> bool
+        ensures { result ≡ has_task self.now.due.tasks graph task }
+    {
+        self.parts.graphs.nodes.is_ready(graph, task)
+    }
+
     /// The item of this number, from 0, among the sessions that may submit, the ready tasks, and then the next control
     /// without a condition.
+    #[tactic(auto, using(crate::proofs::Dues::of_submits, crate::proofs::Dues::of_tasks, crate::proofs::Dues::of_control, crate::proofs::Dues::past_dues))]
     pub fn due(&self, k: u32) -> Option<Due>
-        ensures { IfSome (slice_get self.now.due.submits k) (λ session. result ≡ Some (due.Submit session)) }
+        ensures { result ≡ slice_get (dues self.now.due) k }
     {
         let submits = self.submits();
         if let Some(session) = submits.nth(k) {

@@ -1,5 +1,7 @@
 ghost use Rattle.std.specs.Prelude.{◌≡◌, ◌&&◌, false, true, None, Some, [], length, OnOk, IfOk, IfErr};
 ghost use Rattle.hub_tables.specs.Arming.{is_armable};
+ghost use Rattle.graph_nodes.specs.Ready.{has_task};
+ghost use Rattle.hub_calls.specs.Dues.{may_submit};
 ghost use Rattle.hub_calls.specs.Hubs.{StaysStopped, is_of_brick, AddsEvent, AddsSubmission, IsAfterStop, IsTurn};
 ghost use Rattle.mount_log.specs.declared.logs.HubEvent.TheVariants as logged;
 ghost use Rattle.mount_log.specs.Logs.{is_submit};
@@ -124,16 +126,15 @@ impl Hub {
         ensures same { (self.new.script ≡ self.old.script) × (self.new.plans ≡ self.old.plans) }
         ensures unchanged { IfOk result (λ did. did ≡ false → self.new ≡ self.old) }
         ensures event { IfOk result (λ did. did ≡ true → AddsSubmission self.old.script self.old.log self.new.log session) }
+        ensures did { IfOk result (λ did. did ≡ may_submit self.old.due self.old.script self.old.log session) }
         ensures cut { IfErr result (λ stop. IsAfterStop stop self.old.log self.new.log) }
         ensures spent { StaysStopped self.old.stop self.old self.new result }
         ensures goes { OnOk result (self.new.stop ≡ None) }
         ensures stops { IfErr result (λ s. self.new.stop ≡ Some s) }
     {
         self.check()?;
-        if !self.parts.progress.ready().has(session) {
-            return Ok(false);
-        }
-        let Some((at, line)) = self.planned.next(session) else {
+        let ready = self.parts.progress.ready();
+        let Some((at, line)) = self.planned.next_of(ready, session) else {
             return Ok(false);
         };
         self.planned.take_line(session);
@@ -194,13 +195,14 @@ impl Hub {
         ensures same { (self.new.script ≡ self.old.script) × (self.new.plans ≡ self.old.plans) }
         ensures unchanged { IfOk result (λ did. did ≡ false → self.new ≡ self.old) }
         ensures event { IfOk result (λ did. did ≡ true → AddsEvent self.old.log self.new.log (logged.Run graph task)) }
+        ensures did { IfOk result (λ did. did ≡ has_task self.old.due.tasks graph task) }
         ensures cut { IfErr result (λ stop. IsAfterStop stop self.old.log self.new.log) }
         ensures spent { StaysStopped self.old.stop self.old self.new result }
         ensures goes { OnOk result (self.new.stop ≡ None) }
         ensures stops { IfErr result (λ s. self.new.stop ≡ Some s) }
     {
         self.check()?;
-        if !self.parts.graphs.nodes.is_ready(graph, task) {
+        if !self.is_ready(graph, task) {
             return Ok(false);
         }
         self.run_ready(alloc, graph, task)?;

@@ -1,7 +1,9 @@
 //! The script that a hub runs, with the plans of its volfiles, and what is left of it.
-ghost use Rattle.std.specs.Prelude.{◌≡◌, nat_lt, Some, [], IfSome, IfOk, length, slice_get};
+ghost use Rattle.std.specs.Prelude.{◌≡◌, nat_lt, ◌&&◌, None, Some, is_some, [], IfSome, IfOk, length, slice_get};
 ghost use Rattle.graph_nodes.specs.Plans.{IsPlan};
 ghost use Rattle.mount_log.specs.Lines.{line_of, TakesLine};
+ghost use Rattle.mount_log.specs.Submissions.{line_by};
+ghost use Rattle.hub_tables.specs.SmallSets.{has};
 ghost use Rattle.mount_log.specs.declared.places.LineAt.{LineAt as Place};
 ghost use Rattle.hub_tables.specs.Sessions.{first_line};
 ghost use Rattle.hub_calls.specs.Plans.{AreLeft, IsNext};
@@ -9,7 +11,7 @@ ghost use Rattle.mount_log.specs.Scripts.{IsScript};
 
 use fop_types::Seq;
 use graph_build::Plan;
-use hub_tables::{SessionLines, creations};
+use hub_tables::{SessionLines, SmallSet, creations};
 use mount_log::LineAt;
 use script_lang::{CallLine, Phase, Script};
 use std::alloc::{AllocError, Global};
@@ -117,7 +119,8 @@ impl Planned {
     }
 
     pub(crate) fn phase(&self, phase: u32) -> Option<&Phase>
-        ensures { IfSome result (λ found. slice_get self.now.script.phases phase ≡ Some found.now) }
+        ensures found { IfSome result (λ found. slice_get self.now.script.phases phase ≡ Some found.now) }
+        ensures none { result ≡ None → slice_get self.now.script.phases phase ≡ None }
     {
         self.script.phases.as_slice().get(phase as usize)
     }
@@ -125,7 +128,8 @@ impl Planned {
     /// The line of a call.
     #[tactic(auto, using(crate::proofs::Planning::is_line))]
     pub(crate) fn line(&self, at: LineAt) -> Option<&CallLine>
-        ensures { IfSome result (λ line. line_of self.now.script at ≡ Some line.now) }
+        ensures line { IfSome result (λ line. line_of self.now.script at ≡ Some line.now) }
+        ensures none { result ≡ None → line_of self.now.script at ≡ None }
     {
         match self.phase(at.phase) {
             Some(phase) => phase.calls.as_slice().get(at.index as usize),
@@ -141,13 +145,26 @@ impl Planned {
     }
 
     /// The next line of a session, by its place and its number in the script.
-    #[tactic(auto, using(crate::proofs::Planning::is_next))]
+    #[tactic(auto, using(crate::proofs::Planning::is_next, crate::proofs::Planning::is_there, crate::proofs::Planning::is_past, crate::proofs::Planning::is_gone))]
     pub(crate) fn next(&self, session: u8) -> Option<(LineAt, u32)>
-        ensures { IfSome result (λ next. IsNext self.now session next.0 next.1) }
+        ensures next { IfSome result (λ next. IsNext self.now session next.0 next.1) }
+        ensures there { is_some result ≡ is_some (line_by self.now.script (first_line self.now.left session)) }
     {
         let at = self.left.first(session)?;
         let line = self.line(at)?;
         Some((at, line.line))
+    }
+
+    /// The same, where the session is one of these.
+    pub(crate) fn next_of(&self, ready: SmallSet, session: u8) -> Option<(LineAt, u32)>
+        ensures next { IfSome result (λ next. IsNext self.now session next.0 next.1) }
+        ensures there { is_some result ≡ (has ready session && is_some (line_by self.now.script (first_line self.now.left session))) }
+    {
+        if ready.has(session) {
+            self.next(session)
+        } else {
+            None
+        }
     }
 
     /// A session has its first line no more.
