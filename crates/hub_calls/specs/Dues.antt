@@ -5,6 +5,7 @@ use Rattle.mount_log.specs.declared.logs.Log.{Log}
 use Rattle.mount_log.specs.Submissions.{session_line, submits_of}
 use Rattle.script_lang.specs.declared.scripts.Action.{Action}
 use Rattle.script_lang.specs.declared.scripts.Script.{Script}
+use Rattle.graph_nodes.specs.Ready.{has_task}
 use Rattle.hub_tables.specs.PhaseControls.{ControlsState, act_by}
 use Rattle.hub_tables.specs.Sessions.{ProgressState}
 use Rattle.hub_tables.specs.SmallSets.{numbers}
@@ -58,6 +59,10 @@ due_control (Some a) = due.Act a ∷ []
 -- the submissions by session, the ready tasks, and then the next control without a condition
 unfoldable pub dues : DueState → List Due
 dues d = map due.Submit d.submits ++ (map due_task d.tasks ++ due_control d.plain)
+
+-- whether this task of a graph is ready
+abbrev pub may_run : DueState → ℕ → ℕ → Bool
+may_run d graph task = has_task d.tasks graph task
 
 -- whether a session may submit, and has a line left that it has not submitted
 unfoldable pub may_submit : DueState → Script → Log → ℕ → Bool

@@ -1,9 +1,8 @@
 //! What is due in a hub, and which calls have their replies.
 ghost use Rattle.std.specs.Prelude.{◌≡◌, IfSome, Contains, min, length, slice_get};
-ghost use Rattle.graph_nodes.specs.Ready.{has_task};
 ghost use Rattle.hub_tables.specs.PhaseControls.{act_by};
 ghost use Rattle.hub_tables.specs.SmallSets.{numbers};
-ghost use Rattle.hub_calls.specs.Dues.{dues};
+ghost use Rattle.hub_calls.specs.Dues.{dues, may_run};
 
 use crate::hub::Hub;
 use hub_tables::{Due, SmallSet};
@@ -68,7 +67,7 @@ impl Hub {
     /// Whether a task of a graph is ready.
     #[tactic(auto, unfolding(crate::specs::Dues::due_of))]
     pub(crate) fn is_ready(&self, graph: u32, task: u32) -> bool
-        ensures { result ≡ has_task self.now.due.tasks graph task }
+        ensures { result ≡ may_run self.now.due graph task }
     {
         self.parts.graphs.nodes.is_ready(graph, task)
     }

@@ -1,7 +1,6 @@
 ghost use Rattle.std.specs.Prelude.{◌≡◌, ◌&&◌, false, true, None, Some, [], length, OnOk, IfOk, IfErr};
 ghost use Rattle.hub_tables.specs.Arming.{is_armable};
-ghost use Rattle.graph_nodes.specs.Ready.{has_task};
-ghost use Rattle.hub_calls.specs.Dues.{may_submit};
+ghost use Rattle.hub_calls.specs.Dues.{may_run, may_submit};
 ghost use Rattle.hub_calls.specs.Hubs.{StaysStopped, is_of_brick, AddsEvent, AddsSubmission, IsAfterStop, IsTurn};
 ghost use Rattle.mount_log.specs.declared.logs.HubEvent.TheVariants as logged;
 ghost use Rattle.mount_log.specs.Logs.{is_submit};
@@ -195,7 +194,7 @@ impl Hub {
         ensures same { (self.new.script ≡ self.old.script) × (self.new.plans ≡ self.old.plans) }
         ensures unchanged { IfOk result (λ did. did ≡ false → self.new ≡ self.old) }
         ensures event { IfOk result (λ did. did ≡ true → AddsEvent self.old.log self.new.log (logged.Run graph task)) }
-        ensures did { IfOk result (λ did. did ≡ has_task self.old.due.tasks graph task) }
+        ensures did { IfOk result (λ did. did ≡ may_run self.old.due graph task) }
         ensures cut { IfErr result (λ stop. IsAfterStop stop self.old.log self.new.log) }
         ensures spent { StaysStopped self.old.stop self.old self.new result }
         ensures goes { OnOk result (self.new.stop ≡ None) }

@@ -223,7 +223,7 @@ impl Parts {
         let graph = state.graph;
         let at = self.turn.reply_place();
         self.replied_with(alloc, on, call, state, reply)?;
-        let last = self.calls.replied(call, graph, at)?;
+        let last = self.calls.replied(call, graph, at);
         Ok(last)
     }
 

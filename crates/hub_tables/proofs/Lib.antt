@@ -4,3 +4,7 @@ pub mod Sessions
 pub mod MadeObjects
 pub mod PlanBricks
 pub mod PhaseControls
+pub mod Orders
+pub mod Ranks
+pub mod Places
+pub mod Coming

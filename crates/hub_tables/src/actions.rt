@@ -1,6 +1,7 @@
 //! What a control does.
-ghost use Rattle.std.specs.Prelude.{◌≡◌, ◌↔◌, Some, IsTrue};
-ghost use Rattle.mount_log.specs.Procedures.{proc_by};
+ghost use Rattle.std.specs.Prelude.{◌≡◌, ◌↔◌, IsTrue};
+ghost use Rattle.brick_machine.specs.State.{place_of};
+ghost use Rattle.hub_tables.specs.PhaseControls.{same_action};
 ghost use Rattle.hub_tables.specs.Arming.{is_armable};
 
 use fop_types::Proc;
@@ -8,7 +9,7 @@ use script_lang::Action;
 
 /// The place of a procedure among the procedures, from 0.
 pub(crate) fn proc_rank(proc: Proc) -> u8
-    ensures { proc_by (Some result) ≡ Some proc }
+    ensures { result ≡ place_of proc }
 {
     proc as u8
 }
@@ -30,8 +31,10 @@ pub enum Turned {
 }
 
 /// Whether two actions are the same.
+#[tactic(auto, using(crate::proofs::Places::other_procs))]
 pub(crate) fn is_same(one: Action, other: Action) -> bool
-    ensures { IsTrue result ↔ (one ≡ other) }
+    ensures same { IsTrue result ↔ (one ≡ other) }
+    ensures value { result ≡ same_action one other }
 {
     match (one, other) {
         (Action::Down(a, s), Action::Down(b, t)) => a == b && s == t,

@@ -56,7 +56,7 @@ module _ (seed : ℕ) (w now : WorldState) (x many value : ℕ) (draws : value �
     ended = inl (drawn_now ∙ none);
   }
 
-  pub in_vain : (after : WorldState) (e : Event) → picked now.due now.lines value ≡ Some e → HappensWhere e now.script now.lines false → after ≡ now → IsRunOf seed w after
+  pub in_vain : (after : WorldState) (e : Event) → picked now.due now.lines value ≡ Some e → HappensWhere e now.script now.due now.log now.lines false → after ≡ now → IsRunOf seed w after
   in_vain after e will vain same = subst (λ (a : WorldState). IsRunOf seed w a) (sym same) (record {
     events = way.events;
     are_picked = way.are_picked;

@@ -29,7 +29,7 @@ ArePicked x (e ∷ es) w after = PicksThen (moved x) e w (λ next. ArePicked (mo
 pub record PicksInVain (value : ℕ) (w : WorldState) : Type 0 where
   pub event : Event
   pub is_picked : picked w.due w.lines value ≡ Some event
-  pub vain : HappensWhere event w.script w.lines false
+  pub vain : HappensWhere event w.script w.due w.log w.lines false
 
 -- a run has ended, after so many events: no event is left, or what is picked does not happen, or they are as many as a u64 counts
 abbrev pub HasEnded : ℕ → ℕ → WorldState → Type 0

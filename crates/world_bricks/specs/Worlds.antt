@@ -9,7 +9,7 @@ use Rattle.mount_log.specs.declared.logs.HubEvent.{HubEvent}
 use Rattle.mount_log.specs.declared.logs.HubEvent.TheVariants as logged
 use Rattle.mount_log.specs.declared.logs.Log.{Log}
 use Rattle.hub_tables.specs.Arming.{is_armable}
-use Rattle.hub_calls.specs.Dues.{DueState}
+use Rattle.hub_calls.specs.Dues.{DueState, may_run, may_submit}
 use Rattle.hub_calls.specs.Hubs.{AddsEvent, AddsSubmission, is_of_brick}
 use Rattle.world_bricks.specs.Lines.{LinesState, with_sent, next_input, may_serve, with_served, next_output, with_arrival}
 use Rattle.world_bricks.specs.declared.events.Event.{Event}
@@ -62,16 +62,16 @@ abbrev pub KeepsDue : Event → DueState → DueState → Type 0
 KeepsDue (event.Serve brick) due due_after = due_after ≡ due
 KeepsDue other due due_after = Unit {0}
 
--- which events happen: an output arrives where one is left, and a brick serves where it has an input; an action that is no heal
--- and no switch is carried out where it is of a brick of the script, and armed where it may be. Of a submission, a task, a heal and
--- a switch nothing is said.
-abbrev pub HappensWhere : Event → Script → LinesState → Bool → Type 0
-HappensWhere (event.Submit session) script lines did = Unit {0}
-HappensWhere (event.Arrive brick) script lines did = did ≡ is_some (next_output lines brick)
-HappensWhere (event.Serve brick) script lines did = did ≡ may_serve lines brick
-HappensWhere (event.Run graph task) script lines did = Unit {0}
-HappensWhere (event.Act action) script lines did = is_great_action action ≡ false → did ≡ is_of_brick (length script.bricks) action
-HappensWhere (event.Arm brick p count action) script lines did = did ≡ (is_armable brick action && is_of_brick (length script.bricks) action)
+-- which events happen: a session that may submit, and has a line left, submits; an output arrives where one is left, and a brick
+-- serves where it has an input; a task that is ready is run; an action that is no heal and no switch is carried out where it is of a
+-- brick of the script, and armed where it may be. Of a heal and a switch nothing is said.
+abbrev pub HappensWhere : Event → Script → DueState → Log → LinesState → Bool → Type 0
+HappensWhere (event.Submit session) script due log lines did = did ≡ may_submit due script log session
+HappensWhere (event.Arrive brick) script due log lines did = did ≡ is_some (next_output lines brick)
+HappensWhere (event.Serve brick) script due log lines did = did ≡ may_serve lines brick
+HappensWhere (event.Run graph task) script due log lines did = did ≡ may_run due graph task
+HappensWhere (event.Act action) script due log lines did = is_great_action action ≡ false → did ≡ is_of_brick (length script.bricks) action
+HappensWhere (event.Arm brick p count action) script due log lines did = did ≡ (is_armable brick action && is_of_brick (length script.bricks) action)
 
 -- ---- runs
 

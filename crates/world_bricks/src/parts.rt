@@ -3,6 +3,7 @@ ghost use Rattle.std.specs.Prelude.{◌≡◌, ◌&&◌, true, false, length, is
 ghost use Rattle.script_lang.specs.StatementText.{is_great_action};
 ghost use Rattle.mount_log.specs.declared.logs.HubEvent.TheVariants as logged;
 ghost use Rattle.hub_tables.specs.Arming.{is_armable};
+ghost use Rattle.hub_calls.specs.Dues.{may_run, may_submit};
 ghost use Rattle.hub_calls.specs.Hubs.{is_of_brick};
 ghost use Rattle.world_bricks.specs.Lines.{with_sent, may_serve, next_output};
 ghost use Rattle.world_bricks.specs.Worlds.{HubDoes, Submits, Arrives, Serves, Happens, HappensWhere, KeepsDue};
@@ -35,6 +36,7 @@ impl Parts {
         ensures same { (self.new.hub.script ≡ self.old.hub.script) × (self.new.hub.plans ≡ self.old.hub.plans) }
         ensures happens { IfOk result (λ did. did ≡ true → Submits self.old.hub.script session self.old.hub.log self.old.lines self.new.hub.log self.new.lines) }
         ensures unchanged { IfOk result (λ did. did ≡ false → self.new ≡ self.old) }
+        ensures may { IfOk result (λ did. did ≡ may_submit self.old.hub.due self.old.hub.script self.old.hub.log session) }
     {
         let did = self.hub.submit(alloc, session)?;
         if !did {
@@ -63,6 +65,7 @@ impl Parts {
         ensures same { (self.new.hub.script ≡ self.old.hub.script) × (self.new.hub.plans ≡ self.old.hub.plans) }
         ensures happens { IfOk result (λ did. did ≡ true → HubDoes (logged.Run graph task) self.old.hub.log self.old.lines self.new.hub.log self.new.lines) }
         ensures unchanged { IfOk result (λ did. did ≡ false → self.new ≡ self.old) }
+        ensures ready { IfOk result (λ did. did ≡ may_run self.old.hub.due graph task) }
     {
         let did = self.hub.run(alloc, graph, task)?;
         if !did {
@@ -125,7 +128,7 @@ impl Parts {
         ensures same { (self.new.hub.script ≡ self.old.hub.script) × (self.new.hub.plans ≡ self.old.hub.plans) }
         ensures happens { IfOk result (λ did. did ≡ true → Happens self.old.hub.script happening self.old.hub.log self.old.lines self.new.hub.log self.new.lines) }
         ensures unchanged { IfOk result (λ did. did ≡ false → self.new ≡ self.old) }
-        ensures enabled { IfOk result (λ did. HappensWhere happening self.old.hub.script self.old.lines did) }
+        ensures enabled { IfOk result (λ did. HappensWhere happening self.old.hub.script self.old.hub.due self.old.hub.log self.old.lines did) }
         ensures due { KeepsDue happening self.old.hub.due self.new.hub.due }
     {
         match happening {

@@ -82,7 +82,7 @@ impl World {
         ensures same { (self.new.script ≡ self.old.script) × (self.new.plans ≡ self.old.plans) }
         ensures happens { IfOk result (λ did. did ≡ true → Happens self.old.script event self.old.log self.old.lines self.new.log self.new.lines) }
         ensures unchanged { IfOk result (λ did. did ≡ false → self.new ≡ self.old) }
-        ensures enabled { IfOk result (λ did. HappensWhere event self.old.script self.old.lines did) }
+        ensures enabled { IfOk result (λ did. HappensWhere event self.old.script self.old.due self.old.log self.old.lines did) }
         ensures due { KeepsDue event self.old.due self.new.due }
         ensures spent { StaysStopped self.old.stop self.old self.new result }
         ensures goes { OnOk result (self.new.stop ≡ None) }
