@@ -6,7 +6,7 @@ use Rattle.mount_log.specs.Submissions.{session_line, submits_of}
 use Rattle.script_lang.specs.declared.scripts.Action.{Action}
 use Rattle.script_lang.specs.declared.scripts.Script.{Script}
 use Rattle.graph_nodes.specs.Ready.{has_task}
-use Rattle.hub_tables.specs.PhaseControls.{ControlsState, act_by}
+use Rattle.hub_tables.specs.PhaseControls.{ControlsState, act_by, first_due, next_plain, first_left}
 use Rattle.hub_tables.specs.Sessions.{ProgressState}
 use Rattle.hub_tables.specs.SmallSets.{numbers}
 use Rattle.hub_tables.specs.declared.actions.Due.{Due}
@@ -39,11 +39,11 @@ is_quiet progress internal owed tasks = (progress.unanswered == 0) && is_none in
 -- the ready tasks
 unfoldable pub due_of : ℕ → ProgressState → ControlsState → Option ℕ → ℕ → List (ℕ × ℕ) → DueState
 due_of phases progress controls internal owed tasks = record {
-  first = controls.first;
+  first = first_due controls;
   submits = numbers progress.ready;
   tasks = tasks;
-  plain = where_none internal controls.plain;
-  rest = where_quiet (is_quiet progress internal owed tasks) controls.left;
+  plain = where_none internal (next_plain controls);
+  rest = where_quiet (is_quiet progress internal owed tasks) (first_left controls);
   finished = not (nat_lt progress.phase phases) && is_quiet progress internal owed tasks;
 }
 

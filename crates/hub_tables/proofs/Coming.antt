@@ -1,5 +1,5 @@
 -- The actions that wait for a request are moved one after another, each time the first of them.
-use Rattle.std.proofs.Common.{◌≡◌, ℕ, suc, ◌+◌, ◌-◌, ◌≤◌, Bool, true, false, cond, List, [], ◌∷◌, Option, Some, None, refl, sym, ap, ◌∙◌, subst, length, arith, if◌then◌else◌}
+use Rattle.std.proofs.Common.{◌≡◌, ℕ, suc, ◌+◌, ◌-◌, ◌≤◌, Bool, true, false, cond, List, [], ◌∷◌, Option, Some, None, is_some, refl, sym, ap, ◌∙◌, subst, length, arith, if◌then◌else◌}
 use Rattle.std.specs.Ordering.{nat_cmp}
 use Rattle.std.specs.BTreeMap.{insert_entry, is_at}
 use Rattle.std.specs.Map.{lookup, remove_entry}
@@ -11,6 +11,10 @@ use Rattle.hub_tables.proofs.Orders.{rank_itself, rank_is}
 use Rattle.hub_tables.proofs.Ranks.{found_there}
 
 module _ (request : Nth) where
+  -- what is found is there
+  pub never_gone : (es : List (Rank × Action)) (r : Rank) → first_of_request es request ≡ Some r → lookup (is_at (rank_cmp r)) es ≡ None → ⊥
+  never_gone es r first gone = let t : false ≡ true = sym (ap is_some gone) ∙ (found_there request es r first).1 in absurd cc
+
   -- where none waits, none comes
   pub none_come : (es : List (Rank × Action)) (come : List (ℕ × Action)) → first_of_request es request ≡ None → coming es request come ≡ come
   none_come [] come none = refl
@@ -44,7 +48,7 @@ module _ (request : Nth) where
     by true of_it false here first found rest =
         let this : e.0 ≡ r = cc in
         absurd (let t : true ≡ false = sym (rank_itself r) ∙ sym (ap (is_at (rank_cmp r)) this) ∙ here in cc)
-    by false of_it true here first found rest = absurd (let t : true ≡ false = sym (found_request es r first) ∙ ap (λ (q : Rank). is_request q.request request) (rank_is r e.0 here) ∙ of_it in cc)
+    by false of_it true here first found rest = absurd (let t : true ≡ false = sym (found_there request es r first).0 ∙ ap (λ (q : Rank). is_request q.request request) (rank_is r e.0 here) ∙ of_it in cc)
     by false of_it false here first found rest = ap (λ (b : Bool). coming (remove_entry (is_at (rank_cmp r)) es) request (if b then insert_entry nat_cmp (insert_entry nat_cmp come r.order a) e.0.order e.1 else insert_entry nat_cmp come r.order a)) of_it ∙ rest first found
 
   pub one_waits_no_more : (es : List (Rank × Action)) (r : Rank) → first_of_request es request ≡ Some r → waiting (remove_entry (is_at (rank_cmp r)) es) request ≡ waiting es request
@@ -58,7 +62,7 @@ module _ (request : Nth) where
     by true of_it false here first rest =
         let this : e.0 ≡ r = cc in
         absurd (let t : true ≡ false = sym (rank_itself r) ∙ sym (ap (is_at (rank_cmp r)) this) ∙ here in cc)
-    by false of_it true here first rest = absurd (let t : true ≡ false = sym (found_request es r first) ∙ ap (λ (q : Rank). is_request q.request request) (rank_is r e.0 here) ∙ of_it in cc)
+    by false of_it true here first rest = absurd (let t : true ≡ false = sym (found_there request es r first).0 ∙ ap (λ (q : Rank). is_request q.request request) (rank_is r e.0 here) ∙ of_it in cc)
     by false of_it false here first rest =
         ap (λ (b : Bool). if b then waiting (remove_entry (is_at (rank_cmp r)) es) request else e ∷ waiting (remove_entry (is_at (rank_cmp r)) es) request) of_it
         ∙ ap (λ (l : List (Rank × Action)). e ∷ l) (rest first)

@@ -1,5 +1,5 @@
 -- The places of procedures tell them apart.
-use Rattle.std.proofs.Common.{◌≡◌, false, ⊥, Some, refl, sym, ap, ◌∙◌, ◌==◌, slice_get, ne_eqb}
+use Rattle.std.proofs.Common.{◌≡◌, false, Some, refl, sym, ap, ◌∙◌, ◌==◌, slice_get, ne_eqb}
 use Rattle.fop_types.specs.declared.messages.Proc.{Proc}
 use Rattle.fop_types.specs.declared.messages.Proc.TheVariants as proc
 use Rattle.brick_machine.specs.State.{place_of}

@@ -3,9 +3,10 @@
 -- the log. Ours.
 use Rattle.std.specs.Prelude.{ℕ, zero, suc, ◌+◌, ◌-◌, ◌^◌, min, nat_le, Bool, List, [], ◌∷◌, ◌++◌, slice_get, slice_set, option_map, unwrap_or, Option, None, Some, if◌then◌else◌}
 use Rattle.std.specs.BTreeMap.{insert_entry, is_at}
-use Rattle.std.specs.BTreeSet.{insert_key, remove_key}
+use Rattle.std.specs.BTreeSet.{insert_key}
 use Rattle.std.specs.List.{filter}
 use Rattle.std.specs.Map.{lookup, remove_entry, set_value}
+use Rattle.std.specs.Set.{remove_key}
 use Rattle.std.specs.Ordering.{nat_cmp}
 use Rattle.fop_types.specs.declared.cells.Gfid.{Gfid}
 use Rattle.hub_tables.specs.declared.calls.CallState.{CallState}

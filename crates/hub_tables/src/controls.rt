@@ -1,9 +1,9 @@
 //! The controls of a phase, and when each is due.
 ghost use Rattle.std.specs.Prelude.{◌≡◌, ◌≤◌, ◌+◌, ◌-◌, ◌^◌, ◌==◌, min, is_none, length, slice_get, OnOk, OnErr, IfOk};
 ghost use Rattle.std.specs.BTreeMap.{insert_entry};
-ghost use Rattle.hub_tables.specs.PhaseControls.{no_controls, rank_cmp, first_due, next_plain, first_left, first_of_request, place_by, entry_by, where_may, with_control, with_controls, without_control, carried_by, armed_by, with_armed, next_count, with_count, next_armed, without_armed, drop_armed, action_of, coming, waiting, with_sent};
+ghost use Rattle.hub_tables.specs.PhaseControls.{no_controls, rank_cmp, first_due, next_plain, first_left, first_of_request, place_by as place_of_action, entry_by as entry_of_control, is_arm as is_arm_of, where_may, with_control, with_controls, without_control, carried_by, armed_by as place_of_arm, with_armed, next_count, with_count, next_armed, without_armed, drop_armed, action_of, coming, waiting, with_sent};
 
-use crate::actions::{Due, is_same};
+use crate::actions::{Due, is_same, proc_rank};
 use crate::requests::Nth;
 use fop_types::Proc;
 use script_lang::{Action, ControlLine, Phase, When};
@@ -71,6 +71,67 @@ fn first_of<T: Copy>(map: &BTreeMap<u32, T>) -> Option<(u32, T)>
     }
 }
 
+// The place of an entry, where it has this action.
+fn place_by(entry: Option<(u32, Action)>, action: Action) -> Option<u32>
+    ensures { result ≡ place_of_action entry action }
+{
+    match entry {
+        Some((order, found)) => {
+            if is_same(found, action) {
+                Some(order)
+            } else {
+                None
+            }
+        }
+        None => None,
+    }
+}
+
+fn entry_by(control: Option<(u32, ControlLine)>) -> Option<(u32, Action)>
+    ensures { result ≡ entry_of_control control }
+{
+    match control {
+        Some((order, control)) => Some((order, control.action)),
+        None => None,
+    }
+}
+
+fn is_arm(due: Due, brick: u8, proc: Proc, count: u32, action: Action) -> bool
+    ensures { result ≡ is_arm_of due brick proc count action }
+{
+    match due {
+        Due::Arm(at, which, nth, what) => {
+            at == brick
+                && proc_rank(which) == proc_rank(proc)
+                && nth == count
+                && is_same(what, action)
+        }
+        _ => false,
+    }
+}
+
+// The place of an entry, where it is this one that is to be armed.
+fn armed_by(
+    entry: Option<(u32, Due)>,
+    brick: u8,
+    proc: Proc,
+    count: u32,
+    action: Action,
+) -> Option<u32>
+    ensures { result ≡ place_of_arm entry brick proc count action }
+{
+    match entry {
+        Some((order, due)) => {
+            if is_arm(due, brick, proc, count, action) {
+                Some(order)
+            } else {
+                None
+            }
+        }
+        None => None,
+    }
+}
+
 // The first rank of a request in a map.
 #[tactic(auto, using(crate::proofs::Ranks::first_is, crate::proofs::Ranks::first_is_other, crate::proofs::Ranks::none_from))]
 fn first_for<T>(map: &BTreeMap<Rank, T>, request: Nth) -> Option<Rank>
@@ -102,9 +163,10 @@ fn come(
         let Some(rank) = first_for(awaited, request) else {
             return Ok(());
         };
-        if let Some(action) = awaited.remove(&rank) {
-            come.insert(rank.order, action)?;
-        }
+        let Some(action) = awaited.remove(&rank) else {
+            return Ok(());
+        };
+        come.insert(rank.order, action)?;
     }
     Ok(())
 }
@@ -253,67 +315,37 @@ impl Controls {
     }
 
     fn come_by(&self, action: Action) -> Option<u32>
-        ensures { result ≡ where_may (length self.now.unarmed == 0) (place_by (slice_get self.now.come 0) action) }
+        ensures { result ≡ where_may (length self.now.unarmed == 0) (place_of_action (slice_get self.now.come 0) action) }
     {
         if !self.unarmed.is_empty() {
             return None;
         }
-        match first_of(&self.come) {
-            Some((order, come)) => {
-                if is_same(come, action) {
-                    Some(order)
-                } else {
-                    None
-                }
-            }
-            None => None,
-        }
+        place_by(first_of(&self.come), action)
     }
 
     fn plain_by(&self, action: Action, may: bool) -> Option<u32>
-        ensures { result ≡ where_may may (place_by (slice_get self.now.plain 0) action) }
+        ensures { result ≡ where_may may (place_of_action (slice_get self.now.plain 0) action) }
     {
-        match first_of(&self.plain) {
-            Some((order, plain)) => {
-                if may && is_same(plain, action) {
-                    Some(order)
-                } else {
-                    None
-                }
-            }
-            None => None,
+        if !may {
+            return None;
         }
+        place_by(first_of(&self.plain), action)
     }
 
     fn rest_by(&self, action: Action, may: bool) -> Option<u32>
-        ensures { result ≡ where_may may (place_by (entry_by (slice_get self.now.left 0)) action) }
+        ensures { result ≡ where_may may (place_of_action (entry_of_control (slice_get self.now.left 0)) action) }
     {
-        match first_of(&self.left) {
-            Some((order, control)) => {
-                if may && is_same(control.action, action) {
-                    Some(order)
-                } else {
-                    None
-                }
-            }
-            None => None,
+        if !may {
+            return None;
         }
+        place_by(entry_by(first_of(&self.left)), action)
     }
 
     // Whether an Arm is that of the first control that is to be armed, and of which one.
     fn arms(&self, brick: u8, proc: Proc, count: u32, action: Action) -> Option<u32>
-        ensures { result ≡ armed_by (slice_get self.now.unarmed 0) brick proc count action }
+        ensures { result ≡ place_of_arm (slice_get self.now.unarmed 0) brick proc count action }
     {
-        match first_of(&self.unarmed) {
-            Some((order, Due::Arm(at, which, nth, what))) => {
-                if at == brick && which == proc && nth == count && is_same(what, action) {
-                    Some(order)
-                } else {
-                    None
-                }
-            }
-            _ => None,
-        }
+        armed_by(first_of(&self.unarmed), brick, proc, count, action)
     }
 
     /// Arms an action: that of the first control that is to be armed, where it is the same, or one of its own.
