@@ -1,5 +1,6 @@
 pub mod SmallSets
 pub mod SetsWhere
+pub mod Numbers
 pub mod Sessions
 pub mod MadeObjects
 pub mod PlanBricks
@@ -8,3 +9,5 @@ pub mod Orders
 pub mod Ranks
 pub mod Places
 pub mod Coming
+pub mod Outgoing
+pub mod PhasesLeft

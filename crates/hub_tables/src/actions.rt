@@ -1,6 +1,7 @@
 //! What a control does.
 ghost use Rattle.std.specs.Prelude.{◌≡◌, ◌↔◌, IsTrue};
 ghost use Rattle.brick_machine.specs.State.{place_of};
+ghost use Rattle.script_lang.specs.StatementText.{is_great_action};
 ghost use Rattle.hub_tables.specs.PhaseControls.{same_action};
 ghost use Rattle.hub_tables.specs.Arming.{is_armable};
 
@@ -44,6 +45,20 @@ pub(crate) fn is_same(one: Action, other: Action) -> bool
         (Action::Heal, Action::Heal) => true,
         (Action::Switch(a), Action::Switch(b)) => a == b,
         _ => false,
+    }
+}
+
+/// Whether an action begins an internal call: a heal or a switch.
+pub(crate) fn is_great(action: Action) -> bool
+    ensures { result ≡ is_great_action action }
+{
+    match action {
+        Action::Heal => true,
+        Action::Switch(_) => true,
+        Action::Down(_, _) => false,
+        Action::Up(_) => false,
+        Action::Cut(_) => false,
+        Action::Fault(_, _, _) => false,
     }
 }
 
