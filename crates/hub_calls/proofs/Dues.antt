@@ -6,7 +6,8 @@ use Rattle.script_lang.specs.declared.scripts.Action.{Action}
 use Rattle.hub_tables.specs.PhaseControls.{act_by}
 use Rattle.hub_tables.specs.declared.actions.Due.{Due}
 use Rattle.hub_tables.specs.declared.actions.Due.TheVariants as due
-use Rattle.hub_calls.specs.Dues.{DueState, due_task, due_control, dues}
+use Rattle.hub_tables.specs.Agendas.{AgendaState, plain_due}
+use Rattle.hub_calls.specs.Dues.{due_task, due_control, dues}
 
 module _ {A B : Type 0} (f : A → B) where
   found : (xs : List A) (rest : List B) (k : ℕ) (x : A) → slice_get xs k ≡ Some x → slice_get (map f xs ++ rest) k ≡ Some (f x)
@@ -31,38 +32,38 @@ one_control None k some = refl
 one_control (Some a) zero some = absurd (omega arith)
 one_control (Some a) (suc k) some = refl
 
-module _ (d : DueState) (ns : List ℕ) (k : ℕ) (submits : ns ≡ d.submits) where
+module _ (agenda : AgendaState) (ready : List (ℕ × ℕ)) (ns : List ℕ) (k : ℕ) (submits : ns ≡ agenda.progress.ready) where
   abbrev tasks : List Due
-  tasks = map due_task d.tasks ++ due_control d.plain
+  tasks = map due_task ready ++ due_control (plain_due agenda)
 
-  pub of_submits : (session : ℕ) → slice_get ns k ≡ Some session → Some (due.Submit session) ≡ slice_get (dues d) k
+  pub of_submits : (session : ℕ) → slice_get ns k ≡ Some session → Some (due.Submit session) ≡ slice_get (dues agenda ready) k
   unfolding dues
-  of_submits session is = sym (found due.Submit d.submits tasks k session (ap (λ (l : List ℕ). slice_get l k) (sym submits) ∙ is))
+  of_submits session is = sym (found due.Submit agenda.progress.ready tasks k session (ap (λ (l : List ℕ). slice_get l k) (sym submits) ∙ is))
 
   module _ (many : ℕ) (none : slice_get ns k ≡ None) (long : many ≡ length ns) where
-    behind : slice_get (dues d) k ≡ slice_get tasks (k - many)
+    behind : slice_get (dues agenda ready) k ≡ slice_get tasks (k - many)
     unfolding dues
     behind =
-        let after = past due.Submit d.submits tasks k (ap (λ (l : List ℕ). slice_get l k) (sym submits) ∙ none) in
-        let count : length d.submits ≡ many = ap length (sym submits) ∙ sym long in
+        let after = past due.Submit agenda.progress.ready tasks k (ap (λ (l : List ℕ). slice_get l k) (sym submits) ∙ none) in
+        let count : length agenda.progress.ready ≡ many = ap length (sym submits) ∙ sym long in
         after.1 ∙ ap (λ (n : ℕ). slice_get tasks (k - n)) count
 
-    pub of_tasks : (graph task : ℕ) → slice_get d.tasks (k - many) ≡ Some (graph, task) → Some (due.Run graph task) ≡ slice_get (dues d) k
-    of_tasks graph task is = sym (behind ∙ found due_task d.tasks (due_control d.plain) (k - many) (graph, task) is)
+    pub of_tasks : (graph task : ℕ) → slice_get ready (k - many) ≡ Some (graph, task) → Some (due.Run graph task) ≡ slice_get (dues agenda ready) k
+    of_tasks graph task is = sym (behind ∙ found due_task ready (due_control (plain_due agenda)) (k - many) (graph, task) is)
 
-    module _ (no_task : slice_get d.tasks (k - many) ≡ None) (low : k ≤ 4294967295) where
-      pub of_control : k - many ≡ min (length d.tasks) 4294967295 → act_by d.plain ≡ slice_get (dues d) k
+    module _ (no_task : slice_get ready (k - many) ≡ None) (low : k ≤ 4294967295) where
+      pub of_control : k - many ≡ min (length ready) 4294967295 → act_by (plain_due agenda) ≡ slice_get (dues agenda ready) k
       of_control last =
-          let after = past due_task d.tasks (due_control d.plain) (k - many) no_task in
-          let zero_left : 0 ≡ k - many - length d.tasks = omega (arith, after.0, low, last) in
-          first_control d.plain ∙ ap (slice_get (due_control d.plain)) zero_left ∙ sym (behind ∙ after.1)
+          let after = past due_task ready (due_control (plain_due agenda)) (k - many) no_task in
+          let zero_left : 0 ≡ k - many - length ready = omega (arith, after.0, low, last) in
+          first_control (plain_due agenda) ∙ ap (slice_get (due_control (plain_due agenda))) zero_left ∙ sym (behind ∙ after.1)
 
-      pub past_dues : (k - many ≡ min (length d.tasks) 4294967295 → ⊥) → None ≡ slice_get (dues d) k
+      pub past_dues : (k - many ≡ min (length ready) 4294967295 → ⊥) → None ≡ slice_get (dues agenda ready) k
       past_dues apart =
-          let after = past due_task d.tasks (due_control d.plain) (k - many) no_task in
-          let same : min (length d.tasks) 4294967295 ≡ length d.tasks = omega (arith, after.0, low) in
-          let some : 0 < k - many - length d.tasks = elim (cases_eq (k - many) (length d.tasks)) [
+          let after = past due_task ready (due_control (plain_due agenda)) (k - many) no_task in
+          let same : min (length ready) 4294967295 ≡ length ready = omega (arith, after.0, low) in
+          let some : 0 < k - many - length ready = elim (cases_eq (k - many) (length ready)) [
             | inl e ↦ absurd (apart (e ∙ sym same))
             | inr d ↦ omega (arith, after.0, d)
           ] in
-          one_control d.plain (k - many - length d.tasks) some ∙ sym (behind ∙ after.1)
+          one_control (plain_due agenda) (k - many - length ready) some ∙ sym (behind ∙ after.1)

@@ -1,5 +1,5 @@
 pub mod Additions
 pub mod Dues
 pub mod Finding
-pub mod Members
 pub mod Planning
+pub mod Agendas

@@ -1,7 +1,7 @@
 -- The plans of a script are plans that graphs can be made from; and the lines that its sessions have left.
 use Rattle.std.proofs.Common.{◌≡◌, ℕ, zero, suc, ◌+◌, ◌==◌, inl, inr, ◌⊎◌, Bool, true, false, ◌&&◌, if◌then◌else◌, is_some, MatchOption, List, [], ◌∷◌, ◌++◌, length, drop, slice_get, Option, None, Some, refl, sym, ap, subst, ◌∙◌, arith, eq-eqb, ne_eqb}
 use Rattle.std.proofs.lemmas.Bool.{cases_eq}
-use Rattle.std.specs.List.{AllByRecursion, list_any}
+use Rattle.std.specs.List.{AllByRecursion}
 use Rattle.graph_build.specs.declared.plans.Plan.{Plan}
 use Rattle.script_lang.specs.declared.scripts.Script.{Script}
 use Rattle.graph_nodes.specs.Plans.{IsPlan}
@@ -16,15 +16,15 @@ use Rattle.mount_log.specs.declared.places.LineAt.{LineAt}
 use Rattle.mount_log.specs.Lines.{line_in, line_of, queue_of, places_from, TakesLine}
 use Rattle.mount_log.specs.Logs.{is_submit}
 use Rattle.mount_log.specs.Submissions.{is_submit_of, submits_of, session_line, line_by}
-use Rattle.hub_tables.specs.PhaseControls.{ControlsState}
-use Rattle.hub_tables.specs.Sessions.{ProgressState, first_line}
-use Rattle.hub_tables.specs.SmallSets.{has, numbers}
+use Rattle.hub_tables.specs.Agendas.{AgendaState}
+use Rattle.hub_tables.specs.Sessions.{first_line}
+use Rattle.hub_tables.specs.SmallSets.{has, numbers, is_among}
 use Rattle.hub_tables.specs.declared.small_set.SmallSet.{SmallSet}
-use Rattle.hub_calls.specs.Dues.{DueState, due_of, may_submit}
+use Rattle.hub_calls.specs.Dues.{may_submit}
 use Rattle.hub_calls.specs.Plans.{PlannedScript, AreLeft, IsNext}
 use Rattle.hub_calls.specs.Hubs.{AddsEvent, AddsSubmission}
 use Rattle.hub_calls.proofs.Additions.{one_event_more}
-use Rattle.hub_calls.proofs.Members.{among}
+use Rattle.hub_tables.proofs.Numbers.{among}
 
 each_plan : (bricks : ℕ) (plans : List Plan) → AllByRecursion (IsPlanOver bricks) plans → AllByRecursion IsPlan plans
 each_plan bricks [] all = tt
@@ -58,6 +58,11 @@ is_gone script left session first at is some none = sym (ap (λ (a : Option Line
 pub is_there : (script : Script) (left : List (List LineAt)) (session : ℕ) (first : Option LineAt) (at : LineAt) (line : CallLine) → first ≡ first_line left session → first ≡ Some at → line_of script at ≡ Some line → true ≡ is_some (line_by script (first_line left session))
 is_there script left session first at line is some there = sym (ap (λ (a : Option LineAt). is_some (line_by script a)) (sym is ∙ some) ∙ ap is_some there)
 
+-- before any event
+
+pub left_before : (script : Script) (events : List HubEvent) (left : List (List LineAt)) → events ≡ [] → AreLeft script [] left → AreLeft script events left
+left_before script events left none are = rw none are
+
 -- one event more
 
 submits_push : (session : ℕ) (events : List HubEvent) (e : HubEvent) → submits_of session (events ++ e ∷ []) ≡ submits_of session events + is_submit_of session e
@@ -78,7 +83,7 @@ same_left script events left e session so_far none =
     so_far ∙ ap (λ (n : ℕ). drop n (places_from session 0 script.phases)) count
 
 -- what is left of a hub that has not stopped, by its invariant
-left_now : (script : Script) (events : List HubEvent) (left : List (List LineAt)) (stop : Option Stop) → MatchOption stop (AreLeft script events left) (λ _. Unit {0}) → stop ≡ None → AreLeft script events left
+pub left_now : (script : Script) (events : List HubEvent) (left : List (List LineAt)) (stop : Option Stop) → MatchOption stop (AreLeft script events left) (λ _. Unit {0}) → stop ≡ None → AreLeft script events left
 left_now script events left None are goes = are
 left_now script events left (Some s) are goes = absurd cc
 
@@ -97,7 +102,7 @@ drop_first zero (y ∷ ys) x rest is = cc
 drop_first (suc n) [] x rest is = absurd cc
 drop_first (suc n) (y ∷ ys) x rest is = drop_first n ys x rest is
 
-get_first : {A : Type 0} (n : ℕ) (xs : List A) → slice_get (drop n xs) 0 ≡ slice_get xs n
+pub get_first : {A : Type 0} (n : ℕ) (xs : List A) → slice_get (drop n xs) 0 ≡ slice_get xs n
 get_first zero xs = refl
 get_first (suc n) [] = refl
 get_first (suc n) (x ∷ xs) = get_first n xs
@@ -148,18 +153,13 @@ adds_submission script old new on stop session number at are goes same is adds =
 
 -- which sessions may submit
 
-pub due_submits : (phases : ℕ) (progress : ProgressState) (controls : ControlsState) (internal : Option ℕ) (owed : ℕ) (tasks : List (ℕ × ℕ)) (ready : SmallSet) → ready ≡ progress.ready
-    → numbers ready ≡ (due_of phases progress controls internal owed tasks).submits
-unfolding due_of
-due_submits phases progress controls internal owed tasks ready is = ap numbers is
-
-pub submits_are : (script : Script) (log : Log) (on : PlannedScript) (d : DueState) (ready : SmallSet) (stop : Option Stop) (session : ℕ) (next : Option (LineAt × ℕ)) (did : Bool) → MatchOption stop (AreLeft on.script log.events on.left) (λ _. Unit {0})
-    → stop ≡ None → on.script ≡ script → numbers ready ≡ d.submits → is_some next ≡ (has ready session && is_some (line_by on.script (first_line on.left session))) → is_some next ≡ did → did ≡ may_submit d script log session
+pub submits_are : (script : Script) (log : Log) (on : PlannedScript) (agenda : AgendaState) (ready : SmallSet) (stop : Option Stop) (session : ℕ) (next : Option (LineAt × ℕ)) (did : Bool) → MatchOption stop (AreLeft on.script log.events on.left) (λ _. Unit {0})
+    → stop ≡ None → on.script ≡ script → numbers ready ≡ agenda.progress.ready → is_some next ≡ (has ready session && is_some (line_by on.script (first_line on.left session))) → is_some next ≡ did → did ≡ may_submit agenda script log session
 unfolding may_submit
-submits_are script log on d ready stop session next did are goes same submits there is =
+submits_are script log on agenda ready stop session next did are goes same submits there is =
     sym is ∙ there
-    ∙ ap (λ (b : Bool). b && is_some (line_by on.script (first_line on.left session))) (sym (among ready session) ∙ ap (list_any (λ (s : ℕ). session == s)) submits)
-    ∙ ap (λ (l : Option CallLine). list_any (λ (s : ℕ). session == s) d.submits && is_some l) next_line
+    ∙ ap (λ (b : Bool). b && is_some (line_by on.script (first_line on.left session))) (sym (among ready session) ∙ ap (is_among session) submits)
+    ∙ ap (λ (l : Option CallLine). is_among session agenda.progress.ready && is_some l) next_line
   where
     places : List LineAt
     places = places_from session 0 script.phases

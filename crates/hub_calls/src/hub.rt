@@ -1,14 +1,15 @@
 ghost use Rattle.std.specs.Prelude.{◌≡◌, ◌&&◌, false, true, None, Some, [], length, OnOk, IfOk, IfErr};
 ghost use Rattle.hub_tables.specs.Arming.{is_armable};
-ghost use Rattle.hub_calls.specs.Dues.{may_run, may_submit};
-ghost use Rattle.hub_calls.specs.Hubs.{StaysStopped, is_of_brick, AddsEvent, AddsSubmission, IsAfterStop, IsTurn};
+ghost use Rattle.hub_tables.specs.Agendas.{with_submission, with_output, with_action, with_arm};
+ghost use Rattle.hub_calls.specs.Dues.{is_idle, may_run, may_submit};
+ghost use Rattle.hub_calls.specs.Hubs.{StaysStopped, is_of_brick, AddsEvent, AddsSubmission, IsAfterStop, IsTurn, agenda_after, agenda_before, is_due_output};
 ghost use Rattle.mount_log.specs.declared.logs.HubEvent.TheVariants as logged;
 ghost use Rattle.mount_log.specs.Logs.{is_submit};
 ghost use Rattle.mount_log.specs.Scripts.{IsScript};
 ghost use Rattle.script_lang.specs.StatementText.{is_great_action};
 
 use crate::acting::is_of_brick;
-use crate::parts::Parts;
+use crate::engine::Engine;
 use crate::planned::Planned;
 use bytes::Bytes;
 use fop_types::{Proc, Seq};
@@ -29,14 +30,13 @@ use xlator_law::Stop;
 #[derive(Drop)]
 pub struct Hub {
     pub(crate) planned: Planned,
-    pub(crate) parts: Parts,
+    pub(crate) engine: Engine,
     log: Log,
     stop: Option<Stop>,
 }
 
 impl Model for Hub {
-    ghost use Rattle.std.specs.Prelude.{MatchOption, length};
-    ghost use Rattle.hub_calls.specs.Dues.{due_of};
+    ghost use Rattle.std.specs.Prelude.{MatchOption};
     ghost use Rattle.hub_calls.specs.Hubs.{HubState};
     ghost use Rattle.hub_calls.specs.Plans.{AreLeft};
 
@@ -46,7 +46,8 @@ impl Model for Hub {
       script = h.planned.script;
       plans = h.planned.plans;
       log = h.log;
-      due = due_of (length h.planned.script.phases) h.parts.progress h.parts.turn.controls h.parts.internal h.parts.turn.bricks.owed h.parts.graphs.nodes.tasks;
+      agenda = h.engine.agenda;
+      tasks = h.engine.parts.graphs.nodes.tasks;
       stop = h.stop;
     } };
 
@@ -60,22 +61,26 @@ impl Hub {
     ///
     /// # Errors
     /// Out of memory.
+    #[tactic(auto, using(crate::proofs::Planning::left_before, crate::proofs::Agendas::begun_agenda))]
     pub fn new(alloc: Global, script: Script, plans: Seq<Plan>) -> Result<Hub, AllocError>
         requires { IsScript script plans }
-        ensures start { IfOk result (λ h. h ≡ record { script = script; plans = plans; log = h.log; due = h.due; stop = None }) }
+        ensures start { IfOk result (λ h. h ≡ record { script = script; plans = plans; log = h.log; agenda = h.agenda; tasks = h.tasks; stop = None }) }
         ensures events { IfOk result (λ h. h.log.events ≡ []) }
+        ensures agenda { IfOk result (λ h. h.agenda ≡ agenda_before script h.log h.tasks) }
     {
         let planned = Planned::new(alloc, script, plans)?;
         let mut log = Log::new(alloc);
-        match Parts::begun(alloc, &planned, &mut log) {
-            Ok(parts) => Ok(Hub {
+        let mut engine = Engine::new(alloc, &planned);
+        match engine.begin(alloc, &planned, &mut log) {
+            Ok(()) => Ok(Hub {
                 planned,
-                parts,
+                engine,
                 log,
                 stop: None,
             }),
             Err(error) => {
                 drop(planned);
+                drop(engine);
                 drop(log);
                 Err(error)
             }
@@ -93,18 +98,19 @@ impl Hub {
     }
 
     // Closes an event, which is no submission, of a hub that has not stopped. An event that was not done stops it.
-    #[tactic(auto, using(crate::proofs::Planning::still_left))]
+    #[tactic(auto, using(crate::proofs::Planning::still_left, crate::proofs::Agendas::closed_agenda))]
     fn close(&mut self, alloc: Global, done: Result<(), Stop>, event: HubEvent) -> Result<(), Stop>
         requires goes { self.old.stop ≡ None }
         requires other { is_submit event ≡ 0 }
         ensures same { (self.new.script ≡ self.old.script) × (self.new.plans ≡ self.old.plans) }
         ensures event { OnOk result (AddsEvent self.old.log self.new.log event) }
+        ensures agenda { OnOk result (self.new.agenda ≡ agenda_after self.old.script self.old.log self.new.log self.new.tasks self.old.agenda) }
         ensures cut { IfErr result (λ stop. IsAfterStop stop self.old.log self.new.log) }
         ensures goes { OnOk result (self.new.stop ≡ None) }
         ensures stops { IfErr result (λ s. self.new.stop ≡ Some s) }
     {
         match self
-            .parts
+            .engine
             .close(alloc, &self.planned, done, event, &mut self.log)
         {
             Ok(()) => Ok(()),
@@ -120,28 +126,33 @@ impl Hub {
     ///
     /// # Errors
     /// `Winds` where a further wind was needed and 4,294,967,295 were opened; else out of memory.
-    #[tactic(auto, using(crate::proofs::Planning::left_submitted, crate::proofs::Planning::adds_submission, crate::proofs::Additions::after_same))]
+    #[tactic(auto, using(crate::proofs::Planning::left_submitted, crate::proofs::Planning::adds_submission, crate::proofs::Additions::after_same, crate::proofs::Agendas::submitted_agenda))]
     pub fn submit(&mut self, alloc: Global, session: u8) -> Result<bool, Stop>
         ensures same { (self.new.script ≡ self.old.script) × (self.new.plans ≡ self.old.plans) }
         ensures unchanged { IfOk result (λ did. did ≡ false → self.new ≡ self.old) }
         ensures event { IfOk result (λ did. did ≡ true → AddsSubmission self.old.script self.old.log self.new.log session) }
-        ensures did { IfOk result (λ did. did ≡ may_submit self.old.due self.old.script self.old.log session) }
+        ensures did { IfOk result (λ did. did ≡ may_submit self.old.agenda self.old.script self.old.log session) }
+        ensures agenda { IfOk result (λ did. did ≡ true → self.new.agenda ≡ agenda_after self.old.script self.old.log self.new.log self.new.tasks (with_submission self.old.agenda session)) }
         ensures cut { IfErr result (λ stop. IsAfterStop stop self.old.log self.new.log) }
         ensures spent { StaysStopped self.old.stop self.old self.new result }
         ensures goes { OnOk result (self.new.stop ≡ None) }
         ensures stops { IfErr result (λ s. self.new.stop ≡ Some s) }
     {
         self.check()?;
-        let ready = self.parts.progress.ready();
+        let ready = self.engine.agenda.submits();
         let Some((at, line)) = self.planned.next_of(ready, session) else {
             return Ok(false);
         };
         self.planned.take_line(session);
-        self.parts.turn.open(&self.log);
-        let done = self.parts.submitted(alloc, &self.planned, session, at);
+        self.engine.agenda.submit(session);
+        self.engine.parts.turn.open(&self.log);
+        let done = self
+            .engine
+            .parts
+            .submitted(alloc, &self.planned, session, at);
         let event = HubEvent::Submit { session, line };
         match self
-            .parts
+            .engine
             .close(alloc, &self.planned, done, event, &mut self.log)
         {
             Ok(()) => Ok(true),
@@ -160,6 +171,7 @@ impl Hub {
     pub fn arrive(&mut self, alloc: Global, brick: u8, output: Bytes) -> Result<(), Stop>
         ensures same { (self.new.script ≡ self.old.script) × (self.new.plans ≡ self.old.plans) }
         ensures event { OnOk result (AddsEvent self.old.log self.new.log (logged.Arrive brick output)) }
+        ensures agenda { OnOk result (self.new.agenda ≡ agenda_after self.old.script self.old.log self.new.log self.new.tasks (with_output self.old.agenda (is_due_output output))) }
         ensures cut { IfErr result (λ stop. IsAfterStop stop self.old.log self.new.log) }
         ensures spent { StaysStopped self.old.stop self.old self.new result }
         ensures goes { OnOk result (self.new.stop ≡ None) }
@@ -167,10 +179,8 @@ impl Hub {
     {
         match self.check() {
             Ok(()) => {
-                self.parts.turn.open(&self.log);
-                let done = self
-                    .parts
-                    .arrived(alloc, &self.planned, brick, output.as_slice());
+                self.engine.parts.turn.open(&self.log);
+                let done = self.arrived(alloc, brick, output.as_slice());
                 let event = HubEvent::Arrive {
                     brick,
                     bytes: output,
@@ -184,6 +194,24 @@ impl Hub {
         }
     }
 
+    // What an output does before its event is closed.
+    fn arrived(&mut self, alloc: Global, brick: u8, output: &[u8]) -> Result<(), Stop>
+        ensures same { (self.new.script ≡ self.old.script) × (self.new.plans ≡ self.old.plans) × (self.new.log ≡ self.old.log) × (self.new.stop ≡ self.old.stop) }
+        ensures agenda { OnOk result (self.new.agenda ≡ with_output self.old.agenda (is_due_output output.now)) }
+    {
+        match self
+            .engine
+            .parts
+            .arrived(alloc, &self.planned, brick, output)
+        {
+            Ok(due) => {
+                self.engine.agenda.put_out(due);
+                Ok(())
+            }
+            Err(stop) => Err(stop),
+        }
+    }
+
     /// Runs a ready task of a graph: the frame of the io-threads node with this number whose turn it is goes on. It is
     /// false, with nothing changed, exactly where no such task is ready.
     ///
@@ -194,7 +222,8 @@ impl Hub {
         ensures same { (self.new.script ≡ self.old.script) × (self.new.plans ≡ self.old.plans) }
         ensures unchanged { IfOk result (λ did. did ≡ false → self.new ≡ self.old) }
         ensures event { IfOk result (λ did. did ≡ true → AddsEvent self.old.log self.new.log (logged.Run graph task)) }
-        ensures did { IfOk result (λ did. did ≡ may_run self.old.due graph task) }
+        ensures did { IfOk result (λ did. did ≡ may_run self.old.tasks graph task) }
+        ensures agenda { IfOk result (λ did. did ≡ true → self.new.agenda ≡ agenda_after self.old.script self.old.log self.new.log self.new.tasks self.old.agenda) }
         ensures cut { IfErr result (λ stop. IsAfterStop stop self.old.log self.new.log) }
         ensures spent { StaysStopped self.old.stop self.old self.new result }
         ensures goes { OnOk result (self.new.stop ≡ None) }
@@ -213,12 +242,13 @@ impl Hub {
         requires { self.old.stop ≡ None }
         ensures same { (self.new.script ≡ self.old.script) × (self.new.plans ≡ self.old.plans) }
         ensures event { OnOk result (AddsEvent self.old.log self.new.log (logged.Run graph task)) }
+        ensures agenda { OnOk result (self.new.agenda ≡ agenda_after self.old.script self.old.log self.new.log self.new.tasks self.old.agenda) }
         ensures cut { IfErr result (λ stop. IsAfterStop stop self.old.log self.new.log) }
         ensures goes { OnOk result (self.new.stop ≡ None) }
         ensures stops { IfErr result (λ s. self.new.stop ≡ Some s) }
     {
-        self.parts.turn.open(&self.log);
-        let done = self.parts.run_task(alloc, graph, task);
+        self.engine.parts.turn.open(&self.log);
+        let done = self.engine.parts.run_task(alloc, graph, task);
         self.close(alloc, done, HubEvent::Run { graph, task })
     }
 
@@ -263,8 +293,16 @@ impl Hub {
         ensures { is_great_action action ≡ false → result ≡ is_of_brick (length self.now.script.bricks) action }
     {
         match action {
-            Action::Heal => self.parts.may_heal(),
-            Action::Switch(volfile) => self.parts.may_switch(&self.planned, volfile),
+            Action::Heal => !self.engine.agenda.is_calling(),
+            Action::Switch(volfile) => {
+                !self.engine.agenda.is_calling()
+                    && self
+                        .engine
+                        .parts
+                        .graphs
+                        .live
+                        .may_follow(&self.planned, volfile)
+            }
             _ => is_of_brick(self.script(), action),
         }
     }
@@ -281,6 +319,7 @@ impl Hub {
         ensures same { (self.new.script ≡ self.old.script) × (self.new.plans ≡ self.old.plans) }
         ensures unchanged { IfOk result (λ did. did ≡ false → self.new ≡ self.old) }
         ensures event { IfOk result (λ did. did ≡ true → AddsEvent self.old.log self.new.log (logged.Act action)) }
+        ensures agenda { IfOk result (λ did. did ≡ true → self.new.agenda ≡ agenda_after self.old.script self.old.log self.new.log self.new.tasks (with_action self.old.agenda action (is_idle self.old.tasks))) }
         ensures cut { IfErr result (λ stop. IsAfterStop stop self.old.log self.new.log) }
         ensures of_brick { IfOk result (λ did. is_great_action action ≡ false → did ≡ is_of_brick (length self.old.script.bricks) action) }
         ensures spent { StaysStopped self.old.stop self.old self.new result }
@@ -291,8 +330,10 @@ impl Hub {
         if !self.may_act(action) {
             return Ok(false);
         }
-        self.parts.turn.open(&self.log);
-        let done = self.parts.acted(alloc, &self.planned, action);
+        let idle = self.engine.is_idle();
+        self.engine.agenda.act(action, idle);
+        self.engine.parts.turn.open(&self.log);
+        let done = self.engine.parts.carry_out(alloc, &self.planned, action);
         self.close(alloc, done, HubEvent::Act(action))?;
         Ok(true)
     }
@@ -315,6 +356,7 @@ impl Hub {
         ensures same { (self.new.script ≡ self.old.script) × (self.new.plans ≡ self.old.plans) }
         ensures unchanged { IfOk result (λ did. did ≡ false → self.new ≡ self.old) }
         ensures event { IfOk result (λ did. did ≡ true → AddsEvent self.old.log self.new.log (logged.Arm brick before count action)) }
+        ensures agenda { IfOk result (λ did. did ≡ true → self.new.agenda ≡ agenda_after self.old.script self.old.log self.new.log self.new.tasks (with_arm self.old.agenda brick before count action)) }
         ensures cut { IfErr result (λ stop. IsAfterStop stop self.old.log self.new.log) }
         ensures armable { IfOk result (λ did. did ≡ (is_armable brick action && is_of_brick (length self.old.script.bricks) action)) }
         ensures spent { StaysStopped self.old.stop self.old self.new result }
@@ -325,10 +367,21 @@ impl Hub {
         if !may_be_armed(brick, action) || !is_of_brick(self.script(), action) {
             return Ok(false);
         }
-        self.parts.turn.open(&self.log);
-        let done = self.parts.turn.armed(brick, before, count, action);
+        self.engine.parts.turn.open(&self.log);
+        let done = self.armed(brick, before, count, action);
         self.close(alloc, done, HubEvent::Arm(brick, before, count, action))?;
         Ok(true)
+    }
+
+    // What an arming does before its event is closed.
+    fn armed(&mut self, brick: u8, before: Proc, count: u32, action: Action) -> Result<(), Stop>
+        ensures same { (self.new.script ≡ self.old.script) × (self.new.plans ≡ self.old.plans) × (self.new.log ≡ self.old.log) × (self.new.stop ≡ self.old.stop) }
+        ensures agenda { OnOk result (self.new.agenda ≡ with_arm self.old.agenda brick before count action) }
+    {
+        match self.engine.agenda.arm(brick, before, count, action) {
+            Ok(()) => Ok(()),
+            Err(_) => Err(Stop::Mem),
+        }
     }
 
     /// The log of the events so far.
@@ -358,11 +411,11 @@ impl Hub {
     {
         let Hub {
             planned,
-            parts,
+            engine,
             log,
             ..
         } = self;
-        drop(parts);
+        drop(engine);
         let (script, plans) = planned.into_parts();
         (script, plans, log)
     }

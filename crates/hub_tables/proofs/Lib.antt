@@ -11,3 +11,4 @@ pub mod Places
 pub mod Coming
 pub mod Outgoing
 pub mod PhasesLeft
+pub mod Nexts
