@@ -1,17 +1,23 @@
 -- What is due in a hub, by its agenda and the ready tasks, by graph and then by number: what goes before everything else is in
 -- the agenda's controls; then the sessions that may submit, rising, the ready tasks, and the next control without a condition; and
 -- where nothing is left but controls, the first of these. Ours.
-use Rattle.std.specs.Prelude.{ℕ, ◌==◌, Bool, ◌&&◌, List, [], ◌∷◌, ◌++◌, map, length, Option, None, Some, is_some}
+use Rattle.std.specs.Prelude.{ℕ, ◌==◌, Bool, ◌&&◌, List, [], ◌∷◌, ◌++◌, map, length, Option, None, Some, is_some, if◌then◌else◌}
 use Rattle.mount_log.specs.declared.logs.Log.{Log}
 use Rattle.mount_log.specs.Submissions.{session_line, submits_of}
 use Rattle.script_lang.specs.declared.scripts.Action.{Action}
 use Rattle.script_lang.specs.declared.scripts.Script.{Script}
+use Rattle.graph_build.specs.declared.plans.Plan.{Plan}
 use Rattle.graph_nodes.specs.Ready.{has_task}
 use Rattle.hub_tables.specs.Agendas.{AgendaState, plain_due, rest_due, is_over}
 use Rattle.hub_tables.specs.PhaseControls.{act_by, first_due}
+use Rattle.hub_tables.specs.PlanBricks.{has_queues}
 use Rattle.hub_tables.specs.SmallSets.{is_among}
 use Rattle.hub_tables.specs.declared.actions.Due.{Due}
 use Rattle.hub_tables.specs.declared.actions.Due.TheVariants as due
+
+-- the ready tasks of a hub, of those that its graphs have: none where no plan has an io-threads node
+abbrev pub ready_in : List Plan → List (ℕ × ℕ) → List (ℕ × ℕ)
+ready_in plans tasks = if has_queues plans then tasks else []
 
 -- whether no task is ready
 abbrev pub is_idle : List (ℕ × ℕ) → Bool

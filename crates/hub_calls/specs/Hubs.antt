@@ -1,7 +1,7 @@
 -- What is seen of a hub: the script that it runs, with its plans, the log of the whole events, the agenda and the ready tasks, which
 -- decide what is due, and why it stopped; what a stop does to later calls; which actions may be carried out; which event a call adds
 -- to the log, and what the event makes of the agenda. Ours.
-use Rattle.std.specs.Prelude.{◌≡◌, ℕ, ◌==◌, nat_lt, Bool, false, ◌&&◌, not, List, [], ◌∷◌, length, drop, slice_get, Option, None, Some, Result, Err}
+use Rattle.std.specs.Prelude.{◌≡◌, ℕ, ◌==◌, nat_lt, Bool, true, false, ◌&&◌, not, List, [], ◌∷◌, length, drop, slice_get, Option, None, Some, Result, Err}
 use Rattle.graph_build.specs.declared.plans.Plan.{Plan}
 use Rattle.script_lang.specs.declared.scripts.CallLine.{CallLine}
 use Rattle.script_lang.specs.declared.scripts.Script.{Script}
@@ -45,6 +45,16 @@ is_of_brick many (action.Cut brick) = nat_lt brick many
 is_of_brick many (action.Fault brick p number) = nat_lt brick many && may_fail p number
 is_of_brick many action.Heal = false
 is_of_brick many (action.Switch volfile) = false
+
+-- whether an action is carried out, where an internal call is under way or not: a heal where none is, another than a switch where it
+-- is of one of so many bricks; a switch not where one is
+abbrev pub ActsWhere : Action → ℕ → Bool → Bool → Type 0
+ActsWhere action.Heal many internal did = did ≡ not internal
+ActsWhere (action.Switch volfile) many internal did = did ≡ true → internal ≡ false
+ActsWhere (action.Down brick serve) many internal did = did ≡ is_of_brick many (action.Down brick serve)
+ActsWhere (action.Up brick) many internal did = did ≡ is_of_brick many (action.Up brick)
+ActsWhere (action.Cut brick) many internal did = did ≡ is_of_brick many (action.Cut brick)
+ActsWhere (action.Fault brick p number) many internal did = did ≡ is_of_brick many (action.Fault brick p number)
 
 -- ---- what a call adds to the log
 

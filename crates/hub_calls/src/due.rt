@@ -1,6 +1,7 @@
 //! What is due in a hub, and which calls have their replies.
-ghost use Rattle.std.specs.Prelude.{◌≡◌, IfSome, Contains, min, length, slice_get};
+ghost use Rattle.std.specs.Prelude.{◌≡◌, false, [], IfSome, Contains, min, length, slice_get};
 ghost use Rattle.hub_tables.specs.PhaseControls.{act_by};
+ghost use Rattle.hub_tables.specs.PlanBricks.{has_queues};
 ghost use Rattle.hub_tables.specs.SmallSets.{numbers};
 ghost use Rattle.hub_tables.specs.Agendas.{plain_due};
 ghost use Rattle.hub_calls.specs.Dues.{due_first, due_rest, dues, is_through, may_run};
@@ -42,25 +43,41 @@ impl Hub {
         self.engine.agenda.first()
     }
 
+    /// Whether one of the plans has an io-threads node. Where none has, no task is ready.
+    pub fn has_queues(&self) -> bool
+        ensures value { result ≡ has_queues self.now.plans }
+        ensures none { result ≡ false → self.now.tasks ≡ [] }
+    {
+        self.planned.has_queues()
+    }
+
     /// How many tasks are ready; 4,294,967,295 where they are more.
     pub fn ready_len(&self) -> u32
         ensures { result ≡ min (length self.now.tasks) 4294967295 }
     {
-        self.engine.parts.graphs.nodes.tasks_len()
+        if self.planned.has_queues() {
+            self.engine.parts.graphs.nodes.tasks_len()
+        } else {
+            0
+        }
     }
 
     /// The ready task of this place, from 0, by graph and then by task.
     pub fn ready_at(&self, at: u32) -> Option<(u32, u32)>
         ensures { result ≡ slice_get self.now.tasks at }
     {
-        self.engine.parts.graphs.nodes.task_at(at)
+        if self.planned.has_queues() {
+            self.engine.parts.graphs.nodes.task_at(at)
+        } else {
+            None
+        }
     }
 
     /// Whether a task of a graph is ready.
     pub(crate) fn is_ready(&self, graph: u32, task: u32) -> bool
         ensures { result ≡ may_run self.now.tasks graph task }
     {
-        self.engine.parts.graphs.nodes.is_ready(graph, task)
+        self.planned.has_queues() && self.engine.parts.graphs.nodes.is_ready(graph, task)
     }
 
     /// The item of this number, from 0, among the sessions that may submit, the ready tasks, and then the next control
@@ -88,7 +105,8 @@ impl Hub {
     pub fn rest(&self) -> Option<Due>
         ensures { result ≡ due_rest self.now.agenda self.now.tasks }
     {
-        act_due(self.engine.agenda.rest(self.engine.is_idle()))
+        let idle = self.engine.is_idle(&self.planned);
+        act_due(self.engine.agenda.rest(idle))
     }
 
     /// Whether each call has its reply, each control was carried out, and nothing else is left.
@@ -96,7 +114,8 @@ impl Hub {
         ensures { result ≡ is_through self.now.script self.now.agenda self.now.tasks }
     {
         let phases = self.script().phases.len();
-        self.engine.agenda.is_over(phases, self.engine.is_idle())
+        let idle = self.engine.is_idle(&self.planned);
+        self.engine.agenda.is_over(phases, idle)
     }
 
     /// The reply of a call, by its number from 1.

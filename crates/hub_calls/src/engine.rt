@@ -2,7 +2,7 @@
 ghost use Rattle.std.specs.Prelude.{◌≡◌, ◌==◌, not, length, OnOk, OnErr, IfErr};
 ghost use Rattle.hub_tables.specs.Agendas.{new_agenda, with_phase, with_sends, moved_on, next_agenda};
 ghost use Rattle.hub_tables.specs.Sessions.{first_line};
-ghost use Rattle.hub_calls.specs.Dues.{is_idle};
+ghost use Rattle.hub_calls.specs.Dues.{is_idle, ready_in};
 ghost use Rattle.hub_calls.specs.Hubs.{AddsEvent, IsAfterStop, new_replies, new_sent, is_answered_in};
 
 use crate::parts::Parts;
@@ -32,10 +32,14 @@ impl Engine {
     }
 
     /// Whether no task is ready.
-    pub(crate) fn is_idle(&self) -> bool
-        ensures { result ≡ is_idle self.now.parts.graphs.nodes.tasks }
+    pub(crate) fn is_idle(&self, on: &Planned) -> bool
+        ensures { result ≡ is_idle (ready_in on.now.plans self.now.parts.graphs.nodes.tasks) }
     {
-        self.parts.graphs.nodes.tasks_len() == 0
+        if on.has_queues() {
+            self.parts.graphs.nodes.tasks_len() == 0
+        } else {
+            true
+        }
     }
 
     // What was sent goes out.
@@ -61,11 +65,11 @@ impl Engine {
         log: &mut Log,
     ) -> Result<(), AllocError>
         ensures events { OnOk result (log.new.events ≡ log.old.events) }
-        ensures agenda { OnOk result (self.new.agenda ≡ moved_on (first_line on.now.left) on.now.script.phases (is_idle self.new.parts.graphs.nodes.tasks) (length on.now.script.phases) (with_phase (first_line on.now.left) on.now.script.phases (with_sends self.old.agenda (new_sent log.old log.new)))) }
+        ensures agenda { OnOk result (self.new.agenda ≡ moved_on (first_line on.now.left) on.now.script.phases (is_idle (ready_in on.now.plans self.new.parts.graphs.nodes.tasks)) (length on.now.script.phases) (with_phase (first_line on.now.left) on.now.script.phases (with_sends self.old.agenda (new_sent log.old log.new)))) }
     {
         self.parts.make_graph(alloc, on, on.script().start)?;
         self.send_out(alloc)?;
-        let idle = self.is_idle();
+        let idle = self.is_idle(on);
         self.agenda
             .begin(alloc, on.left(), on.script().phases.as_slice(), idle)?;
         let lines = self.parts.turn.take_lines(alloc);
@@ -75,10 +79,10 @@ impl Engine {
 
     // Ends an event of which all is done: what it has sent goes out, and the phases that have nothing left end.
     fn end(&mut self, alloc: Global, on: &Planned) -> Result<(), AllocError>
-        ensures { OnOk result (self.new.agenda ≡ next_agenda (first_line on.now.left) on.now.script.phases (is_idle self.new.parts.graphs.nodes.tasks) self.new.parts.turn.lines.replies self.new.parts.turn.lines.sent (not (length self.new.parts.turn.lines.answered == 0)) self.old.agenda) }
+        ensures { OnOk result (self.new.agenda ≡ next_agenda (first_line on.now.left) on.now.script.phases (is_idle (ready_in on.now.plans self.new.parts.graphs.nodes.tasks)) self.new.parts.turn.lines.replies self.new.parts.turn.lines.sent (not (length self.new.parts.turn.lines.answered == 0)) self.old.agenda) }
     {
         self.send_out(alloc)?;
-        let idle = self.is_idle();
+        let idle = self.is_idle(on);
         let answered = !self.parts.turn.lines.answered.is_empty();
         self.agenda.end(
             alloc,
@@ -100,7 +104,7 @@ impl Engine {
         log: &mut Log,
     ) -> Result<(), AllocError>
         ensures event { OnOk result (AddsEvent log.old log.new event) }
-        ensures agenda { OnOk result (self.new.agenda ≡ next_agenda (first_line on.now.left) on.now.script.phases (is_idle self.new.parts.graphs.nodes.tasks) (new_replies log.old log.new) (new_sent log.old log.new) (is_answered_in log.old log.new) self.old.agenda) }
+        ensures agenda { OnOk result (self.new.agenda ≡ next_agenda (first_line on.now.left) on.now.script.phases (is_idle (ready_in on.now.plans self.new.parts.graphs.nodes.tasks)) (new_replies log.old log.new) (new_sent log.old log.new) (is_answered_in log.old log.new) self.old.agenda) }
         ensures err { OnErr result (log.new ≡ log.old) }
     {
         match self.end(alloc, on) {
@@ -126,7 +130,7 @@ impl Engine {
         log: &mut Log,
     ) -> Result<(), Stop>
         ensures event { OnOk result (AddsEvent log.old log.new event) }
-        ensures agenda { OnOk result (self.new.agenda ≡ next_agenda (first_line on.now.left) on.now.script.phases (is_idle self.new.parts.graphs.nodes.tasks) (new_replies log.old log.new) (new_sent log.old log.new) (is_answered_in log.old log.new) self.old.agenda) }
+        ensures agenda { OnOk result (self.new.agenda ≡ next_agenda (first_line on.now.left) on.now.script.phases (is_idle (ready_in on.now.plans self.new.parts.graphs.nodes.tasks)) (new_replies log.old log.new) (new_sent log.old log.new) (is_answered_in log.old log.new) self.old.agenda) }
         ensures stops { IfErr result (λ stop. IsAfterStop stop log.old log.new) }
     {
         let finished = match done {

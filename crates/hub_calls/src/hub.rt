@@ -2,11 +2,10 @@ ghost use Rattle.std.specs.Prelude.{◌≡◌, ◌&&◌, false, true, None, Some
 ghost use Rattle.hub_tables.specs.Arming.{is_armable};
 ghost use Rattle.hub_tables.specs.Agendas.{with_submission, with_output, with_action, with_arm};
 ghost use Rattle.hub_calls.specs.Dues.{is_idle, may_run, may_submit};
-ghost use Rattle.hub_calls.specs.Hubs.{StaysStopped, is_of_brick, AddsEvent, AddsSubmission, IsAfterStop, IsTurn, agenda_after, agenda_before, is_due_output};
+ghost use Rattle.hub_calls.specs.Hubs.{StaysStopped, is_of_brick, AddsEvent, AddsSubmission, IsAfterStop, IsTurn, agenda_after, agenda_before, is_due_output, ActsWhere};
 ghost use Rattle.mount_log.specs.declared.logs.HubEvent.TheVariants as logged;
 ghost use Rattle.mount_log.specs.Logs.{is_submit};
 ghost use Rattle.mount_log.specs.Scripts.{IsScript};
-ghost use Rattle.script_lang.specs.StatementText.{is_great_action};
 
 use crate::acting::is_of_brick;
 use crate::engine::Engine;
@@ -37,6 +36,7 @@ pub struct Hub {
 
 impl Model for Hub {
     ghost use Rattle.std.specs.Prelude.{MatchOption};
+    ghost use Rattle.hub_calls.specs.Dues.{ready_in};
     ghost use Rattle.hub_calls.specs.Hubs.{HubState};
     ghost use Rattle.hub_calls.specs.Plans.{AreLeft};
 
@@ -47,7 +47,7 @@ impl Model for Hub {
       plans = h.planned.plans;
       log = h.log;
       agenda = h.engine.agenda;
-      tasks = h.engine.parts.graphs.nodes.tasks;
+      tasks = ready_in h.planned.plans h.engine.parts.graphs.nodes.tasks;
       stop = h.stop;
     } };
 
@@ -290,7 +290,7 @@ impl Hub {
 
     // Whether an action may be carried out.
     fn may_act(&self, action: Action) -> bool
-        ensures { is_great_action action ≡ false → result ≡ is_of_brick (length self.now.script.bricks) action }
+        ensures { ActsWhere action (length self.now.script.bricks) self.now.agenda.internal result }
     {
         match action {
             Action::Heal => !self.engine.agenda.is_calling(),
@@ -321,7 +321,7 @@ impl Hub {
         ensures event { IfOk result (λ did. did ≡ true → AddsEvent self.old.log self.new.log (logged.Act action)) }
         ensures agenda { IfOk result (λ did. did ≡ true → self.new.agenda ≡ agenda_after self.old.script self.old.log self.new.log self.new.tasks (with_action self.old.agenda action (is_idle self.old.tasks))) }
         ensures cut { IfErr result (λ stop. IsAfterStop stop self.old.log self.new.log) }
-        ensures of_brick { IfOk result (λ did. is_great_action action ≡ false → did ≡ is_of_brick (length self.old.script.bricks) action) }
+        ensures did { IfOk result (λ did. ActsWhere action (length self.old.script.bricks) self.old.agenda.internal did) }
         ensures spent { StaysStopped self.old.stop self.old self.new result }
         ensures goes { OnOk result (self.new.stop ≡ None) }
         ensures stops { IfErr result (λ s. self.new.stop ≡ Some s) }
@@ -330,7 +330,7 @@ impl Hub {
         if !self.may_act(action) {
             return Ok(false);
         }
-        let idle = self.engine.is_idle();
+        let idle = self.engine.is_idle(&self.planned);
         self.engine.agenda.act(action, idle);
         self.engine.parts.turn.open(&self.log);
         let done = self.engine.parts.carry_out(alloc, &self.planned, action);

@@ -1,8 +1,9 @@
 //! The script that a hub runs, with the plans of its volfiles, and what is left of it.
-ghost use Rattle.std.specs.Prelude.{◌≡◌, nat_lt, ◌&&◌, None, Some, is_some, [], IfSome, IfOk, length, slice_get};
+ghost use Rattle.std.specs.Prelude.{◌≡◌, ◌&&◌, None, Some, is_some, [], IfSome, IfOk, slice_get};
 ghost use Rattle.graph_nodes.specs.Plans.{IsPlan};
 ghost use Rattle.mount_log.specs.Lines.{line_of, TakesLine};
 ghost use Rattle.mount_log.specs.Submissions.{line_by};
+ghost use Rattle.hub_tables.specs.PlanBricks.{has_queues as have_queues};
 ghost use Rattle.hub_tables.specs.SmallSets.{has};
 ghost use Rattle.mount_log.specs.declared.places.LineAt.{LineAt as Place};
 ghost use Rattle.hub_tables.specs.Sessions.{first_line};
@@ -11,7 +12,7 @@ ghost use Rattle.mount_log.specs.Scripts.{IsScript};
 
 use fop_types::Seq;
 use graph_build::Plan;
-use hub_tables::{SessionLines, SmallSet, creations};
+use hub_tables::{SessionLines, SmallSet, creations, has_queues};
 use mount_log::LineAt;
 use script_lang::{CallLine, Phase, Script};
 use std::alloc::{AllocError, Global};
@@ -24,18 +25,21 @@ pub struct Planned {
     script: Script,
     plans: Seq<Plan>,
     left: SessionLines,
+    queues: bool,
 }
 
 impl Model for Planned {
+    ghost use Rattle.std.specs.Prelude.{◌≡◌};
     ghost use Rattle.std.specs.List.{AllByRecursion};
     ghost use Rattle.graph_nodes.specs.Plans.{IsPlan};
+    ghost use Rattle.hub_tables.specs.PlanBricks.{has_queues};
     ghost use Rattle.hub_calls.specs.Plans.{PlannedScript};
 
     ghost Value = { PlannedScript };
 
     ghost view = { λ p. record { script = p.script; plans = p.plans; left = p.left } };
 
-    ghost invariant = { λ p. AllByRecursion IsPlan p.plans };
+    ghost invariant = { λ p. record { each : AllByRecursion IsPlan p.plans; queues : p.queues ≡ has_queues p.plans } };
 }
 
 impl Planned {
@@ -53,11 +57,13 @@ impl Planned {
         ensures given { IfOk result (λ on. (on.script ≡ script) × (on.plans ≡ plans)) }
         ensures left { IfOk result (λ on. AreLeft script [] on.left) }
     {
+        let queues = has_queues(plans.as_slice());
         match SessionLines::new(alloc, &script) {
             Ok(left) => Ok(Planned {
                 script,
                 plans,
                 left,
+                queues,
             }),
             Err(error) => {
                 drop(script);
@@ -86,6 +92,7 @@ impl Planned {
             script,
             plans,
             left,
+            ..
         } = self;
         drop(left);
         (script, plans)
@@ -112,10 +119,11 @@ impl Planned {
         self.script.bricks.len().min(255) as u8
     }
 
-    pub(crate) fn has_phase(&self, phase: u32) -> bool
-        ensures { result ≡ nat_lt phase (length self.now.script.phases) }
+    /// Whether one of the plans has an io-threads node, so that tasks may be ready.
+    pub(crate) fn has_queues(&self) -> bool
+        ensures { result ≡ have_queues self.now.plans }
     {
-        (phase as usize) < self.script.phases.len()
+        self.queues
     }
 
     pub(crate) fn phase(&self, phase: u32) -> Option<&Phase>

@@ -128,10 +128,6 @@ moved_on next phases idle zero a = a
 moved_on next phases idle (suc more) a =
     if has_ended phases idle a then moved_on next phases idle more (with_phase next phases (record a { progress = behind a.progress })) else a
 
--- the agenda of a script before any event
-abbrev pub first_agenda : (ℕ → Option LineAt) → List Phase → Bool → AgendaState
-first_agenda next phases idle = moved_on next phases idle (length phases) (with_phase next phases new_agenda)
-
 -- the agenda after an event, of what the event has begun with
 abbrev pub next_agenda : (ℕ → Option LineAt) → List Phase → Bool → List ReplyLine → List SentLine → Bool → AgendaState → AgendaState
 next_agenda next phases idle replies sent answered a = moved_on next phases idle (length phases) (with_replies next (with_sends a sent) replies answered)

@@ -1,5 +1,6 @@
 //! What a control does.
-ghost use Rattle.std.specs.Prelude.{◌≡◌, ◌↔◌, IsTrue};
+ghost use Rattle.std.specs.Prelude.{◌≡◌, ◌↔◌, Some, IsTrue};
+ghost use Rattle.mount_log.specs.Procedures.{proc_by};
 ghost use Rattle.brick_machine.specs.State.{place_of};
 ghost use Rattle.script_lang.specs.StatementText.{is_great_action};
 ghost use Rattle.hub_tables.specs.PhaseControls.{same_action};
@@ -10,7 +11,8 @@ use script_lang::Action;
 
 /// The place of a procedure among the procedures, from 0.
 pub(crate) fn proc_rank(proc: Proc) -> u8
-    ensures { result ≡ place_of proc }
+    ensures place { result ≡ place_of proc }
+    ensures proc { proc_by (Some result) ≡ Some proc }
 {
     proc as u8
 }

@@ -38,7 +38,7 @@ pub use calls::{CallState, Calls, Stage};
 pub use fop_checks::is_fop;
 pub use fops::{changes_bytes_next, fd_number};
 pub use outputs::{closed_after, is_due};
-pub use plan_bricks::bricks_of;
+pub use plan_bricks::{bricks_of, has_queues};
 pub use script_lines::{creations, makes};
 pub use session_lines::SessionLines;
 pub use small_set::SmallSet;

@@ -3,7 +3,7 @@ use Rattle.std.proofs.Common.{◌≡◌, refl, sym, ap, subst, ◌∙◌, inl, i
 use Rattle.std.specs.Prelude.{ℕ, zero, suc, ◌+◌, false, List, [], ◌∷◌, ◌++◌, length, None, Some}
 use Rattle.std.proofs.lemmas.List.{length_push}
 use Rattle.world_bricks.specs.Choices.{picked}
-use Rattle.world_bricks.specs.Runs.{drawn, PicksThen, ArePicked, IsRunOf}
+use Rattle.world_bricks.specs.Runs.{drawn, HasNoTask, PicksThen, ArePicked, IsRunOf}
 use Rattle.world_bricks.specs.Schedules.{moved}
 use Rattle.world_bricks.specs.Worlds.{WorldState, Happens, HappensWhere, MovesAgenda}
 use Rattle.world_bricks.specs.declared.events.Event.{Event}
@@ -22,12 +22,13 @@ pub record IsUnderWay (seed : ℕ) (w now : WorldState) (x many : ℕ) : Type 0 
 pub begins : (seed : ℕ) (w : WorldState) → IsUnderWay seed w w seed 0
 begins seed w = record { events = []; are_picked = refl; state = refl; long = refl }
 
-module _ (e : Event) (mid after : WorldState) (happens : Happens mid.script e mid.log mid.lines after.log after.lines) (same : (after.script ≡ mid.script) × (after.plans ≡ mid.plans)) (moves : MovesAgenda e mid.script mid.log mid.lines mid.agenda mid.tasks after.log after.agenda after.tasks) where
+module _ (e : Event) (mid after : WorldState) (no_task : HasNoTask mid) (happens : Happens mid.script e mid.log mid.lines after.log after.lines) (same : (after.script ≡ mid.script) × (after.plans ≡ mid.plans)) (moves : MovesAgenda e mid.script mid.log mid.lines mid.agenda mid.tasks after.log after.agenda after.tasks) where
   behind : (es : List Event) (x : ℕ) (w : WorldState) → picked mid.agenda mid.tasks mid.lines (moved (drawn x (length es))) ≡ Some e → ArePicked x es w mid → ArePicked x (es ++ e ∷ []) w after
   behind [] x w will is =
-      subst (λ (m : WorldState). PicksThen (moved x) e m (λ next. after ≡ next)) is (record { after = after; is_picked = will; happens = happens; same = same; agenda = moves; then_follows = refl })
+      subst (λ (m : WorldState). PicksThen (moved x) e m (λ next. after ≡ next)) is (record { after = after; no_task = no_task; is_picked = will; happens = happens; same = same; agenda = moves; then_follows = refl })
   behind (y ∷ ys) x w will h = record {
     after = h.after;
+    no_task = h.no_task;
     is_picked = h.is_picked;
     happens = h.happens;
     same = h.same;
@@ -45,7 +46,7 @@ module _ (e : Event) (mid after : WorldState) (happens : Happens mid.script e mi
     long = omega (arith, way.long, length_push way.events e);
   }
 
-module _ (seed : ℕ) (w now : WorldState) (x many value : ℕ) (draws : value ≡ moved x) (way : IsUnderWay seed w now x many) where
+module _ (seed : ℕ) (w now : WorldState) (x many value : ℕ) (draws : value ≡ moved x) (no_task : HasNoTask now) (way : IsUnderWay seed w now x many) where
   drawn_now : picked now.agenda now.tasks now.lines (moved (drawn seed (length way.events))) ≡ picked now.agenda now.tasks now.lines value
   drawn_now = sym (ap (picked now.agenda now.tasks now.lines) (draws ∙ ap moved way.state))
 
@@ -53,7 +54,7 @@ module _ (seed : ℕ) (w now : WorldState) (x many value : ℕ) (draws : value �
   nothing_left none = record {
     events = way.events;
     are_picked = way.are_picked;
-    ended = inl (drawn_now ∙ none);
+    ended = inl (no_task, drawn_now ∙ none);
   }
 
   pub in_vain : (after : WorldState) (e : Event) → picked now.agenda now.tasks now.lines value ≡ Some e → HappensWhere e now.script now.agenda now.tasks now.log now.lines false → after ≡ now → IsRunOf seed w after
@@ -62,6 +63,7 @@ module _ (seed : ℕ) (w now : WorldState) (x many value : ℕ) (draws : value �
     are_picked = way.are_picked;
     ended = inr (inl (record {
       event = e;
+      no_task = no_task;
       is_picked = drawn_now ∙ will;
       vain = vain;
     }));

@@ -2,7 +2,6 @@
 -- hub, the bricks with their lines, and why it has stopped; and what each event makes of log, lines and agenda. Ours.
 use Rattle.std.specs.Prelude.{◌≡◌, ℕ, Bool, true, false, ◌&&◌, List, [], ◌∷◌, length, is_some, Option, None, Some}
 use Rattle.graph_build.specs.declared.plans.Plan.{Plan}
-use Rattle.script_lang.specs.StatementText.{is_great_action}
 use Rattle.script_lang.specs.declared.scripts.Script.{Script}
 use Rattle.xlator_law.specs.declared.winds.Stop.{Stop}
 use Rattle.mount_log.specs.declared.logs.HubEvent.{HubEvent}
@@ -11,7 +10,7 @@ use Rattle.mount_log.specs.declared.logs.Log.{Log}
 use Rattle.hub_tables.specs.Arming.{is_armable}
 use Rattle.hub_tables.specs.Agendas.{AgendaState, with_submission, with_output, with_action, with_arm}
 use Rattle.hub_calls.specs.Dues.{is_idle, may_run, may_submit}
-use Rattle.hub_calls.specs.Hubs.{AddsEvent, AddsSubmission, is_of_brick, agenda_after, is_due_output}
+use Rattle.hub_calls.specs.Hubs.{AddsEvent, AddsSubmission, is_of_brick, ActsWhere, agenda_after, is_due_output}
 use Rattle.world_bricks.specs.Lines.{LinesState, with_sent, next_input, may_serve, with_served, next_output, with_arrival}
 use Rattle.world_bricks.specs.declared.events.Event.{Event}
 use Rattle.world_bricks.specs.declared.events.Event.TheVariants as event
@@ -84,14 +83,14 @@ KeepsAgenda (event.Serve brick) agenda ready next ready_after = (next ≡ agenda
 KeepsAgenda other agenda ready next ready_after = Unit {0}
 
 -- which events happen: a session that may submit, and has a line left, submits; an output arrives where one is left, and a brick
--- serves where it has an input; a task that is ready is run; an action that is no heal and no switch is carried out where it is of a
--- brick of the script, and armed where it may be. Of a heal and a switch nothing is said.
+-- serves where it has an input; a task that is ready is run; an action of a brick of the script is carried out, a heal where no internal call is
+-- under way, and a switch not where one is; and an action is armed where it may be.
 abbrev pub HappensWhere : Event → Script → AgendaState → List (ℕ × ℕ) → Log → LinesState → Bool → Type 0
 HappensWhere (event.Submit session) script agenda ready log lines did = did ≡ may_submit agenda script log session
 HappensWhere (event.Arrive brick) script agenda ready log lines did = did ≡ is_some (next_output lines brick)
 HappensWhere (event.Serve brick) script agenda ready log lines did = did ≡ may_serve lines brick
 HappensWhere (event.Run graph task) script agenda ready log lines did = did ≡ may_run ready graph task
-HappensWhere (event.Act action) script agenda ready log lines did = is_great_action action ≡ false → did ≡ is_of_brick (length script.bricks) action
+HappensWhere (event.Act action) script agenda ready log lines did = ActsWhere action (length script.bricks) agenda.internal did
 HappensWhere (event.Arm brick p count action) script agenda ready log lines did = did ≡ (is_armable brick action && is_of_brick (length script.bricks) action)
 
 -- ---- runs

@@ -1,11 +1,10 @@
 //! The hub with its bricks, as events move both.
 ghost use Rattle.std.specs.Prelude.{◌≡◌, ◌&&◌, true, false, length, is_some, IfOk, OnOk};
-ghost use Rattle.script_lang.specs.StatementText.{is_great_action};
 ghost use Rattle.mount_log.specs.declared.logs.HubEvent.TheVariants as logged;
 ghost use Rattle.hub_tables.specs.Arming.{is_armable};
 ghost use Rattle.hub_tables.specs.Agendas.{with_submission, with_action, with_arm};
 ghost use Rattle.hub_calls.specs.Dues.{is_idle, may_run, may_submit};
-ghost use Rattle.hub_calls.specs.Hubs.{is_of_brick, agenda_after};
+ghost use Rattle.hub_calls.specs.Hubs.{is_of_brick, ActsWhere, agenda_after};
 ghost use Rattle.world_bricks.specs.Lines.{with_sent, may_serve, next_output};
 ghost use Rattle.world_bricks.specs.Worlds.{HubDoes, Submits, Arrives, Serves, Happens, HappensWhere, KeepsAgenda, MovesAgenda, with_next};
 
@@ -84,7 +83,7 @@ impl Parts {
         ensures happens { IfOk result (λ did. did ≡ true → HubDoes (logged.Act action) self.old.hub.log self.old.lines self.new.hub.log self.new.lines) }
         ensures unchanged { IfOk result (λ did. did ≡ false → self.new ≡ self.old) }
         ensures agenda { IfOk result (λ did. did ≡ true → self.new.hub.agenda ≡ agenda_after self.old.hub.script self.old.hub.log self.new.hub.log self.new.hub.tasks (with_action self.old.hub.agenda action (is_idle self.old.hub.tasks))) }
-        ensures of_brick { IfOk result (λ did. is_great_action action ≡ false → did ≡ is_of_brick (length self.old.hub.script.bricks) action) }
+        ensures did { IfOk result (λ did. ActsWhere action (length self.old.hub.script.bricks) self.old.hub.agenda.internal did) }
     {
         let did = self.hub.act(alloc, action)?;
         if !did {

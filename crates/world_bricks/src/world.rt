@@ -2,6 +2,7 @@ ghost use Rattle.std.specs.Prelude.{◌≡◌, [], None, Some, true, false, leng
 ghost use Rattle.hub_calls.specs.Hubs.{StaysStopped};
 ghost use Rattle.mount_log.specs.Scripts.{IsScript};
 ghost use Rattle.hub_tables.specs.Agendas.{plain_due};
+ghost use Rattle.hub_tables.specs.PlanBricks.{has_queues};
 ghost use Rattle.hub_tables.specs.SmallSets.{numbers, numbers_where};
 ghost use Rattle.hub_calls.specs.Dues.{is_through};
 ghost use Rattle.hub_calls.specs.Hubs.{agenda_before};
@@ -138,8 +139,10 @@ impl World {
     /// enabled; else the first control that is left.
     #[tactic(auto, unfolding(crate::specs::Choices::picked))]
     pub fn pick(&self, value: u64) -> Option<Event>
-        ensures { result ≡ picked self.now.agenda self.now.tasks self.now.lines value }
+        ensures none { has_queues self.now.plans ≡ false → self.now.tasks ≡ [] }
+        ensures event { result ≡ picked self.now.agenda self.now.tasks self.now.lines value }
     {
+        let _ = self.parts.hub.has_queues();
         match self.parts.hub.first() {
             Some(due) => Some(event_of(due)),
             None => match self.choose(value) {
