@@ -1,6 +1,6 @@
 //! What an event moves, with what decides what is due; and how an event is closed.
 ghost use Rattle.std.specs.Prelude.{◌≡◌, ◌==◌, not, length, OnOk, OnErr, IfErr};
-ghost use Rattle.hub_tables.specs.Agendas.{new_agenda, with_phase, with_sends, moved_on, next_agenda};
+ghost use Rattle.hub_tables.specs.Agendas.{new_agenda, with_phase, with_sends, outgoing, moved_on, next_agenda};
 ghost use Rattle.hub_tables.specs.Sessions.{first_line};
 ghost use Rattle.hub_calls.specs.Dues.{is_idle, ready_in};
 ghost use Rattle.hub_calls.specs.Hubs.{AddsEvent, IsAfterStop, new_replies, new_sent, is_answered_in};
@@ -45,6 +45,7 @@ impl Engine {
     // What was sent goes out.
     fn send_out(&mut self, alloc: Global) -> Result<(), AllocError>
         ensures agenda { OnOk result (self.new.agenda ≡ with_sends self.old.agenda self.new.parts.turn.lines.sent) }
+        ensures sent { OnOk result (self.new.parts.turn.lines.sent ≡ outgoing self.old.agenda.controls self.old.parts.turn.lines.sent) }
         ensures lines { OnOk result (self.new.parts ≡ record (self.old.parts) { turn = record (self.old.parts.turn) { lines = record (self.old.parts.turn.lines) { sent = self.new.parts.turn.lines.sent } } }) }
     {
         let sends = self.parts.turn.take_sends(alloc);

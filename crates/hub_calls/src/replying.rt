@@ -240,9 +240,7 @@ impl Parts {
             answer,
         };
         match self.fd_moved(alloc, session, fd) {
-            Ok(()) => {
-                self.turn.lines.add_reply(line)
-            }
+            Ok(()) => { self.turn.lines.add_reply(line) }
             Err(error) => {
                 drop(line);
                 Err(error)

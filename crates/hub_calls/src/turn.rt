@@ -70,7 +70,8 @@ impl Turn {
 
     /// What the event has sent, of which nothing is left.
     pub(crate) fn take_sends(&mut self, alloc: Global) -> Vec<SentLine>
-        ensures { self.new ≡ record self.old { lines = record (self.old.lines) { sent = [] } } }
+        ensures sends { result.items ≡ self.old.lines.sent }
+        ensures none { self.new ≡ record self.old { lines = record (self.old.lines) { sent = [] } } }
     {
         mem::replace(&mut self.lines.sent, Seq::new(alloc)).into_vec()
     }

@@ -46,7 +46,7 @@ module _ (next other : ℕ → Option LineAt) (same : (session : ℕ) → next s
   moved_on_so phases idle (suc more) a =
       let left : AgendaState = record a { progress = behind a.progress } in
       ap (λ (b : AgendaState). if has_ended phases idle a then b else a)
-          (ap (moved_on next phases idle more) (with_phase_so phases left) ∙ moved_on_so phases idle more (with_phase other phases left))
+      (ap (moved_on next phases idle more) (with_phase_so phases left) ∙ moved_on_so phases idle more (with_phase other phases left))
 
   pub next_agenda_so : (phases : List Phase) (idle : Bool) (replies : List ReplyLine) (sent : List SentLine) (answered : Bool) (a : AgendaState) → next_agenda next phases idle replies sent answered a ≡ next_agenda other phases idle replies sent answered a
   next_agenda_so phases idle replies sent answered a =

@@ -1,5 +1,5 @@
 -- What goes out, one input after another.
-use Rattle.std.proofs.Common.{◌≡◌, ℕ, zero, suc, ◌+◌, ◌||◌, ◌++◌, Bool, true, false, List, [], ◌∷◌, Option, Some, None, is_some, length, refl, sym, ap, subst, ◌∙◌, arith, if◌then◌else◌}
+use Rattle.std.proofs.Common.{◌≡◌, ℕ, zero, suc, ◌+◌, ◌||◌, ◌++◌, Bool, true, false, List, [], ◌∷◌, Option, Some, None, is_some, length, refl, sym, ap, ◌∙◌, arith, append-nil, append_assoc, if◌then◌else◌}
 use Rattle.fop_types.specs.declared.messages.Input.TheVariants as input
 use Rattle.fop_types.specs.declared.messages.Proc.{Proc}
 use Rattle.wire_xdr.specs.WireText.{input_text}
@@ -7,8 +7,10 @@ use Rattle.wire_xdr.specs.Xdr.{unit}
 use Rattle.mount_log.specs.Procedures.{rank_in}
 use Rattle.mount_log.specs.declared.logs.SentLine.{SentLine}
 use Rattle.script_lang.specs.declared.scripts.Action.{Action}
+use Rattle.script_lang.specs.declared.scripts.Action.TheVariants as action
 use Rattle.hub_tables.specs.PhaseControls.{ControlsState, next_count, with_count, armed_at, next_armed, drop_armed, drop_of, without_armed, first_of_request, action_of, with_sent}
-use Rattle.hub_tables.specs.Agendas.{AgendaState, without_armed_of, controls_by, controls_after, is_kind, is_owed_for, owed_by, with_sends}
+use Rattle.hub_tables.specs.Arming.{is_armable}
+use Rattle.hub_tables.specs.Agendas.{AgendaState, without_armed_of, controls_by, controls_after, armed_line, with_armed_line, armed_lines, lines_before, outgoing, is_kind, is_owed_for, owed_by, with_sends}
 use Rattle.hub_tables.specs.declared.controls.Armed.{Armed}
 use Rattle.hub_tables.specs.declared.controls.Rank.{Rank}
 use Rattle.hub_tables.specs.declared.requests.Nth.{Nth}
@@ -137,6 +139,60 @@ all_taken start c after request left many is after_is so_far = after_is ∙ none
 
 pub same_but : (start now : AgendaState) (x y : ControlsState) → now ≡ record start { owed = now.owed; controls = now.controls } → x ≡ y → record now { controls = x } ≡ record start { owed = now.owed; controls = y }
 same_but start now x y kept is = ap (λ (a : AgendaState). record a { controls = x }) kept ∙ ap (λ (c : ControlsState). record start { owed = now.owed; controls = c }) is
+
+-- ---- the inputs that go out
+
+pub no_line : {T : Type 0} (lines new : List T) → new ≡ lines → new ≡ lines ++ []
+no_line lines new same = same ∙ sym (append-nil lines)
+
+pub fault_line : (lines new : List SentLine) (event brick : ℕ) (p : Proc) (number : ℕ) → is_armable brick (action.Fault brick p number) ≡ true → new ≡ lines ++ fault lines event brick p number ∷ [] → new ≡ lines ++ armed_line event (action.Fault brick p number)
+fault_line lines new event brick p number may is = is ∙ ap (λ (b : Bool). lines ++ (if b then fault lines event brick p number ∷ [] else [])) (sym may)
+
+pub no_fault_line : (lines new : List SentLine) (event brick : ℕ) (p : Proc) (number : ℕ) → is_armable brick (action.Fault brick p number) ≡ false → new ≡ lines → new ≡ lines ++ armed_line event (action.Fault brick p number)
+no_fault_line lines new event brick p number may same = no_line lines new same ∙ ap (λ (b : Bool). lines ++ (if b then fault lines event brick p number ∷ [] else [])) (sym may)
+
+armed_first : (event : ℕ) (r : Option Armed) (a : Action) (rest : List SentLine) → action_of r ≡ Some a → with_armed_line event r rest ≡ armed_line event a ++ rest
+armed_first event None a rest is = absurd cc
+armed_first event (Some x) a rest is = let e : x.action ≡ a = cc in ap (λ (y : Action). armed_line event y ++ rest) e
+
+armed_none : (event : ℕ) (r : Option Armed) (rest : List SentLine) → action_of r ≡ None → with_armed_line event r rest ≡ []
+armed_none event None rest is = refl
+armed_none event (Some x) rest is = absurd cc
+
+-- an armed action has gone out, and then the others
+pub one_line : (event : ℕ) (request : Nth) (before now after all : List SentLine) (c : ControlsState) (a : Action) (more left : ℕ) → action_of (next_armed c request) ≡ Some a → left ≡ suc more → after ≡ now ++ armed_line event a
+    → now ++ armed_lines event c request left ≡ all → after ++ armed_lines event (without_armed c request) request more ≡ all
+one_line event request before now after all c a more left is long gone so_far =
+    ap (λ (l : List SentLine). l ++ armed_lines event (without_armed c request) request more) gone
+    ∙ append_assoc now (armed_line event a) (armed_lines event (without_armed c request) request more)
+    ∙ ap (λ (l : List SentLine). now ++ l) (sym (ap (armed_lines event c request) long ∙ armed_first event (next_armed c request) a (armed_lines event (without_armed c request) request more) is))
+    ∙ so_far
+
+-- where none is armed any more, all have gone out
+pub no_more_lines : (event : ℕ) (request : Nth) (now all : List SentLine) (c : ControlsState) (left : ℕ) → action_of (next_armed c request) ≡ None → now ++ armed_lines event c request left ≡ all → now ≡ all
+no_more_lines event request now all c zero is so_far = sym (append-nil now) ∙ so_far
+no_more_lines event request now all c (suc left) is so_far =
+    sym (append-nil now) ∙ ap (λ (l : List SentLine). now ++ l) (sym (armed_none event (next_armed c request) (armed_lines event (without_armed c request) request left) is)) ∙ so_far
+
+outgoing_push : (xs : List SentLine) (x : SentLine) (c : ControlsState) → outgoing c (xs ++ x ∷ []) ≡ outgoing c xs ++ (lines_before (controls_after c xs) x (rank_in x.bytes) ++ x ∷ [])
+outgoing_push [] x c = refl
+outgoing_push (y ∷ ys) x c =
+    let before : List SentLine = lines_before c y (rank_in y.bytes) in
+    let next : ControlsState = controls_by c y.brick (rank_in y.bytes) in
+    ap (λ (l : List SentLine). before ++ y ∷ l) (outgoing_push ys x next)
+    ∙ sym (append_assoc before (y ∷ outgoing next ys) (lines_before (controls_after next ys) x (rank_in x.bytes) ++ x ∷ []))
+
+pub next_lines : (lines now after sent : List SentLine) (line : SentLine) (old c : ControlsState) → now ≡ lines ++ outgoing old sent → c ≡ controls_after old sent → after ≡ now ++ (lines_before c line (rank_in line.bytes) ++ line ∷ [])
+    → after ≡ lines ++ outgoing old (sent ++ line ∷ [])
+next_lines lines now after sent line old c so_far is gone =
+    gone
+    ∙ ap (λ (l : List SentLine). l ++ (lines_before c line (rank_in line.bytes) ++ line ∷ [])) so_far
+    ∙ append_assoc lines (outgoing old sent) (lines_before c line (rank_in line.bytes) ++ line ∷ [])
+    ∙ ap (λ (d : ControlsState). lines ++ (outgoing old sent ++ (lines_before d line (rank_in line.bytes) ++ line ∷ []))) is
+    ∙ ap (λ (l : List SentLine). lines ++ l) (sym (outgoing_push sent line old))
+
+pub next_controls : (sent : List SentLine) (line : SentLine) (old c after : ControlsState) → c ≡ controls_after old sent → after ≡ controls_by c line.brick (rank_in line.bytes) → after ≡ controls_after old (sent ++ line ∷ [])
+next_controls sent line old c after so_far is = is ∙ ap (λ (d : ControlsState). controls_by d line.brick (rank_in line.bytes)) so_far ∙ sym (controls_push sent line old)
 
 -- ---- all
 

@@ -1,18 +1,23 @@
 -- What decides what is due in a hub: how far the sessions are, the controls of the phase, whether an internal call is under way, and
 -- how many requests, Downs and Ups have no output so far. What is due of it; and what each event makes of it, by the lines that the
 -- event adds to the log. Ours.
-use Rattle.std.specs.Prelude.{ℕ, zero, suc, ◌+◌, ◌-◌, ◌==◌, min, nat_lt, Bool, true, false, ◌&&◌, ◌||◌, not, List, [], ◌∷◌, length, take, Option, None, Some, is_none, is_some, slice_get, if◌then◌else◌}
+use Rattle.std.specs.Prelude.{ℕ, zero, suc, ◌+◌, ◌-◌, ◌==◌, min, nat_lt, Bool, true, false, ◌&&◌, ◌||◌, not, List, [], ◌∷◌, ◌++◌, length, take, Option, None, Some, is_none, is_some, slice_get, if◌then◌else◌}
 use Rattle.std.specs.Cmp.Lexicographic.{pointwise}
+use Rattle.fop_types.specs.declared.messages.Input.TheVariants as input
 use Rattle.fop_types.specs.declared.messages.Proc.{Proc}
+use Rattle.wire_xdr.specs.WireText.{input_text}
 use Rattle.script_lang.specs.StatementText.{is_great_action}
 use Rattle.script_lang.specs.declared.scripts.Action.{Action}
+use Rattle.script_lang.specs.declared.scripts.Action.TheVariants as action
 use Rattle.script_lang.specs.declared.scripts.Phase.{Phase}
 use Rattle.mount_log.specs.Procedures.{rank_in}
 use Rattle.mount_log.specs.declared.logs.ReplyLine.{ReplyLine}
 use Rattle.mount_log.specs.declared.logs.SentLine.{SentLine}
 use Rattle.mount_log.specs.declared.places.LineAt.{LineAt}
+use Rattle.hub_tables.specs.Arming.{is_armable}
 use Rattle.hub_tables.specs.PhaseControls.{ControlsState, no_controls, next_plain, first_left, with_controls, carried_by, drop_place, with_armed, next_count, with_count, next_armed, without_armed, with_sent}
 use Rattle.hub_tables.specs.Sessions.{ProgressState, after_submission, after_replies, begun, behind}
+use Rattle.hub_tables.specs.declared.controls.Armed.{Armed}
 use Rattle.hub_tables.specs.declared.requests.Nth.{Nth}
 
 pub record AgendaState : Type 0 where
@@ -88,6 +93,33 @@ controls_by c brick (Some p) = with_request c brick p
 abbrev pub controls_after : ControlsState → List SentLine → ControlsState
 controls_after c [] = c
 controls_after c (line ∷ lines) = controls_after (controls_by c line.brick (rank_in line.bytes)) lines
+
+-- an armed action as an input: a Down, or a fault
+abbrev pub armed_line : ℕ → Action → List SentLine
+armed_line event (action.Down brick serve) = record { event = event; brick = brick; bytes = input_text (input.Down serve) } ∷ []
+armed_line event (action.Fault brick p number) = if is_armable brick (action.Fault brick p number) then record { event = event; brick = brick; bytes = input_text (input.FaultAt p number) } ∷ [] else []
+armed_line event (action.Up brick) = []
+armed_line event (action.Cut brick) = []
+armed_line event action.Heal = []
+armed_line event (action.Switch volfile) = []
+
+abbrev pub with_armed_line : ℕ → Option Armed → List SentLine → List SentLine
+with_armed_line event None rest = []
+with_armed_line event (Some armed) rest = armed_line event armed.action ++ rest
+
+-- what is armed for a request, so many actions at most
+abbrev pub armed_lines : ℕ → ControlsState → Nth → ℕ → List SentLine
+armed_lines event c request zero = []
+armed_lines event c request (suc more) = with_armed_line event (next_armed c request) (armed_lines event (without_armed c request) request more)
+
+abbrev pub lines_before : ControlsState → SentLine → Option ℕ → List SentLine
+lines_before c line None = []
+lines_before c line (Some p) = armed_lines line.event (with_count c line.brick p) (record { brick = line.brick; proc = p; count = next_count c line.brick p }) (length c.armed)
+
+-- the inputs that go out for these, each request directly behind what is armed for it
+abbrev pub outgoing : ControlsState → List SentLine → List SentLine
+outgoing c [] = []
+outgoing c (line ∷ lines) = lines_before c line (rank_in line.bytes) ++ line ∷ outgoing (controls_by c line.brick (rank_in line.bytes)) lines
 
 abbrev pub is_kind : ℕ → List ℕ → Bool
 is_kind kind bytes = pointwise ◌==◌ (take 4 bytes) (0 ∷ 0 ∷ 0 ∷ kind ∷ [])

@@ -3,7 +3,7 @@ ghost use Rattle.std.specs.Prelude.{◌≡◌, ◌+◌, ◌++◌, ◌∷◌, [],
 ghost use Rattle.mount_log.specs.Procedures.{rank_in};
 ghost use Rattle.wire_xdr.specs.WireText.{IsInput, input_text};
 ghost use Rattle.hub_tables.specs.PhaseControls.{ControlsState, with_count, next_count};
-ghost use Rattle.hub_tables.specs.Agendas.{controls_after, without_armed_of, is_kind, owed_by, with_sends};
+ghost use Rattle.hub_tables.specs.Agendas.{controls_by, controls_after, without_armed_of, armed_line, armed_lines, lines_before, outgoing, is_kind, owed_by, with_sends};
 
 use crate::actions::may_be_armed;
 use crate::agenda::Agenda;
@@ -65,7 +65,7 @@ impl Agenda {
     }
 
     // An armed action goes out: a Down or a fault.
-    #[tactic(auto, using(crate::proofs::Outgoing::down_owed, crate::proofs::Outgoing::down_alone, crate::proofs::Outgoing::fault_owed, crate::proofs::Outgoing::fault_alone))]
+    #[tactic(auto, using(crate::proofs::Outgoing::down_owed, crate::proofs::Outgoing::down_alone, crate::proofs::Outgoing::fault_owed, crate::proofs::Outgoing::fault_alone, crate::proofs::Outgoing::fault_line, crate::proofs::Outgoing::no_fault_line, crate::proofs::Outgoing::no_line))]
     fn send_armed(
         &mut self,
         alloc: Global,
@@ -76,6 +76,7 @@ impl Agenda {
         ensures same { OnOk result (self.new ≡ record self.old { owed = self.new.owed }) }
         ensures owed { OnOk result (self.new.owed + owed_by lines.old ≡ self.old.owed + owed_by lines.new) }
         ensures controls { OnOk result ((c : ControlsState) → controls_after c lines.new ≡ controls_after c lines.old) }
+        ensures lines { OnOk result (lines.new ≡ lines.old ++ armed_line event action) }
     {
         match action {
             Action::Down(brick, serve) => {
@@ -93,6 +94,7 @@ impl Agenda {
     }
 
     // What is armed for a request goes out.
+    #[tactic(auto, using(crate::proofs::Outgoing::no_line, crate::proofs::Outgoing::one_line, crate::proofs::Outgoing::no_more_lines))]
     fn send_all_armed(
         &mut self,
         alloc: Global,
@@ -103,6 +105,7 @@ impl Agenda {
         ensures same { OnOk result (self.new ≡ record self.old { owed = self.new.owed; controls = without_armed_of self.old.controls request (length self.old.controls.armed) }) }
         ensures owed { OnOk result (self.new.owed + owed_by lines.old ≡ self.old.owed + owed_by lines.new) }
         ensures controls { OnOk result ((c : ControlsState) → controls_after c lines.new ≡ controls_after c lines.old) }
+        ensures lines { OnOk result (lines.new ≡ lines.old ++ armed_lines event self.old.controls request (length self.old.controls.armed)) }
     {
         for _ in 0..self.controls.armed_len() {
             let Some(action) = self.controls.take_armed(request) else {
@@ -126,6 +129,7 @@ impl Agenda {
         ensures same { IfOk result (λ n. self.new ≡ record self.old { owed = self.new.owed; controls = without_armed_of (with_count self.old.controls brick proc) n (length self.old.controls.armed) }) }
         ensures owed { OnOk result (self.new.owed + owed_by lines.old ≡ self.old.owed + owed_by lines.new + 1) }
         ensures controls { OnOk result ((c : ControlsState) → controls_after c lines.new ≡ controls_after c lines.old) }
+        ensures lines { IfOk result (λ n. lines.new ≡ lines.old ++ armed_lines event (with_count self.old.controls brick proc) n (length self.old.controls.armed)) }
     {
         let request = self.controls.count(brick, proc)?;
         self.send_all_armed(alloc, event, request, lines)?;
@@ -146,6 +150,8 @@ impl Agenda {
         ensures same { OnOk result (self.new ≡ record self.old { owed = self.new.owed; controls = self.new.controls }) }
         ensures owed { OnOk result (self.new.owed + owed_by lines.old ≡ self.old.owed + owed_by lines.new) }
         ensures controls { OnOk result ((c : ControlsState) → controls_after c lines.old ≡ self.old.controls → controls_after c lines.new ≡ self.new.controls) }
+        ensures now { OnOk result (self.new.controls ≡ controls_by self.old.controls line.brick (Some proc)) }
+        ensures lines { OnOk result (lines.new ≡ lines.old ++ (lines_before self.old.controls line (Some proc) ++ line ∷ [])) }
     {
         match self.go_before(alloc, line.event, line.brick, proc, lines) {
             Ok(request) => {
@@ -167,6 +173,7 @@ impl Agenda {
         ensures same { OnOk result (self.new ≡ record self.old { owed = self.new.owed }) }
         ensures owed { OnOk result (self.new.owed + owed_by lines.old ≡ self.old.owed + owed_by lines.new) }
         ensures controls { OnOk result ((c : ControlsState) → controls_after c lines.new ≡ controls_after c lines.old) }
+        ensures lines { OnOk result (lines.new ≡ lines.old ++ line ∷ []) }
     {
         let owed = is_down_or_up(line.bytes.as_slice());
         lines.push(line)?;
@@ -182,6 +189,8 @@ impl Agenda {
         ensures same { OnOk result (self.new ≡ record self.old { owed = self.new.owed; controls = self.new.controls }) }
         ensures owed { OnOk result (self.new.owed + owed_by lines.old ≡ self.old.owed + owed_by lines.new) }
         ensures controls { OnOk result ((c : ControlsState) → controls_after c lines.old ≡ self.old.controls → controls_after c lines.new ≡ self.new.controls) }
+        ensures now { OnOk result (self.new.controls ≡ controls_by self.old.controls line.brick (rank_in line.bytes)) }
+        ensures lines { OnOk result (lines.new ≡ lines.old ++ (lines_before self.old.controls line (rank_in line.bytes) ++ line ∷ [])) }
     {
         match rank_of(line.bytes.as_slice()) {
             Some(proc) => self.send_request(alloc, line, proc, lines),
@@ -189,6 +198,7 @@ impl Agenda {
         }
     }
 
+    #[tactic(auto, using(crate::proofs::Outgoing::no_line, crate::proofs::Outgoing::next_lines, crate::proofs::Outgoing::next_controls))]
     fn send_each(
         &mut self,
         alloc: Global,
@@ -198,6 +208,7 @@ impl Agenda {
         ensures same { OnOk result (self.new ≡ record self.old { owed = self.new.owed; controls = self.new.controls }) }
         ensures owed { OnOk result (self.new.owed + owed_by lines.old ≡ self.old.owed + owed_by lines.new) }
         ensures controls { OnOk result ((c : ControlsState) → controls_after c lines.old ≡ self.old.controls → controls_after c lines.new ≡ self.new.controls) }
+        ensures lines { OnOk result (lines.new ≡ lines.old ++ outgoing self.old.controls sends.items) }
     {
         for line in sends {
             self.send_one(alloc, line, lines)?;
@@ -216,7 +227,8 @@ impl Agenda {
         alloc: Global,
         sends: Vec<SentLine>,
     ) -> Result<Seq<SentLine>, AllocError>
-        ensures { IfOk result (λ lines. self.new ≡ with_sends self.old lines) }
+        ensures agenda { IfOk result (λ lines. self.new ≡ with_sends self.old lines) }
+        ensures lines { IfOk result (λ lines. lines ≡ outgoing self.old.controls sends.items) }
     {
         let mut lines = Seq::new(alloc);
         match self.send_each(alloc, sends, &mut lines) {
