@@ -17,6 +17,7 @@ use Rattle.mount_log.specs.declared.logs.ReplyLine.{ReplyLine}
 use Rattle.mount_log.specs.declared.logs.SentLine.{SentLine}
 use Rattle.mount_log.specs.declared.places.LineAt.{LineAt}
 use Rattle.wire_messages.specs.Messages.{output_in}
+use Rattle.script_lang.specs.StatementText.{is_great_action}
 use Rattle.script_lang.specs.declared.scripts.Action.{Action}
 use Rattle.script_lang.specs.declared.scripts.Action.TheVariants as action
 use Rattle.hub_tables.specs.Agendas.{AgendaState, new_agenda, with_output, with_sends, with_phase, moved_on, next_agenda}
@@ -46,15 +47,11 @@ is_of_brick many (action.Fault brick p number) = nat_lt brick many && may_fail p
 is_of_brick many action.Heal = false
 is_of_brick many (action.Switch volfile) = false
 
--- whether an action is carried out, where an internal call is under way or not: a heal where none is, another than a switch where it
--- is of one of so many bricks; a switch not where one is
+-- whether an action is carried out: one that is no heal and no switch where it is of one of so many bricks; a heal where no internal
+-- call is under way, and a switch not where one is
 abbrev pub ActsWhere : Action → ℕ → Bool → Bool → Type 0
-ActsWhere action.Heal many internal did = did ≡ not internal
-ActsWhere (action.Switch volfile) many internal did = did ≡ true → internal ≡ false
-ActsWhere (action.Down brick serve) many internal did = did ≡ is_of_brick many (action.Down brick serve)
-ActsWhere (action.Up brick) many internal did = did ≡ is_of_brick many (action.Up brick)
-ActsWhere (action.Cut brick) many internal did = did ≡ is_of_brick many (action.Cut brick)
-ActsWhere (action.Fault brick p number) many internal did = did ≡ is_of_brick many (action.Fault brick p number)
+ActsWhere a many internal did =
+    (is_great_action a ≡ false → did ≡ is_of_brick many a) × ((a ≡ action.Heal → did ≡ not internal) × (is_great_action a ≡ true → did ≡ true → internal ≡ false))
 
 -- ---- what a call adds to the log
 

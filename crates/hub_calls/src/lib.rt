@@ -37,6 +37,7 @@ mod arriving;
 mod connecting;
 mod due;
 mod engine;
+mod events;
 mod graphs;
 mod holding;
 mod hub;

@@ -19,6 +19,7 @@ mod actions;
 mod agenda;
 mod brick_names;
 mod calls;
+mod control_maps;
 mod controls;
 mod fop_checks;
 mod fops;

@@ -5,7 +5,7 @@ use Rattle.script_lang.specs.declared.scripts.Action.{Action}
 use Rattle.hub_tables.specs.PhaseControls.{rank_cmp, first_of_request, coming, waiting}
 use Rattle.hub_tables.specs.declared.controls.Rank.{Rank}
 use Rattle.hub_tables.proofs.Coming.{never_gone, none_come, all_wait, one_comes, one_waits_no_more}
-use Rattle.hub_tables.proofs.controls.come.Goals as goal
+use Rattle.hub_tables.proofs.control_maps.come.Goals as goal
 
 pub returns-in_default-clause-awaited : goal.returns-in_default-clause-awaited
 returns-in_default-clause-awaited c = sym (all_wait c.args.request c.loop.awaited.entries (sym c.first_for.ensures ∙ c.in_default.is)) ∙ c.loop.invariant.0

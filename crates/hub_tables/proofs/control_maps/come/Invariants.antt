@@ -1,6 +1,6 @@
 use Rattle.std.proofs.Common.{◌≡◌, ◌+◌, ◌≤◌, length}
 use Rattle.hub_tables.specs.PhaseControls.{coming, waiting}
-use Rattle.hub_tables.proofs.controls.come.Given as goal
+use Rattle.hub_tables.proofs.control_maps.come.Given as goal
 
 abbrev pub invariant-loop : goal.invariant-loop
 invariant-loop l =

@@ -1,6 +1,6 @@
 use Rattle.std.proofs.Common.{sym, ◌∙◌}
 use Rattle.hub_tables.proofs.Ranks.{first_is, first_is_other}
-use Rattle.hub_tables.proofs.controls.first_for.Goals as goal
+use Rattle.hub_tables.proofs.control_maps.first_for.Goals as goal
 
 pub returns-then-eq : goal.returns-then-eq
 returns-then-eq g c = sym (first_is c.args.request c.args.map.now.entries _ _ (sym (c.range.ensures.between tt) ∙ c.in-Some.ensures.steps) (sym c.eq.ensures ∙ c.if-eq.true))
