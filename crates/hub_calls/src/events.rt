@@ -102,7 +102,7 @@ impl Hub {
             .arrived(alloc, &self.planned, brick, output)
         {
             Ok(due) => {
-                self.engine.agenda.put_out(due);
+                self.engine.agenda.take_output(due);
                 Ok(())
             }
             Err(stop) => Err(stop),

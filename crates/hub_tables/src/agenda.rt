@@ -114,7 +114,7 @@ impl Agenda {
     }
 
     /// An output of a brick has arrived, of which it is said whether it was owed.
-    pub fn put_out(&mut self, due: bool)
+    pub fn take_output(&mut self, due: bool)
         ensures { self.new ≡ with_output self.old due }
     {
         self.owed = self.owed.saturating_sub(due as u64);
@@ -223,7 +223,7 @@ impl Agenda {
     }
 
     /// Ends an event, by the replies that it has given and by whether the internal call was answered, with the lines that the
-    /// sessions have left; what it has sent was put out before. The phases that have nothing left end.
+    /// sessions have left; what it has sent went out before. The phases that have nothing left end.
     ///
     /// # Errors
     /// Out of memory.
