@@ -1,12 +1,17 @@
 -- The ready tasks of a mount, as they are counted and looked up, and what leaves them as they are.
-use Rattle.std.proofs.Common.{◌≡◌, refl, sym, ap, ◌∙◌, arith}
+use Rattle.std.proofs.Common.{◌≡◌, refl, sym, ap, subst, ◌∙◌, arith, ne_eqb}
 use Rattle.std.proofs.lemmas.List.{length-append, length-map}
-use Rattle.std.specs.Prelude.{ℕ, zero, suc, ◌≤◌, ◌+◌, ◌-◌, cond, min, Bool, true, false, List, [], ◌∷◌, ◌++◌, map, length, slice_get, None, Some}
+use Rattle.std.proofs.lemmas.List.Elements.{recursion_from_All}
+use Rattle.std.specs.Prelude.{ℕ, zero, suc, ◌<◌, ◌≤◌, ◌+◌, ◌-◌, ◌==◌, cond, min, Bool, true, false, ◌&&◌, ◌||◌, List, [], ◌∷◌, ◌++◌, map, length, slice_get, None, Some}
 use Rattle.std.specs.BTreeMap.{BTreeMap, get, is_at}
-use Rattle.std.specs.Map.{lookup, set_value, values_of}
-use Rattle.std.specs.Ordering.{nat_cmp}
+use Rattle.std.specs.List.{All, AllByRecursion, list_any}
+use Rattle.std.specs.List.Sorted.{IsStrictlySortedBy}
+use Rattle.std.specs.Map.{lookup, keys_of, set_value, values_of}
+use Rattle.std.specs.Ordering.{nat_cmp, is_eq, is_lt}
+use Rattle.std.specs.declared.cmp.Ordering.TheVariants.{Less}
 use Rattle.graph_nodes.specs.declared.graph.Graph.{Graph}
-use Rattle.graph_nodes.specs.Ready.{task_of, tasks_of, tasks_in}
+use Rattle.graph_nodes.specs.Ready.{task_of, tasks_of, tasks_in, has_task}
+use Rattle.graph_nodes.proofs.Together.{is_same, at_is}
 
 -- ---- how many
 
@@ -59,6 +64,78 @@ task_past number g es all at left low so_far none =
     let past = past_all (task_of number) g.cx.ready.keys (tasks_in es) left none in
     let long : left - min (length g.cx.ready.keys) 4294967295 ≡ left - length g.cx.ready.keys = omega (arith, past.0, low) in
     ap (slice_get (tasks_in es)) long ∙ sym past.1 ∙ so_far
+
+-- ---- whether one is ready
+
+not_below : (a b : ℕ) → is_lt (nat_cmp a b) ≡ false → b ≤ a
+not_below a b h = grind (arith, h)
+
+none_behind : (task last : ℕ) (keys : List ℕ) → AllByRecursion (λ (q : ℕ). is_lt (nat_cmp last q) ≡ false) keys → last < task → list_any (is_at (nat_cmp task)) keys ≡ false
+none_behind task last [] all behind = refl
+none_behind task last (k ∷ ks) all behind =
+    let low : k ≤ last = not_below last k all.0 in
+    let apart : is_at (nat_cmp task) k ≡ false = at_is task k ∙ ne_eqb task k (λ same. omega (arith, same, low, behind)) in
+    ap (λ (b : Bool). b || list_any (is_at (nat_cmp task)) ks) apart ∙ none_behind task last ks all.1 behind
+
+-- none is behind the last one
+pub behind_last : (task last : ℕ) (keys : List ℕ) → All (λ (q : ℕ). is_lt (nat_cmp last q) ≡ false) keys → last < task → false ≡ list_any (is_at (nat_cmp task)) keys
+behind_last task last keys all behind = sym (none_behind task last keys (recursion_from_All (λ (q : ℕ). is_lt (nat_cmp last q) ≡ false) keys all) behind)
+
+pub none_ready : (task : ℕ) (keys : List ℕ) → (0 < length keys → ⊥) → false ≡ list_any (is_at (nat_cmp task)) keys
+none_ready task [] none = refl
+none_ready task (k ∷ ks) none = absurd (none (omega arith))
+
+or_both : (a b c : Bool) → (a || (b || c)) ≡ ((a || b) || c)
+or_both true b c = refl
+or_both false b c = refl
+
+or_none : (a b : Bool) → b ≡ false → (a || b) ≡ a
+or_none true b none = refl
+or_none false b none = none
+
+-- of a graph, and of others
+of_graph : (number other task : ℕ) (keys : List ℕ) (rest : List (ℕ × ℕ)) → (number == other) ≡ true → has_task (map (task_of other) keys ++ rest) number task ≡ (list_any (is_at (nat_cmp task)) keys || has_task rest number task)
+of_graph number other task [] rest same = refl
+of_graph number other task (k ∷ ks) rest same =
+    let others : Bool = has_task (map (task_of other) ks ++ rest) number task in
+    ap (λ (b : Bool). (b && (task == k)) || others) same
+    ∙ ap (λ (b : Bool). b || others) (sym (at_is task k))
+    ∙ ap (λ (b : Bool). is_at (nat_cmp task) k || b) (of_graph number other task ks rest same)
+    ∙ or_both (is_at (nat_cmp task) k) (list_any (is_at (nat_cmp task)) ks) (has_task rest number task)
+
+of_others : (number other task : ℕ) (keys : List ℕ) (rest : List (ℕ × ℕ)) → (number == other) ≡ false → has_task (map (task_of other) keys ++ rest) number task ≡ has_task rest number task
+of_others number other task [] rest apart = refl
+of_others number other task (k ∷ ks) rest apart =
+    ap (λ (b : Bool). (b && (task == k)) || has_task (map (task_of other) ks ++ rest) number task) apart ∙ of_others number other task ks rest apart
+
+pub no_graph : (number task : ℕ) (es : List (ℕ × Graph)) → lookup (is_at (nat_cmp number)) es ≡ None → has_task (tasks_in es) number task ≡ false
+no_graph number task [] none = refl
+no_graph number task (e ∷ es) none = by (is_at (nat_cmp number) e.0) refl none (λ later. no_graph number task es later) where
+  by : (b : Bool) → is_at (nat_cmp number) e.0 ≡ b → cond b (Some e.1) (lookup (is_at (nat_cmp number)) es) ≡ None → (lookup (is_at (nat_cmp number)) es ≡ None → has_task (tasks_in es) number task ≡ false)
+      → has_task (tasks_in (e ∷ es)) number task ≡ false
+  by true is none rest = absurd cc
+  by false is none rest = of_others number e.0 task e.1.cx.ready.keys (tasks_in es) (sym (at_is number e.0) ∙ is) ∙ rest none
+
+none_after : (number task : ℕ) (es : List (ℕ × Graph)) → AllByRecursion (λ (k : ℕ). nat_cmp number k ≡ Less) (keys_of es) → has_task (tasks_in es) number task ≡ false
+none_after number task [] all = refl
+none_after number task (e ∷ es) all = of_others number e.0 task e.1.cx.ready.keys (tasks_in es) (sym (at_is number e.0) ∙ ap is_eq all.0) ∙ none_after number task es all.1
+
+-- a task of a graph is among those of all graphs exactly where the graph has it, since each graph has its own number
+pub ready_in : (number task : ℕ) (es : List (ℕ × Graph)) (g : Graph) → IsStrictlySortedBy nat_cmp (keys_of es) → lookup (is_at (nat_cmp number)) es ≡ Some g → has_task (tasks_in es) number task ≡ list_any (is_at (nat_cmp task)) g.cx.ready.keys
+unfolding IsStrictlySortedBy
+ready_in number task [] g sorted found = absurd cc
+ready_in number task (e ∷ es) g sorted found = by (is_at (nat_cmp number) e.0) refl found (λ later. ready_in number task es g sorted.1 later) where
+  by : (b : Bool) → is_at (nat_cmp number) e.0 ≡ b → cond b (Some e.1) (lookup (is_at (nat_cmp number)) es) ≡ Some g
+      → (lookup (is_at (nat_cmp number)) es ≡ Some g → has_task (tasks_in es) number task ≡ list_any (is_at (nat_cmp task)) g.cx.ready.keys)
+      → has_task (tasks_in (e ∷ es)) number task ≡ list_any (is_at (nat_cmp task)) g.cx.ready.keys
+  by true is found rest =
+      let this : e.1 ≡ g = cc in
+      let same : e.0 ≡ number = sym (is_same number e.0 is) in
+      let after : AllByRecursion (λ (k : ℕ). nat_cmp number k ≡ Less) (keys_of es) = subst (λ (n : ℕ). AllByRecursion (λ (k : ℕ). nat_cmp n k ≡ Less) (keys_of es)) same sorted.0 in
+      of_graph number e.0 task e.1.cx.ready.keys (tasks_in es) (sym (at_is number e.0) ∙ is)
+      ∙ or_none (list_any (is_at (nat_cmp task)) e.1.cx.ready.keys) (has_task (tasks_in es) number task) (none_after number task es after)
+      ∙ ap (λ (x : Graph). list_any (is_at (nat_cmp task)) x.cx.ready.keys) this
+  by false is found rest = of_others number e.0 task e.1.cx.ready.keys (tasks_in es) (sym (at_is number e.0) ∙ is) ∙ rest found
 
 -- ---- a graph changes, but not which of its tasks are ready
 

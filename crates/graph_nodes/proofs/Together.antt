@@ -28,10 +28,10 @@ use Rattle.graph_nodes.specs.Live.{IsAtWork, HasNothingLeft, lent, IsLive, HasLi
 use Rattle.graph_nodes.specs.Mounted.{has}
 use Rattle.graph_nodes.specs.Promises.{node_promise}
 
-is_same : (a b : ℕ) → is_eq (nat_cmp a b) ≡ true → a ≡ b
+pub is_same : (a b : ℕ) → is_eq (nat_cmp a b) ≡ true → a ≡ b
 is_same a b h = grind (arith, h)
 
-at_is : (a b : ℕ) → is_eq (nat_cmp a b) ≡ (a == b)
+pub at_is : (a b : ℕ) → is_eq (nat_cmp a b) ≡ (a == b)
 at_is a b = grind arith
 
 at_itself : (a : ℕ) → is_eq (nat_cmp a a) ≡ true

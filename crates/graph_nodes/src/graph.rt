@@ -1,4 +1,4 @@
-ghost use Rattle.std.specs.Prelude.{◌≡◌, ◌<◌, ◌+◌, ◌↔◌, ◌&&◌, min, nat_le, IfOk, IsTrue, length, map, slice_get};
+ghost use Rattle.std.specs.Prelude.{◌≡◌, ◌<◌, ◌+◌, ◌↔◌, min, IfOk, IsTrue, length, map, slice_get};
 ghost use Rattle.std.specs.BTreeSet.{contains_by};
 ghost use Rattle.std.specs.Ordering.{nat_cmp};
 ghost use Rattle.frame_driver.specs.Follows.{Fits};
@@ -173,10 +173,14 @@ impl Graph {
     }
 
     /// Whether a task is ready.
+    #[tactic(auto, using(crate::proofs::Ready::behind_last, crate::proofs::Ready::none_ready))]
     pub fn is_ready(&self, task: u32) -> bool
-        ensures { result ≡ (nat_le task 65535 && contains_by (nat_cmp task) self.now.cx.ready) }
+        ensures { result ≡ contains_by (nat_cmp task) self.now.cx.ready }
     {
-        task <= u16::MAX as u32 && self.cx.ready.contains(&(task as u16))
+        match self.cx.ready.last() {
+            Some(last) => task <= *last as u32 && self.cx.ready.contains(&(task as u16)),
+            None => false,
+        }
     }
 
     /// Drops the pages of a file.

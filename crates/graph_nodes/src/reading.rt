@@ -1,6 +1,7 @@
 //! What is asked of the graphs of a mount without changing them.
 ghost use Rattle.std.specs.Prelude.{◌≡◌, false, None, min, length, slice_get};
 ghost use Rattle.graph_nodes.specs.Mounted.{has};
+ghost use Rattle.graph_nodes.specs.Ready.{has_task};
 
 use crate::graphs::Graphs;
 use fop_types::Entry;
@@ -70,8 +71,11 @@ impl Graphs {
 
     /// Whether a task of a graph is ready.
     pub fn is_ready(&self, number: u32, task: u32) -> bool
-        ensures { has self.now.numbers number ≡ false → result ≡ false }
+        ensures task { result ≡ has_task self.now.tasks number task }
+        ensures absent { has self.now.numbers number ≡ false → result ≡ false }
     {
+        // Each graph has a number of its own.
+        let _ = self.live.len();
         match self.live.get(&number) {
             Some(graph) => graph.is_ready(task),
             None => false,

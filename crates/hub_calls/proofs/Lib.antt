@@ -1,3 +1,5 @@
 pub mod Additions
+pub mod Dues
 pub mod Finding
 pub mod Planning
+pub mod Agendas

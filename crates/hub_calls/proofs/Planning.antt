@@ -1,5 +1,5 @@
 -- The plans of a script are plans that graphs can be made from; and the lines that its sessions have left.
-use Rattle.std.proofs.Common.{◌≡◌, ℕ, zero, suc, ◌+◌, inl, inr, ◌⊎◌, Bool, if◌then◌else◌, MatchOption, List, [], ◌∷◌, ◌++◌, length, drop, slice_get, Option, None, Some, refl, sym, ap, subst, ◌∙◌, arith, eq-eqb, ne_eqb}
+use Rattle.std.proofs.Common.{◌≡◌, ℕ, zero, suc, ◌+◌, ◌==◌, inl, inr, ◌⊎◌, Bool, true, false, ◌&&◌, if◌then◌else◌, is_some, MatchOption, List, [], ◌∷◌, ◌++◌, length, drop, slice_get, Option, None, Some, refl, sym, ap, subst, ◌∙◌, arith, eq-eqb, ne_eqb}
 use Rattle.std.proofs.lemmas.Bool.{cases_eq}
 use Rattle.std.specs.List.{AllByRecursion}
 use Rattle.graph_build.specs.declared.plans.Plan.{Plan}
@@ -16,10 +16,15 @@ use Rattle.mount_log.specs.declared.places.LineAt.{LineAt}
 use Rattle.mount_log.specs.Lines.{line_in, line_of, queue_of, places_from, TakesLine}
 use Rattle.mount_log.specs.Logs.{is_submit}
 use Rattle.mount_log.specs.Submissions.{is_submit_of, submits_of, session_line, line_by}
+use Rattle.hub_tables.specs.Agendas.{AgendaState}
 use Rattle.hub_tables.specs.Sessions.{first_line}
+use Rattle.hub_tables.specs.SmallSets.{has, numbers, is_among}
+use Rattle.hub_tables.specs.declared.small_set.SmallSet.{SmallSet}
+use Rattle.hub_calls.specs.Dues.{may_submit}
 use Rattle.hub_calls.specs.Plans.{PlannedScript, AreLeft, IsNext}
 use Rattle.hub_calls.specs.Hubs.{AddsEvent, AddsSubmission}
 use Rattle.hub_calls.proofs.Additions.{one_event_more}
+use Rattle.hub_tables.proofs.Numbers.{among}
 
 each_plan : (bricks : ℕ) (plans : List Plan) → AllByRecursion (IsPlanOver bricks) plans → AllByRecursion IsPlan plans
 each_plan bricks [] all = tt
@@ -42,6 +47,22 @@ is_line script at phase line there is = ap (λ (p : Option Phase). line_in p at.
 pub is_next : (on : PlannedScript) (session : ℕ) (at : LineAt) (line : CallLine) → first_line on.left session ≡ Some at → line_of on.script at ≡ Some line → IsNext on session at line.line
 is_next on session at line first there = record { first = first; line = line; there = there; numbered = refl }
 
+-- nothing is there
+
+pub is_past : (script : Script) (left : List (List LineAt)) (session : ℕ) (first : Option LineAt) → first ≡ first_line left session → first ≡ None → false ≡ is_some (line_by script (first_line left session))
+is_past script left session first is none = sym (ap (λ (at : Option LineAt). is_some (line_by script at)) (sym is ∙ none))
+
+pub is_gone : (script : Script) (left : List (List LineAt)) (session : ℕ) (first : Option LineAt) (at : LineAt) → first ≡ first_line left session → first ≡ Some at → line_of script at ≡ None → false ≡ is_some (line_by script (first_line left session))
+is_gone script left session first at is some none = sym (ap (λ (a : Option LineAt). is_some (line_by script a)) (sym is ∙ some) ∙ ap is_some none)
+
+pub is_there : (script : Script) (left : List (List LineAt)) (session : ℕ) (first : Option LineAt) (at : LineAt) (line : CallLine) → first ≡ first_line left session → first ≡ Some at → line_of script at ≡ Some line → true ≡ is_some (line_by script (first_line left session))
+is_there script left session first at line is some there = sym (ap (λ (a : Option LineAt). is_some (line_by script a)) (sym is ∙ some) ∙ ap is_some there)
+
+-- before any event
+
+pub left_before : (script : Script) (events : List HubEvent) (left : List (List LineAt)) → events ≡ [] → AreLeft script [] left → AreLeft script events left
+left_before script events left none are = rw none are
+
 -- one event more
 
 submits_push : (session : ℕ) (events : List HubEvent) (e : HubEvent) → submits_of session (events ++ e ∷ []) ≡ submits_of session events + is_submit_of session e
@@ -62,7 +83,7 @@ same_left script events left e session so_far none =
     so_far ∙ ap (λ (n : ℕ). drop n (places_from session 0 script.phases)) count
 
 -- what is left of a hub that has not stopped, by its invariant
-left_now : (script : Script) (events : List HubEvent) (left : List (List LineAt)) (stop : Option Stop) → MatchOption stop (AreLeft script events left) (λ _. Unit {0}) → stop ≡ None → AreLeft script events left
+pub left_now : (script : Script) (events : List HubEvent) (left : List (List LineAt)) (stop : Option Stop) → MatchOption stop (AreLeft script events left) (λ _. Unit {0}) → stop ≡ None → AreLeft script events left
 left_now script events left None are goes = are
 left_now script events left (Some s) are goes = absurd cc
 
@@ -81,7 +102,7 @@ drop_first zero (y ∷ ys) x rest is = cc
 drop_first (suc n) [] x rest is = absurd cc
 drop_first (suc n) (y ∷ ys) x rest is = drop_first n ys x rest is
 
-get_first : {A : Type 0} (n : ℕ) (xs : List A) → slice_get (drop n xs) 0 ≡ slice_get xs n
+pub get_first : {A : Type 0} (n : ℕ) (xs : List A) → slice_get (drop n xs) 0 ≡ slice_get xs n
 get_first zero xs = refl
 get_first (suc n) [] = refl
 get_first (suc n) (x ∷ xs) = get_first n xs
@@ -129,3 +150,22 @@ adds_submission script old new on stop session number at are goes same is adds =
 
     place : slice_get places (submits_of session old.events) ≡ Some at
     place = sym (get_first (submits_of session old.events) places) ∙ ap (λ (queue : List LineAt). slice_get queue 0) (sym now) ∙ is.first
+
+-- which sessions may submit
+
+pub submits_are : (script : Script) (log : Log) (on : PlannedScript) (agenda : AgendaState) (ready : SmallSet) (stop : Option Stop) (session : ℕ) (next : Option (LineAt × ℕ)) (did : Bool) → MatchOption stop (AreLeft on.script log.events on.left) (λ _. Unit {0})
+    → stop ≡ None → on.script ≡ script → numbers ready ≡ agenda.progress.ready → is_some next ≡ (has ready session && is_some (line_by on.script (first_line on.left session))) → is_some next ≡ did → did ≡ may_submit agenda script log session
+unfolding may_submit
+submits_are script log on agenda ready stop session next did are goes same submits there is =
+    sym is ∙ there
+    ∙ ap (λ (b : Bool). b && is_some (line_by on.script (first_line on.left session))) (sym (among ready session) ∙ ap (is_among session) submits)
+    ∙ ap (λ (l : Option CallLine). is_among session agenda.progress.ready && is_some l) next_line
+  where
+    places : List LineAt
+    places = places_from session 0 script.phases
+
+    now : queue_of on.left session ≡ drop (submits_of session log.events) places
+    now = left_now on.script log.events on.left stop are goes session ∙ ap (λ (s : Script). drop (submits_of session log.events) (places_from session 0 s.phases)) same
+
+    next_line : line_by on.script (first_line on.left session) ≡ session_line script session (submits_of session log.events)
+    next_line = ap (λ (s : Script). line_by s (first_line on.left session)) same ∙ ap (line_by script) (ap (λ (queue : List LineAt). slice_get queue 0) now ∙ get_first (submits_of session log.events) places)

@@ -1,42 +1,57 @@
--- What is due in a hub. Ours.
-use Rattle.std.specs.Prelude.{ℕ, ◌==◌, nat_lt, Bool, true, false, ◌&&◌, not, List, length, Option, None, Some, is_none}
+-- What is due in a hub, by its agenda and the ready tasks, by graph and then by number: what goes before everything else is in
+-- the agenda's controls; then the sessions that may submit, rising, the ready tasks, and the next control without a condition; and
+-- where nothing is left but controls, the first of these. Ours.
+use Rattle.std.specs.Prelude.{ℕ, ◌==◌, Bool, ◌&&◌, List, [], ◌∷◌, ◌++◌, map, length, Option, None, Some, is_some, if◌then◌else◌}
+use Rattle.mount_log.specs.declared.logs.Log.{Log}
+use Rattle.mount_log.specs.Submissions.{session_line, submits_of}
 use Rattle.script_lang.specs.declared.scripts.Action.{Action}
-use Rattle.hub_tables.specs.PhaseControls.{ControlsState, act_by}
-use Rattle.hub_tables.specs.Sessions.{ProgressState}
-use Rattle.hub_tables.specs.SmallSets.{numbers}
+use Rattle.script_lang.specs.declared.scripts.Script.{Script}
+use Rattle.graph_build.specs.declared.plans.Plan.{Plan}
+use Rattle.graph_nodes.specs.Ready.{has_task}
+use Rattle.hub_tables.specs.Agendas.{AgendaState, plain_due, rest_due, is_over}
+use Rattle.hub_tables.specs.PhaseControls.{act_by, first_due}
+use Rattle.hub_tables.specs.PlanBricks.{has_queues}
+use Rattle.hub_tables.specs.SmallSets.{is_among}
 use Rattle.hub_tables.specs.declared.actions.Due.{Due}
+use Rattle.hub_tables.specs.declared.actions.Due.TheVariants as due
 
--- What goes before everything else; the sessions that may submit, rising; the ready tasks, by graph and then by number; the next
--- control without a condition; where nothing is left but controls, the first of these; and whether the last phase has ended, with
--- nothing left.
-pub record DueState : Type 0 where
-  pub first : Option Due
-  pub submits : List ℕ
-  pub tasks : List (ℕ × ℕ)
-  pub plain : Option Action
-  pub rest : Option Due
-  pub finished : Bool
+-- the ready tasks of a hub, of those that its graphs have: none where no plan has an io-threads node
+abbrev pub ready_in : List Plan → List (ℕ × ℕ) → List (ℕ × ℕ)
+ready_in plans tasks = if has_queues plans then tasks else []
 
-abbrev pub where_none : Option ℕ → Option Action → Option Action
-where_none None plain = plain
-where_none (Some graph) plain = None
+-- whether no task is ready
+abbrev pub is_idle : List (ℕ × ℕ) → Bool
+is_idle tasks = length tasks == 0
 
-abbrev pub where_quiet : Bool → Option Action → Option Due
-where_quiet true left = act_by left
-where_quiet false left = None
+-- what goes before everything else: the first control that is to be armed, or else the first one whose request was sent
+abbrev pub due_first : AgendaState → Option Due
+due_first agenda = first_due agenda.controls
 
--- whether each call of the phase is answered, no internal call is under way, no output is owed, and no task is ready
-abbrev pub is_quiet : ProgressState → Option ℕ → ℕ → List (ℕ × ℕ) → Bool
-is_quiet progress internal owed tasks = (progress.unanswered == 0) && is_none internal && (owed == 0) && (length tasks == 0)
+-- the first control that is left, where nothing else is
+abbrev pub due_rest : AgendaState → List (ℕ × ℕ) → Option Due
+due_rest agenda tasks = act_by (rest_due agenda (is_idle tasks))
 
--- of a hub whose script has so many phases, by the graph of the internal call that is under way, the outputs that are owed and
--- the ready tasks
-unfoldable pub due_of : ℕ → ProgressState → ControlsState → Option ℕ → ℕ → List (ℕ × ℕ) → DueState
-due_of phases progress controls internal owed tasks = record {
-  first = controls.first;
-  submits = numbers progress.ready;
-  tasks = tasks;
-  plain = where_none internal controls.plain;
-  rest = where_quiet (is_quiet progress internal owed tasks) controls.left;
-  finished = not (nat_lt progress.phase phases) && is_quiet progress internal owed tasks;
-}
+-- whether each phase of a script has ended, and nothing is left
+abbrev pub is_through : Script → AgendaState → List (ℕ × ℕ) → Bool
+is_through script agenda tasks = is_over agenda (length script.phases) (is_idle tasks)
+
+-- ---- what may happen next
+
+abbrev pub due_task : ℕ × ℕ → Due
+due_task task = due.Run task.0 task.1
+
+abbrev pub due_control : Option Action → List Due
+due_control None = []
+due_control (Some a) = due.Act a ∷ []
+
+-- the submissions by session, the ready tasks, and then the next control without a condition
+unfoldable pub dues : AgendaState → List (ℕ × ℕ) → List Due
+dues agenda tasks = map due.Submit agenda.progress.ready ++ (map due_task tasks ++ due_control (plain_due agenda))
+
+-- whether this task of a graph is ready
+abbrev pub may_run : List (ℕ × ℕ) → ℕ → ℕ → Bool
+may_run tasks graph task = has_task tasks graph task
+
+-- whether a session may submit, and has a line left that it has not submitted
+unfoldable pub may_submit : AgendaState → Script → Log → ℕ → Bool
+may_submit agenda script log session = is_among session agenda.progress.ready && is_some (session_line script session (submits_of session log.events))

@@ -1,6 +1,5 @@
 //! Moves of actions.
 ghost use Rattle.std.specs.Prelude.{◌≡◌, length};
-ghost use Rattle.hub_calls.specs.Dues.{is_quiet};
 ghost use Rattle.hub_calls.specs.Hubs.{is_of_brick as of_brick};
 
 use crate::parts::Parts;
@@ -30,46 +29,16 @@ pub(crate) fn is_of_brick(script: &Script, action: Action) -> bool
 }
 
 impl Parts {
-    /// Whether a heal may be carried out: no internal call is without an answer.
-    pub(crate) fn may_heal(&self) -> bool {
-        self.internal.is_none()
-    }
-
-    /// Whether a switch to a volfile may be carried out: no internal call is without an answer, and the plan may follow.
-    pub(crate) fn may_switch(&self, on: &Planned, volfile: u8) -> bool {
-        self.internal.is_none() && self.graphs.live.may_follow(on, volfile)
-    }
-
-    /// Whether the phase has nothing left but controls: its calls are answered, no internal call is under way, no task is
-    /// ready, and each request, Down and Up has its output.
-    pub(crate) fn has_nothing_else(&self) -> bool
-        ensures { result ≡ is_quiet self.now.progress self.now.internal self.now.turn.bricks.owed self.now.graphs.nodes.tasks }
-    {
-        self.progress.is_answered()
-            && self.internal.is_none()
-            && self.turn.bricks.owed == 0
-            && self.graphs.nodes.tasks_len() == 0
-    }
-
-    /// An action is carried out, and with it the control that is due and has this action.
+    /// An action is carried out. A heal and a switch find no internal call under way, and begin one.
     ///
     /// # Errors
     /// As for `Hub::submit`.
-    pub(crate) fn acted(
+    pub(crate) fn carry_out(
         &mut self,
         alloc: Global,
         on: &Planned,
         action: Action,
     ) -> Result<(), Stop> {
-        let plain = self.internal.is_none();
-        let rest = self.has_nothing_else();
-        if let Some(control) = self.turn.controls.carried_by(action, plain, rest) {
-            self.turn.controls.carried(control);
-        }
-        self.carry_out(alloc, on, action)
-    }
-
-    fn carry_out(&mut self, alloc: Global, on: &Planned, action: Action) -> Result<(), Stop> {
         match action {
             Action::Down(brick, serve) => {
                 self.turn.send_down(alloc, brick, serve)?;
@@ -96,9 +65,7 @@ impl Parts {
 
     // An internal call sends its fop in the newest graph. No internal call is under way.
     fn internal_call(&mut self, alloc: Global, fop: Fop) -> Result<(), Stop> {
-        let graph = self.graphs.live.newest;
-        self.internal = Some(graph);
-        self.enter(alloc, graph, 0, fop)
+        self.enter(alloc, self.graphs.live.newest, 0, fop)
     }
 
     // The pages of the newest graph go; the next graph is made and connected, and an internal call opens the descriptors

@@ -1,12 +1,15 @@
 //! Moves of an output that arrives.
-ghost use Rattle.std.specs.Prelude.{true};
+ghost use Rattle.std.specs.Prelude.{◌≡◌, true, IfOk};
 ghost use Rattle.fop_types.specs.Bounds.{IsRep};
 ghost use Rattle.wire_xdr.specs.WireText.{IsOutput};
+ghost use Rattle.wire_messages.specs.Messages.{output_in};
+ghost use Rattle.mount_log.specs.Phases.{says_due};
 
 use crate::parts::Parts;
 use crate::planned::Planned;
 use fop_types::{BrickRep, OutKind, Output};
 use graph_build::NodeKind;
+use hub_tables::{closed_after, is_due};
 use std::alloc::Global;
 use wire_messages::{Message, output_of};
 use xlator_law::{Stop, WindNo};
@@ -27,7 +30,7 @@ fn is_gone(rep: &BrickRep) -> bool {
 }
 
 impl Parts {
-    /// An output of a brick arrives. Bytes that are none do nothing.
+    /// An output of a brick arrives. Bytes that are none do nothing. It says whether the output was owed.
     ///
     /// # Errors
     /// As for `Hub::submit`.
@@ -37,10 +40,16 @@ impl Parts {
         on: &Planned,
         brick: u8,
         bytes: &[u8],
-    ) -> Result<(), Stop> {
+    ) -> Result<bool, Stop>
+        ensures { IfOk result (λ due. due ≡ says_due (output_in bytes.now)) }
+    {
         match output_of(alloc, bytes) {
-            Ok(Message::Whole(output)) => self.put_out(alloc, on, brick, output),
-            Ok(Message::Wrong { place: _ }) => Ok(()),
+            Ok(Message::Whole(output)) => {
+                let due = is_due(&output.kind);
+                self.put_out(alloc, on, brick, output)?;
+                Ok(due)
+            }
+            Ok(Message::Wrong { place: _ }) => Ok(false),
             Err(_) => Err(Stop::Mem),
         }
     }
@@ -55,7 +64,7 @@ impl Parts {
         requires { IsOutput output }
     {
         let Output { taken, kind } = output;
-        self.turn.bricks.put_out(brick, &kind);
+        self.turn.closed = closed_after(self.turn.closed, brick, &kind);
         match kind {
             OutKind::Reply { wind, rep } => {
                 self.replied(alloc, on, brick, WindNo::of_number(wind), rep, taken)

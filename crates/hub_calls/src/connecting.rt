@@ -29,7 +29,7 @@ impl Parts {
     pub(crate) fn connect_newest(&mut self, alloc: Global, on: &Planned) -> Result<(), AllocError> {
         let graph = self.graphs.live.newest;
         for brick in 0..on.bricks() {
-            if self.graphs.live.uses(graph, brick) && !self.turn.bricks.closed.has(brick) {
+            if self.graphs.live.uses(graph, brick) && !self.turn.closed.has(brick) {
                 self.connect(alloc, graph, brick)?;
             }
         }

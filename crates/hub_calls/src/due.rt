@@ -1,8 +1,10 @@
 //! What is due in a hub, and which calls have their replies.
-ghost use Rattle.std.specs.Prelude.{◌≡◌, Some, IfSome, Contains, min, length, slice_get};
+ghost use Rattle.std.specs.Prelude.{◌≡◌, false, [], IfSome, Contains, min, length, slice_get};
 ghost use Rattle.hub_tables.specs.PhaseControls.{act_by};
+ghost use Rattle.hub_tables.specs.PlanBricks.{has_queues};
 ghost use Rattle.hub_tables.specs.SmallSets.{numbers};
-ghost use Rattle.hub_tables.specs.declared.actions.Due.TheVariants as due;
+ghost use Rattle.hub_tables.specs.Agendas.{plain_due};
+ghost use Rattle.hub_calls.specs.Dues.{due_first, due_rest, dues, is_through, may_run};
 
 use crate::hub::Hub;
 use hub_tables::{Due, SmallSet};
@@ -20,54 +22,69 @@ fn act_due(action: Option<Action>) -> Option<Due>
 
 impl Hub {
     /// The sessions that may submit a call.
-    #[tactic(auto, unfolding(crate::specs::Dues::due_of))]
     pub fn submits(&self) -> SmallSet
-        ensures { numbers result ≡ self.now.due.submits }
+        ensures { numbers result ≡ self.now.agenda.progress.ready }
     {
-        self.parts.progress.ready()
+        self.engine.agenda.submits()
     }
 
     /// The next control without a condition, where the one before it is finished.
-    #[tactic(auto, unfolding(crate::specs::Dues::due_of))]
     pub fn plain(&self) -> Option<Action>
-        ensures { result ≡ self.now.due.plain }
+        ensures { result ≡ plain_due self.now.agenda }
     {
-        if self.parts.internal.is_none() {
-            self.parts.turn.controls.plain()
+        self.engine.agenda.plain()
+    }
+
+    /// What goes before everything else: the first control of the phase that is to be armed, or else the first one whose
+    /// request was sent.
+    pub fn first(&self) -> Option<Due>
+        ensures { result ≡ due_first self.now.agenda }
+    {
+        self.engine.agenda.first()
+    }
+
+    /// Whether one of the plans has an io-threads node. Where none has, no task is ready.
+    pub fn has_queues(&self) -> bool
+        ensures value { result ≡ has_queues self.now.plans }
+        ensures none { result ≡ false → self.now.tasks ≡ [] }
+    {
+        self.planned.has_queues()
+    }
+
+    /// How many tasks are ready; 4,294,967,295 where they are more.
+    pub fn ready_len(&self) -> u32
+        ensures { result ≡ min (length self.now.tasks) 4294967295 }
+    {
+        if self.planned.has_queues() {
+            self.engine.parts.graphs.nodes.tasks_len()
+        } else {
+            0
+        }
+    }
+
+    /// The ready task of this place, from 0, by graph and then by task.
+    pub fn ready_at(&self, at: u32) -> Option<(u32, u32)>
+        ensures { result ≡ slice_get self.now.tasks at }
+    {
+        if self.planned.has_queues() {
+            self.engine.parts.graphs.nodes.task_at(at)
         } else {
             None
         }
     }
 
-    /// What goes before everything else: the first control of the phase that is to be armed, or else the first one whose
-    /// request was sent.
-    #[tactic(auto, unfolding(crate::specs::Dues::due_of))]
-    pub fn first(&self) -> Option<Due>
-        ensures { result ≡ self.now.due.first }
+    /// Whether a task of a graph is ready.
+    pub(crate) fn is_ready(&self, graph: u32, task: u32) -> bool
+        ensures { result ≡ may_run self.now.tasks graph task }
     {
-        self.parts.turn.controls.first()
-    }
-
-    /// How many tasks are ready; 4,294,967,295 where they are more.
-    #[tactic(auto, unfolding(crate::specs::Dues::due_of))]
-    pub fn ready_len(&self) -> u32
-        ensures { result ≡ min (length self.now.due.tasks) 4294967295 }
-    {
-        self.parts.graphs.nodes.tasks_len()
-    }
-
-    /// The ready task of this place, from 0, by graph and then by task.
-    #[tactic(auto, unfolding(crate::specs::Dues::due_of))]
-    pub fn ready_at(&self, at: u32) -> Option<(u32, u32)>
-        ensures { result ≡ slice_get self.now.due.tasks at }
-    {
-        self.parts.graphs.nodes.task_at(at)
+        self.planned.has_queues() && self.engine.parts.graphs.nodes.is_ready(graph, task)
     }
 
     /// The item of this number, from 0, among the sessions that may submit, the ready tasks, and then the next control
     /// without a condition.
+    #[tactic(auto, using(crate::proofs::Dues::of_submits, crate::proofs::Dues::of_tasks, crate::proofs::Dues::of_control, crate::proofs::Dues::past_dues))]
     pub fn due(&self, k: u32) -> Option<Due>
-        ensures { IfSome (slice_get self.now.due.submits k) (λ session. result ≡ Some (due.Submit session)) }
+        ensures { result ≡ slice_get (dues self.now.agenda self.now.tasks) k }
     {
         let submits = self.submits();
         if let Some(session) = submits.nth(k) {
@@ -85,22 +102,20 @@ impl Hub {
     }
 
     /// The first control that is left, where the phase has nothing else left.
-    #[tactic(auto, unfolding(crate::specs::Dues::due_of))]
     pub fn rest(&self) -> Option<Due>
-        ensures { result ≡ self.now.due.rest }
+        ensures { result ≡ due_rest self.now.agenda self.now.tasks }
     {
-        if !self.parts.has_nothing_else() {
-            return None;
-        }
-        act_due(self.parts.turn.controls.rest())
+        let idle = self.engine.is_idle(&self.planned);
+        act_due(self.engine.agenda.rest(idle))
     }
 
     /// Whether each call has its reply, each control was carried out, and nothing else is left.
-    #[tactic(auto, unfolding(crate::specs::Dues::due_of))]
     pub fn is_finished(&self) -> bool
-        ensures { result ≡ self.now.due.finished }
+        ensures { result ≡ is_through self.now.script self.now.agenda self.now.tasks }
     {
-        self.parts.is_through(&self.planned)
+        let phases = self.script().phases.len();
+        let idle = self.engine.is_idle(&self.planned);
+        self.engine.agenda.is_over(phases, idle)
     }
 
     /// The reply of a call, by its number from 1.
@@ -108,7 +123,7 @@ impl Hub {
     pub fn reply_of(&self, call: u32) -> Option<&ReplyLine>
         ensures { IfSome result (λ line. Contains self.now.log.replies line.now) }
     {
-        let at = self.parts.calls.reply_at(call)?;
+        let at = self.engine.parts.calls.reply_at(call)?;
         self.log().replies.as_slice().get(at)
     }
 }

@@ -1,22 +1,15 @@
-ghost use Rattle.std.specs.Prelude.{◌≡◌, ◌&&◌, false, true, None, Some, [], length, OnOk, IfOk, IfErr};
-ghost use Rattle.hub_tables.specs.Arming.{is_armable};
-ghost use Rattle.hub_calls.specs.Hubs.{StaysStopped, is_of_brick, AddsEvent, AddsSubmission, IsAfterStop, IsTurn};
-ghost use Rattle.mount_log.specs.declared.logs.HubEvent.TheVariants as logged;
+ghost use Rattle.std.specs.Prelude.{◌≡◌, Some, None, [], OnOk, IfOk, IfErr};
+ghost use Rattle.hub_calls.specs.Hubs.{AddsEvent, IsAfterStop, agenda_after, agenda_before};
 ghost use Rattle.mount_log.specs.Logs.{is_submit};
 ghost use Rattle.mount_log.specs.Scripts.{IsScript};
-ghost use Rattle.script_lang.specs.StatementText.{is_great_action};
 
-use crate::acting::is_of_brick;
-use crate::parts::Parts;
+use crate::engine::Engine;
 use crate::planned::Planned;
-use bytes::Bytes;
-use fop_types::{Proc, Seq};
+use fop_types::Seq;
 use graph_build::Plan;
-use hub_tables::{Turned, may_be_armed};
 use mount_log::{HubEvent, Log};
-use script_lang::{Action, Script};
+use script_lang::Script;
 use std::alloc::{AllocError, Global};
-use std::collections::VecDeque;
 use std::marker::Model;
 use xlator_law::Stop;
 
@@ -28,14 +21,14 @@ use xlator_law::Stop;
 #[derive(Drop)]
 pub struct Hub {
     pub(crate) planned: Planned,
-    pub(crate) parts: Parts,
-    log: Log,
-    stop: Option<Stop>,
+    pub(crate) engine: Engine,
+    pub(crate) log: Log,
+    pub(crate) stop: Option<Stop>,
 }
 
 impl Model for Hub {
-    ghost use Rattle.std.specs.Prelude.{MatchOption, length};
-    ghost use Rattle.hub_calls.specs.Dues.{due_of};
+    ghost use Rattle.std.specs.Prelude.{MatchOption};
+    ghost use Rattle.hub_calls.specs.Dues.{ready_in};
     ghost use Rattle.hub_calls.specs.Hubs.{HubState};
     ghost use Rattle.hub_calls.specs.Plans.{AreLeft};
 
@@ -45,7 +38,8 @@ impl Model for Hub {
       script = h.planned.script;
       plans = h.planned.plans;
       log = h.log;
-      due = due_of (length h.planned.script.phases) h.parts.progress h.parts.turn.controls h.parts.internal h.parts.turn.bricks.owed h.parts.graphs.nodes.tasks;
+      agenda = h.engine.agenda;
+      tasks = ready_in h.planned.plans h.engine.parts.graphs.nodes.tasks;
       stop = h.stop;
     } };
 
@@ -59,29 +53,33 @@ impl Hub {
     ///
     /// # Errors
     /// Out of memory.
+    #[tactic(auto, using(crate::proofs::Planning::left_before, crate::proofs::Agendas::begun_agenda))]
     pub fn new(alloc: Global, script: Script, plans: Seq<Plan>) -> Result<Hub, AllocError>
         requires { IsScript script plans }
-        ensures start { IfOk result (λ h. h ≡ record { script = script; plans = plans; log = h.log; due = h.due; stop = None }) }
+        ensures start { IfOk result (λ h. h ≡ record { script = script; plans = plans; log = h.log; agenda = h.agenda; tasks = h.tasks; stop = None }) }
         ensures events { IfOk result (λ h. h.log.events ≡ []) }
+        ensures agenda { IfOk result (λ h. h.agenda ≡ agenda_before script h.log h.tasks) }
     {
         let planned = Planned::new(alloc, script, plans)?;
         let mut log = Log::new(alloc);
-        match Parts::begun(alloc, &planned, &mut log) {
-            Ok(parts) => Ok(Hub {
+        let mut engine = Engine::new(alloc, &planned);
+        match engine.begin(alloc, &planned, &mut log) {
+            Ok(()) => Ok(Hub {
                 planned,
-                parts,
+                engine,
                 log,
                 stop: None,
             }),
             Err(error) => {
                 drop(planned);
+                drop(engine);
                 drop(log);
                 Err(error)
             }
         }
     }
 
-    fn check(&self) -> Result<(), Stop>
+    pub(crate) fn check(&self) -> Result<(), Stop>
         ensures goes { OnOk result (self.now.stop ≡ None) }
         ensures stops { IfErr result (λ s. self.now.stop ≡ Some s) }
     {
@@ -91,19 +89,25 @@ impl Hub {
         }
     }
 
-    // Closes an event, which is no submission, of a hub that has not stopped. An event that was not done stops it.
-    #[tactic(auto, using(crate::proofs::Planning::still_left))]
-    fn close(&mut self, alloc: Global, done: Result<(), Stop>, event: HubEvent) -> Result<(), Stop>
+    /// Closes an event, which is no submission, of a hub that has not stopped. An event that was not done stops it.
+    #[tactic(auto, using(crate::proofs::Planning::still_left, crate::proofs::Agendas::closed_agenda))]
+    pub(crate) fn close(
+        &mut self,
+        alloc: Global,
+        done: Result<(), Stop>,
+        event: HubEvent,
+    ) -> Result<(), Stop>
         requires goes { self.old.stop ≡ None }
         requires other { is_submit event ≡ 0 }
         ensures same { (self.new.script ≡ self.old.script) × (self.new.plans ≡ self.old.plans) }
         ensures event { OnOk result (AddsEvent self.old.log self.new.log event) }
+        ensures agenda { OnOk result (self.new.agenda ≡ agenda_after self.old.script self.old.log self.new.log self.new.tasks self.old.agenda) }
         ensures cut { IfErr result (λ stop. IsAfterStop stop self.old.log self.new.log) }
         ensures goes { OnOk result (self.new.stop ≡ None) }
         ensures stops { IfErr result (λ s. self.new.stop ≡ Some s) }
     {
         match self
-            .parts
+            .engine
             .close(alloc, &self.planned, done, event, &mut self.log)
         {
             Ok(()) => Ok(()),
@@ -112,222 +116,6 @@ impl Hub {
                 Err(stop)
             }
         }
-    }
-
-    /// Submits the next call of a session. It is false, with nothing changed, exactly where the session has a call
-    /// without a reply, or no line left in the current phase.
-    ///
-    /// # Errors
-    /// `Winds` where a further wind was needed and 4,294,967,295 were opened; else out of memory.
-    #[tactic(auto, using(crate::proofs::Planning::left_submitted, crate::proofs::Planning::adds_submission, crate::proofs::Additions::after_same))]
-    pub fn submit(&mut self, alloc: Global, session: u8) -> Result<bool, Stop>
-        ensures same { (self.new.script ≡ self.old.script) × (self.new.plans ≡ self.old.plans) }
-        ensures unchanged { IfOk result (λ did. did ≡ false → self.new ≡ self.old) }
-        ensures event { IfOk result (λ did. did ≡ true → AddsSubmission self.old.script self.old.log self.new.log session) }
-        ensures cut { IfErr result (λ stop. IsAfterStop stop self.old.log self.new.log) }
-        ensures spent { StaysStopped self.old.stop self.old self.new result }
-        ensures goes { OnOk result (self.new.stop ≡ None) }
-        ensures stops { IfErr result (λ s. self.new.stop ≡ Some s) }
-    {
-        self.check()?;
-        if !self.parts.progress.ready().has(session) {
-            return Ok(false);
-        }
-        let Some((at, line)) = self.planned.next(session) else {
-            return Ok(false);
-        };
-        self.planned.take_line(session);
-        self.parts.turn.open(&self.log);
-        let done = self.parts.submitted(alloc, &self.planned, session, at);
-        let event = HubEvent::Submit { session, line };
-        match self
-            .parts
-            .close(alloc, &self.planned, done, event, &mut self.log)
-        {
-            Ok(()) => Ok(true),
-            Err(stop) => {
-                self.stop = Some(stop);
-                Err(stop)
-            }
-        }
-    }
-
-    /// Takes the bytes of an output of a brick, which the script has.
-    ///
-    /// # Errors
-    /// As for [`Hub::submit`].
-    #[tactic(auto, using(crate::proofs::Additions::after_same))]
-    pub fn arrive(&mut self, alloc: Global, brick: u8, output: Bytes) -> Result<(), Stop>
-        ensures same { (self.new.script ≡ self.old.script) × (self.new.plans ≡ self.old.plans) }
-        ensures event { OnOk result (AddsEvent self.old.log self.new.log (logged.Arrive brick output)) }
-        ensures cut { IfErr result (λ stop. IsAfterStop stop self.old.log self.new.log) }
-        ensures spent { StaysStopped self.old.stop self.old self.new result }
-        ensures goes { OnOk result (self.new.stop ≡ None) }
-        ensures stops { IfErr result (λ s. self.new.stop ≡ Some s) }
-    {
-        match self.check() {
-            Ok(()) => {
-                self.parts.turn.open(&self.log);
-                let done = self
-                    .parts
-                    .arrived(alloc, &self.planned, brick, output.as_slice());
-                let event = HubEvent::Arrive {
-                    brick,
-                    bytes: output,
-                };
-                self.close(alloc, done, event)
-            }
-            Err(stop) => {
-                drop(output);
-                Err(stop)
-            }
-        }
-    }
-
-    /// Runs a ready task of a graph: the frame of the io-threads node with this number whose turn it is goes on. It is
-    /// false, with nothing changed, exactly where no such task is ready.
-    ///
-    /// # Errors
-    /// As for [`Hub::submit`].
-    #[tactic(auto, using(crate::proofs::Additions::after_same))]
-    pub fn run(&mut self, alloc: Global, graph: u32, task: u32) -> Result<bool, Stop>
-        ensures same { (self.new.script ≡ self.old.script) × (self.new.plans ≡ self.old.plans) }
-        ensures unchanged { IfOk result (λ did. did ≡ false → self.new ≡ self.old) }
-        ensures event { IfOk result (λ did. did ≡ true → AddsEvent self.old.log self.new.log (logged.Run graph task)) }
-        ensures cut { IfErr result (λ stop. IsAfterStop stop self.old.log self.new.log) }
-        ensures spent { StaysStopped self.old.stop self.old self.new result }
-        ensures goes { OnOk result (self.new.stop ≡ None) }
-        ensures stops { IfErr result (λ s. self.new.stop ≡ Some s) }
-    {
-        self.check()?;
-        if !self.parts.graphs.nodes.is_ready(graph, task) {
-            return Ok(false);
-        }
-        self.run_ready(alloc, graph, task)?;
-        Ok(true)
-    }
-
-    // Runs a task that is ready, in a hub that has not stopped.
-    fn run_ready(&mut self, alloc: Global, graph: u32, task: u32) -> Result<(), Stop>
-        requires { self.old.stop ≡ None }
-        ensures same { (self.new.script ≡ self.old.script) × (self.new.plans ≡ self.old.plans) }
-        ensures event { OnOk result (AddsEvent self.old.log self.new.log (logged.Run graph task)) }
-        ensures cut { IfErr result (λ stop. IsAfterStop stop self.old.log self.new.log) }
-        ensures goes { OnOk result (self.new.stop ≡ None) }
-        ensures stops { IfErr result (λ s. self.new.stop ≡ Some s) }
-    {
-        self.parts.turn.open(&self.log);
-        let done = self.parts.run_task(alloc, graph, task);
-        self.close(alloc, done, HubEvent::Run { graph, task })
-    }
-
-    /// Takes the first output that has arrived, else the first ready task. `Quiet` comes exactly where there is neither.
-    /// The script has each brick that is named.
-    ///
-    /// # Errors
-    /// As for [`Hub::submit`].
-    #[tactic(auto, using(crate::proofs::Additions::after_same, crate::proofs::Additions::turn_takes, crate::proofs::Additions::turn_runs))]
-    pub fn turn(
-        &mut self,
-        alloc: Global,
-        arrived: &mut VecDeque<(u8, Bytes)>,
-    ) -> Result<Turned, Stop>
-        ensures same { (self.new.script ≡ self.old.script) × (self.new.plans ≡ self.old.plans) }
-        ensures spent { StaysStopped self.old.stop self.old self.new result }
-        ensures arrived { StaysStopped self.old.stop arrived.old arrived.new result }
-        ensures event { IfOk result (λ turned. IsTurn turned arrived.old.items arrived.new.items self.old self.new) }
-        ensures cut { IfErr result (λ stop. IsAfterStop stop self.old.log self.new.log) }
-        ensures goes { OnOk result (self.new.stop ≡ None) }
-        ensures stops { IfErr result (λ s. self.new.stop ≡ Some s) }
-    {
-        self.check()?;
-        if let Some((brick, output)) = arrived.pop_front() {
-            self.arrive(alloc, brick, output)?;
-            return Ok(Turned::Did);
-        }
-        match self.ready_at(0) {
-            Some((graph, task)) => {
-                self.run_ready(alloc, graph, task)?;
-                Ok(Turned::Did)
-            }
-            None => Ok(Turned::Quiet {
-                ready: 0,
-                arrived: 0,
-            }),
-        }
-    }
-
-    // Whether an action may be carried out.
-    fn may_act(&self, action: Action) -> bool
-        ensures { is_great_action action ≡ false → result ≡ is_of_brick (length self.now.script.bricks) action }
-    {
-        match action {
-            Action::Heal => self.parts.may_heal(),
-            Action::Switch(volfile) => self.parts.may_switch(&self.planned, volfile),
-            _ => is_of_brick(self.script(), action),
-        }
-    }
-
-    /// Carries an action out, and with it the control that [`Hub::first`], [`Hub::due`] or [`Hub::rest`] gives, where it
-    /// has the same action. It is false, with nothing changed, exactly where the action is not possible: its brick or
-    /// volfile is not in the script, a fault is one of unlock or has the number 0, a heal or a switch finds an internal
-    /// call without an answer, or a switch finds a plan that does not follow, or 4,294,967,294 graphs that were made.
-    ///
-    /// # Errors
-    /// As for [`Hub::submit`].
-    #[tactic(auto, using(crate::proofs::Additions::after_same))]
-    pub fn act(&mut self, alloc: Global, action: Action) -> Result<bool, Stop>
-        ensures same { (self.new.script ≡ self.old.script) × (self.new.plans ≡ self.old.plans) }
-        ensures unchanged { IfOk result (λ did. did ≡ false → self.new ≡ self.old) }
-        ensures event { IfOk result (λ did. did ≡ true → AddsEvent self.old.log self.new.log (logged.Act action)) }
-        ensures cut { IfErr result (λ stop. IsAfterStop stop self.old.log self.new.log) }
-        ensures of_brick { IfOk result (λ did. is_great_action action ≡ false → did ≡ is_of_brick (length self.old.script.bricks) action) }
-        ensures spent { StaysStopped self.old.stop self.old self.new result }
-        ensures goes { OnOk result (self.new.stop ≡ None) }
-        ensures stops { IfErr result (λ s. self.new.stop ≡ Some s) }
-    {
-        self.check()?;
-        if !self.may_act(action) {
-            return Ok(false);
-        }
-        self.parts.turn.open(&self.log);
-        let done = self.parts.acted(alloc, &self.planned, action);
-        self.close(alloc, done, HubEvent::Act(action))?;
-        Ok(true)
-    }
-
-    /// Arms an action for a request that is sent to a brick in this phase: it is carried out directly before. It is
-    /// false, with nothing changed, exactly where the action is no Down and no fault of that brick, the script has no such
-    /// brick, or the fault is one of unlock or has the number 0.
-    ///
-    /// # Errors
-    /// As for [`Hub::submit`].
-    #[tactic(auto, using(crate::proofs::Additions::after_same))]
-    pub fn arm(
-        &mut self,
-        alloc: Global,
-        brick: u8,
-        before: Proc,
-        count: u32,
-        action: Action,
-    ) -> Result<bool, Stop>
-        ensures same { (self.new.script ≡ self.old.script) × (self.new.plans ≡ self.old.plans) }
-        ensures unchanged { IfOk result (λ did. did ≡ false → self.new ≡ self.old) }
-        ensures event { IfOk result (λ did. did ≡ true → AddsEvent self.old.log self.new.log (logged.Arm brick before count action)) }
-        ensures cut { IfErr result (λ stop. IsAfterStop stop self.old.log self.new.log) }
-        ensures armable { IfOk result (λ did. did ≡ (is_armable brick action && is_of_brick (length self.old.script.bricks) action)) }
-        ensures spent { StaysStopped self.old.stop self.old self.new result }
-        ensures goes { OnOk result (self.new.stop ≡ None) }
-        ensures stops { IfErr result (λ s. self.new.stop ≡ Some s) }
-    {
-        self.check()?;
-        if !may_be_armed(brick, action) || !is_of_brick(self.script(), action) {
-            return Ok(false);
-        }
-        self.parts.turn.open(&self.log);
-        let done = self.parts.turn.armed(brick, before, count, action);
-        self.close(alloc, done, HubEvent::Arm(brick, before, count, action))?;
-        Ok(true)
     }
 
     /// The log of the events so far.
@@ -357,11 +145,11 @@ impl Hub {
     {
         let Hub {
             planned,
-            parts,
+            engine,
             log,
             ..
         } = self;
-        drop(parts);
+        drop(engine);
         let (script, plans) = planned.into_parts();
         (script, plans, log)
     }

@@ -24,8 +24,10 @@
 //! An event is one turn: a call is submitted, an output arrives, a task is run, an action is carried out or armed. What the graphs give
 //! is taken in the order in which it was given, until nothing is left: first what is sent, then the holds that are asked
 //! for, then the answers. At an answer the fop's holds are released, those who are let in begin, and then the call asks
-//! for its next hold. At its end the phase moves on where it has nothing left, and the event is written to the log with
-//! its lines. The moves of an event are not handed the log; the hub's contracts name the event that a call adds.
+//! for its next hold. At its end what it has sent goes out, behind what is armed for it, the phase moves on where it has nothing
+//! left, and the event is written to the log with its lines. The moves of an event are not handed the log, nor the agenda, which
+//! decides what is due: an event changes the agenda as it begins, by what it is, and as it ends, by the lines that it adds. The
+//! hub's contracts name the event that a call adds, and the agenda after it.
 //!
 //! No event looks through the log, the calls, the sessions or the frames of other calls.
 #![tactic(auto)]
@@ -34,6 +36,8 @@ mod acting;
 mod arriving;
 mod connecting;
 mod due;
+mod engine;
+mod events;
 mod graphs;
 mod holding;
 mod hub;

@@ -1,7 +1,10 @@
 //! The script that a hub runs, with the plans of its volfiles, and what is left of it.
-ghost use Rattle.std.specs.Prelude.{◌≡◌, nat_lt, Some, [], IfSome, IfOk, length, slice_get};
+ghost use Rattle.std.specs.Prelude.{◌≡◌, ◌&&◌, None, Some, is_some, [], IfSome, IfOk, slice_get};
 ghost use Rattle.graph_nodes.specs.Plans.{IsPlan};
 ghost use Rattle.mount_log.specs.Lines.{line_of, TakesLine};
+ghost use Rattle.mount_log.specs.Submissions.{line_by};
+ghost use Rattle.hub_tables.specs.PlanBricks.{has_queues as have_queues};
+ghost use Rattle.hub_tables.specs.SmallSets.{has};
 ghost use Rattle.mount_log.specs.declared.places.LineAt.{LineAt as Place};
 ghost use Rattle.hub_tables.specs.Sessions.{first_line};
 ghost use Rattle.hub_calls.specs.Plans.{AreLeft, IsNext};
@@ -9,7 +12,7 @@ ghost use Rattle.mount_log.specs.Scripts.{IsScript};
 
 use fop_types::Seq;
 use graph_build::Plan;
-use hub_tables::{SessionLines, creations};
+use hub_tables::{SessionLines, SmallSet, creations, has_queues};
 use mount_log::LineAt;
 use script_lang::{CallLine, Phase, Script};
 use std::alloc::{AllocError, Global};
@@ -22,18 +25,21 @@ pub struct Planned {
     script: Script,
     plans: Seq<Plan>,
     left: SessionLines,
+    queues: bool,
 }
 
 impl Model for Planned {
+    ghost use Rattle.std.specs.Prelude.{◌≡◌};
     ghost use Rattle.std.specs.List.{AllByRecursion};
     ghost use Rattle.graph_nodes.specs.Plans.{IsPlan};
+    ghost use Rattle.hub_tables.specs.PlanBricks.{has_queues};
     ghost use Rattle.hub_calls.specs.Plans.{PlannedScript};
 
     ghost Value = { PlannedScript };
 
     ghost view = { λ p. record { script = p.script; plans = p.plans; left = p.left } };
 
-    ghost invariant = { λ p. AllByRecursion IsPlan p.plans };
+    ghost invariant = { λ p. record { each : AllByRecursion IsPlan p.plans; queues : p.queues ≡ has_queues p.plans } };
 }
 
 impl Planned {
@@ -51,11 +57,13 @@ impl Planned {
         ensures given { IfOk result (λ on. (on.script ≡ script) × (on.plans ≡ plans)) }
         ensures left { IfOk result (λ on. AreLeft script [] on.left) }
     {
+        let queues = has_queues(plans.as_slice());
         match SessionLines::new(alloc, &script) {
             Ok(left) => Ok(Planned {
                 script,
                 plans,
                 left,
+                queues,
             }),
             Err(error) => {
                 drop(script);
@@ -84,6 +92,7 @@ impl Planned {
             script,
             plans,
             left,
+            ..
         } = self;
         drop(left);
         (script, plans)
@@ -110,14 +119,16 @@ impl Planned {
         self.script.bricks.len().min(255) as u8
     }
 
-    pub(crate) fn has_phase(&self, phase: u32) -> bool
-        ensures { result ≡ nat_lt phase (length self.now.script.phases) }
+    /// Whether one of the plans has an io-threads node, so that tasks may be ready.
+    pub(crate) fn has_queues(&self) -> bool
+        ensures { result ≡ have_queues self.now.plans }
     {
-        (phase as usize) < self.script.phases.len()
+        self.queues
     }
 
     pub(crate) fn phase(&self, phase: u32) -> Option<&Phase>
-        ensures { IfSome result (λ found. slice_get self.now.script.phases phase ≡ Some found.now) }
+        ensures found { IfSome result (λ found. slice_get self.now.script.phases phase ≡ Some found.now) }
+        ensures none { result ≡ None → slice_get self.now.script.phases phase ≡ None }
     {
         self.script.phases.as_slice().get(phase as usize)
     }
@@ -125,7 +136,8 @@ impl Planned {
     /// The line of a call.
     #[tactic(auto, using(crate::proofs::Planning::is_line))]
     pub(crate) fn line(&self, at: LineAt) -> Option<&CallLine>
-        ensures { IfSome result (λ line. line_of self.now.script at ≡ Some line.now) }
+        ensures line { IfSome result (λ line. line_of self.now.script at ≡ Some line.now) }
+        ensures none { result ≡ None → line_of self.now.script at ≡ None }
     {
         match self.phase(at.phase) {
             Some(phase) => phase.calls.as_slice().get(at.index as usize),
@@ -141,13 +153,26 @@ impl Planned {
     }
 
     /// The next line of a session, by its place and its number in the script.
-    #[tactic(auto, using(crate::proofs::Planning::is_next))]
+    #[tactic(auto, using(crate::proofs::Planning::is_next, crate::proofs::Planning::is_there, crate::proofs::Planning::is_past, crate::proofs::Planning::is_gone))]
     pub(crate) fn next(&self, session: u8) -> Option<(LineAt, u32)>
-        ensures { IfSome result (λ next. IsNext self.now session next.0 next.1) }
+        ensures next { IfSome result (λ next. IsNext self.now session next.0 next.1) }
+        ensures there { is_some result ≡ is_some (line_by self.now.script (first_line self.now.left session)) }
     {
         let at = self.left.first(session)?;
         let line = self.line(at)?;
         Some((at, line.line))
+    }
+
+    /// The same, where the session is one of these.
+    pub(crate) fn next_of(&self, ready: SmallSet, session: u8) -> Option<(LineAt, u32)>
+        ensures next { IfSome result (λ next. IsNext self.now session next.0 next.1) }
+        ensures there { is_some result ≡ (has ready session && is_some (line_by self.now.script (first_line self.now.left session))) }
+    {
+        if ready.has(session) {
+            self.next(session)
+        } else {
+            None
+        }
     }
 
     /// A session has its first line no more.

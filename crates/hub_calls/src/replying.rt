@@ -200,7 +200,7 @@ impl Parts {
         call: u32,
         reply: CallReply,
     ) -> Result<(), Stop> {
-        let last = self.finish(alloc, on, call, reply)?;
+        let last = self.finish(alloc, call, reply)?;
         if !last {
             return Ok(());
         }
@@ -209,29 +209,22 @@ impl Parts {
     }
 
     // A call has its reply. It says whether it was the last of its graph.
-    fn finish(
-        &mut self,
-        alloc: Global,
-        on: &Planned,
-        call: u32,
-        reply: CallReply,
-    ) -> Result<bool, Stop> {
+    fn finish(&mut self, alloc: Global, call: u32, reply: CallReply) -> Result<bool, Stop> {
         let Some(state) = self.calls.take(call) else {
             drop(reply);
             return Ok(false);
         };
         let graph = state.graph;
         let at = self.turn.reply_place();
-        self.replied_with(alloc, on, call, state, reply)?;
-        let last = self.calls.replied(call, graph, at)?;
+        self.replied_with(alloc, call, state, reply)?;
+        let last = self.calls.replied(call, graph, at);
         Ok(last)
     }
 
-    // The reply of a call that was taken out is written down, and its session may go on.
+    // The reply of a call that was taken out is written down.
     fn replied_with(
         &mut self,
         alloc: Global,
-        on: &Planned,
         call: u32,
         state: CallState,
         reply: CallReply,
@@ -247,10 +240,7 @@ impl Parts {
             answer,
         };
         match self.fd_moved(alloc, session, fd) {
-            Ok(()) => {
-                self.progress.replied(on.left(), session);
-                self.turn.lines.add_reply(line)
-            }
+            Ok(()) => { self.turn.lines.add_reply(line) }
             Err(error) => {
                 drop(line);
                 Err(error)

@@ -1,10 +1,10 @@
-//! Moves of sending: requests, each behind the actions that are armed for it, and controls.
+//! Moves of sending: requests and controls. What is armed for the requests goes out as the event is closed.
 ghost use Rattle.wire_xdr.specs.WireText.{IsInput};
 
 use crate::turn::Turn;
 use bytes::Bytes;
 use fop_types::{Input, Proc, Seq};
-use hub_tables::{Nth, may_be_armed};
+use hub_tables::may_be_armed;
 use mount_log::SentLine;
 use mount_log::requests::rank_of;
 use script_lang::Action;
@@ -66,7 +66,6 @@ impl Turn {
         brick: u8,
         serve: u32,
     ) -> Result<(), AllocError> {
-        self.bricks.owe()?;
         self.send_input(alloc, brick, Input::Down { serve })
     }
 
@@ -75,7 +74,6 @@ impl Turn {
     /// # Errors
     /// Out of memory.
     pub(crate) fn send_up(&mut self, alloc: Global, brick: u8) -> Result<(), AllocError> {
-        self.bricks.owe()?;
         self.send_input(alloc, brick, Input::Up)
     }
 
@@ -96,59 +94,24 @@ impl Turn {
         self.send_input(alloc, brick, Input::FaultAt { proc, number })
     }
 
-    // An armed action is carried out: a Down or a fault.
-    fn carry_out_armed(&mut self, alloc: Global, action: Action) -> Result<(), AllocError> {
-        match action {
-            Action::Down(brick, serve) => self.send_down(alloc, brick, serve),
-            Action::Fault(brick, proc, number) => self.send_fault(alloc, brick, proc, number),
-            _ => Ok(()),
-        }
-    }
-
-    // A request goes out, behind what is armed for it; the controls that wait for it have come.
-    fn send_request(&mut self, alloc: Global, brick: u8, bytes: Bytes) -> Result<(), AllocError> {
-        let Some(proc) = rank_of(bytes.as_slice()) else {
+    // A request goes out. Bytes that are none do not.
+    fn send_request(&mut self, brick: u8, bytes: Bytes) -> Result<(), AllocError> {
+        if rank_of(bytes.as_slice()).is_none() {
             drop(bytes);
             return Ok(());
-        };
-        match self.go_before(alloc, brick, proc) {
-            Ok(request) => {
-                self.send(brick, bytes)?;
-                self.controls.sent(request)
-            }
-            Err(error) => {
-                drop(bytes);
-                Err(error)
-            }
         }
-    }
-
-    // What is armed for the next request of a procedure goes out, and an output is owed for that request.
-    fn go_before(&mut self, alloc: Global, brick: u8, proc: u8) -> Result<Nth, AllocError> {
-        let request = self.controls.count(brick, proc)?;
-        for _ in 0..self.controls.armed_len() {
-            let Some(action) = self.controls.take_armed(request) else {
-                break;
-            };
-            self.carry_out_armed(alloc, action)?;
-        }
-        self.bricks.owe()?;
-        Ok(request)
+        self.send(brick, bytes)
     }
 
     /// Requests of a graph go out, in order.
     ///
     /// # Errors
     /// Out of memory.
-    pub(crate) fn send_all(
-        &mut self,
-        alloc: Global,
-        sends: Seq<(u8, Seq<u8>)>,
-    ) -> Result<(), AllocError> {
+    pub(crate) fn send_all(&mut self, sends: Seq<(u8, Seq<u8>)>) -> Result<(), AllocError> {
         for next in sends.into_vec() {
             let (brick, message) = next;
             let bytes = Bytes::from_vec(message.into_vec())?;
-            self.send_request(alloc, brick, bytes)?;
+            self.send_request(brick, bytes)?;
         }
         Ok(())
     }

@@ -1,14 +1,14 @@
 //! The event under way: its lines, and what is still to be done in it.
-ghost use Rattle.std.specs.Prelude.{◌≡◌, [], OnOk, OnErr};
-ghost use Rattle.hub_calls.specs.Hubs.{AddsEvent, IsAfterStop};
+ghost use Rattle.std.specs.Prelude.{◌≡◌, ◌∷◌, [], OnOk, OnErr};
+ghost use Rattle.mount_log.specs.Logs.{with_lines};
+ghost use Rattle.hub_calls.specs.Hubs.{IsAfterStop};
 
 use crate::writing::add_lines;
-use fop_types::{Cell, CopyRecord, FopAnswer, Proc, Seq, SkipCause};
+use fop_types::{Cell, CopyRecord, FopAnswer, Seq, SkipCause};
 use frame_driver::Queue;
 use graph_nodes::{HoldAsk, Moved};
-use hub_tables::{Bricks, Controls};
-use mount_log::{HubEvent, Log, WindLine};
-use script_lang::Action;
+use hub_tables::SmallSet;
+use mount_log::{HubEvent, Log, SentLine, WindLine};
 use std::alloc::{AllocError, Global};
 use std::mem;
 use xlator_law::{Stop, WindNo};
@@ -31,8 +31,8 @@ pub enum Todo {
 }
 
 /// The event under way, by its number, how many replies and entries the log has before it, and its lines so far, which
-/// get the event itself as they are written to the log; what is still to be done in it; the controls of the phase; and what
-/// is known of the bricks.
+/// get the event itself as they are written to the log, and what is armed for its requests before these; what is still to be
+/// done in it; and the bricks whose last Closed or Opened is a Closed.
 #[derive(Drop)]
 pub struct Turn {
     pub event: u64,
@@ -40,8 +40,7 @@ pub struct Turn {
     pub entries: usize,
     pub lines: Log,
     pub todo: Queue<Todo>,
-    pub controls: Controls,
-    pub bricks: Bricks,
+    pub closed: SmallSet,
 }
 
 impl Turn {
@@ -53,8 +52,7 @@ impl Turn {
             entries: 0,
             lines: Log::new(alloc),
             todo: Queue::new(alloc),
-            controls: Controls::new(alloc),
-            bricks: Bricks::new(),
+            closed: SmallSet::new(),
         }
     }
 
@@ -70,9 +68,24 @@ impl Turn {
         self.replies.saturating_add(self.lines.replies.len())
     }
 
+    /// What the event has sent, of which nothing is left.
+    pub(crate) fn take_sends(&mut self, alloc: Global) -> Vec<SentLine>
+        ensures sends { result.items ≡ self.old.lines.sent }
+        ensures none { self.new ≡ record self.old { lines = record (self.old.lines) { sent = [] } } }
+    {
+        mem::replace(&mut self.lines.sent, Seq::new(alloc)).into_vec()
+    }
+
+    /// What goes out in the event for what it has sent.
+    pub(crate) fn put_sent(&mut self, sent: Seq<SentLine>)
+        ensures { self.new ≡ record self.old { lines = record (self.old.lines) { sent = sent } } }
+    {
+        drop(mem::replace(&mut self.lines.sent, sent));
+    }
+
     /// The lines so far, which have no event; none are left.
     pub(crate) fn take_lines(&mut self, alloc: Global) -> Log
-        ensures { result.events ≡ [] }
+        ensures { result ≡ record (self.old.lines) { events = [] } }
     {
         let mut lines = mem::replace(&mut self.lines, Log::new(alloc));
         drop(mem::replace(&mut lines.events, Seq::new(alloc)));
@@ -83,14 +96,13 @@ impl Turn {
     ///
     /// # Errors
     /// Out of memory; the log is unchanged.
-    #[tactic(auto, using(crate::proofs::Additions::adds_event))]
     pub(crate) fn write(
         &mut self,
         alloc: Global,
         event: HubEvent,
         log: &mut Log,
     ) -> Result<(), AllocError>
-        ensures ok { OnOk result (AddsEvent log.old log.new event) }
+        ensures ok { OnOk result (log.new ≡ with_lines log.old (record (self.old.lines) { events = event ∷ [] })) }
         ensures err { OnErr result (log.new ≡ log.old) }
     {
         let mut lines = self.take_lines(alloc);
@@ -111,26 +123,6 @@ impl Turn {
                 Err(_) => {}
             },
         }
-    }
-
-    /// The controls of a phase that begins.
-    pub(crate) fn set_controls(&mut self, controls: Controls) {
-        drop(mem::replace(&mut self.controls, controls));
-    }
-
-    /// An action is armed for a request.
-    ///
-    /// # Errors
-    /// As for `Hub::submit`.
-    pub(crate) fn armed(
-        &mut self,
-        brick: u8,
-        before: Proc,
-        count: u32,
-        action: Action,
-    ) -> Result<(), Stop> {
-        self.controls.arm(brick, before, count, action)?;
-        Ok(())
     }
 
     /// The winds that a graph has opened and ended are written down.

@@ -1,6 +1,14 @@
 pub mod SmallSets
 pub mod SetsWhere
+pub mod Numbers
 pub mod Sessions
 pub mod MadeObjects
 pub mod PlanBricks
 pub mod PhaseControls
+pub mod Orders
+pub mod Ranks
+pub mod Places
+pub mod Coming
+pub mod Outgoing
+pub mod PhasesLeft
+pub mod Nexts

@@ -1,6 +1,7 @@
 -- Sets of numbers below 64, each number by one bit: of bricks, of sessions, of volfiles. Ours.
 use Rattle.std.specs.Prelude.{◌≡◌, ℕ, zero, suc, ◌+◌, ◌^◌, ◌<◌, ◌==◌, nat_lt, Bool, true, false, ◌&&◌, ◌||◌, not, List, [], ◌∷◌, if◌then◌else◌}
 use Rattle.std.specs.Int.{bit_at}
+use Rattle.std.specs.List.{filter, list_any, range_with_len}
 use Rattle.hub_tables.specs.declared.small_set.SmallSet.{SmallSet}
 
 abbrev pub no_numbers : SmallSet
@@ -34,3 +35,11 @@ numbers_from set n (suc more) = with_number (has set n) n (numbers_from set (n +
 -- the numbers of the set, rising
 abbrev pub numbers : SmallSet → List ℕ
 numbers set = numbers_from set 0 64
+
+-- those of the 64 numbers of which something holds, rising
+unfoldable pub numbers_where : (ℕ → Bool) → List ℕ
+numbers_where test = filter test (range_with_len 0 64)
+
+-- whether a number is among these
+abbrev pub is_among : ℕ → List ℕ → Bool
+is_among n numbers = list_any (λ k. n == k) numbers

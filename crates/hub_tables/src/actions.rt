@@ -1,6 +1,9 @@
 //! What a control does.
 ghost use Rattle.std.specs.Prelude.{◌≡◌, ◌↔◌, Some, IsTrue};
 ghost use Rattle.mount_log.specs.Procedures.{proc_by};
+ghost use Rattle.brick_machine.specs.State.{place_of};
+ghost use Rattle.script_lang.specs.StatementText.{is_great_action};
+ghost use Rattle.hub_tables.specs.PhaseControls.{same_action};
 ghost use Rattle.hub_tables.specs.Arming.{is_armable};
 
 use fop_types::Proc;
@@ -8,7 +11,8 @@ use script_lang::Action;
 
 /// The place of a procedure among the procedures, from 0.
 pub(crate) fn proc_rank(proc: Proc) -> u8
-    ensures { proc_by (Some result) ≡ Some proc }
+    ensures place { result ≡ place_of proc }
+    ensures proc { proc_by (Some result) ≡ Some proc }
 {
     proc as u8
 }
@@ -30,8 +34,10 @@ pub enum Turned {
 }
 
 /// Whether two actions are the same.
+#[tactic(auto, using(crate::proofs::Places::other_procs))]
 pub(crate) fn is_same(one: Action, other: Action) -> bool
-    ensures { IsTrue result ↔ (one ≡ other) }
+    ensures same { IsTrue result ↔ (one ≡ other) }
+    ensures value { result ≡ same_action one other }
 {
     match (one, other) {
         (Action::Down(a, s), Action::Down(b, t)) => a == b && s == t,
@@ -41,6 +47,20 @@ pub(crate) fn is_same(one: Action, other: Action) -> bool
         (Action::Heal, Action::Heal) => true,
         (Action::Switch(a), Action::Switch(b)) => a == b,
         _ => false,
+    }
+}
+
+/// Whether an action begins an internal call: a heal or a switch.
+pub(crate) fn is_great(action: Action) -> bool
+    ensures { result ≡ is_great_action action }
+{
+    match action {
+        Action::Heal => true,
+        Action::Switch(_) => true,
+        Action::Down(_, _) => false,
+        Action::Up(_) => false,
+        Action::Cut(_) => false,
+        Action::Fault(_, _, _) => false,
     }
 }
 

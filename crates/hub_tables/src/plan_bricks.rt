@@ -1,6 +1,6 @@
-//! The bricks of a plan.
+//! The bricks of a plan, and its queues.
 ghost use Rattle.std.specs.Prelude.{◌≡◌, ◌<◌, ◌||◌, ℕ};
-ghost use Rattle.hub_tables.specs.PlanBricks.{is_client_of, has_client};
+ghost use Rattle.hub_tables.specs.PlanBricks.{is_client_of, has_client, is_queue as is_queue_of, has_queue as has_queue_of, has_queues as have_queues};
 ghost use Rattle.hub_tables.specs.SmallSets.{has};
 
 use crate::small_set::SmallSet;
@@ -26,4 +26,36 @@ pub fn bricks_of(plan: &Plan) -> SmallSet
         bricks = with_client(bricks, node.kind);
     }
     bricks
+}
+
+fn is_queue(kind: NodeKind) -> bool
+    ensures { result ≡ is_queue_of kind }
+{
+    match kind {
+        NodeKind::IoThreads => true,
+        _ => false,
+    }
+}
+
+fn has_queue(plan: &Plan) -> bool
+    ensures { result ≡ has_queue_of plan.now.nodes }
+{
+    for node in plan.nodes.as_slice() {
+        if is_queue(node.kind) {
+            return true;
+        }
+    }
+    false
+}
+
+/// Whether one of these plans has an io-threads node.
+pub fn has_queues(plans: &[Plan]) -> bool
+    ensures { result ≡ have_queues plans.now }
+{
+    for plan in plans {
+        if has_queue(plan) {
+            return true;
+        }
+    }
+    false
 }

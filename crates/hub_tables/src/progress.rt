@@ -1,10 +1,11 @@
 //! Which sessions may submit.
-ghost use Rattle.std.specs.Prelude.{◌≡◌, ◌+◌, ◌-◌, ◌<◌, ◌==◌, ◌^◌, ℕ, min, length, MatchBool};
-ghost use Rattle.hub_tables.specs.SmallSets.{no_numbers, has, Adds, Drops};
-ghost use Rattle.hub_tables.specs.Sessions.{has_line};
+ghost use Rattle.std.specs.Prelude.{◌≡◌, [], ◌==◌};
+ghost use Rattle.hub_tables.specs.SmallSets.{numbers};
+ghost use Rattle.hub_tables.specs.Sessions.{first_line, after_submission, after_reply, after_replies, begun, behind};
 
 use crate::session_lines::SessionLines;
 use crate::small_set::SmallSet;
+use mount_log::ReplyLine;
 use script_lang::Phase;
 use std::marker::Model;
 
@@ -19,16 +20,18 @@ pub struct Progress {
 
 impl Model for Progress {
     ghost use Rattle.hub_tables.specs.Sessions.{ProgressState};
+    ghost use Rattle.hub_tables.specs.SmallSets.{numbers};
 
     ghost Value = { ProgressState };
 
-    ghost view = { λ p. record { phase = p.phase; ready = p.ready; unanswered = p.unanswered } };
+    ghost view = { λ p. record { phase = p.phase; ready = numbers p.ready; unanswered = p.unanswered } };
 }
 
 impl Progress {
     /// The start of a script, before its first phase has begun.
+    #[tactic(auto, using(crate::proofs::Numbers::no_number))]
     pub fn new() -> Progress
-        ensures { result ≡ record { phase = 0; ready = no_numbers; unanswered = 0 } }
+        ensures { result ≡ record { phase = 0; ready = []; unanswered = 0 } }
     {
         Progress {
             phase: 0,
@@ -46,7 +49,7 @@ impl Progress {
 
     /// The sessions that may submit a call.
     pub fn ready(&self) -> SmallSet
-        ensures { result ≡ self.now.ready }
+        ensures { numbers result ≡ self.now.ready }
     {
         self.ready
     }
@@ -59,18 +62,18 @@ impl Progress {
     }
 
     /// Begins the current phase, which has these calls, with the lines that the sessions have left. No call is unanswered.
+    #[tactic(auto, using(crate::proofs::Numbers::numbers_are))]
     pub fn begin(&mut self, lines: &SessionLines, phase: &Phase)
-        ensures phase { self.new.phase ≡ self.old.phase }
-        ensures ready { (session : ℕ) → session < 64 → has self.new.ready session ≡ has_line lines.now self.old.phase session }
-        ensures unanswered { self.new.unanswered ≡ min (length phase.now.calls) 4294967295 }
+        ensures { self.new ≡ begun (first_line lines.now) self.old phase.now }
     {
         self.unanswered = phase.calls.len().min(4294967295) as u32;
         self.ready = lines.of_phase(self.phase);
     }
 
     /// Leaves the current phase.
+    #[tactic(auto, using(crate::proofs::Numbers::no_number))]
     pub fn leave(&mut self)
-        ensures { self.new ≡ record self.old { phase = min (self.old.phase + 1) (2 ^ 32 - 1); ready = no_numbers } }
+        ensures { self.new ≡ behind self.old }
     {
         self.phase = self.phase.saturating_add(1);
         self.ready = SmallSet::new();
@@ -78,17 +81,14 @@ impl Progress {
 
     /// A session has submitted a call.
     pub fn submit(&mut self, session: u8)
-        ensures same { (self.new.phase ≡ self.old.phase) × (self.new.unanswered ≡ self.old.unanswered) }
-        ensures ready { Drops self.old.ready session self.new.ready }
+        ensures { self.new ≡ after_submission self.old session }
     {
         self.ready = self.ready.without(session);
     }
 
-    /// The call of a session has its reply, which has these lines left.
-    pub fn replied(&mut self, lines: &SessionLines, session: u8)
-        ensures phase { self.new.phase ≡ self.old.phase }
-        ensures ready { MatchBool (has_line lines.now self.old.phase session) (Adds self.old.ready session self.new.ready) (self.new.ready ≡ self.old.ready) }
-        ensures unanswered { self.new.unanswered ≡ self.old.unanswered - 1 }
+    // The call of a session has its reply, which has these lines left.
+    fn replied(&mut self, lines: &SessionLines, session: u8)
+        ensures { self.new ≡ after_reply (first_line lines.now) self.old session }
     {
         let has_more = lines.has(session, self.phase);
         self.unanswered = self.unanswered.saturating_sub(1);
@@ -96,5 +96,14 @@ impl Progress {
             return;
         }
         self.ready = self.ready.with(session);
+    }
+
+    /// These replies were given.
+    pub fn reply_all(&mut self, lines: &SessionLines, replies: &[ReplyLine])
+        ensures { self.new ≡ after_replies (first_line lines.now) self.old replies.now }
+    {
+        for reply in replies {
+            self.replied(lines, reply.session);
+        }
     }
 }

@@ -1,6 +1,7 @@
 //! Which request a control names.
 ghost use Rattle.std.specs.Prelude.{◌≡◌, Some};
 ghost use Rattle.mount_log.specs.Procedures.{proc_by};
+ghost use Rattle.hub_tables.specs.PhaseControls.{nth};
 
 use crate::actions::proc_rank;
 use fop_types::Proc;
@@ -17,7 +18,7 @@ pub struct Nth {
 impl Nth {
     /// The request of this brick, procedure and number.
     pub fn new(brick: u8, proc: Proc, count: u32) -> Nth
-        ensures request { (result.brick ≡ brick) × (result.count ≡ count) }
+        ensures request { result ≡ nth brick proc count }
         ensures proc { proc_by (Some result.proc) ≡ Some proc }
     {
         Nth {

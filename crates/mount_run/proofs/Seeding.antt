@@ -3,6 +3,7 @@ use Rattle.std.proofs.Common.{◌≡◌, refl, ap, ◌∙◌}
 use Rattle.std.specs.Prelude.{ℕ, List, [], length, Option, None, Some, Result, Ok, Err, IsOk, OnOk, IfOk, IfSome}
 use Rattle.graph_build.specs.declared.plans.Plan.{Plan}
 use Rattle.script_lang.specs.declared.scripts.Script.{Script}
+use Rattle.hub_calls.specs.Hubs.{agenda_before}
 use Rattle.hub_calls.specs.declared.racks.Rack.{Rack}
 use Rattle.world_bricks.specs.Lines.{new_lines, with_sent}
 use Rattle.world_bricks.specs.Runs.{IsRunOf}
@@ -17,12 +18,14 @@ well (Ok x) A h is = h
 well (Err e) A h is = absurd cc
 
 pub starts : (script : Script) (plans : List Plan) (w : WorldState)
-    → w ≡ record { script = script; plans = plans; log = w.log; due = w.due; lines = with_sent (new_lines script plans (length script.bricks)) w.log.sent; stop = None } → w.log.events ≡ [] → IsStart script plans w
-starts script plans w is none = record {
+    → w ≡ record { script = script; plans = plans; log = w.log; agenda = w.agenda; tasks = w.tasks; lines = with_sent (new_lines script plans (length script.bricks)) w.log.sent; stop = None } → w.log.events ≡ []
+    → w.agenda ≡ agenda_before script w.log w.tasks → IsStart script plans w
+starts script plans w is none agenda = record {
   script_is = ap (λ (x : WorldState). x.script) is;
   plans_are = ap (λ (x : WorldState). x.plans) is;
   no_events = none;
   lines_are = ap (λ (x : WorldState). x.lines) is;
+  agenda_is = agenda;
   goes = ap (λ (x : WorldState). x.stop) is;
 }
 

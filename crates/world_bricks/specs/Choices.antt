@@ -4,11 +4,12 @@
 use Rattle.std.specs.Prelude.{ℕ, List, [], ◌∷◌, ◌++◌, length, map, min, slice_get, Option, None, Some}
 use Rattle.std.specs.List.{range_with_len}
 use Rattle.script_lang.specs.declared.scripts.Action.{Action}
-use Rattle.hub_tables.specs.SmallSets.{numbers}
+use Rattle.hub_tables.specs.Agendas.{AgendaState, plain_due}
+use Rattle.hub_tables.specs.SmallSets.{numbers, numbers_where}
 use Rattle.hub_tables.specs.declared.actions.Due.{Due}
 use Rattle.hub_tables.specs.declared.actions.Due.TheVariants as due
-use Rattle.hub_calls.specs.Dues.{DueState}
-use Rattle.world_bricks.specs.Lines.{LinesState, may_serve, may_arrive, bricks_where}
+use Rattle.hub_calls.specs.Dues.{due_first, due_rest}
+use Rattle.world_bricks.specs.Lines.{LinesState, may_serve, may_arrive}
 use Rattle.world_bricks.specs.Schedules.{chosen_of}
 use Rattle.world_bricks.specs.declared.enabled.Choice.{Choice}
 use Rattle.world_bricks.specs.declared.enabled.Choice.TheVariants as choice
@@ -66,9 +67,10 @@ choice_by e value = chosen_among (choices e) value
 
 -- ---- what is picked
 
--- what is enabled of what is due in the hub and of what these bricks have
-abbrev pub enabled : DueState → LinesState → List Choice
-enabled d lines = choices_of d.submits (bricks_where (may_arrive lines)) (bricks_where (may_serve lines)) (min (length d.tasks) 4294967295) d.plain
+-- what is enabled of what is due in the hub, where these tasks are ready, and of what these bricks have; there are 64 bricks at most
+abbrev pub enabled : AgendaState → List (ℕ × ℕ) → LinesState → List Choice
+enabled agenda ready lines =
+    choices_of agenda.progress.ready (numbers_where (may_arrive lines)) (numbers_where (may_serve lines)) (min (length ready) 4294967295) (plain_due agenda)
 
 abbrev pub run_of : Option (ℕ × ℕ) → Option Event
 run_of None = None
@@ -84,8 +86,8 @@ event_in tasks None = None
 event_in tasks (Some c) = event_by tasks c
 
 -- the event that a value chooses among those that are enabled
-unfoldable pub chosen_event : DueState → LinesState → ℕ → Option Event
-chosen_event d lines value = event_in d.tasks (chosen_among (enabled d lines) value)
+unfoldable pub chosen_event : AgendaState → List (ℕ × ℕ) → LinesState → ℕ → Option Event
+chosen_event agenda ready lines value = event_in ready (chosen_among (enabled agenda ready lines) value)
 
 abbrev pub or_rest : Option Event → Option Due → Option Event
 or_rest None rest = events_of rest
@@ -97,5 +99,5 @@ or_chosen (Some d) chosen rest = Some (event_of d)
 
 -- the event that a value picks: what goes before everything else; else the one that it chooses; else the first control that is
 -- left
-unfoldable pub picked : DueState → LinesState → ℕ → Option Event
-picked d lines value = or_chosen d.first (chosen_event d lines value) d.rest
+unfoldable pub picked : AgendaState → List (ℕ × ℕ) → LinesState → ℕ → Option Event
+picked agenda ready lines value = or_chosen (due_first agenda) (chosen_event agenda ready lines value) (due_rest agenda ready)

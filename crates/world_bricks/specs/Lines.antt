@@ -1,7 +1,7 @@
 -- The bricks of a world with their lines: a brick's line has the inputs that were sent to it and that it has not served, first
 -- in, first out, and how many of its outputs have arrived. Ours.
 use Rattle.std.specs.Prelude.{ℕ, ◌+◌, Bool, false, ◌&&◌, List, [], ◌∷◌, ◌++◌, map, replicate, length, drop, is_some, slice_get, slice_set, Option, None, Some}
-use Rattle.std.specs.List.{filter, range_with_len}
+use Rattle.std.specs.List.{range_with_len}
 use Rattle.graph_build.specs.declared.plans.Plan.{Plan}
 use Rattle.script_lang.specs.declared.scripts.Script.{Script}
 use Rattle.brick_machine.specs.Journal.{Journal}
@@ -101,8 +101,3 @@ may_arrive lines brick = is_some (next_output lines brick)
 -- an output more of the brick has arrived
 abbrev pub with_arrival : LinesState → ℕ → LinesState
 with_arrival lines brick = record lines { queues = noted_by (slice_get lines.queues brick) brick lines.queues }
-
--- ---- the bricks of which something holds, rising; there are 64 at most
-
-unfoldable pub bricks_where : (ℕ → Bool) → List ℕ
-bricks_where test = filter test (range_with_len 0 64)

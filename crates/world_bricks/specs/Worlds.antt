@@ -1,16 +1,16 @@
--- What contracts see of a world: its script with the plans, the log, what is due in the hub, the bricks with their lines, and why
--- it has stopped; and what each event makes of log and lines. Ours.
-use Rattle.std.specs.Prelude.{◌≡◌, ℕ, Bool, true, false, ◌&&◌, List, [], ◌∷◌, length, is_some, Option, Some}
+-- What contracts see of a world: its script with the plans, the log, the agenda and the ready tasks, which decide what is due in the
+-- hub, the bricks with their lines, and why it has stopped; and what each event makes of log, lines and agenda. Ours.
+use Rattle.std.specs.Prelude.{◌≡◌, ℕ, Bool, true, false, ◌&&◌, List, [], ◌∷◌, length, is_some, Option, None, Some}
 use Rattle.graph_build.specs.declared.plans.Plan.{Plan}
-use Rattle.script_lang.specs.StatementText.{is_great_action}
 use Rattle.script_lang.specs.declared.scripts.Script.{Script}
 use Rattle.xlator_law.specs.declared.winds.Stop.{Stop}
 use Rattle.mount_log.specs.declared.logs.HubEvent.{HubEvent}
 use Rattle.mount_log.specs.declared.logs.HubEvent.TheVariants as logged
 use Rattle.mount_log.specs.declared.logs.Log.{Log}
 use Rattle.hub_tables.specs.Arming.{is_armable}
-use Rattle.hub_calls.specs.Dues.{DueState}
-use Rattle.hub_calls.specs.Hubs.{AddsEvent, AddsSubmission, is_of_brick}
+use Rattle.hub_tables.specs.Agendas.{AgendaState, with_submission, with_output, with_action, with_arm}
+use Rattle.hub_calls.specs.Dues.{is_idle, may_run, may_submit}
+use Rattle.hub_calls.specs.Hubs.{AddsEvent, AddsSubmission, is_of_brick, ActsWhere, agenda_after, is_due_output}
 use Rattle.world_bricks.specs.Lines.{LinesState, with_sent, next_input, may_serve, with_served, next_output, with_arrival}
 use Rattle.world_bricks.specs.declared.events.Event.{Event}
 use Rattle.world_bricks.specs.declared.events.Event.TheVariants as event
@@ -19,7 +19,8 @@ pub record WorldState : Type 0 where
   pub script : Script
   pub plans : List Plan
   pub log : Log
-  pub due : DueState
+  pub agenda : AgendaState
+  pub tasks : List (ℕ × ℕ)
   pub lines : LinesState
   pub stop : Option Stop
 
@@ -57,21 +58,40 @@ Happens script (event.Run graph task) log lines log_after lines_after = HubDoes 
 Happens script (event.Act action) log lines log_after lines_after = HubDoes (logged.Act action) log lines log_after lines_after
 Happens script (event.Arm brick p count action) log lines log_after lines_after = HubDoes (logged.Arm brick p count action) log lines log_after lines_after
 
--- what is due in the hub after an event, where that is known: a service leaves it as it was
-abbrev pub KeepsDue : Event → DueState → DueState → Type 0
-KeepsDue (event.Serve brick) due due_after = due_after ≡ due
-KeepsDue other due due_after = Unit {0}
+-- the agenda with which an event begins, by the next output of its brick, and where these tasks are ready
+abbrev pub with_next : Option (List ℕ) → AgendaState → AgendaState
+with_next None agenda = agenda
+with_next (Some output) agenda = with_output agenda (is_due_output output)
 
--- which events happen: an output arrives where one is left, and a brick serves where it has an input; an action that is no heal
--- and no switch is carried out where it is of a brick of the script, and armed where it may be. Of a submission, a task, a heal and
--- a switch nothing is said.
-abbrev pub HappensWhere : Event → Script → LinesState → Bool → Type 0
-HappensWhere (event.Submit session) script lines did = Unit {0}
-HappensWhere (event.Arrive brick) script lines did = did ≡ is_some (next_output lines brick)
-HappensWhere (event.Serve brick) script lines did = did ≡ may_serve lines brick
-HappensWhere (event.Run graph task) script lines did = Unit {0}
-HappensWhere (event.Act action) script lines did = is_great_action action ≡ false → did ≡ is_of_brick (length script.bricks) action
-HappensWhere (event.Arm brick p count action) script lines did = did ≡ (is_armable brick action && is_of_brick (length script.bricks) action)
+abbrev pub agenda_with : Event → LinesState → List (ℕ × ℕ) → AgendaState → AgendaState
+agenda_with (event.Submit session) lines ready agenda = with_submission agenda session
+agenda_with (event.Arrive brick) lines ready agenda = with_next (next_output lines brick) agenda
+agenda_with (event.Serve brick) lines ready agenda = agenda
+agenda_with (event.Run graph task) lines ready agenda = agenda
+agenda_with (event.Act action) lines ready agenda = with_action agenda action (is_idle ready)
+agenda_with (event.Arm brick p count action) lines ready agenda = with_arm agenda brick p count action
+
+-- what an event makes of agenda and tasks: a service leaves both as they were; of the tasks that are ready after another event no
+-- more is said than that the agenda goes by them
+abbrev pub MovesAgenda : Event → Script → Log → LinesState → AgendaState → List (ℕ × ℕ) → Log → AgendaState → List (ℕ × ℕ) → Type 0
+MovesAgenda (event.Serve brick) script log lines agenda ready log_after next ready_after = (next ≡ agenda) × (ready_after ≡ ready)
+MovesAgenda other script log lines agenda ready log_after next ready_after = next ≡ agenda_after script log log_after ready_after (agenda_with other lines ready agenda)
+
+-- a service leaves them so also where it fails
+abbrev pub KeepsAgenda : Event → AgendaState → List (ℕ × ℕ) → AgendaState → List (ℕ × ℕ) → Type 0
+KeepsAgenda (event.Serve brick) agenda ready next ready_after = (next ≡ agenda) × (ready_after ≡ ready)
+KeepsAgenda other agenda ready next ready_after = Unit {0}
+
+-- which events happen: a session that may submit, and has a line left, submits; an output arrives where one is left, and a brick
+-- serves where it has an input; a task that is ready is run; an action of a brick of the script is carried out, a heal where no internal call is
+-- under way, and a switch not where one is; and an action is armed where it may be.
+abbrev pub HappensWhere : Event → Script → AgendaState → List (ℕ × ℕ) → Log → LinesState → Bool → Type 0
+HappensWhere (event.Submit session) script agenda ready log lines did = did ≡ may_submit agenda script log session
+HappensWhere (event.Arrive brick) script agenda ready log lines did = did ≡ is_some (next_output lines brick)
+HappensWhere (event.Serve brick) script agenda ready log lines did = did ≡ may_serve lines brick
+HappensWhere (event.Run graph task) script agenda ready log lines did = did ≡ may_run ready graph task
+HappensWhere (event.Act action) script agenda ready log lines did = ActsWhere action (length script.bricks) agenda.internal did
+HappensWhere (event.Arm brick p count action) script agenda ready log lines did = did ≡ (is_armable brick action && is_of_brick (length script.bricks) action)
 
 -- ---- runs
 

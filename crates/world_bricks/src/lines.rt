@@ -1,7 +1,7 @@
 //! The lines of all bricks.
 ghost use Rattle.std.specs.Prelude.{◌≡◌, ◌<◌, ◌-◌, ◌^◌, ◌∷◌, ◌++◌, [], ◌≤◌, true, false, length, is_some, slice_get, IfOk, OnOk, OnErr, MatchOption};
-ghost use Rattle.hub_tables.specs.SmallSets.{numbers};
-ghost use Rattle.world_bricks.specs.Lines.{empty_line, new_lines, put_by, with_sent, next_input, may_serve, shortened_by, served_by, outputs_by, arrived_of, next_output, may_arrive, with_arrival, bricks_where};
+ghost use Rattle.hub_tables.specs.SmallSets.{numbers, numbers_where};
+ghost use Rattle.world_bricks.specs.Lines.{empty_line, new_lines, put_by, with_sent, next_input, may_serve, shortened_by, served_by, outputs_by, arrived_of, next_output, may_arrive, with_arrival};
 ghost use Rattle.world_bricks.specs.Worlds.{Serves};
 
 use crate::line::Line;
@@ -175,7 +175,7 @@ impl Lines {
     /// The bricks with an input, of which a script has 64 at most.
     #[tactic(auto, using(crate::proofs::Picked::none_serving, crate::proofs::Picked::next_serving, crate::proofs::Picked::not_serving))]
     pub(crate) fn serving(&self) -> SmallSet
-        ensures { numbers result ≡ bricks_where (may_serve self.now) }
+        ensures { numbers result ≡ numbers_where (may_serve self.now) }
     {
         let mut serving = SmallSet::new();
         for brick in 0..self.bricks.len().min(64) as u8 {
@@ -190,7 +190,7 @@ impl Lines {
     /// The bricks with an output that has not arrived.
     #[tactic(auto, using(crate::proofs::Picked::none_arriving, crate::proofs::Picked::next_arriving, crate::proofs::Picked::not_arriving))]
     pub(crate) fn arriving(&self) -> SmallSet
-        ensures { numbers result ≡ bricks_where (may_arrive self.now) }
+        ensures { numbers result ≡ numbers_where (may_arrive self.now) }
     {
         let mut arriving = SmallSet::new();
         for brick in 0..self.bricks.len().min(64) as u8 {

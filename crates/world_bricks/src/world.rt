@@ -1,11 +1,15 @@
 ghost use Rattle.std.specs.Prelude.{◌≡◌, [], None, Some, true, false, length, min, OnOk, IfOk, IfErr};
 ghost use Rattle.hub_calls.specs.Hubs.{StaysStopped};
 ghost use Rattle.mount_log.specs.Scripts.{IsScript};
-ghost use Rattle.hub_tables.specs.SmallSets.{numbers};
+ghost use Rattle.hub_tables.specs.Agendas.{plain_due};
+ghost use Rattle.hub_tables.specs.PlanBricks.{has_queues};
+ghost use Rattle.hub_tables.specs.SmallSets.{numbers, numbers_where};
+ghost use Rattle.hub_calls.specs.Dues.{is_through};
+ghost use Rattle.hub_calls.specs.Hubs.{agenda_before};
 ghost use Rattle.world_bricks.specs.Choices.{run_of, chosen_event, picked};
-ghost use Rattle.world_bricks.specs.Lines.{new_lines, with_sent, may_serve, may_arrive, bricks_where};
+ghost use Rattle.world_bricks.specs.Lines.{new_lines, with_sent, may_serve, may_arrive};
 ghost use Rattle.world_bricks.specs.Runs.{IsRunOf};
-ghost use Rattle.world_bricks.specs.Worlds.{Happens, HappensWhere, KeepsDue, IsReached};
+ghost use Rattle.world_bricks.specs.Worlds.{Happens, HappensWhere, KeepsAgenda, MovesAgenda, IsReached};
 
 use crate::enabled::{Choice, Enabled};
 use crate::events::{Event, due_event, event_of};
@@ -48,7 +52,7 @@ impl Model for World {
 
     ghost Value = { WorldState };
 
-    ghost view = { λ w. record { script = w.parts.hub.script; plans = w.parts.hub.plans; log = w.parts.hub.log; due = w.parts.hub.due; lines = w.parts.lines; stop = w.stop } };
+    ghost view = { λ w. record { script = w.parts.hub.script; plans = w.parts.hub.plans; log = w.parts.hub.log; agenda = w.parts.hub.agenda; tasks = w.parts.hub.tasks; lines = w.parts.lines; stop = w.stop } };
 }
 
 impl World {
@@ -58,8 +62,9 @@ impl World {
     /// Out of memory.
     pub fn new(alloc: Global, script: Script, plans: Seq<Plan>) -> Result<World, AllocError>
         requires { IsScript script plans }
-        ensures start { IfOk result (λ w. w ≡ record { script = script; plans = plans; log = w.log; due = w.due; lines = with_sent (new_lines script plans (length script.bricks)) w.log.sent; stop = None }) }
+        ensures start { IfOk result (λ w. w ≡ record { script = script; plans = plans; log = w.log; agenda = w.agenda; tasks = w.tasks; lines = with_sent (new_lines script plans (length script.bricks)) w.log.sent; stop = None }) }
         ensures events { IfOk result (λ w. w.log.events ≡ []) }
+        ensures agenda { IfOk result (λ w. w.agenda ≡ agenda_before script w.log w.tasks) }
     {
         let hub = Hub::new(alloc, script, plans)?;
         match Lines::new(alloc, hub.script(), hub.plans(), hub.log().sent.as_slice()) {
@@ -82,8 +87,9 @@ impl World {
         ensures same { (self.new.script ≡ self.old.script) × (self.new.plans ≡ self.old.plans) }
         ensures happens { IfOk result (λ did. did ≡ true → Happens self.old.script event self.old.log self.old.lines self.new.log self.new.lines) }
         ensures unchanged { IfOk result (λ did. did ≡ false → self.new ≡ self.old) }
-        ensures enabled { IfOk result (λ did. HappensWhere event self.old.script self.old.lines did) }
-        ensures due { KeepsDue event self.old.due self.new.due }
+        ensures enabled { IfOk result (λ did. HappensWhere event self.old.script self.old.agenda self.old.tasks self.old.log self.old.lines did) }
+        ensures moves { IfOk result (λ did. did ≡ true → MovesAgenda event self.old.script self.old.log self.old.lines self.old.agenda self.old.tasks self.new.log self.new.agenda self.new.tasks) }
+        ensures keeps { KeepsAgenda event self.old.agenda self.old.tasks self.new.agenda self.new.tasks }
         ensures spent { StaysStopped self.old.stop self.old self.new result }
         ensures goes { OnOk result (self.new.stop ≡ None) }
         ensures stops { IfErr result (λ s. self.new.stop ≡ Some s) }
@@ -101,11 +107,11 @@ impl World {
     }
 
     fn enabled(&self) -> Enabled
-        ensures submits { numbers result.submits ≡ self.now.due.submits }
-        ensures arriving { numbers result.arriving ≡ bricks_where (may_arrive self.now.lines) }
-        ensures serving { numbers result.serving ≡ bricks_where (may_serve self.now.lines) }
-        ensures tasks { result.tasks ≡ min (length self.now.due.tasks) 4294967295 }
-        ensures plain { result.plain ≡ self.now.due.plain }
+        ensures submits { numbers result.submits ≡ self.now.agenda.progress.ready }
+        ensures arriving { numbers result.arriving ≡ numbers_where (may_arrive self.now.lines) }
+        ensures serving { numbers result.serving ≡ numbers_where (may_serve self.now.lines) }
+        ensures tasks { result.tasks ≡ min (length self.now.tasks) 4294967295 }
+        ensures plain { result.plain ≡ plain_due self.now.agenda }
     {
         Enabled {
             submits: self.parts.hub.submits(),
@@ -119,7 +125,7 @@ impl World {
     // One of the events that are enabled, by a value of the schedule.
     #[tactic(auto, using(crate::proofs::Picked::none_chosen, crate::proofs::Picked::event_chosen, crate::proofs::Picked::task_chosen))]
     fn choose(&self, value: u64) -> Option<Event>
-        ensures { result ≡ chosen_event self.now.due self.now.lines value }
+        ensures { result ≡ chosen_event self.now.agenda self.now.tasks self.now.lines value }
     {
         let enabled = self.enabled();
         match enabled.chosen(value) {
@@ -133,8 +139,10 @@ impl World {
     /// enabled; else the first control that is left.
     #[tactic(auto, unfolding(crate::specs::Choices::picked))]
     pub fn pick(&self, value: u64) -> Option<Event>
-        ensures { result ≡ picked self.now.due self.now.lines value }
+        ensures none { has_queues self.now.plans ≡ false → self.now.tasks ≡ [] }
+        ensures event { result ≡ picked self.now.agenda self.now.tasks self.now.lines value }
     {
+        let _ = self.parts.hub.has_queues();
         match self.parts.hub.first() {
             Some(due) => Some(event_of(due)),
             None => match self.choose(value) {
@@ -186,7 +194,7 @@ impl World {
 
     /// Whether each call has its reply, each control was carried out, and nothing else is left.
     pub fn is_finished(&self) -> bool
-        ensures { result ≡ self.now.due.finished }
+        ensures { result ≡ is_through self.now.script self.now.agenda self.now.tasks }
     {
         self.parts.hub.is_finished()
     }

@@ -6,5 +6,5 @@ use Rattle.mount_run.proofs.running.run_script.Goals as goal
 pub returns-clause-seeded : goal.returns-clause-seeded
 returns-clause-seeded c = where_made c.report_left.result ((c.report_left.new.rack ≡ c.into_parts-script.result.2) × IsOk c.run-ran.result) (IsSeeded c.args.seed c.args.script c.args.plans c.report_left.new.rack)
     (seeded c.args.seed c.args.script c.args.plans c.in_ok-world.world c.run-ran.new.self c.run-ran.result c.into_parts-script.result.2 c.report_left.new.rack
-    (starts c.args.script c.args.plans c.in_ok-world.world c.in_ok-world.ensures.start c.in_ok-world.ensures.events) c.run-ran.ensures.run c.into_parts-script.ensures.rack)
+    (starts c.args.script c.args.plans c.in_ok-world.world c.in_ok-world.ensures.start c.in_ok-world.ensures.events c.in_ok-world.ensures.agenda) c.run-ran.ensures.run c.into_parts-script.ensures.rack)
     c.report_left.ensures.kept

@@ -1,0 +1,16 @@
+use Rattle.std.proofs.Common.{◌≡◌, length, subst}
+use Rattle.script_lang.specs.declared.scripts.Script.{Script}
+use Rattle.hub_tables.specs.Agendas.{with_phase, with_sends, moved_on}
+use Rattle.hub_tables.specs.Sessions.{first_line}
+use Rattle.hub_calls.specs.Dues.{is_idle, ready_in}
+use Rattle.hub_calls.specs.Hubs.{new_sent}
+use Rattle.hub_calls.proofs.Agendas.{begun_agenda}
+use Rattle.hub_calls.proofs.hub.Hub.new.Goals as goal
+
+pub returns-in-Ok-clause-agenda : goal.returns-in-Ok-clause-agenda
+returns-in-Ok-clause-agenda c =
+    let on = c.in_ok-planned.planned in
+    let tasks = ready_in on.plans c.begin.new.self.parts.graphs.nodes.tasks in
+    begun_agenda c.args.script on.left c.new-log.result c.begin.new.log tasks c.new-engine.result.agenda c.begin.new.self.agenda c.new-log.ensures c.in_ok-planned.ensures.left c.new-engine.ensures
+        (subst (λ (s : Script). c.begin.new.self.agenda ≡ moved_on (first_line on.left) s.phases (is_idle tasks) (length s.phases) (with_phase (first_line on.left) s.phases (with_sends c.new-engine.result.agenda (new_sent c.new-log.result c.begin.new.log))))
+            c.in_ok-planned.ensures.given.0 c.in-Ok.ensures.agenda)

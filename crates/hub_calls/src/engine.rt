@@ -1,0 +1,153 @@
+//! What an event moves, with what decides what is due; and how an event is closed.
+ghost use Rattle.std.specs.Prelude.{◌≡◌, ◌==◌, not, length, OnOk, OnErr, IfErr};
+ghost use Rattle.hub_tables.specs.Agendas.{new_agenda, with_phase, with_sends, outgoing, moved_on, next_agenda};
+ghost use Rattle.hub_tables.specs.Sessions.{first_line};
+ghost use Rattle.hub_calls.specs.Dues.{is_idle, ready_in};
+ghost use Rattle.hub_calls.specs.Hubs.{AddsEvent, IsAfterStop, new_replies, new_sent, is_answered_in};
+
+use crate::parts::Parts;
+use crate::planned::Planned;
+use crate::writing::add_lines;
+use hub_tables::Agenda;
+use mount_log::{HubEvent, Log};
+use std::alloc::{AllocError, Global};
+use xlator_law::Stop;
+
+/// The parts of a hub that events move, and the agenda, which decides what is due.
+#[derive(Drop)]
+pub struct Engine {
+    pub parts: Parts,
+    pub agenda: Agenda,
+}
+
+impl Engine {
+    /// The engine before anything has happened. It takes no memory.
+    pub(crate) fn new(alloc: Global, on: &Planned) -> Engine
+        ensures { result.agenda ≡ new_agenda }
+    {
+        Engine {
+            parts: Parts::new(alloc, on),
+            agenda: Agenda::new(alloc),
+        }
+    }
+
+    /// Whether no task is ready.
+    pub(crate) fn is_idle(&self, on: &Planned) -> bool
+        ensures { result ≡ is_idle (ready_in on.now.plans self.now.parts.graphs.nodes.tasks) }
+    {
+        if on.has_queues() {
+            self.parts.graphs.nodes.tasks_len() == 0
+        } else {
+            true
+        }
+    }
+
+    // What was sent goes out.
+    fn send_out(&mut self, alloc: Global) -> Result<(), AllocError>
+        ensures agenda { OnOk result (self.new.agenda ≡ with_sends self.old.agenda self.new.parts.turn.lines.sent) }
+        ensures sent { OnOk result (self.new.parts.turn.lines.sent ≡ outgoing self.old.agenda.controls self.old.parts.turn.lines.sent) }
+        ensures lines { OnOk result (self.new.parts ≡ record (self.old.parts) { turn = record (self.old.parts.turn) { lines = record (self.old.parts.turn.lines) { sent = self.new.parts.turn.lines.sent } } }) }
+    {
+        let sends = self.parts.turn.take_sends(alloc);
+        let sent = self.agenda.send_out(alloc, sends)?;
+        self.parts.turn.put_sent(sent);
+        Ok(())
+    }
+
+    /// Makes the first graph, and begins the first phase that has something left. What the graph sends is written to the log.
+    ///
+    /// # Errors
+    /// Out of memory.
+    #[tactic(auto, using(crate::proofs::Additions::adds_no_event, crate::proofs::Agendas::agenda_begun))]
+    pub(crate) fn begin(
+        &mut self,
+        alloc: Global,
+        on: &Planned,
+        log: &mut Log,
+    ) -> Result<(), AllocError>
+        ensures events { OnOk result (log.new.events ≡ log.old.events) }
+        ensures agenda { OnOk result (self.new.agenda ≡ moved_on (first_line on.now.left) on.now.script.phases (is_idle (ready_in on.now.plans self.new.parts.graphs.nodes.tasks)) (length on.now.script.phases) (with_phase (first_line on.now.left) on.now.script.phases (with_sends self.old.agenda (new_sent log.old log.new)))) }
+    {
+        self.parts.make_graph(alloc, on, on.script().start)?;
+        self.send_out(alloc)?;
+        let idle = self.is_idle(on);
+        self.agenda
+            .begin(alloc, on.left(), on.script().phases.as_slice(), idle)?;
+        let lines = self.parts.turn.take_lines(alloc);
+        add_lines(alloc, log, lines)?;
+        Ok(())
+    }
+
+    // Ends an event of which all is done: what it has sent goes out, and the phases that have nothing left end.
+    fn end(&mut self, alloc: Global, on: &Planned) -> Result<(), AllocError>
+        ensures { OnOk result (self.new.agenda ≡ next_agenda (first_line on.now.left) on.now.script.phases (is_idle (ready_in on.now.plans self.new.parts.graphs.nodes.tasks)) self.new.parts.turn.lines.replies self.new.parts.turn.lines.sent (not (length self.new.parts.turn.lines.answered == 0)) self.old.agenda) }
+    {
+        self.send_out(alloc)?;
+        let idle = self.is_idle(on);
+        let answered = !self.parts.turn.lines.answered.is_empty();
+        self.agenda.end(
+            alloc,
+            on.left(),
+            on.script().phases.as_slice(),
+            idle,
+            self.parts.turn.lines.replies.as_slice(),
+            answered,
+        )
+    }
+
+    // Ends an event, and writes it to the log.
+    #[tactic(auto, using(crate::proofs::Additions::adds_event, crate::proofs::Agendas::agenda_closed))]
+    fn write_event(
+        &mut self,
+        alloc: Global,
+        on: &Planned,
+        event: HubEvent,
+        log: &mut Log,
+    ) -> Result<(), AllocError>
+        ensures event { OnOk result (AddsEvent log.old log.new event) }
+        ensures agenda { OnOk result (self.new.agenda ≡ next_agenda (first_line on.now.left) on.now.script.phases (is_idle (ready_in on.now.plans self.new.parts.graphs.nodes.tasks)) (new_replies log.old log.new) (new_sent log.old log.new) (is_answered_in log.old log.new) self.old.agenda) }
+        ensures err { OnErr result (log.new ≡ log.old) }
+    {
+        match self.end(alloc, on) {
+            Ok(()) => self.parts.turn.write(alloc, event, log),
+            Err(error) => {
+                drop(event);
+                Err(error)
+            }
+        }
+    }
+
+    /// Closes an event: it is finished where it was begun, and written to the log with its lines. After `Winds` the log has
+    /// the winds of the event that was cut.
+    ///
+    /// # Errors
+    /// As for `Hub::submit`.
+    pub(crate) fn close(
+        &mut self,
+        alloc: Global,
+        on: &Planned,
+        done: Result<(), Stop>,
+        event: HubEvent,
+        log: &mut Log,
+    ) -> Result<(), Stop>
+        ensures event { OnOk result (AddsEvent log.old log.new event) }
+        ensures agenda { OnOk result (self.new.agenda ≡ next_agenda (first_line on.now.left) on.now.script.phases (is_idle (ready_in on.now.plans self.new.parts.graphs.nodes.tasks)) (new_replies log.old log.new) (new_sent log.old log.new) (is_answered_in log.old log.new) self.old.agenda) }
+        ensures stops { IfErr result (λ stop. IsAfterStop stop log.old log.new) }
+    {
+        let finished = match done {
+            Ok(()) => self.parts.finish_event(alloc, on),
+            Err(stop) => Err(stop),
+        };
+        match finished {
+            Ok(()) => match self.write_event(alloc, on, event, log) {
+                Ok(()) => Ok(()),
+                Err(_) => Err(Stop::Mem),
+            },
+            Err(stop) => {
+                drop(event);
+                self.parts.turn.write_cut(alloc, stop, log);
+                Err(stop)
+            }
+        }
+    }
+}
