@@ -1,5 +1,5 @@
 //! What an event moves, with what decides what is due; and how an event is closed.
-ghost use Rattle.std.specs.Prelude.{◌≡◌, ◌==◌, not, length, OnOk, OnErr, IfErr};
+ghost use Rattle.std.specs.Prelude.{◌≡◌, ◌==◌, not, length, IsOk, OnOk, OnErr, IfErr};
 ghost use Rattle.hub_tables.specs.Agendas.{new_agenda, with_phase, with_sends, outgoing, moved_on, next_agenda};
 ghost use Rattle.hub_tables.specs.Sessions.{first_line};
 ghost use Rattle.hub_calls.specs.Dues.{is_idle, ready_in};
@@ -133,6 +133,7 @@ impl Engine {
         ensures event { OnOk result (AddsEvent log.old log.new event) }
         ensures agenda { OnOk result (self.new.agenda ≡ next_agenda (first_line on.now.left) on.now.script.phases (is_idle (ready_in on.now.plans self.new.parts.graphs.nodes.tasks)) (new_replies log.old log.new) (new_sent log.old log.new) (is_answered_in log.old log.new) self.old.agenda) }
         ensures stops { IfErr result (λ stop. IsAfterStop stop log.old log.new) }
+        ensures done { OnOk result (IsOk done) }
     {
         let finished = match done {
             Ok(()) => self.parts.finish_event(alloc, on),

@@ -1,4 +1,4 @@
-ghost use Rattle.std.specs.Prelude.{◌≡◌, Some, None, [], OnOk, IfOk, IfErr};
+ghost use Rattle.std.specs.Prelude.{◌≡◌, Some, None, [], IsOk, OnOk, IfOk, IfErr};
 ghost use Rattle.hub_calls.specs.Hubs.{AddsEvent, IsAfterStop, agenda_after, agenda_before};
 ghost use Rattle.mount_log.specs.Logs.{is_submit};
 ghost use Rattle.mount_log.specs.Scripts.{IsScript};
@@ -105,6 +105,7 @@ impl Hub {
         ensures cut { IfErr result (λ stop. IsAfterStop stop self.old.log self.new.log) }
         ensures goes { OnOk result (self.new.stop ≡ None) }
         ensures stops { IfErr result (λ s. self.new.stop ≡ Some s) }
+        ensures done { OnOk result (IsOk done) }
     {
         match self
             .engine
