@@ -12,5 +12,5 @@ returns-in-Ok-clause-agenda c =
     let on = c.in_ok-planned.planned in
     let tasks = ready_in on.plans c.begin.new.self.parts.graphs.nodes.tasks in
     begun_agenda c.args.script on.left c.new-log.result c.begin.new.log tasks c.new-engine.result.agenda c.begin.new.self.agenda c.new-log.ensures c.in_ok-planned.ensures.left c.new-engine.ensures
-        (subst (λ (s : Script). c.begin.new.self.agenda ≡ moved_on (first_line on.left) s.phases (is_idle tasks) (length s.phases) (with_phase (first_line on.left) s.phases (with_sends c.new-engine.result.agenda (new_sent c.new-log.result c.begin.new.log))))
-            c.in_ok-planned.ensures.given.0 c.in-Ok.ensures.agenda)
+    (subst (λ (s : Script). c.begin.new.self.agenda ≡ moved_on (first_line on.left) s.phases (is_idle tasks) (length s.phases) (with_phase (first_line on.left) s.phases (with_sends c.new-engine.result.agenda (new_sent c.new-log.result c.begin.new.log))))
+    c.in_ok-planned.ensures.given.0 c.in-Ok.ensures.agenda)

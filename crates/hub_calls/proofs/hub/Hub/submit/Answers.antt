@@ -24,5 +24,5 @@ returns-in-Ok-clause-agenda c = λ _.
     let tasks = ready_in after.plans c.close.new.self.parts.graphs.nodes.tasks in
     let goes : c.self.inside.stop ≡ None = ap (λ (h : HubState). h.stop) c.self.view_is ∙ c.in_ok-check.ensures.goes in
     rw (← c.self.view_is) (submitted_agenda on after c.self.inside.log c.close.new.log c.self.inside.stop c.args.session c.in-Some.line c.in-Some.at tasks c.submit.new.self c.close.new.self.agenda c.self.invariant goes c.in-Some.ensures.next
-        c.take_line.ensures.taken c.take_line.ensures.same.0 c.in-Ok.ensures.event c.in-Ok.ensures.agenda
-        ∙ ap (agenda_after on.script c.self.inside.log c.close.new.log tasks) c.submit.ensures)
+    c.take_line.ensures.taken c.take_line.ensures.same.0 c.in-Ok.ensures.event c.in-Ok.ensures.agenda
+    ∙ ap (agenda_after on.script c.self.inside.log c.close.new.log tasks) c.submit.ensures)
