@@ -1,6 +1,7 @@
 -- What a call adds to the log.
-use Rattle.std.proofs.Common.{◌≡◌, refl, sym, ap, ◌∙◌, append-nil}
-use Rattle.std.specs.Prelude.{ℕ, List, [], ◌∷◌, ◌++◌, slice_get, Option, Some, option_to_list}
+use Rattle.std.proofs.Common.{◌≡◌, refl, sym, ap, subst, ◌∙◌, append-nil, arith}
+use Rattle.std.proofs.lemmas.List.{length_push}
+use Rattle.std.specs.Prelude.{ℕ, ◌+◌, List, [], ◌∷◌, ◌++◌, length, slice_get, Option, Some, option_to_list}
 use Rattle.xlator_law.specs.declared.winds.Stop.{Stop}
 use Rattle.xlator_law.specs.declared.winds.Stop.TheVariants as stopped
 use Rattle.mount_log.specs.declared.logs.HubEvent.{HubEvent}
@@ -11,10 +12,25 @@ use Rattle.mount_log.specs.Logs.{empty_log, with_lines, with_cut}
 use Rattle.script_lang.specs.declared.scripts.Script.{Script}
 use Rattle.hub_tables.specs.Agendas.{with_output}
 use Rattle.hub_tables.specs.declared.actions.Turned.TheVariants as turn
-use Rattle.hub_calls.specs.Hubs.{HubState, AddsEvent, IsTurn, agenda_after, is_due_output, HasCut, IsAfterStop}
+use Rattle.hub_calls.specs.Hubs.{HubState, AreOfEvent, AddsEvent, ClosesWith, IsTurn, is_due_output, HasCut, IsAfterStop}
 
-pub adds_event : (old new lines : Log) (e : HubEvent) → new ≡ with_lines old (record lines { events = e ∷ [] }) → AddsEvent old new e
-adds_event old new lines e added = record { lines = record lines { events = e ∷ [] }; event = refl; added = added }
+pub adds_event : (old new lines : Log) (e : HubEvent) → AreOfEvent (length old.events + 1) lines → new ≡ with_lines old (record lines { events = e ∷ [] }) → AddsEvent old new e
+adds_event old new lines e are added =
+    let number : length old.events + 1 ≡ length new.events = omega (arith, ap (λ (l : Log). length l.events) added, length_push old.events e) in
+    record {
+      lines = record lines { events = e ∷ [] };
+      event = refl;
+      numbered = subst (λ (n : ℕ). AreOfEvent n (record lines { events = e ∷ [] })) number (record {
+        sent = are.sent;
+        replies = are.replies;
+        entered = are.entered;
+        answered = are.answered;
+        winds = are.winds;
+        copied = are.copied;
+        skipped = are.skipped;
+      });
+      added = added;
+    }
 
 pub adds_no_event : (old new lines : Log) → lines.events ≡ [] → new ≡ with_lines old lines → new.events ≡ old.events
 adds_no_event old new lines none added = ap (λ (l : Log). l.events) added ∙ ap (λ (es : List HubEvent). old.events ++ es) none ∙ append-nil old.events
@@ -38,12 +54,12 @@ after_same stopped.Winds log = nothing_cut log log refl
 -- ---- a turn
 
 pub turn_takes : (before after : List (ℕ × List ℕ)) (first : Option (ℕ × List ℕ)) (brick : ℕ) (output : List ℕ) (old new : HubState) → before ≡ option_to_list first ++ after → first ≡ Some (brick, output)
-    → AddsEvent old.log new.log (logged.Arrive brick output) → new.script ≡ old.script → new.agenda ≡ agenda_after old.script old.log new.log new.tasks (with_output old.agenda (is_due_output output)) → IsTurn turn.Did before after old new
+    → AddsEvent old.log new.log (logged.Arrive brick output) → new.script ≡ old.script → ClosesWith old.script old.log new.log new.tasks (with_output old.agenda (is_due_output output)) new.agenda → IsTurn turn.Did before after old new
 turn_takes before after first brick output old new taken is event same agenda =
     let whole : before ≡ (brick, output) ∷ after = taken ∙ ap (λ (x : Option (ℕ × List ℕ)). option_to_list x ++ after) is in
-    rw whole ((refl, event), agenda ∙ ap (λ (s : Script). agenda_after s old.log new.log new.tasks (with_output old.agenda (is_due_output output))) (sym same))
+    rw whole ((refl, event), subst (λ (s : Script). ClosesWith s old.log new.log new.tasks (with_output old.agenda (is_due_output output)) new.agenda) (sym same) agenda)
 
 pub turn_runs : (before after : List (ℕ × List ℕ)) (graph task : ℕ) (old new : HubState) → before ≡ [] → after ≡ [] → slice_get old.tasks 0 ≡ Some (graph, task) → AddsEvent old.log new.log (logged.Run graph task) → new.script ≡ old.script
-    → new.agenda ≡ agenda_after old.script old.log new.log new.tasks old.agenda → IsTurn turn.Did before after old new
+    → ClosesWith old.script old.log new.log new.tasks old.agenda new.agenda → IsTurn turn.Did before after old new
 turn_runs before after graph task old new none left first event same agenda =
-    rw none ((left, record { graph = graph; task = task; first = first; event = event }), agenda ∙ ap (λ (s : Script). agenda_after s old.log new.log new.tasks old.agenda) (sym same))
+    rw none ((left, record { graph = graph; task = task; first = first; event = event }), subst (λ (s : Script). ClosesWith s old.log new.log new.tasks old.agenda new.agenda) (sym same) agenda)

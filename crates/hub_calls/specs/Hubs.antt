@@ -2,6 +2,7 @@
 -- decide what is due, and why it stopped; what a stop does to later calls; which actions may be carried out; which event a call adds
 -- to the log, and what the event makes of the agenda. Ours.
 use Rattle.std.specs.Prelude.{◌≡◌, ℕ, ◌==◌, nat_lt, Bool, true, false, ◌&&◌, not, List, [], ◌∷◌, length, drop, slice_get, Option, None, Some, Result, Err}
+use Rattle.std.specs.List.{All}
 use Rattle.graph_build.specs.declared.plans.Plan.{Plan}
 use Rattle.script_lang.specs.declared.scripts.CallLine.{CallLine}
 use Rattle.script_lang.specs.declared.scripts.Script.{Script}
@@ -15,13 +16,15 @@ use Rattle.mount_log.specs.Phases.{says_due}
 use Rattle.mount_log.specs.Submissions.{place_of_line, session_line, submits_of}
 use Rattle.mount_log.specs.declared.logs.ReplyLine.{ReplyLine}
 use Rattle.mount_log.specs.declared.logs.SentLine.{SentLine}
+use Rattle.mount_log.specs.declared.logs.WindLine.{WindLine}
 use Rattle.mount_log.specs.declared.places.LineAt.{LineAt}
 use Rattle.wire_messages.specs.Messages.{output_in}
 use Rattle.script_lang.specs.StatementText.{is_great_action}
 use Rattle.script_lang.specs.declared.scripts.Action.{Action}
 use Rattle.script_lang.specs.declared.scripts.Action.TheVariants as action
-use Rattle.hub_tables.specs.Agendas.{AgendaState, new_agenda, with_output, with_sends, with_phase, moved_on, next_agenda}
+use Rattle.hub_tables.specs.Agendas.{AgendaState, new_agenda, with_output, with_sends, with_phase, outgoing, moved_on, next_agenda}
 use Rattle.hub_tables.specs.Arming.{may_fail}
+use Rattle.hub_tables.specs.PhaseControls.{ControlsState}
 use Rattle.hub_tables.specs.declared.actions.Turned.{Turned}
 use Rattle.hub_tables.specs.declared.actions.Turned.TheVariants as turn
 use Rattle.hub_calls.specs.Dues.{is_idle}
@@ -55,10 +58,21 @@ ActsWhere a many internal did =
 
 -- ---- what a call adds to the log
 
--- the log with the lines of one event more, and this is the event
+-- whether each of these lines has the number of one event
+pub record AreOfEvent (number : ℕ) (lines : Log) : Type 0 where
+  pub sent : All (λ (line : SentLine). line.event ≡ number) lines.sent
+  pub replies : All (λ (line : ReplyLine). line.event ≡ number) lines.replies
+  pub entered : All (λ (n : ℕ). n ≡ number) lines.entered
+  pub answered : All (λ (n : ℕ). n ≡ number) lines.answered
+  pub winds : All (λ (line : WindLine). line.event ≡ number) lines.winds
+  pub copied : All (λ (n : ℕ). n ≡ number) lines.copied
+  pub skipped : All (λ (n : ℕ). n ≡ number) lines.skipped
+
+-- the log with one event more, and with its lines, which have its number
 pub record AddsEvent (old new : Log) (e : HubEvent) : Type 0 where
   pub lines : Log
   pub event : lines.events ≡ e ∷ []
+  pub numbered : AreOfEvent (length new.events) lines
   pub added : new ≡ with_lines old lines
 
 -- a session submits the first of its lines in the script that it had not submitted
@@ -87,6 +101,17 @@ next_lines script events session = place_of_line script session (submits_of sess
 -- whether it has answered the internal call; and the phases that have nothing left end
 unfoldable pub agenda_after : Script → Log → Log → List (ℕ × ℕ) → AgendaState → AgendaState
 agenda_after script old new tasks agenda = next_agenda (next_lines script new.events) script.phases (is_idle tasks) (new_replies old new) (new_sent old new) (is_answered_in old new) agenda
+
+-- what an event sends is what the graphs and the hub have sent in it, in order, with each request directly behind what is armed for
+-- it; these are the controls with which the event has begun
+pub record GoesOut (controls : ControlsState) (sent : List SentLine) : Type 0 where
+  pub inputs : List SentLine
+  pub are_sent : sent ≡ outgoing controls inputs
+
+-- an event that has begun with one agenda is closed with the other, where these tasks are ready after it
+pub record ClosesWith (script : Script) (old new : Log) (tasks : List (ℕ × ℕ)) (begun after : AgendaState) : Type 0 where
+  pub agenda : after ≡ agenda_after script old new tasks begun
+  pub out : GoesOut begun.controls (new_sent old new)
 
 -- the agenda of a hub in which nothing has happened: the first phase that has something left has begun
 unfoldable pub agenda_before : Script → Log → List (ℕ × ℕ) → AgendaState
@@ -117,7 +142,7 @@ TakesFirst tasks (output ∷ outputs) after old new = (after ≡ outputs) × Add
 
 -- a turn that was quiet has found no output and no ready task, and counts none, and changes nothing
 abbrev pub IsTurn : Turned → List (ℕ × List ℕ) → List (ℕ × List ℕ) → HubState → HubState → Type 0
-IsTurn turn.Did before after old new = TakesFirst old.tasks before after old.log new.log × (new.agenda ≡ agenda_after new.script old.log new.log new.tasks (agenda_at before old.agenda))
+IsTurn turn.Did before after old new = TakesFirst old.tasks before after old.log new.log × ClosesWith new.script old.log new.log new.tasks (agenda_at before old.agenda) new.agenda
 IsTurn (turn.Quiet ready arrived) before after old new = (ready ≡ 0) × ((arrived ≡ 0) × ((before ≡ []) × ((after ≡ []) × ((slice_get old.tasks 0 ≡ None) × (new ≡ old)))))
 
 -- ---- the log after a call that stopped

@@ -1,10 +1,11 @@
 //! What an event moves, with what decides what is due; and how an event is closed.
-ghost use Rattle.std.specs.Prelude.{◌≡◌, ◌==◌, not, length, IsOk, OnOk, OnErr, IfErr};
+ghost use Rattle.std.specs.Prelude.{ℕ, ◌≡◌, ◌==◌, ◌+◌, not, length, IsOk, OnOk, OnErr, IfErr};
 ghost use Rattle.hub_tables.specs.Agendas.{new_agenda, with_phase, with_sends, outgoing, moved_on, next_agenda};
 ghost use Rattle.hub_tables.specs.Sessions.{first_line};
 ghost use Rattle.hub_calls.specs.Dues.{is_idle, ready_in};
-ghost use Rattle.hub_calls.specs.Hubs.{AddsEvent, IsAfterStop, new_replies, new_sent, is_answered_in};
+ghost use Rattle.hub_calls.specs.Hubs.{AreOfEvent, AddsEvent, GoesOut, IsAfterStop, new_replies, new_sent, is_answered_in};
 
+use crate::numbering::next_number;
 use crate::parts::Parts;
 use crate::planned::Planned;
 use crate::writing::add_lines;
@@ -43,10 +44,12 @@ impl Engine {
     }
 
     // What was sent goes out.
+    #[tactic(auto, using(crate::proofs::Numbering::sent_of_event))]
     fn send_out(&mut self, alloc: Global) -> Result<(), AllocError>
         ensures agenda { OnOk result (self.new.agenda ≡ with_sends self.old.agenda self.new.parts.turn.lines.sent) }
         ensures sent { OnOk result (self.new.parts.turn.lines.sent ≡ outgoing self.old.agenda.controls self.old.parts.turn.lines.sent) }
         ensures lines { OnOk result (self.new.parts ≡ record (self.old.parts) { turn = record (self.old.parts.turn) { lines = record (self.old.parts.turn.lines) { sent = self.new.parts.turn.lines.sent } } }) }
+        ensures numbered { OnOk result ((n : ℕ) → AreOfEvent n self.old.parts.turn.lines → AreOfEvent n self.new.parts.turn.lines) }
     {
         let sends = self.parts.turn.take_sends(alloc);
         let sent = self.agenda.send_out(alloc, sends)?;
@@ -78,10 +81,16 @@ impl Engine {
         Ok(())
     }
 
-    // Ends an event of which all is done: what it has sent goes out, and the phases that have nothing left end.
-    fn end(&mut self, alloc: Global, on: &Planned) -> Result<(), AllocError>
-        ensures { OnOk result (self.new.agenda ≡ next_agenda (first_line on.now.left) on.now.script.phases (is_idle (ready_in on.now.plans self.new.parts.graphs.nodes.tasks)) self.new.parts.turn.lines.replies self.new.parts.turn.lines.sent (not (length self.new.parts.turn.lines.answered == 0)) self.old.agenda) }
+    // Ends an event behind those of the log, of which all is done: its lines get its number, what it has sent goes out, and the phases
+    // that have nothing left end.
+    #[tactic(auto, using(crate::proofs::Agendas::goes_out))]
+    fn end(&mut self, alloc: Global, on: &Planned, log: &Log) -> Result<(), AllocError>
+        ensures numbered { OnOk result (AreOfEvent (length log.now.events + 1) self.new.parts.turn.lines) }
+        ensures out { OnOk result (GoesOut self.old.agenda.controls self.new.parts.turn.lines.sent) }
+        ensures agenda { OnOk result (self.new.agenda ≡ next_agenda (first_line on.now.left) on.now.script.phases (is_idle (ready_in on.now.plans self.new.parts.graphs.nodes.tasks)) self.new.parts.turn.lines.replies self.new.parts.turn.lines.sent (not (length self.new.parts.turn.lines.answered == 0)) self.old.agenda) }
     {
+        let number = next_number(log)?;
+        self.parts.turn.number_lines(alloc, number);
         self.send_out(alloc)?;
         let idle = self.is_idle(on);
         let answered = !self.parts.turn.lines.answered.is_empty();
@@ -96,7 +105,7 @@ impl Engine {
     }
 
     // Ends an event, and writes it to the log.
-    #[tactic(auto, using(crate::proofs::Additions::adds_event, crate::proofs::Agendas::agenda_closed))]
+    #[tactic(auto, using(crate::proofs::Additions::adds_event, crate::proofs::Agendas::agenda_closed, crate::proofs::Agendas::out_closed))]
     fn write_event(
         &mut self,
         alloc: Global,
@@ -106,9 +115,10 @@ impl Engine {
     ) -> Result<(), AllocError>
         ensures event { OnOk result (AddsEvent log.old log.new event) }
         ensures agenda { OnOk result (self.new.agenda ≡ next_agenda (first_line on.now.left) on.now.script.phases (is_idle (ready_in on.now.plans self.new.parts.graphs.nodes.tasks)) (new_replies log.old log.new) (new_sent log.old log.new) (is_answered_in log.old log.new) self.old.agenda) }
+        ensures out { OnOk result (GoesOut self.old.agenda.controls (new_sent log.old log.new)) }
         ensures err { OnErr result (log.new ≡ log.old) }
     {
-        match self.end(alloc, on) {
+        match self.end(alloc, on, log) {
             Ok(()) => self.parts.turn.write(alloc, event, log),
             Err(error) => {
                 drop(event);
@@ -132,6 +142,7 @@ impl Engine {
     ) -> Result<(), Stop>
         ensures event { OnOk result (AddsEvent log.old log.new event) }
         ensures agenda { OnOk result (self.new.agenda ≡ next_agenda (first_line on.now.left) on.now.script.phases (is_idle (ready_in on.now.plans self.new.parts.graphs.nodes.tasks)) (new_replies log.old log.new) (new_sent log.old log.new) (is_answered_in log.old log.new) self.old.agenda) }
+        ensures out { OnOk result (GoesOut self.old.agenda.controls (new_sent log.old log.new)) }
         ensures stops { IfErr result (λ stop. IsAfterStop stop log.old log.new) }
         ensures done { OnOk result (IsOk done) }
     {

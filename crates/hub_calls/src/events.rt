@@ -3,7 +3,7 @@ ghost use Rattle.std.specs.Prelude.{◌≡◌, ◌&&◌, true, false, None, Some
 ghost use Rattle.hub_tables.specs.Agendas.{with_submission, with_output, with_action, with_arm};
 ghost use Rattle.hub_tables.specs.Arming.{is_armable};
 ghost use Rattle.hub_calls.specs.Dues.{is_idle, may_run, may_submit};
-ghost use Rattle.hub_calls.specs.Hubs.{StaysStopped, is_of_brick as of_brick, ActsWhere, AddsEvent, AddsSubmission, IsAfterStop, IsTurn, agenda_after, is_due_output};
+ghost use Rattle.hub_calls.specs.Hubs.{StaysStopped, is_of_brick as of_brick, ActsWhere, AddsEvent, AddsSubmission, ClosesWith, IsAfterStop, IsTurn, is_due_output};
 ghost use Rattle.mount_log.specs.declared.logs.HubEvent.TheVariants as logged;
 
 use crate::acting::is_of_brick;
@@ -29,7 +29,7 @@ impl Hub {
         ensures unchanged { IfOk result (λ did. did ≡ false → self.new ≡ self.old) }
         ensures event { IfOk result (λ did. did ≡ true → AddsSubmission self.old.script self.old.log self.new.log session) }
         ensures did { IfOk result (λ did. did ≡ may_submit self.old.agenda self.old.script self.old.log session) }
-        ensures agenda { IfOk result (λ did. did ≡ true → self.new.agenda ≡ agenda_after self.old.script self.old.log self.new.log self.new.tasks (with_submission self.old.agenda session)) }
+        ensures agenda { IfOk result (λ did. did ≡ true → ClosesWith self.old.script self.old.log self.new.log self.new.tasks (with_submission self.old.agenda session) self.new.agenda) }
         ensures cut { IfErr result (λ stop. IsAfterStop stop self.old.log self.new.log) }
         ensures spent { StaysStopped self.old.stop self.old self.new result }
         ensures goes { OnOk result (self.new.stop ≡ None) }
@@ -68,7 +68,7 @@ impl Hub {
     pub fn arrive(&mut self, alloc: Global, brick: u8, output: Bytes) -> Result<(), Stop>
         ensures same { (self.new.script ≡ self.old.script) × (self.new.plans ≡ self.old.plans) }
         ensures event { OnOk result (AddsEvent self.old.log self.new.log (logged.Arrive brick output)) }
-        ensures agenda { OnOk result (self.new.agenda ≡ agenda_after self.old.script self.old.log self.new.log self.new.tasks (with_output self.old.agenda (is_due_output output))) }
+        ensures agenda { OnOk result (ClosesWith self.old.script self.old.log self.new.log self.new.tasks (with_output self.old.agenda (is_due_output output)) self.new.agenda) }
         ensures cut { IfErr result (λ stop. IsAfterStop stop self.old.log self.new.log) }
         ensures spent { StaysStopped self.old.stop self.old self.new result }
         ensures goes { OnOk result (self.new.stop ≡ None) }
@@ -120,7 +120,7 @@ impl Hub {
         ensures unchanged { IfOk result (λ did. did ≡ false → self.new ≡ self.old) }
         ensures event { IfOk result (λ did. did ≡ true → AddsEvent self.old.log self.new.log (logged.Run graph task)) }
         ensures did { IfOk result (λ did. did ≡ may_run self.old.tasks graph task) }
-        ensures agenda { IfOk result (λ did. did ≡ true → self.new.agenda ≡ agenda_after self.old.script self.old.log self.new.log self.new.tasks self.old.agenda) }
+        ensures agenda { IfOk result (λ did. did ≡ true → ClosesWith self.old.script self.old.log self.new.log self.new.tasks self.old.agenda self.new.agenda) }
         ensures cut { IfErr result (λ stop. IsAfterStop stop self.old.log self.new.log) }
         ensures spent { StaysStopped self.old.stop self.old self.new result }
         ensures goes { OnOk result (self.new.stop ≡ None) }
@@ -139,7 +139,7 @@ impl Hub {
         requires { self.old.stop ≡ None }
         ensures same { (self.new.script ≡ self.old.script) × (self.new.plans ≡ self.old.plans) }
         ensures event { OnOk result (AddsEvent self.old.log self.new.log (logged.Run graph task)) }
-        ensures agenda { OnOk result (self.new.agenda ≡ agenda_after self.old.script self.old.log self.new.log self.new.tasks self.old.agenda) }
+        ensures agenda { OnOk result (ClosesWith self.old.script self.old.log self.new.log self.new.tasks self.old.agenda self.new.agenda) }
         ensures cut { IfErr result (λ stop. IsAfterStop stop self.old.log self.new.log) }
         ensures goes { OnOk result (self.new.stop ≡ None) }
         ensures stops { IfErr result (λ s. self.new.stop ≡ Some s) }
@@ -219,7 +219,7 @@ impl Hub {
         ensures same { (self.new.script ≡ self.old.script) × (self.new.plans ≡ self.old.plans) }
         ensures unchanged { IfOk result (λ did. did ≡ false → self.new ≡ self.old) }
         ensures event { IfOk result (λ did. did ≡ true → AddsEvent self.old.log self.new.log (logged.Act action)) }
-        ensures agenda { IfOk result (λ did. did ≡ true → self.new.agenda ≡ agenda_after self.old.script self.old.log self.new.log self.new.tasks (with_action self.old.agenda action (is_idle self.old.tasks))) }
+        ensures agenda { IfOk result (λ did. did ≡ true → ClosesWith self.old.script self.old.log self.new.log self.new.tasks (with_action self.old.agenda action (is_idle self.old.tasks)) self.new.agenda) }
         ensures cut { IfErr result (λ stop. IsAfterStop stop self.old.log self.new.log) }
         ensures did { IfOk result (λ did. ActsWhere action (length self.old.script.bricks) self.old.agenda.internal did) }
         ensures spent { StaysStopped self.old.stop self.old self.new result }
@@ -256,7 +256,7 @@ impl Hub {
         ensures same { (self.new.script ≡ self.old.script) × (self.new.plans ≡ self.old.plans) }
         ensures unchanged { IfOk result (λ did. did ≡ false → self.new ≡ self.old) }
         ensures event { IfOk result (λ did. did ≡ true → AddsEvent self.old.log self.new.log (logged.Arm brick before count action)) }
-        ensures agenda { IfOk result (λ did. did ≡ true → self.new.agenda ≡ agenda_after self.old.script self.old.log self.new.log self.new.tasks (with_arm self.old.agenda brick before count action)) }
+        ensures agenda { IfOk result (λ did. did ≡ true → ClosesWith self.old.script self.old.log self.new.log self.new.tasks (with_arm self.old.agenda brick before count action) self.new.agenda) }
         ensures cut { IfErr result (λ stop. IsAfterStop stop self.old.log self.new.log) }
         ensures armable { IfOk result (λ did. did ≡ (is_armable brick action && of_brick (length self.old.script.bricks) action)) }
         ensures spent { StaysStopped self.old.stop self.old self.new result }

@@ -1,5 +1,5 @@
 ghost use Rattle.std.specs.Prelude.{◌≡◌, Some, None, [], IsOk, OnOk, IfOk, IfErr};
-ghost use Rattle.hub_calls.specs.Hubs.{AddsEvent, IsAfterStop, agenda_after, agenda_before};
+ghost use Rattle.hub_calls.specs.Hubs.{AddsEvent, ClosesWith, IsAfterStop, agenda_before};
 ghost use Rattle.mount_log.specs.Logs.{is_submit};
 ghost use Rattle.mount_log.specs.Scripts.{IsScript};
 
@@ -101,7 +101,7 @@ impl Hub {
         requires other { is_submit event ≡ 0 }
         ensures same { (self.new.script ≡ self.old.script) × (self.new.plans ≡ self.old.plans) }
         ensures event { OnOk result (AddsEvent self.old.log self.new.log event) }
-        ensures agenda { OnOk result (self.new.agenda ≡ agenda_after self.old.script self.old.log self.new.log self.new.tasks self.old.agenda) }
+        ensures agenda { OnOk result (ClosesWith self.old.script self.old.log self.new.log self.new.tasks self.old.agenda self.new.agenda) }
         ensures cut { IfErr result (λ stop. IsAfterStop stop self.old.log self.new.log) }
         ensures goes { OnOk result (self.new.stop ≡ None) }
         ensures stops { IfErr result (λ s. self.new.stop ≡ Some s) }

@@ -42,6 +42,7 @@ mod graphs;
 mod holding;
 mod hub;
 mod inodes;
+mod numbering;
 mod parts;
 mod planned;
 mod racks;

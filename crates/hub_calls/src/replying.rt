@@ -1,6 +1,7 @@
 //! Moves of answers: a fop is answered, and its call goes on or is replied to.
 
 use crate::holding::hold_next;
+use crate::numbering::UNNUMBERED;
 use crate::parts::Parts;
 use crate::planned::Planned;
 use call_fops::{After, CallReply, FdMove, after_answer, has_place, move_fd};
@@ -232,7 +233,7 @@ impl Parts {
         let CallReply { answer, fd } = reply;
         let session = state.session;
         let line = ReplyLine {
-            event: self.turn.event,
+            event: UNNUMBERED,
             call,
             session,
             line: state.line,

@@ -1,6 +1,7 @@
 //! Moves of sending: requests and controls. What is armed for the requests goes out as the event is closed.
 ghost use Rattle.wire_xdr.specs.WireText.{IsInput};
 
+use crate::numbering::UNNUMBERED;
 use crate::turn::Turn;
 use bytes::Bytes;
 use fop_types::{Input, Proc, Seq};
@@ -14,7 +15,7 @@ use wire_xdr::encode_req;
 impl Turn {
     fn send(&mut self, brick: u8, bytes: Bytes) -> Result<(), AllocError> {
         self.lines.sent.push(SentLine {
-            event: self.event,
+            event: UNNUMBERED,
             brick,
             bytes,
         })?;

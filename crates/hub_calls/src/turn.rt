@@ -1,8 +1,11 @@
 //! The event under way: its lines, and what is still to be done in it.
 ghost use Rattle.std.specs.Prelude.{◌≡◌, ◌∷◌, [], OnOk, OnErr};
 ghost use Rattle.mount_log.specs.Logs.{with_lines};
-ghost use Rattle.hub_calls.specs.Hubs.{IsAfterStop};
+ghost use Rattle.hub_calls.specs.Hubs.{AreOfEvent, HasCut, IsAfterStop};
 
+use crate::numbering::{
+    UNNUMBERED, next_number, number_all, number_replies, number_sent, number_winds,
+};
 use crate::writing::add_lines;
 use fop_types::{Cell, CopyRecord, FopAnswer, Seq, SkipCause};
 use frame_driver::Queue;
@@ -30,12 +33,11 @@ pub enum Todo {
     Refuse(u32),
 }
 
-/// The event under way, by its number, how many replies and entries the log has before it, and its lines so far, which
-/// get the event itself as they are written to the log, and what is armed for its requests before these; what is still to be
-/// done in it; and the bricks whose last Closed or Opened is a Closed.
+/// The event under way: how many replies and entries the log has before it, and its lines so far, which get its number, what is
+/// armed for its requests, and the event itself as it is closed; what is still to be done in it; and the bricks whose last
+/// Closed or Opened is a Closed.
 #[derive(Drop)]
 pub struct Turn {
-    pub event: u64,
     pub replies: usize,
     pub entries: usize,
     pub lines: Log,
@@ -47,7 +49,6 @@ impl Turn {
     /// The turn before any event. It takes no memory.
     pub(crate) fn new(alloc: Global) -> Turn {
         Turn {
-            event: 0,
             replies: 0,
             entries: 0,
             lines: Log::new(alloc),
@@ -58,7 +59,6 @@ impl Turn {
 
     /// Begins an event behind those of the log.
     pub(crate) fn open(&mut self, log: &Log) {
-        self.event = (log.events.len() as u64).saturating_add(1);
         self.replies = log.replies.len();
         self.entries = log.history.len();
     }
@@ -81,6 +81,19 @@ impl Turn {
         ensures { self.new ≡ record self.old { lines = record (self.old.lines) { sent = sent } } }
     {
         drop(mem::replace(&mut self.lines.sent, sent));
+    }
+
+    /// The lines so far get the number of their event.
+    pub(crate) fn number_lines(&mut self, alloc: Global, number: u64)
+        ensures { AreOfEvent number self.new.lines }
+    {
+        number_sent(alloc, &mut self.lines.sent, number);
+        number_replies(alloc, &mut self.lines.replies, number);
+        number_all(alloc, &mut self.lines.entered, number);
+        number_all(alloc, &mut self.lines.answered, number);
+        number_winds(alloc, &mut self.lines.winds, number);
+        number_all(alloc, &mut self.lines.copied, number);
+        number_all(alloc, &mut self.lines.skipped, number);
     }
 
     /// The lines so far, which have no event; none are left.
@@ -111,14 +124,26 @@ impl Turn {
         Ok(())
     }
 
+    // The winds of an event that was cut, with its number, go to the end of the log.
+    #[tactic(auto, using(crate::proofs::Additions::has_cut))]
+    fn add_cut(&mut self, alloc: Global, log: &mut Log) -> Result<(), AllocError>
+        ensures ok { OnOk result (HasCut log.old log.new) }
+        ensures err { OnErr result (log.new ≡ log.old) }
+    {
+        let number = next_number(log)?;
+        number_winds(alloc, &mut self.lines.winds, number);
+        log.add_winds(alloc, &mut self.lines)?;
+        Ok(())
+    }
+
     /// Of an event that was cut, as no wind was left, the winds are written to the log where memory suffices.
-    #[tactic(auto, using(crate::proofs::Additions::has_cut, crate::proofs::Additions::nothing_cut))]
+    #[tactic(auto, using(crate::proofs::Additions::nothing_cut))]
     pub(crate) fn write_cut(&mut self, alloc: Global, stop: Stop, log: &mut Log)
         ensures { IsAfterStop stop log.old log.new }
     {
         match stop {
             Stop::Mem => {}
-            Stop::Winds => match log.add_winds(alloc, &mut self.lines) {
+            Stop::Winds => match self.add_cut(alloc, log) {
                 Ok(()) => {}
                 Err(_) => {}
             },
@@ -137,7 +162,7 @@ impl Turn {
         for line in winds {
             let (wind, call, opened) = *line;
             self.lines.winds.push(WindLine {
-                event: self.event,
+                event: UNNUMBERED,
                 graph,
                 call,
                 wind,
@@ -152,14 +177,14 @@ impl Turn {
     /// # Errors
     /// Out of memory.
     pub(crate) fn note_answered(&mut self) -> Result<(), AllocError> {
-        self.lines.answered.push(self.event)?;
+        self.lines.answered.push(UNNUMBERED)?;
         Ok(())
     }
 
     fn note_copies(&mut self, copies: Seq<CopyRecord>) -> Result<(), AllocError> {
         for copy in copies.into_vec() {
             self.lines.copies.push(copy)?;
-            self.lines.copied.push(self.event)?;
+            self.lines.copied.push(UNNUMBERED)?;
         }
         Ok(())
     }
@@ -167,7 +192,7 @@ impl Turn {
     fn note_skips(&mut self, skips: &[(Cell, SkipCause)]) -> Result<(), AllocError> {
         for skip in skips {
             self.lines.skips.push(*skip)?;
-            self.lines.skipped.push(self.event)?;
+            self.lines.skipped.push(UNNUMBERED)?;
         }
         Ok(())
     }

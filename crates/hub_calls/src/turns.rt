@@ -1,5 +1,6 @@
 //! The turn of an event: what is to be done until nothing is left.
 
+use crate::numbering::UNNUMBERED;
 use crate::parts::Parts;
 use crate::planned::Planned;
 use crate::turn::{Given, Todo};
@@ -136,7 +137,7 @@ impl Parts {
         let history = self.graphs.nodes.history();
         for at in self.turn.entries..history.len() {
             self.turn.lines.history.push(history[at])?;
-            self.turn.lines.entered.push(self.turn.event)?;
+            self.turn.lines.entered.push(UNNUMBERED)?;
         }
         Ok(())
     }

@@ -10,7 +10,7 @@ use Rattle.mount_log.specs.declared.logs.Log.{Log}
 use Rattle.hub_tables.specs.Arming.{is_armable}
 use Rattle.hub_tables.specs.Agendas.{AgendaState, with_submission, with_output, with_action, with_arm}
 use Rattle.hub_calls.specs.Dues.{is_idle, may_run, may_submit}
-use Rattle.hub_calls.specs.Hubs.{AddsEvent, AddsSubmission, is_of_brick, ActsWhere, agenda_after, is_due_output}
+use Rattle.hub_calls.specs.Hubs.{AddsEvent, AddsSubmission, is_of_brick, ActsWhere, ClosesWith, is_due_output}
 use Rattle.world_bricks.specs.Lines.{LinesState, with_sent, next_input, may_serve, with_served, next_output, with_arrival}
 use Rattle.world_bricks.specs.declared.events.Event.{Event}
 use Rattle.world_bricks.specs.declared.events.Event.TheVariants as event
@@ -71,11 +71,12 @@ agenda_with (event.Run graph task) lines ready agenda = agenda
 agenda_with (event.Act action) lines ready agenda = with_action agenda action (is_idle ready)
 agenda_with (event.Arm brick p count action) lines ready agenda = with_arm agenda brick p count action
 
--- what an event makes of agenda and tasks: a service leaves both as they were; of the tasks that are ready after another event no
--- more is said than that the agenda goes by them
+-- what an event makes of agenda and tasks: a service leaves both as they were; another one is closed with the agenda that follows from
+-- its lines, and sends what is armed directly before its requests; of the tasks that are ready after it no more is said than that the
+-- agenda goes by them
 abbrev pub MovesAgenda : Event → Script → Log → LinesState → AgendaState → List (ℕ × ℕ) → Log → AgendaState → List (ℕ × ℕ) → Type 0
 MovesAgenda (event.Serve brick) script log lines agenda ready log_after next ready_after = (next ≡ agenda) × (ready_after ≡ ready)
-MovesAgenda other script log lines agenda ready log_after next ready_after = next ≡ agenda_after script log log_after ready_after (agenda_with other lines ready agenda)
+MovesAgenda other script log lines agenda ready log_after next ready_after = ClosesWith script log log_after ready_after (agenda_with other lines ready agenda) next
 
 -- a service leaves them so also where it fails
 abbrev pub KeepsAgenda : Event → AgendaState → List (ℕ × ℕ) → AgendaState → List (ℕ × ℕ) → Type 0

@@ -4,7 +4,7 @@ ghost use Rattle.mount_log.specs.declared.logs.HubEvent.TheVariants as logged;
 ghost use Rattle.hub_tables.specs.Arming.{is_armable};
 ghost use Rattle.hub_tables.specs.Agendas.{with_submission, with_action, with_arm};
 ghost use Rattle.hub_calls.specs.Dues.{is_idle, may_run, may_submit};
-ghost use Rattle.hub_calls.specs.Hubs.{is_of_brick, ActsWhere, agenda_after};
+ghost use Rattle.hub_calls.specs.Hubs.{is_of_brick, ActsWhere, ClosesWith};
 ghost use Rattle.world_bricks.specs.Lines.{with_sent, may_serve, next_output};
 ghost use Rattle.world_bricks.specs.Worlds.{HubDoes, Submits, Arrives, Serves, Happens, HappensWhere, KeepsAgenda, MovesAgenda, with_next};
 
@@ -37,7 +37,7 @@ impl Parts {
         ensures happens { IfOk result (λ did. did ≡ true → Submits self.old.hub.script session self.old.hub.log self.old.lines self.new.hub.log self.new.lines) }
         ensures unchanged { IfOk result (λ did. did ≡ false → self.new ≡ self.old) }
         ensures may { IfOk result (λ did. did ≡ may_submit self.old.hub.agenda self.old.hub.script self.old.hub.log session) }
-        ensures agenda { IfOk result (λ did. did ≡ true → self.new.hub.agenda ≡ agenda_after self.old.hub.script self.old.hub.log self.new.hub.log self.new.hub.tasks (with_submission self.old.hub.agenda session)) }
+        ensures agenda { IfOk result (λ did. did ≡ true → ClosesWith self.old.hub.script self.old.hub.log self.new.hub.log self.new.hub.tasks (with_submission self.old.hub.agenda session) self.new.hub.agenda) }
     {
         let did = self.hub.submit(alloc, session)?;
         if !did {
@@ -53,7 +53,7 @@ impl Parts {
         ensures happens { IfOk result (λ did. did ≡ true → Arrives brick self.old.hub.log self.old.lines self.new.hub.log self.new.lines) }
         ensures unchanged { IfOk result (λ did. did ≡ false → self.new ≡ self.old) }
         ensures there { IfOk result (λ did. did ≡ is_some (next_output self.old.lines brick)) }
-        ensures agenda { IfOk result (λ did. did ≡ true → self.new.hub.agenda ≡ agenda_after self.old.hub.script self.old.hub.log self.new.hub.log self.new.hub.tasks (with_next (next_output self.old.lines brick) self.old.hub.agenda)) }
+        ensures agenda { IfOk result (λ did. did ≡ true → ClosesWith self.old.hub.script self.old.hub.log self.new.hub.log self.new.hub.tasks (with_next (next_output self.old.lines brick) self.old.hub.agenda) self.new.hub.agenda) }
     {
         let Some(output) = self.lines.take_output(brick)? else {
             return Ok(false);
@@ -68,7 +68,7 @@ impl Parts {
         ensures happens { IfOk result (λ did. did ≡ true → HubDoes (logged.Run graph task) self.old.hub.log self.old.lines self.new.hub.log self.new.lines) }
         ensures unchanged { IfOk result (λ did. did ≡ false → self.new ≡ self.old) }
         ensures ready { IfOk result (λ did. did ≡ may_run self.old.hub.tasks graph task) }
-        ensures agenda { IfOk result (λ did. did ≡ true → self.new.hub.agenda ≡ agenda_after self.old.hub.script self.old.hub.log self.new.hub.log self.new.hub.tasks self.old.hub.agenda) }
+        ensures agenda { IfOk result (λ did. did ≡ true → ClosesWith self.old.hub.script self.old.hub.log self.new.hub.log self.new.hub.tasks self.old.hub.agenda self.new.hub.agenda) }
     {
         let did = self.hub.run(alloc, graph, task)?;
         if !did {
@@ -82,7 +82,7 @@ impl Parts {
         ensures same { (self.new.hub.script ≡ self.old.hub.script) × (self.new.hub.plans ≡ self.old.hub.plans) }
         ensures happens { IfOk result (λ did. did ≡ true → HubDoes (logged.Act action) self.old.hub.log self.old.lines self.new.hub.log self.new.lines) }
         ensures unchanged { IfOk result (λ did. did ≡ false → self.new ≡ self.old) }
-        ensures agenda { IfOk result (λ did. did ≡ true → self.new.hub.agenda ≡ agenda_after self.old.hub.script self.old.hub.log self.new.hub.log self.new.hub.tasks (with_action self.old.hub.agenda action (is_idle self.old.hub.tasks))) }
+        ensures agenda { IfOk result (λ did. did ≡ true → ClosesWith self.old.hub.script self.old.hub.log self.new.hub.log self.new.hub.tasks (with_action self.old.hub.agenda action (is_idle self.old.hub.tasks)) self.new.hub.agenda) }
         ensures did { IfOk result (λ did. ActsWhere action (length self.old.hub.script.bricks) self.old.hub.agenda.internal did) }
     {
         let did = self.hub.act(alloc, action)?;
@@ -104,7 +104,7 @@ impl Parts {
         ensures same { (self.new.hub.script ≡ self.old.hub.script) × (self.new.hub.plans ≡ self.old.hub.plans) }
         ensures happens { IfOk result (λ did. did ≡ true → HubDoes (logged.Arm brick before count action) self.old.hub.log self.old.lines self.new.hub.log self.new.lines) }
         ensures unchanged { IfOk result (λ did. did ≡ false → self.new ≡ self.old) }
-        ensures agenda { IfOk result (λ did. did ≡ true → self.new.hub.agenda ≡ agenda_after self.old.hub.script self.old.hub.log self.new.hub.log self.new.hub.tasks (with_arm self.old.hub.agenda brick before count action)) }
+        ensures agenda { IfOk result (λ did. did ≡ true → ClosesWith self.old.hub.script self.old.hub.log self.new.hub.log self.new.hub.tasks (with_arm self.old.hub.agenda brick before count action) self.new.hub.agenda) }
         ensures armable { IfOk result (λ did. did ≡ (is_armable brick action && is_of_brick (length self.old.hub.script.bricks) action)) }
     {
         let did = self.hub.arm(alloc, brick, before, count, action)?;

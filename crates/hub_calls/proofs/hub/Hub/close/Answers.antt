@@ -9,4 +9,4 @@ returns-in-Ok-clause-agenda c =
     let on = c.self.inside.planned in
     let goes : c.self.inside.stop ≡ None = ap (λ (h : HubState). h.stop) c.self.view_is ∙ c.requires.goes in
     rw (← c.self.view_is) (closed_agenda on.script c.self.inside.log c.close.new.log on.left c.self.inside.stop c.args.event (ready_in on.plans c.close.new.self.parts.graphs.nodes.tasks)
-    c.self.inside.engine.agenda c.close.new.self.agenda c.self.invariant goes c.requires.other c.in-Ok.ensures.event c.in-Ok.ensures.agenda)
+    c.self.inside.engine.agenda c.close.new.self.agenda c.self.invariant goes c.requires.other c.in-Ok.ensures.event c.in-Ok.ensures.agenda c.in-Ok.ensures.out)

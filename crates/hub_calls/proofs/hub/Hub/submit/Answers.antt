@@ -1,6 +1,7 @@
-use Rattle.std.proofs.Common.{◌≡◌, false, true, None, is_some, refl, ap, ◌∙◌}
+use Rattle.std.proofs.Common.{◌≡◌, false, true, None, is_some, refl, ap, subst, ◌∙◌}
+use Rattle.hub_tables.specs.Agendas.{AgendaState}
 use Rattle.hub_calls.specs.Dues.{ready_in}
-use Rattle.hub_calls.specs.Hubs.{HubState, agenda_after}
+use Rattle.hub_calls.specs.Hubs.{HubState, ClosesWith}
 use Rattle.hub_calls.proofs.Agendas.{submitted_agenda}
 use Rattle.hub_calls.proofs.Planning.{submits_are}
 use Rattle.hub_calls.proofs.hub.Hub.submit.Goals as goal
@@ -23,6 +24,5 @@ returns-in-Ok-clause-agenda c = λ _.
     let after = c.take_line.new.self in
     let tasks = ready_in after.plans c.close.new.self.parts.graphs.nodes.tasks in
     let goes : c.self.inside.stop ≡ None = ap (λ (h : HubState). h.stop) c.self.view_is ∙ c.in_ok-check.ensures.goes in
-    rw (← c.self.view_is) (submitted_agenda on after c.self.inside.log c.close.new.log c.self.inside.stop c.args.session c.in-Some.line c.in-Some.at tasks c.submit.new.self c.close.new.self.agenda c.self.invariant goes c.in-Some.ensures.next
-    c.take_line.ensures.taken c.take_line.ensures.same.0 c.in-Ok.ensures.event c.in-Ok.ensures.agenda
-    ∙ ap (agenda_after on.script c.self.inside.log c.close.new.log tasks) c.submit.ensures)
+    rw (← c.self.view_is) (subst (λ (a : AgendaState). ClosesWith on.script c.self.inside.log c.close.new.log tasks a c.close.new.self.agenda) c.submit.ensures (submitted_agenda on after c.self.inside.log c.close.new.log c.self.inside.stop c.args.session c.in-Some.line c.in-Some.at tasks c.submit.new.self c.close.new.self.agenda c.self.invariant goes c.in-Some.ensures.next
+    c.take_line.ensures.taken c.take_line.ensures.same.0 c.in-Ok.ensures.event c.in-Ok.ensures.agenda c.in-Ok.ensures.out))

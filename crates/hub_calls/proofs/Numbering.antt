@@ -1,0 +1,72 @@
+-- What goes out in an event has the number of what is sent in it.
+use Rattle.std.proofs.Common.{◌≡◌, ℕ, zero, suc, ◌++◌, Bool, true, false, List, [], ◌∷◌, Option, Some, None, length, refl, sym, subst, if◌then◌else◌}
+use Rattle.std.proofs.lemmas.List.Elements.{recursion_from_All, All-from_recursion}
+use Rattle.std.specs.List.{All, AllByRecursion}
+use Rattle.fop_types.specs.declared.messages.Input.TheVariants as input
+use Rattle.wire_xdr.specs.WireText.{input_text}
+use Rattle.mount_log.specs.Procedures.{rank_in}
+use Rattle.mount_log.specs.declared.logs.Log.{Log}
+use Rattle.mount_log.specs.declared.logs.SentLine.{SentLine}
+use Rattle.script_lang.specs.declared.scripts.Action.{Action}
+use Rattle.script_lang.specs.declared.scripts.Action.TheVariants as action
+use Rattle.hub_tables.specs.Agendas.{controls_by, armed_line, with_armed_line, armed_lines, lines_before, outgoing}
+use Rattle.hub_tables.specs.Arming.{is_armable}
+use Rattle.hub_tables.specs.PhaseControls.{ControlsState, next_count, with_count, next_armed, without_armed}
+use Rattle.hub_tables.specs.declared.controls.Armed.{Armed}
+use Rattle.hub_tables.specs.declared.requests.Nth.{Nth}
+use Rattle.hub_calls.specs.Hubs.{AreOfEvent}
+
+abbrev AreAll : ℕ → List SentLine → Type 0
+AreAll n lines = AllByRecursion (λ (line : SentLine). line.event ≡ n) lines
+
+both : (n : ℕ) (xs ys : List SentLine) → AreAll n xs → AreAll n ys → AreAll n (xs ++ ys)
+both n [] ys first then_all = then_all
+both n (x ∷ xs) ys first then_all = (first.0, both n xs ys first.1 then_all)
+
+-- ---- what is armed
+
+armed_is : (n : ℕ) (a : Action) → AreAll n (armed_line n a)
+armed_is n (action.Down brick serve) = (refl, tt)
+armed_is n (action.Fault brick p number) = by (is_armable brick (action.Fault brick p number)) where
+  by : (b : Bool) → AreAll n (if b then record { event = n; brick = brick; bytes = input_text (input.FaultAt p number) } ∷ [] else [])
+  by true = (refl, tt)
+  by false = tt
+armed_is n (action.Up brick) = tt
+armed_is n (action.Cut brick) = tt
+armed_is n action.Heal = tt
+armed_is n (action.Switch volfile) = tt
+
+with_rest : (n : ℕ) (armed : Option Armed) (rest : List SentLine) → AreAll n rest → AreAll n (with_armed_line n armed rest)
+with_rest n None rest all = tt
+with_rest n (Some armed) rest all = both n (armed_line n armed.action) rest (armed_is n armed.action) all
+
+armed_are : (n : ℕ) (c : ControlsState) (request : Nth) (most : ℕ) → AreAll n (armed_lines n c request most)
+armed_are n c request zero = tt
+armed_are n c request (suc more) = with_rest n (next_armed c request) (armed_lines n (without_armed c request) request more) (armed_are n (without_armed c request) request more)
+
+-- ---- what goes out
+
+before_are : (n : ℕ) (c : ControlsState) (line : SentLine) (p : Option ℕ) → line.event ≡ n → AreAll n (lines_before c line p)
+before_are n c line None is = tt
+before_are n c line (Some p) is =
+    let request : Nth = record { brick = line.brick; proc = p; count = next_count c line.brick p } in
+    subst (λ (e : ℕ). AreAll n (armed_lines e (with_count c line.brick p) request (length c.armed))) (sym is) (armed_are n (with_count c line.brick p) request (length c.armed))
+
+all_are : (n : ℕ) (c : ControlsState) (lines : List SentLine) → AreAll n lines → AreAll n (outgoing c lines)
+all_are n c [] all = tt
+all_are n c (line ∷ lines) all =
+    both n (lines_before c line (rank_in line.bytes)) (line ∷ outgoing (controls_by c line.brick (rank_in line.bytes)) lines)
+    (before_are n c line (rank_in line.bytes) all.0) (all.0, all_are n (controls_by c line.brick (rank_in line.bytes)) lines all.1)
+
+-- the lines of an event have its number also where what is armed goes out among them
+pub sent_of_event : (c : ControlsState) (lines : Log) (sent : List SentLine) → sent ≡ outgoing c lines.sent → (n : ℕ) → AreOfEvent n lines → AreOfEvent n (record lines { sent = sent })
+sent_of_event c lines sent is n are = record {
+  sent = subst (λ (ls : List SentLine). All (λ (line : SentLine). line.event ≡ n) ls) (sym is)
+      (All-from_recursion (λ (line : SentLine). line.event ≡ n) (outgoing c lines.sent) (all_are n c lines.sent (recursion_from_All (λ (line : SentLine). line.event ≡ n) lines.sent are.sent)));
+  replies = are.replies;
+  entered = are.entered;
+  answered = are.answered;
+  winds = are.winds;
+  copied = are.copied;
+  skipped = are.skipped;
+}
