@@ -210,7 +210,8 @@ impl Hub {
     /// Carries an action out, and with it the control that [`Hub::first`], [`Hub::due`] or [`Hub::rest`] gives, where it
     /// has the same action. It is false, with nothing changed, exactly where the action is not possible: its brick or
     /// volfile is not in the script, a fault is one of unlock or has the number 0, a heal or a switch finds an internal
-    /// call without an answer, or a switch finds a plan that does not follow, or 4,294,967,294 graphs that were made.
+    /// call without an answer, or a switch finds a plan that does not follow, or 4,294,967,294 graphs that were made. Of a
+    /// switch the contract says only that no internal call is under way.
     ///
     /// # Errors
     /// As for [`Hub::submit`].
