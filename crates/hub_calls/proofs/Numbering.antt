@@ -6,7 +6,9 @@ use Rattle.fop_types.specs.declared.messages.Input.TheVariants as input
 use Rattle.wire_xdr.specs.WireText.{input_text}
 use Rattle.mount_log.specs.Procedures.{rank_in}
 use Rattle.mount_log.specs.declared.logs.Log.{Log}
+use Rattle.mount_log.specs.declared.logs.ReplyLine.{ReplyLine}
 use Rattle.mount_log.specs.declared.logs.SentLine.{SentLine}
+use Rattle.mount_log.specs.declared.logs.WindLine.{WindLine}
 use Rattle.script_lang.specs.declared.scripts.Action.{Action}
 use Rattle.script_lang.specs.declared.scripts.Action.TheVariants as action
 use Rattle.hub_tables.specs.Agendas.{controls_by, armed_line, with_armed_line, armed_lines, lines_before, outgoing}
@@ -15,6 +17,18 @@ use Rattle.hub_tables.specs.PhaseControls.{ControlsState, next_count, with_count
 use Rattle.hub_tables.specs.declared.controls.Armed.{Armed}
 use Rattle.hub_tables.specs.declared.requests.Nth.{Nth}
 use Rattle.hub_calls.specs.Hubs.{AreOfEvent}
+
+pub are_of_event : (number : ℕ) (lines : Log) → All (λ (line : SentLine). line.event ≡ number) lines.sent → All (λ (line : ReplyLine). line.event ≡ number) lines.replies → All (λ (n : ℕ). n ≡ number) lines.entered
+    → All (λ (n : ℕ). n ≡ number) lines.answered → All (λ (line : WindLine). line.event ≡ number) lines.winds → All (λ (n : ℕ). n ≡ number) lines.copied → All (λ (n : ℕ). n ≡ number) lines.skipped → AreOfEvent number lines
+are_of_event number lines sent replies entered answered winds copied skipped = record {
+  sent = sent;
+  replies = replies;
+  entered = entered;
+  answered = answered;
+  winds = winds;
+  copied = copied;
+  skipped = skipped;
+}
 
 abbrev AreAll : ℕ → List SentLine → Type 0
 AreAll n lines = AllByRecursion (λ (line : SentLine). line.event ≡ n) lines
