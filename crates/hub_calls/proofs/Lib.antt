@@ -3,4 +3,4 @@ pub mod Dues
 pub mod Finding
 pub mod Planning
 pub mod Agendas
-pub mod Numbering
+pub mod EventNumbers

@@ -84,7 +84,7 @@ impl Turn {
     }
 
     /// The lines so far get the number of their event.
-    #[tactic(auto, using(crate::proofs::Numbering::are_of_event))]
+    #[tactic(auto, using(crate::proofs::EventNumbers::are_of_event))]
     pub(crate) fn number_lines(&mut self, alloc: Global, number: u64)
         ensures { AreOfEvent number self.new.lines }
     {
