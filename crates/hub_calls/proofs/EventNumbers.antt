@@ -1,5 +1,5 @@
 -- What goes out in an event has the number of what is sent in it.
-use Rattle.std.proofs.Common.{◌≡◌, ℕ, zero, suc, ◌++◌, Bool, true, false, List, [], ◌∷◌, Option, Some, None, length, refl, sym, subst, if◌then◌else◌}
+use Rattle.std.proofs.Common.{◌≡◌, ℕ, zero, suc, ◌++◌, Bool, true, false, List, [], ◌∷◌, Option, Some, None, length, Result, Ok, Err, OnOk, refl, sym, subst, if◌then◌else◌}
 use Rattle.std.proofs.lemmas.List.Elements.{recursion_from_All, All-from_recursion}
 use Rattle.std.specs.List.{All, AllByRecursion}
 use Rattle.fop_types.specs.declared.messages.Input.TheVariants as input
@@ -29,6 +29,10 @@ are_of_event number lines sent replies entered answered winds copied skipped = r
   copied = copied;
   skipped = skipped;
 }
+
+pub in_any_case : {T E A : Type 0} (r : Result T E) → A → OnOk r A
+in_any_case (Ok x) h = h
+in_any_case (Err e) h = tt
 
 abbrev AreAll : ℕ → List SentLine → Type 0
 AreAll n lines = AllByRecursion (λ (line : SentLine). line.event ≡ n) lines

@@ -44,7 +44,6 @@ impl Engine {
     }
 
     // What was sent goes out.
-    #[tactic(auto, using(crate::proofs::EventNumbers::sent_of_event))]
     fn send_out(&mut self, alloc: Global) -> Result<(), AllocError>
         ensures agenda { OnOk result (self.new.agenda ≡ with_sends self.old.agenda self.new.parts.turn.lines.sent) }
         ensures sent { OnOk result (self.new.parts.turn.lines.sent ≡ outgoing self.old.agenda.controls self.old.parts.turn.lines.sent) }
