@@ -17,7 +17,6 @@ use std::alloc::{AllocError, Global};
 use xlator_law::Stop;
 
 /// The hub, and the bricks with their lines.
-#[derive(Drop)]
 pub struct Parts {
     pub(crate) hub: Hub,
     pub(crate) lines: Lines,

@@ -41,7 +41,8 @@ const EVENTS: u64 = 18446744073709551615;
 ///
 /// A call that stops has spent the world: each later call that may change it answers the same, and changes nothing. Its log
 /// ends with the last whole event, and each brick's journal with the last input that it served.
-#[derive(Drop)]
+///
+/// A world is not dropped: what it has left is taken out of it, by [`World::into_parts`].
 pub struct World {
     parts: Parts,
     stop: Option<Stop>,
@@ -73,7 +74,10 @@ impl World {
                 stop: None,
             }),
             Err(error) => {
-                drop(hub);
+                let (script, plans, log) = hub.into_log();
+                drop(script);
+                drop(plans);
+                drop(log);
                 Err(error)
             }
         }
@@ -211,7 +215,7 @@ impl World {
         ensures kept { (result.0 ≡ self.script) × (result.1 ≡ self.plans) }
         ensures rack { result.2 ≡ record { bricks = self.lines.bricks; log = self.log } }
     {
-        let World { parts, .. } = self;
+        let World { parts, stop: _ } = self;
         let Parts { hub, lines } = parts;
         let bricks = lines.into_bricks();
         let (script, plans, log) = hub.into_log();
