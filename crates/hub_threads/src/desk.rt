@@ -12,8 +12,8 @@ use std::alloc::{AllocError, Global};
 use std::marker::PhantomData;
 use xlator_law::Stop;
 
-/// What the workers share under a lock: the hub, which runs the script of the mount, and its ends of the links.
-#[derive(Drop)]
+/// What the workers share under a lock: the hub, which runs the script of the mount, and its ends of the links. It is not
+/// dropped: what the run leaves is taken out of it, by [`Desk::into_ended`].
 pub struct Desk<M: Mounting> {
     hub: Hub,
     links: Links,
@@ -58,7 +58,7 @@ impl<M: Mounting> Desk<M> {
                 match sent {
                     Ok(()) => Ok(desk),
                     Err(error) => {
-                        drop(desk);
+                        drop(desk.into_ended());
                         Err(error)
                     }
                 }
@@ -131,7 +131,7 @@ impl<M: Mounting> Desk<M> {
             hub,
             links,
             stop,
-            ..
+            of: _,
         } = self;
         drop(links);
         let (script, plans, log) = hub.into_log();
