@@ -2,7 +2,6 @@ pub mod Bounds
 pub mod Calls
 pub mod Cells
 pub mod DataBytes
-pub mod Effects
 pub mod Errors
 pub mod FileBytes
 pub mod Files

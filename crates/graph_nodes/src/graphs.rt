@@ -27,8 +27,7 @@ use xlator_law::{Settled, Stop, WindNo};
 /// no such graph.
 ///
 /// Contracts see the numbers, the ready tasks, the inodes in use, the history, and whether the graphs are spent: once a call failed, each
-/// answers so from then on.
-#[derive(Drop)]
+/// answers so from then on. They are not dropped: [`Graphs::discard`] ends them, so that no crate above proves how.
 pub struct Graphs {
     pub(crate) live: BTreeMap<u32, Graph>,
     pub(crate) mount: Mount,
@@ -270,6 +269,17 @@ impl Graphs {
         ensures { self.new ≡ record self.old { inodes = with_release self.old.inodes gfid } }
     {
         self.mount.inodes.release(gfid);
+    }
+
+    /// Ends the graphs, with all that they have.
+    pub fn discard(self) {
+        let Graphs {
+            live,
+            mount,
+            is_spent: _,
+        } = self;
+        drop(live);
+        drop(mount);
     }
 
     /// Whether a call failed.

@@ -15,7 +15,6 @@ use std::alloc::{AllocError, Global};
 use xlator_law::Stop;
 
 /// The parts of a hub that events move, and the agenda, which decides what is due.
-#[derive(Drop)]
 pub struct Engine {
     pub parts: Parts,
     pub agenda: Agenda,
@@ -30,6 +29,13 @@ impl Engine {
             parts: Parts::new(alloc, on),
             agenda: Agenda::new(alloc),
         }
+    }
+
+    /// Ends the engine, with all that it has.
+    pub(crate) fn discard(self) {
+        let Engine { parts, agenda } = self;
+        parts.discard();
+        drop(agenda);
     }
 
     /// Whether no task is ready.

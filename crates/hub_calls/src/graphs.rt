@@ -100,7 +100,6 @@ impl LiveGraphs {
 }
 
 /// The live graphs, and the nodes of all of them, with what they share.
-#[derive(Drop)]
 pub struct Graphs {
     pub live: LiveGraphs,
     pub nodes: NodeGraphs,
@@ -113,6 +112,13 @@ impl Graphs {
             live: LiveGraphs::new(alloc),
             nodes: NodeGraphs::new(alloc, root_sets),
         }
+    }
+
+    /// Ends them.
+    pub(crate) fn discard(self) {
+        let Graphs { live, nodes } = self;
+        drop(live);
+        nodes.discard();
     }
 
     /// Makes the next graph, from the plan of a volfile.

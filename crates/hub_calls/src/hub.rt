@@ -18,7 +18,8 @@ use xlator_law::Stop;
 ///
 /// A call that stops has spent the hub: each later call that may change it answers the same, and changes nothing. Its log
 /// ends with the last whole event; after `Winds` it also has the winds of the event that was cut.
-#[derive(Drop)]
+///
+/// A hub is not dropped: what it has left is taken out of it, by [`Hub::into_log`].
 pub struct Hub {
     pub(crate) planned: Planned,
     pub(crate) engine: Engine,
@@ -72,7 +73,7 @@ impl Hub {
             }),
             Err(error) => {
                 drop(planned);
-                drop(engine);
+                engine.discard();
                 drop(log);
                 Err(error)
             }
@@ -148,9 +149,9 @@ impl Hub {
             planned,
             engine,
             log,
-            ..
+            stop: _,
         } = self;
-        drop(engine);
+        engine.discard();
         let (script, plans) = planned.into_parts();
         (script, plans, log)
     }

@@ -14,7 +14,6 @@ use std::alloc::Global;
 ///
 /// Its moves are handed the script with its plans, which they cannot change. They stay within bounds whatever the parts
 /// are: what is not there is passed over. Whether a run was as it should be, its log shows.
-#[derive(Drop)]
 pub struct Parts {
     pub creations: u32,
     pub turn: Turn,
@@ -35,5 +34,22 @@ impl Parts {
             fds: FdTable::new(alloc),
             graphs: Graphs::new(alloc, on.root_sets()),
         }
+    }
+
+    /// Ends the parts, with all that they have.
+    pub(crate) fn discard(self) {
+        let Parts {
+            creations: _,
+            turn,
+            calls,
+            holds,
+            fds,
+            graphs,
+        } = self;
+        drop(turn);
+        drop(calls);
+        drop(holds);
+        drop(fds);
+        graphs.discard();
     }
 }

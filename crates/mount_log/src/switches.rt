@@ -1,5 +1,5 @@
 //! How many events switch to another volfile, up to one.
-ghost use Rattle.std.specs.Prelude.{◌≡◌, ◌≤◌, ◌+◌, ℕ, List, length};
+ghost use Rattle.std.specs.Prelude.{◌≡◌, ◌≤◌, ◌+◌, ℕ, List, length, min, max};
 ghost use Rattle.mount_log.specs.Graphs.{with_switch, switched_by};
 ghost use Rattle.mount_log.specs.Switches.{IsCounted};
 
@@ -38,7 +38,8 @@ pub fn switch_in(event: &HubEvent) -> usize
 // The events up to this number are passed, behind those that were passed before.
 fn count_to(events: &[HubEvent], number: u64, passed: Switched) -> Switched
     requires { IsCounted events.now passed }
-    ensures { IsCounted events.now result }
+    ensures counted { IsCounted events.now result }
+    ensures next { result.next ≡ max passed.next (min number (length events.now)) }
 {
     let mut now = passed;
     while now.next < events.len() {
@@ -57,7 +58,8 @@ fn count_to(events: &[HubEvent], number: u64, passed: Switched) -> Switched
 /// The events up to this number are passed, behind those that were passed before.
 pub fn passed_to(log: &Log, number: u64, passed: Switched) -> Switched
     requires { IsCounted log.now.events passed }
-    ensures { IsCounted log.now.events result }
+    ensures counted { IsCounted log.now.events result }
+    ensures next { result.next ≡ max passed.next (min number (length log.now.events)) }
 {
     count_to(log.events.as_slice(), number, passed)
 }

@@ -7,7 +7,7 @@
 //! Each brick has one line of inputs and one of outputs, both first in, first out. [`World::pick`] chooses the next event
 //! by a value of the schedule that a seed gives, and [`World::run`] goes on until no event is left.
 //!
-//! Which bricks have an input or an output left is looked up at each event, in a walk over the bricks, of which a script has 64
+//! Which bricks have an input or an output left is looked up at each event, in a walk over the bricks, of which a script has 60
 //! at most.
 #![tactic(auto)]
 

@@ -6,9 +6,9 @@ use Rattle.line_audit.proofs.tied_winds.winds_are_tied.Goals as goal
 
 pub loop-k-preserved : goal.loop-k-preserved
 loop-k-preserved c = (
-  wind_next c.args.log.now c.args.calls.now c.loop-k.k c.in-Some.line.now _ (sym c.in-Some.ensures) c.passed_to-passed.ensures (c.is_made.ensures.next c.if-not-is_made.false) (c.is_made.ensures.graph c.if-not-is_made.false)
+  wind_next c.args.log.now c.args.calls.now c.loop-k.k c.in-Some.line.now _ (sym c.in-Some.ensures) c.passed_to-passed.ensures.counted (c.is_made.ensures.next c.if-not-is_made.false) (c.is_made.ensures.graph c.if-not-is_made.false)
       (c.is_wind_of.ensures c.if-not-is_wind_of.false) c.loop-k.invariant.0,
-  c.passed_to-passed.ensures,
+  c.passed_to-passed.ensures.counted,
 )
 
 pub returns : goal.returns

@@ -17,8 +17,8 @@ loop-k-preserved c = (
       (sym (c.in_ok-push.ensures.items ∙ ap (λ (call : CallMade). c.loop-k.calls.items ++ call ∷ []) c.call_made.ensures))
       (pass_submit c.args.script.now c.args.log.now c.loop-k.k c.in-Some.event.now (sym c.in-Some.ensures) (map (λ q. q.items) c.loop-k.queues.items) c.loop-k.calls.items c.loop-k.invariant.0
       c.in-Submit.session c.in-Submit.line (map (λ q. q.items) c.take_line.new.lines.items) c.in-Some-take_line.at c.passed_to-passed.result c.in-Submit.is c.in-Some-take_line.ensures.taken
-      c.passed_to-passed.ensures c.if-passed-k.false),
-  c.passed_to-passed.ensures,
+      c.passed_to-passed.ensures.counted c.if-passed-k.false),
+  c.passed_to-passed.ensures.counted,
 )
 
 pub returns : goal.returns
