@@ -7,7 +7,7 @@ use Rattle.script_lang.specs.declared.scripts.CallLine.{CallLine}
 use Rattle.script_lang.specs.declared.scripts.Script.{Script}
 use Rattle.mount_log.specs.Follows.{IsNextLine, AreInOrder}
 use Rattle.mount_log.specs.Lines.{queue_of, places_from, line_of, TakesLine}
-use Rattle.mount_log.specs.Submissions.{session_line, line_by, submits_of, is_submit_of}
+use Rattle.mount_log.specs.Submissions.{place_of_line, session_line, line_by, submits_of, is_submit_of}
 use Rattle.mount_log.specs.declared.logs.HubEvent.{HubEvent}
 use Rattle.mount_log.specs.declared.logs.HubEvent.TheVariants as logged
 use Rattle.mount_log.specs.declared.logs.Log.{Log}
@@ -137,3 +137,26 @@ in_order script log i le next k session line is =
     let all = take_all i log.events le in
     let n = subst (λ (l : List HubEvent). AreNext script l) all next k session line is in
     record { there = n.there; next = n.is; number = n.number_is }
+
+-- ---- sessions that do so submit no other line
+
+module _ (script : Script) (log : Log) (i session line : ℕ) (there : slice_get log.events i ≡ Some (logged.Submit session line)) (old : List (List LineAt)) (left : HaveLeft script (take i log.events) old) (order : AreInOrder script log) where
+  -- the session has a line left
+  pub one_left : queue_of old session ≡ [] → ⊥
+  one_left none =
+      let n = order i session line there in
+      let no_place : place_of_line script session (submits_of session (take i log.events)) ≡ None = past (places_from session 0 script.phases) (submits_of session (take i log.events)) (sym (left session) ∙ none) in
+      no_line (sym (ap (line_by script) no_place) ∙ n.next) where
+        past : (xs : List LineAt) (n : ℕ) → drop n xs ≡ [] → slice_get xs n ≡ None
+        past [] n e = refl
+        past (x ∷ xs) zero e = absurd cc
+        past (x ∷ xs) (suc n) e = past xs n e
+
+        no_line : {x : CallLine} → None ≡ Some x → ⊥
+        no_line e = absurd cc
+
+  -- and its number is that of the line
+  pub its_number : (new : List (List LineAt)) (at : LineAt) → TakesLine old session at new → HasNumber (line_of script at) line
+  its_number new at takes =
+      let n = order i session line there in
+      record { there = n.there; is = sym (ap (line_by script) (its_next script (take i log.events) session line old new at takes left)) ∙ n.next; number_is = n.number }

@@ -12,6 +12,12 @@ pub record AreSeen (calls : ℕ) (replies : List ReplyLine) (seen : List Bool) :
   pub long : length seen ≡ calls
   pub each : (index : ℕ) (b : Bool) → slice_get seen index ≡ Some b → replies_to (index + 1) replies ≡ (if b then 1 else 0)
 
+-- a call was not seen
+pub record IsUnseen (seen : List Bool) (call : ℕ) : Type 0 where
+  pub index : ℕ
+  pub call_is : call ≡ suc index
+  pub unseen : slice_get seen index ≡ Some false
+
 -- a call that was not seen is
 pub record Sees (old : List Bool) (call : ℕ) (new : List Bool) : Type 0 where
   pub index : ℕ
