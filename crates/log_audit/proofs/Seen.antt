@@ -104,10 +104,10 @@ is_later (suc n) r lt = let ih = is_later n r (omega (arith, lt)) in let other =
 
 is_once : (n : ℕ) (r : ReplyLine) → is_up_to n r ≤ 1
 is_once zero r = omega arith
-is_once (suc n) r = by (r.call == suc n) refl where
-  by : (b : Bool) → (r.call == suc n) ≡ b → one (r.call == suc n) + is_up_to n r ≤ 1
-  by true e = let s = eqb-true r.call (suc n) e in let z = is_later n r (omega (arith, s)) in let o = ap one e in omega (arith, z, o)
-  by false e = let ih = is_once n r in let o = ap one e in omega (arith, ih, o)
+is_once (suc n) r = by (is_once n r) (r.call == suc n) refl where
+  by : is_up_to n r ≤ 1 → (b : Bool) → (r.call == suc n) ≡ b → one (r.call == suc n) + is_up_to n r ≤ 1
+  by ih true e = let s = eqb-true r.call (suc n) e in let z = is_later n r (omega (arith, s)) in let o = ap one e in omega (arith, z, o)
+  by ih false e = let o = ap one e in omega (arith, ih, o)
 
 few_up_to : (n : ℕ) (rs : List ReplyLine) → replies_up_to n rs ≤ length rs
 few_up_to n [] = let z = none_up_to n in omega (arith, z)

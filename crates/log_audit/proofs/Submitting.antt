@@ -3,6 +3,7 @@ use Rattle.std.proofs.Common.{◌≡◌, refl, sym, ap, subst, ◌∙◌, arith,
 use Rattle.std.specs.Prelude.{ℕ, zero, suc, ◌≢◌, ◌<◌, ◌≤◌, ◌+◌, ◌==◌, nat_lt, Bool, true, false, List, [], ◌∷◌, ◌++◌, Option, None, Some, length, take, drop, slice_get, if◌then◌else◌}
 use Rattle.std.proofs.lemmas.Bool.{ltb-true, ltb-false, eqb-true, eqb-false, false_from_ne_true, true_from_ne_false}
 use Rattle.std.proofs.lemmas.List.{take_more, take_all, length-take-le}
+use Rattle.std.proofs.lemmas.Option.{slice_get-get_or}
 use Rattle.script_lang.specs.declared.scripts.CallLine.{CallLine}
 use Rattle.script_lang.specs.declared.scripts.Script.{Script}
 use Rattle.mount_log.specs.Follows.{IsNextLine, AreInOrder}
@@ -131,6 +132,10 @@ module _ (script : Script) (events : List HubEvent) (i : ℕ) (e : HubEvent) (lt
   submit_next own line old new at e_is takes number both =
       subst (λ (l : List HubEvent). AreNext script l × HaveLeft script l new) (sym (more ∙ ap (λ (x : HubEvent). take i events ++ x ∷ []) e_is))
       (submit_more script (take i events) own line old new at takes both.1 number both.0)
+
+-- the event that is read at a place is there
+pub read_at : (events : List HubEvent) (i : ℕ) (e : HubEvent) → i < length events → e ≡ get_or events i e → slice_get events i ≡ Some e
+read_at events i e lt is = slice_get-get_or events i e lt ∙ ap Some (sym is)
 
 pub in_order : (script : Script) (log : Log) (i : ℕ) → length log.events ≤ i → AreNext script (take i log.events) → AreInOrder script log
 in_order script log i le next k session line is =

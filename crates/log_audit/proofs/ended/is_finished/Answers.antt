@@ -6,9 +6,9 @@ use Rattle.log_audit.specs.Replied.{HaveOne}
 use Rattle.log_audit.proofs.Endings.{finished}
 use Rattle.log_audit.proofs.ended.is_finished.Goals as goal
 
-pub returns : goal.returns
-returns c = λ yes order.
+pub returns-clause-sound : goal.returns-clause-sound
+returns-clause-sound c = λ yes order.
     let calls = c.count_calls-calls.ensures ∙ ap (λ l. length (calls_of l)) c.as_slice.ensures in
     finished c.args.script.now c.args.log.now order
     (sym (c.count_submits.ensures ∙ ap submits_in c.as_slice-2.ensures) ∙ c.if-count_submits-calls.false ∙ calls)
-    (subst (λ n. HaveOne n c.args.log.now.replies) calls (subst (λ rs. HaveOne c.count_calls-calls.result rs) c.as_slice-3.ensures (c.in_ok-one.ensures yes)))
+    (subst (λ n. HaveOne n c.args.log.now.replies) calls (subst (λ rs. HaveOne c.count_calls-calls.result rs) c.as_slice-3.ensures (c.in_ok-one.ensures.0 yes)))
