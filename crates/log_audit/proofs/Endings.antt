@@ -52,3 +52,7 @@ module _ (script : Script) (log : Log) (order : AreInOrder script log) where
 
   pub finished : submits_in log.events ≡ length (calls_of script.phases) → HaveOne (length (calls_of script.phases)) log.replies → IsFinished script log
   finished all one = record { submitted = many [] log.events refl ∙ all; replied = one.each; no_other = one.many }
+
+  -- and a finished log has one for each call
+  pub submits_are : IsFinished script log → submits_in log.events ≡ length (calls_of script.phases)
+  submits_are f = sym (many [] log.events refl) ∙ f.submitted

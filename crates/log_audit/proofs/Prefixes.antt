@@ -1,6 +1,6 @@
 -- A prefix of a list that grows by one item, beside a function of what is left of another list.
 use Rattle.std.proofs.Common.{◌≡◌, refl, sym, ap, ◌∙◌, arith}
-use Rattle.std.specs.Prelude.{ℕ, zero, suc, ◌≢◌, ◌+◌, ◌≤◌, List, [], ◌∷◌, ◌++◌, length, take, slice_get, Some}
+use Rattle.std.specs.Prelude.{ℕ, zero, suc, ◌≢◌, ◌+◌, ◌<◌, ◌≤◌, List, [], ◌∷◌, ◌++◌, length, take, slice_get, None, Some}
 use Rattle.mount_log.proofs.Items.{some_is}
 
 module _ {X : Type 0} where
@@ -17,6 +17,11 @@ module _ {X : Type 0} where
 
   pub take_next : (xs : List X) (k : ℕ) (x : X) (rest : List X) → slice_get xs k ≡ Some x → take k xs ++ x ∷ rest ≡ take (k + 1) xs ++ rest
   take_next xs k x rest is = let one : suc k ≡ k + 1 = omega arith in take_next' xs k x rest is ∙ ap (λ (n : ℕ). take n xs ++ rest) one
+
+  pub is_there : (xs : List X) (k : ℕ) → k < length xs → slice_get xs k ≡ None → ⊥
+  is_there [] k lt none = absurd (omega (arith, lt))
+  is_there (y ∷ xs) zero lt none = absurd cc
+  is_there (y ∷ xs) (suc k) lt none = is_there xs k (omega (arith, lt)) none
 
   pub within : (xs : List X) (k : ℕ) (x : X) → slice_get xs k ≡ Some x → k + 1 ≤ length xs
   within [] k x is = absurd cc

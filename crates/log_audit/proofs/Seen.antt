@@ -7,6 +7,7 @@ use Rattle.std.proofs.lemmas.Option.{slice_get_within, slice_get-get_or}
 use Rattle.mount_log.proofs.Items.{some_is, at_set, beside_set}
 use Rattle.mount_log.specs.Follows.{replies_to}
 use Rattle.mount_log.specs.declared.logs.ReplyLine.{ReplyLine}
+use Rattle.log_audit.proofs.Prefixes.{is_there}
 use Rattle.log_audit.specs.Replied.{HaveOne, AreSeen, IsUnseen, Sees, all_seen}
 
 abbrev one : Bool → ℕ
@@ -149,11 +150,7 @@ module _ (calls : ℕ) (rs : List ReplyLine) (i : ℕ) (r : ReplyLine) (seen : L
       absurd (omega (arith, before, its, more, few, all))
 
   by_place : (index : ℕ) → r.call ≡ suc index → index < length seen → (o : Option Bool) → slice_get seen index ≡ o → IsUnseen seen r.call
-  by_place index call within None none = absurd (is_there seen index within none) where
-    is_there : (xs : List Bool) (k : ℕ) → k < length xs → slice_get xs k ≡ None → ⊥
-    is_there [] k lt e = absurd (omega (arith, lt))
-    is_there (x ∷ xs) zero lt e = absurd cc
-    is_there (x ∷ xs) (suc k) lt e = is_there xs k (omega (arith, lt)) e
+  by_place index call within None none = absurd (is_there seen index within none)
   by_place index call within (Some true) was = absurd (twice index call was)
   by_place index call within (Some false) was = record { index = index; call_is = call; unseen = was }
 

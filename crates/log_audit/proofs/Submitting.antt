@@ -145,18 +145,21 @@ in_order script log i le next k session line is =
 
 -- ---- sessions that do so submit no other line
 
+past : (xs : List LineAt) (n : ℕ) → drop n xs ≡ [] → slice_get xs n ≡ None
+past [] n e = refl
+past (x ∷ xs) zero e = absurd cc
+past (x ∷ xs) (suc n) e = past xs n e
+
+-- where a session has nothing left, its next call has no line
+pub no_place : (script : Script) (es : List HubEvent) (session : ℕ) (queues : List (List LineAt)) → HaveLeft script es queues → queue_of queues session ≡ [] → place_of_line script session (submits_of session es) ≡ None
+no_place script es session queues left none = past (places_from session 0 script.phases) (submits_of session es) (sym (left session) ∙ none)
+
 module _ (script : Script) (log : Log) (i session line : ℕ) (there : slice_get log.events i ≡ Some (logged.Submit session line)) (old : List (List LineAt)) (left : HaveLeft script (take i log.events) old) (order : AreInOrder script log) where
   -- the session has a line left
   pub one_left : queue_of old session ≡ [] → ⊥
   one_left none =
       let n = order i session line there in
-      let no_place : place_of_line script session (submits_of session (take i log.events)) ≡ None = past (places_from session 0 script.phases) (submits_of session (take i log.events)) (sym (left session) ∙ none) in
-      no_line (sym (ap (line_by script) no_place) ∙ n.next) where
-        past : (xs : List LineAt) (n : ℕ) → drop n xs ≡ [] → slice_get xs n ≡ None
-        past [] n e = refl
-        past (x ∷ xs) zero e = absurd cc
-        past (x ∷ xs) (suc n) e = past xs n e
-
+      no_line (sym (ap (line_by script) (no_place script (take i log.events) session old left none)) ∙ n.next) where
         no_line : {x : CallLine} → None ≡ Some x → ⊥
         no_line e = absurd cc
 

@@ -9,4 +9,4 @@ use Rattle.log_audit.proofs.winds.slots_after.Goals as goal
 pub loop-line-preserved : goal.loop-line-preserved
 loop-line-preserved c =
     subst (λ (ls : List WindLine). Agree c.take.new.self ls) (sym (take_more c.args.lines.now c.loop-line.line-index _ c.loop-line-test.true))
-    (taken c.loop-line.slots c.take.new.self (take c.loop-line.line-index c.args.lines.now) _ (c.in_ok-take.ensures c.if-not-branch.false) c.loop-line.invariant)
+    (taken c.loop-line.slots c.take.new.self (take c.loop-line.line-index c.args.lines.now) _ (c.in_ok-take.ensures.taken c.if-not-branch.false) c.loop-line.invariant)
