@@ -21,12 +21,12 @@ submits_push session [] e = let n = is_submit_of session e in let z : n + 0 ≡ 
 submits_push session (x ∷ es) e = let ih = submits_push session es e in omega (arith, ih)
 
 module _ {X : Type 0} where
-  take_within : (xs : List X) (x : X) (k : ℕ) → k ≤ length xs → take k (xs ++ x ∷ []) ≡ take k xs
+  pub take_within : (xs : List X) (x : X) (k : ℕ) → k ≤ length xs → take k (xs ++ x ∷ []) ≡ take k xs
   take_within xs x zero le = refl
   take_within [] x (suc k) le = absurd (omega (arith, le))
   take_within (y ∷ xs) x (suc k) le = ap (λ l. y ∷ l) (take_within xs x k (omega (arith, le)))
 
-  take_long : (xs : List X) → take (length xs) xs ≡ xs
+  pub take_long : (xs : List X) → take (length xs) xs ≡ xs
   take_long [] = refl
   take_long (y ∷ xs) = ap (λ l. y ∷ l) (take_long xs)
 
