@@ -1,12 +1,11 @@
 -- Armed lines with one more, from a later place, and none of them.
 use Rattle.std.proofs.Common.{◌≡◌, refl, sym, ap, subst, ◌∙◌, arith, get_or}
-use Rattle.std.specs.Prelude.{ℕ, ◌<◌, ◌≤◌, ◌+◌, ◌==◌, nat_lt, Bool, true, false, List, [], ◌∷◌, ◌++◌, Option, None, Some, is_some, if◌then◌else◌, length, slice_get}
+use Rattle.std.specs.Prelude.{ℕ, ◌<◌, ◌≤◌, ◌+◌, nat_lt, Bool, true, false, List, [], ◌∷◌, ◌++◌, Option, None, Some, is_some, if◌then◌else◌, length, slice_get}
 use Rattle.std.proofs.lemmas.Bool.{ltb-true, ltb-false, lt-ltb}
 use Rattle.std.proofs.lemmas.Option.{slice_get-get_or, slice_get_within}
 use Rattle.std.proofs.lemmas.List.{length-append}
 use Rattle.fop_types.specs.declared.messages.Input.{Input}
 use Rattle.fop_types.specs.declared.messages.Input.TheVariants as input
-use Rattle.fop_types.specs.declared.messages.Proc.{Proc}
 use Rattle.wire_xdr.specs.WireText.{proc_number, input_text, IsInputOf}
 use Rattle.wire_xdr.specs.Xdr.{unit}
 use Rattle.wire_xdr.proofs.QuadLaws.{unit_size}
@@ -16,7 +15,7 @@ use Rattle.wire_messages.specs.declared.messages.Message.TheVariants.{Whole, Wro
 use Rattle.mount_log.specs.Follows.{AreArmable, IsArmedLine}
 use Rattle.mount_log.specs.declared.logs.SentLine.{SentLine}
 use Rattle.mount_log.specs.Procedures.{proc_in, proc_by}
-use Rattle.log_audit.specs.Armed.{IsArmable, IsArmedFor, IsAmong, AreArmedFrom, AreAllArmed, AreAllAmong}
+use Rattle.log_audit.specs.Armed.{IsArmable, IsArmedFor, IsAmong, AreArmedFrom, AreAllArmed}
 use Rattle.log_audit.specs.declared.armed_lines.ArmedLines.{ArmedLines}
 use Rattle.mount_log.proofs.Items.{some_is}
 use Rattle.mount_log.proofs.Lists.{each_next, each_push}

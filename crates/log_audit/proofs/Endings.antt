@@ -1,14 +1,13 @@
 -- Where sessions submit their lines in order, each submission is one of a call.
-use Rattle.std.proofs.Common.{◌≡◌, refl, sym, ap, subst, ◌∙◌, arith}
-use Rattle.std.specs.Prelude.{ℕ, zero, suc, ◌<◌, ◌≤◌, ◌+◌, List, [], ◌∷◌, ◌++◌, Option, None, Some, length, take, slice_get}
+use Rattle.std.proofs.Common.{◌≡◌, refl, sym, ap, ◌∙◌, arith}
+use Rattle.std.specs.Prelude.{ℕ, suc, ◌+◌, List, [], ◌∷◌, ◌++◌, Option, None, Some, length, take, slice_get}
 use Rattle.fop_types.specs.Calls.{Submission}
 use Rattle.script_lang.specs.Accepted.{calls_of}
 use Rattle.script_lang.specs.declared.scripts.CallLine.{CallLine}
-use Rattle.script_lang.specs.declared.scripts.Phase.{Phase}
 use Rattle.script_lang.specs.declared.scripts.Script.{Script}
 use Rattle.mount_log.specs.Follows.{AreInOrder, IsNextLine, IsFinished}
 use Rattle.mount_log.specs.Logs.{submits_in, is_submit}
-use Rattle.mount_log.specs.Submissions.{session_line, submits_of, submissions_of, submissions_from, submitted_by, with_submission}
+use Rattle.mount_log.specs.Submissions.{session_line, submits_of, submissions_from, submitted_by, with_submission}
 use Rattle.mount_log.specs.declared.logs.HubEvent.{HubEvent}
 use Rattle.mount_log.specs.declared.logs.HubEvent.TheVariants as logged
 use Rattle.mount_log.specs.declared.logs.Log.{Log}

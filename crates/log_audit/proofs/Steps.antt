@@ -1,6 +1,6 @@
 -- What a line makes of what the slots say of a wind.
 use Rattle.std.proofs.Common.{◌≡◌, refl, sym, ap, subst, ◌∙◌, arith}
-use Rattle.std.specs.Prelude.{ℕ, zero, suc, ◌≢◌, ◌<◌, ◌≤◌, ◌+◌, ◌==◌, ◌&&◌, nat_lt, not, Bool, true, false, List, [], ◌∷◌, ◌++◌, length, slice_get, Option, Some, None, if◌then◌else◌, MatchBool}
+use Rattle.std.specs.Prelude.{ℕ, ◌≢◌, ◌<◌, ◌≤◌, ◌==◌, ◌&&◌, nat_lt, not, Bool, true, false, List, [], ◌∷◌, ◌++◌, length, slice_get, Option, Some, None, if◌then◌else◌, MatchBool}
 use Rattle.std.proofs.lemmas.Bool.{eqb-true as from_same, eqb-false as from_other, false_from_ne_true, true_from_ne_false, ltb-true as ltb-lt, ltb-false as ltb-le}
 use Rattle.std.proofs.lemmas.List.{length-append}
 use Rattle.xlator_law.specs.declared.winds.WindNo.{WindNo}

@@ -1,5 +1,5 @@
 -- Which calls have a reply, each once.
-use Rattle.std.specs.Prelude.{◌≡◌, ◌≢◌, ℕ, suc, ◌+◌, ◌<◌, ◌≤◌, Bool, true, false, List, [], ◌∷◌, Some, length, slice_get, slice_set, if◌then◌else◌}
+use Rattle.std.specs.Prelude.{◌≡◌, ℕ, suc, ◌+◌, ◌≤◌, Bool, true, false, List, [], ◌∷◌, Some, length, slice_get, slice_set, if◌then◌else◌}
 use Rattle.mount_log.specs.Follows.{replies_to}
 use Rattle.mount_log.specs.declared.logs.ReplyLine.{ReplyLine}
 

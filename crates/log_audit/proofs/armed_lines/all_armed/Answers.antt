@@ -1,4 +1,4 @@
-use Rattle.std.proofs.Common.{◌≡◌, sym, ap, subst, ◌∙◌, arith}
+use Rattle.std.proofs.Common.{◌≡◌, sym, ap, subst, ◌∙◌}
 use Rattle.std.specs.Prelude.{ℕ, List, Some, length, slice_get}
 use Rattle.log_audit.specs.Armed.{AreAllArmed, IsAmong}
 use Rattle.log_audit.specs.declared.armed_lines.ArmedLines.{ArmedLines}

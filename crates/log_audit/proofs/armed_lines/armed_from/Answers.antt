@@ -1,6 +1,6 @@
 use Rattle.std.proofs.Common.{◌≡◌, sym, ◌∙◌, arith}
-use Rattle.std.specs.Prelude.{◌≤◌, true, false}
-use Rattle.log_audit.proofs.Arming.{armed_next, armed_to, not_at, none_at, first_is}
+use Rattle.std.specs.Prelude.{true, false}
+use Rattle.log_audit.proofs.Arming.{armed_next, armed_to, not_at, first_is}
 use Rattle.log_audit.proofs.armed_lines.armed_from.Goals as goal
 
 pub loop-stop-preserved : goal.loop-stop-preserved

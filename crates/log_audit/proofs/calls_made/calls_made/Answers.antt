@@ -1,4 +1,4 @@
-use Rattle.std.proofs.Common.{◌≡◌, ◌≤◌, sym, ap, subst, ◌∙◌, map, arith}
+use Rattle.std.proofs.Common.{sym, ap, subst, ◌∙◌, map, arith}
 use Rattle.std.specs.Prelude.{List, ◌++◌, ◌∷◌, [], ◌+◌, Some, take}
 use Rattle.log_audit.specs.Called.{AreGathered}
 use Rattle.log_audit.specs.declared.calls_made.CallMade.{CallMade}

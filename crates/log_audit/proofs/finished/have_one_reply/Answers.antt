@@ -1,4 +1,4 @@
-use Rattle.std.proofs.Common.{◌≡◌, sym, ap, ◌∙◌}
+use Rattle.std.proofs.Common.{sym, ap, ◌∙◌}
 use Rattle.log_audit.specs.Replied.{all_seen}
 use Rattle.log_audit.proofs.Seen.{next_seen, have_one, unseen_next, all_are_seen}
 use Rattle.log_audit.proofs.finished.have_one_reply.Goals as goal

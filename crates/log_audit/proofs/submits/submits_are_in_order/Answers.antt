@@ -1,4 +1,4 @@
-use Rattle.std.proofs.Common.{◌≡◌, refl, sym, ap, subst, ◌∙◌, arith, map, get_or}
+use Rattle.std.proofs.Common.{refl, sym, ap, subst, ◌∙◌, map, get_or}
 use Rattle.std.specs.Prelude.{Some, ◌<◌, ◌≤◌, length}
 use Rattle.log_audit.proofs.Submitting.{other_next, submit_next, in_order, read_at, one_left, its_number}
 use Rattle.log_audit.proofs.submits.submits_are_in_order.Goals as goal

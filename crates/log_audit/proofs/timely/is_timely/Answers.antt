@@ -1,4 +1,3 @@
-use Rattle.std.specs.Prelude.{◌≤◌}
 use Rattle.std.proofs.lemmas.Bool.{leb-true, le-leb}
 use Rattle.log_audit.proofs.Heading.{timely_by_head, head_is_timely}
 use Rattle.log_audit.proofs.timely.is_timely.Goals as goal

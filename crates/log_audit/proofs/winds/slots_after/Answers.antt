@@ -6,7 +6,7 @@ use Rattle.mount_log.specs.declared.logs.WindLine.{WindLine}
 use Rattle.log_audit.specs.Agreeing.{Agree}
 use Rattle.log_audit.specs.Following.{WindsFollow}
 use Rattle.log_audit.proofs.Steps.{taken}
-use Rattle.log_audit.proofs.Following.{follow_more, none_follow, none_refused}
+use Rattle.log_audit.proofs.Following.{follow_more, none_refused}
 use Rattle.log_audit.proofs.winds.slots_after.Goals as goal
 
 pub loop-line-preserved : goal.loop-line-preserved
