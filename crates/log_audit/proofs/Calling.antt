@@ -1,13 +1,13 @@
 -- The calls of a log, event by event.
 use Rattle.std.proofs.Common.{◌≡◌, refl, sym, ap, subst, ◌∙◌, arith}
-use Rattle.std.specs.Prelude.{ℕ, zero, suc, ◌≢◌, ◌<◌, ◌≤◌, ◌+◌, ◌-◌, ◌==◌, Bool, true, false, List, [], ◌∷◌, ◌++◌, Option, None, Some, length, slice_get, take, if◌then◌else◌}
+use Rattle.std.specs.Prelude.{ℕ, zero, suc, ◌≢◌, ◌<◌, ◌≤◌, ◌+◌, ◌-◌, ◌==◌, Bool, true, false, List, [], ◌∷◌, ◌++◌, None, Some, length, slice_get, take, if◌then◌else◌}
 use Rattle.std.proofs.lemmas.Bool.{eqb-false}
 use Rattle.std.proofs.lemmas.List.{length-append, take_all}
 use Rattle.script_lang.specs.declared.scripts.Script.{Script}
 use Rattle.mount_log.specs.Lines.{queue_of, places_from, TakesLine}
 use Rattle.mount_log.specs.Graphs.{switches_in}
 use Rattle.mount_log.specs.Logs.{submits_in, is_submit}
-use Rattle.mount_log.specs.Submissions.{submits_of, submit_event, submitted_at}
+use Rattle.mount_log.specs.Submissions.{submit_event, submitted_at}
 use Rattle.mount_log.specs.declared.logs.HubEvent.{HubEvent}
 use Rattle.mount_log.specs.declared.logs.HubEvent.TheVariants as logged
 use Rattle.mount_log.specs.declared.logs.Log.{Log}

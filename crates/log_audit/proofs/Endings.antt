@@ -1,14 +1,13 @@
 -- Where sessions submit their lines in order, each submission is one of a call.
-use Rattle.std.proofs.Common.{◌≡◌, refl, sym, ap, subst, ◌∙◌, arith}
-use Rattle.std.specs.Prelude.{ℕ, zero, suc, ◌<◌, ◌≤◌, ◌+◌, List, [], ◌∷◌, ◌++◌, Option, None, Some, length, take, slice_get}
+use Rattle.std.proofs.Common.{◌≡◌, refl, sym, ap, ◌∙◌, arith}
+use Rattle.std.specs.Prelude.{ℕ, suc, ◌+◌, List, [], ◌∷◌, ◌++◌, Option, None, Some, length, take, slice_get}
 use Rattle.fop_types.specs.Calls.{Submission}
 use Rattle.script_lang.specs.Accepted.{calls_of}
 use Rattle.script_lang.specs.declared.scripts.CallLine.{CallLine}
-use Rattle.script_lang.specs.declared.scripts.Phase.{Phase}
 use Rattle.script_lang.specs.declared.scripts.Script.{Script}
 use Rattle.mount_log.specs.Follows.{AreInOrder, IsNextLine, IsFinished}
 use Rattle.mount_log.specs.Logs.{submits_in, is_submit}
-use Rattle.mount_log.specs.Submissions.{session_line, submits_of, submissions_of, submissions_from, submitted_by, with_submission}
+use Rattle.mount_log.specs.Submissions.{session_line, submits_of, submissions_from, submitted_by, with_submission}
 use Rattle.mount_log.specs.declared.logs.HubEvent.{HubEvent}
 use Rattle.mount_log.specs.declared.logs.HubEvent.TheVariants as logged
 use Rattle.mount_log.specs.declared.logs.Log.{Log}
@@ -52,3 +51,7 @@ module _ (script : Script) (log : Log) (order : AreInOrder script log) where
 
   pub finished : submits_in log.events ≡ length (calls_of script.phases) → HaveOne (length (calls_of script.phases)) log.replies → IsFinished script log
   finished all one = record { submitted = many [] log.events refl ∙ all; replied = one.each; no_other = one.many }
+
+  -- and a finished log has one for each call
+  pub submits_are : IsFinished script log → submits_in log.events ≡ length (calls_of script.phases)
+  submits_are f = sym (many [] log.events refl) ∙ f.submitted

@@ -11,7 +11,7 @@ use Rattle.fop_types.specs.declared.messages.Output.{Output}
 use Rattle.wire_xdr.specs.WireText.{output_text, IsOutKind}
 use Rattle.wire_messages.specs.Messages.{output_in}
 use Rattle.wire_messages.specs.declared.messages.Message.{Message}
-use Rattle.wire_messages.specs.declared.messages.Message.TheVariants.{Whole}
+use Rattle.wire_messages.specs.declared.messages.Message.TheVariants.{Whole, Wrong}
 use Rattle.brick_machine.specs.Encoded.{OutputsAreEncoded}
 use Rattle.brick_machine.specs.Journal.{Journal}
 use Rattle.brick_machine.specs.Laws.{OutputsStay, OutputsByTaken, outputs_up_to}
@@ -22,7 +22,7 @@ use Rattle.mount_log.specs.declared.logs.HubEvent.{HubEvent}
 use Rattle.mount_log.specs.declared.logs.HubEvent.TheVariants as logged
 use Rattle.mount_log.specs.declared.logs.Log.{Log}
 use Rattle.mount_log.specs.Outputs.{IsEncodedOutput, BringsOutput, BringOutputs}
-use Rattle.log_audit.specs.Arriving.{AreTimely, CountsAtMost}
+use Rattle.log_audit.specs.Arriving.{AreTimely, IsTimely, CountsAtMost}
 use Rattle.log_audit.specs.Honest.{IsOfBrick, IsFrom, ArrivedFrom, HasHonestArrivals, HasJournals}
 
 module _ {X : Type 0} where
@@ -92,7 +92,7 @@ none_arrive : (many brick : ℕ) (events : List HubEvent) → AllByRecursion (Is
 none_arrive many brick [] all le = refl
 none_arrive many brick (e ∷ es) all le = none_one many brick e (arrivals_from brick es) all.0 le ∙ none_arrive many brick es all.1 le
 
-each_from : (many : ℕ) (events : List HubEvent) (k : ℕ) (e : HubEvent) → AllByRecursion (IsFrom many) events → slice_get events k ≡ Some e → IsFrom many e
+pub each_from : (many : ℕ) (events : List HubEvent) (k : ℕ) (e : HubEvent) → AllByRecursion (IsFrom many) events → slice_get events k ≡ Some e → IsFrom many e
 each_from many [] k e all is = absurd cc
 each_from many (x ∷ events) zero e all is = subst (λ (y : HubEvent). IsFrom many y) (some_is x e is) all.0
 each_from many (x ∷ events) (suc k) e all is = each_from many events k e all.1 is
@@ -192,3 +192,17 @@ module _ (stay : OutputsStay) (log : Log) (bricks : List Journal) (has : HasJour
     prefix = λ brick. prefix_by brick (slice_get bricks brick) refl (nat_lt brick (length bricks)) refl;
     timely = λ k brick bytes output there whole. timely_by k brick bytes output there whole;
   }
+
+-- honest arrivals are timely, of each brick
+pub timely_of : (log : Log) (brick : ℕ) → HasHonestArrivals log → AreTimely brick log.events log.sent
+timely_of log brick h = record { each = at } where
+  counts : (k from : ℕ) (bytes : List ℕ) → slice_get log.events k ≡ Some (logged.Arrive from bytes) → from ≡ brick → (m : Message Output) → output_in bytes ≡ m → CountsAtMost m (sent_before (k + 1) brick log.sent)
+  counts k from bytes there same (Whole output) is = subst (λ (n : ℕ). output.taken ≤ sent_before (k + 1) n log.sent) same (h.timely k from bytes output there is)
+  counts k from bytes there same (Wrong place) is = tt
+
+  at : (k : ℕ) (e : HubEvent) → slice_get log.events k ≡ Some e → IsTimely brick log.sent (k + 1) e
+  at k (logged.Arrive from bytes) there = λ same. counts k from bytes there same (output_in bytes) refl
+  at k (logged.Submit session line) there = tt
+  at k (logged.Run graph task) there = tt
+  at k (logged.Act a) there = tt
+  at k (logged.Arm p q count a) there = tt

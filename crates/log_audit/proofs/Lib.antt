@@ -2,6 +2,7 @@ pub mod Heading
 pub mod Counts
 pub mod Steps
 pub mod Balanced
+pub mod Following
 pub mod Prefixes
 pub mod Earlier
 pub mod Honesty

@@ -1,6 +1,6 @@
 -- What a line makes of what the slots say of a wind.
 use Rattle.std.proofs.Common.{◌≡◌, refl, sym, ap, subst, ◌∙◌, arith}
-use Rattle.std.specs.Prelude.{ℕ, zero, suc, ◌≢◌, ◌<◌, ◌≤◌, ◌+◌, ◌==◌, ◌&&◌, nat_lt, not, Bool, true, false, List, [], ◌∷◌, ◌++◌, length, slice_get, Option, Some, None, if◌then◌else◌, MatchBool}
+use Rattle.std.specs.Prelude.{ℕ, ◌≢◌, ◌<◌, ◌≤◌, ◌==◌, ◌&&◌, nat_lt, not, Bool, true, false, List, [], ◌∷◌, ◌++◌, length, slice_get, Option, Some, None, if◌then◌else◌, MatchBool}
 use Rattle.std.proofs.lemmas.Bool.{eqb-true as from_same, eqb-false as from_other, false_from_ne_true, true_from_ne_false, ltb-true as ltb-lt, ltb-false as ltb-le}
 use Rattle.std.proofs.lemmas.List.{length-append}
 use Rattle.xlator_law.specs.declared.winds.WindNo.{WindNo}
@@ -14,13 +14,13 @@ use Rattle.log_audit.proofs.Counts.{opens, finishes, opened_push, ended_push}
 
 -- ---- tests
 
-eqb-true : {a b : ℕ} → a ≡ b → (a == b) ≡ true
+pub eqb-true : {a b : ℕ} → a ≡ b → (a == b) ≡ true
 eqb-true {a} {b} e = true_from_ne_false (a == b) (λ f. from_other a b f e)
 
 eqb-false : {a b : ℕ} → a ≢ b → (a == b) ≡ false
 eqb-false {a} {b} ne = false_from_ne_true (a == b) (λ e. ne (from_same a b e))
 
-eqb-to : {a b : ℕ} → (a == b) ≡ true → a ≡ b
+pub eqb-to : {a b : ℕ} → (a == b) ≡ true → a ≡ b
 eqb-to {a} {b} e = from_same a b e
 
 eqb-not : {a b : ℕ} → (a == b) ≡ false → a ≢ b
@@ -30,11 +30,11 @@ split : {P Q : Type 0} (b : Bool) → (b ≡ true → P) → (b ≡ false → Q)
 split true p q = p refl
 split false p q = q refl
 
-from_true : (w : WindNo) (last : Turn) (lines : List WindLine) (b : Bool) → b ≡ true → MatchBool b (IsLast w last lines) (IsOther w last lines) → IsLast w last lines
+pub from_true : (w : WindNo) (last : Turn) (lines : List WindLine) (b : Bool) → b ≡ true → MatchBool b (IsLast w last lines) (IsOther w last lines) → IsLast w last lines
 from_true w last lines true e m = m
 from_true w last lines false e m = absurd cc
 
-from_false : (w : WindNo) (last : Turn) (lines : List WindLine) (b : Bool) → b ≡ false → MatchBool b (IsLast w last lines) (IsOther w last lines) → IsOther w last lines
+pub from_false : (w : WindNo) (last : Turn) (lines : List WindLine) (b : Bool) → b ≡ false → MatchBool b (IsLast w last lines) (IsOther w last lines) → IsOther w last lines
 from_false w last lines true e m = absurd cc
 from_false w last lines false e m = m
 
@@ -46,19 +46,19 @@ no_right : (a b : Bool) → b ≡ false → (a && b) ≡ false
 no_right true b e = e
 no_right false b e = refl
 
-both : (a b : Bool) → a ≡ true → b ≡ true → (a && b) ≡ true
+pub both : (a b : Bool) → a ≡ true → b ≡ true → (a && b) ≡ true
 both true b e f = f
 both false b e f = absurd cc
 
-left_of : (a b : Bool) → (a && b) ≡ true → a ≡ true
+pub left_of : (a b : Bool) → (a && b) ≡ true → a ≡ true
 left_of true b e = refl
 left_of false b e = absurd cc
 
-right_of : (a b : Bool) → (a && b) ≡ true → b ≡ true
+pub right_of : (a b : Bool) → (a && b) ≡ true → b ≡ true
 right_of true b e = e
 right_of false b e = absurd cc
 
-count_one : (b : Bool) → b ≡ true → ◌≡◌ {A = ℕ} (if b then 1 else 0) 1
+pub count_one : (b : Bool) → b ≡ true → ◌≡◌ {A = ℕ} (if b then 1 else 0) 1
 count_one true e = refl
 count_one false e = absurd cc
 
@@ -66,7 +66,7 @@ count_none : (b : Bool) → b ≡ false → ◌≡◌ {A = ℕ} (if b then 1 els
 count_none true e = absurd cc
 count_none false e = refl
 
-same_wind : (a b : WindNo) → a.slot ≡ b.slot → a.turn ≡ b.turn → is_wind a b ≡ true
+pub same_wind : (a b : WindNo) → a.slot ≡ b.slot → a.turn ≡ b.turn → is_wind a b ≡ true
 same_wind a b e f = both (a.slot == b.slot) (a.turn == b.turn) (eqb-true e) (eqb-true f)
 
 made_of : (a b : WindNo) → a.slot ≡ b.slot → a.turn ≡ b.turn → b ≡ a
@@ -202,11 +202,11 @@ module _ (w : WindNo) (lines : List WindLine) (line : WindLine) (last : Turn) (s
 
 -- ---- a step of the wind's own slot
 
-if_true : {A : Type 0} (b : Bool) (x y : A) → b ≡ true → (if b then x else y) ≡ x
+pub if_true : {A : Type 0} (b : Bool) (x y : A) → b ≡ true → (if b then x else y) ≡ x
 if_true true x y e = refl
 if_true false x y e = absurd cc
 
-if_false : {A : Type 0} (b : Bool) (x y : A) → b ≡ false → (if b then x else y) ≡ y
+pub if_false : {A : Type 0} (b : Bool) (x y : A) → b ≡ false → (if b then x else y) ≡ y
 if_false true x y e = absurd cc
 if_false false x y e = refl
 
@@ -214,7 +214,7 @@ made_by : {A : Type 0} {x y : A} → Some x ≡ Some y → x ≡ y
 made_by e = cc
 
 -- which test let a line pass
-passed : {A : Type 0} (b : Bool) (x y : A) → (if b then Some x else None) ≡ Some y → (b ≡ true) × (x ≡ y)
+pub passed : {A : Type 0} (b : Bool) (x y : A) → (if b then Some x else None) ≡ Some y → (b ≡ true) × (x ≡ y)
 passed true x y e = (refl, made_by e)
 passed false x y e = absurd cc
 

@@ -1,13 +1,14 @@
 -- Sessions that submit their lines in order, with one event more.
 use Rattle.std.proofs.Common.{◌≡◌, refl, sym, ap, subst, ◌∙◌, arith, get_or}
-use Rattle.std.specs.Prelude.{ℕ, zero, suc, ◌≢◌, ◌<◌, ◌≤◌, ◌+◌, ◌==◌, nat_lt, Bool, true, false, List, [], ◌∷◌, ◌++◌, Option, None, Some, length, take, drop, slice_get, if◌then◌else◌}
-use Rattle.std.proofs.lemmas.Bool.{ltb-true, ltb-false, eqb-true, eqb-false, false_from_ne_true, true_from_ne_false}
-use Rattle.std.proofs.lemmas.List.{take_more, take_all, length-take-le}
+use Rattle.std.specs.Prelude.{ℕ, zero, suc, ◌<◌, ◌≤◌, ◌+◌, ◌==◌, nat_lt, Bool, true, false, List, [], ◌∷◌, ◌++◌, None, Some, length, take, drop, slice_get, if◌then◌else◌}
+use Rattle.std.proofs.lemmas.Bool.{ltb-true, ltb-false, eqb-true, eqb-false}
+use Rattle.std.proofs.lemmas.List.{take_more, take_all}
+use Rattle.std.proofs.lemmas.Option.{slice_get-get_or}
 use Rattle.script_lang.specs.declared.scripts.CallLine.{CallLine}
 use Rattle.script_lang.specs.declared.scripts.Script.{Script}
-use Rattle.mount_log.specs.Follows.{IsNextLine, AreInOrder}
+use Rattle.mount_log.specs.Follows.{AreInOrder}
 use Rattle.mount_log.specs.Lines.{queue_of, places_from, line_of, TakesLine}
-use Rattle.mount_log.specs.Submissions.{session_line, line_by, submits_of, is_submit_of}
+use Rattle.mount_log.specs.Submissions.{place_of_line, session_line, line_by, submits_of, is_submit_of}
 use Rattle.mount_log.specs.declared.logs.HubEvent.{HubEvent}
 use Rattle.mount_log.specs.declared.logs.HubEvent.TheVariants as logged
 use Rattle.mount_log.specs.declared.logs.Log.{Log}
@@ -20,12 +21,12 @@ submits_push session [] e = let n = is_submit_of session e in let z : n + 0 ≡ 
 submits_push session (x ∷ es) e = let ih = submits_push session es e in omega (arith, ih)
 
 module _ {X : Type 0} where
-  take_within : (xs : List X) (x : X) (k : ℕ) → k ≤ length xs → take k (xs ++ x ∷ []) ≡ take k xs
+  pub take_within : (xs : List X) (x : X) (k : ℕ) → k ≤ length xs → take k (xs ++ x ∷ []) ≡ take k xs
   take_within xs x zero le = refl
   take_within [] x (suc k) le = absurd (omega (arith, le))
   take_within (y ∷ xs) x (suc k) le = ap (λ l. y ∷ l) (take_within xs x k (omega (arith, le)))
 
-  take_long : (xs : List X) → take (length xs) xs ≡ xs
+  pub take_long : (xs : List X) → take (length xs) xs ≡ xs
   take_long [] = refl
   take_long (y ∷ xs) = ap (λ l. y ∷ l) (take_long xs)
 
@@ -132,8 +133,38 @@ module _ (script : Script) (events : List HubEvent) (i : ℕ) (e : HubEvent) (lt
       subst (λ (l : List HubEvent). AreNext script l × HaveLeft script l new) (sym (more ∙ ap (λ (x : HubEvent). take i events ++ x ∷ []) e_is))
       (submit_more script (take i events) own line old new at takes both.1 number both.0)
 
+-- the event that is read at a place is there
+pub read_at : (events : List HubEvent) (i : ℕ) (e : HubEvent) → i < length events → e ≡ get_or events i e → slice_get events i ≡ Some e
+read_at events i e lt is = slice_get-get_or events i e lt ∙ ap Some (sym is)
+
 pub in_order : (script : Script) (log : Log) (i : ℕ) → length log.events ≤ i → AreNext script (take i log.events) → AreInOrder script log
 in_order script log i le next k session line is =
     let all = take_all i log.events le in
     let n = subst (λ (l : List HubEvent). AreNext script l) all next k session line is in
     record { there = n.there; next = n.is; number = n.number_is }
+
+-- ---- sessions that do so submit no other line
+
+past : (xs : List LineAt) (n : ℕ) → drop n xs ≡ [] → slice_get xs n ≡ None
+past [] n e = refl
+past (x ∷ xs) zero e = absurd cc
+past (x ∷ xs) (suc n) e = past xs n e
+
+-- where a session has nothing left, its next call has no line
+pub no_place : (script : Script) (es : List HubEvent) (session : ℕ) (queues : List (List LineAt)) → HaveLeft script es queues → queue_of queues session ≡ [] → place_of_line script session (submits_of session es) ≡ None
+no_place script es session queues left none = past (places_from session 0 script.phases) (submits_of session es) (sym (left session) ∙ none)
+
+module _ (script : Script) (log : Log) (i session line : ℕ) (there : slice_get log.events i ≡ Some (logged.Submit session line)) (old : List (List LineAt)) (left : HaveLeft script (take i log.events) old) (order : AreInOrder script log) where
+  -- the session has a line left
+  pub one_left : queue_of old session ≡ [] → ⊥
+  one_left none =
+      let n = order i session line there in
+      no_line (sym (ap (line_by script) (no_place script (take i log.events) session old left none)) ∙ n.next) where
+        no_line : {x : CallLine} → None ≡ Some x → ⊥
+        no_line e = absurd cc
+
+  -- and its number is that of the line
+  pub its_number : (new : List (List LineAt)) (at : LineAt) → TakesLine old session at new → HasNumber (line_of script at) line
+  its_number new at takes =
+      let n = order i session line there in
+      record { there = n.there; is = sym (ap (line_by script) (its_next script (take i log.events) session line old new at takes left)) ∙ n.next; number_is = n.number }

@@ -1,5 +1,5 @@
 -- What the last wind of each slot says of the winds of the lines so far.
-use Rattle.std.specs.Prelude.{◌≡◌, ℕ, ◌<◌, ◌≤◌, ◌==◌, Bool, true, false, List, Option, Some, None, slice_get, length, if◌then◌else◌, MatchBool}
+use Rattle.std.specs.Prelude.{◌≡◌, ℕ, ◌<◌, ◌≤◌, ◌==◌, true, false, List, Option, Some, None, slice_get, length, if◌then◌else◌, MatchBool}
 use Rattle.xlator_law.specs.declared.winds.WindNo.{WindNo}
 use Rattle.mount_log.specs.Winds.{times_opened, times_ended, IsEndOf}
 use Rattle.mount_log.specs.declared.logs.WindLine.{WindLine}

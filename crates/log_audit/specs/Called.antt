@@ -21,6 +21,14 @@ pub record IsCallAt (script : Script) (log : Log) (n : ℕ) (call : CallMade) : 
   pub number_is : submits_in (take place log.events) ≡ n
   pub switches_are : call.switches ≡ length (switches_in (take place log.events))
 
+-- a session submits a call, and has no line left for it
+pub record SubmitsTooMany (script : Script) (log : Log) : Type 0 where
+  pub place : ℕ
+  pub session : ℕ
+  pub line : ℕ
+  pub there : slice_get log.events place ≡ Some (logged.Submit session line)
+  pub none_left : place_of_line script session (submits_of session (take place log.events)) ≡ None
+
 -- these are the calls of the log
 pub record AreCalls (script : Script) (log : Log) (calls : List CallMade) : Type 0 where
   pub each : (n : ℕ) (call : CallMade) → slice_get calls n ≡ Some call → IsCallAt script log n call

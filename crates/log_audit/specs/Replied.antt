@@ -1,5 +1,5 @@
 -- Which calls have a reply, each once.
-use Rattle.std.specs.Prelude.{◌≡◌, ◌≢◌, ℕ, suc, ◌+◌, ◌<◌, ◌≤◌, Bool, true, false, List, [], ◌∷◌, Some, length, slice_get, slice_set, if◌then◌else◌}
+use Rattle.std.specs.Prelude.{◌≡◌, ℕ, suc, ◌+◌, ◌≤◌, Bool, true, false, List, [], ◌∷◌, Some, length, slice_get, slice_set, if◌then◌else◌}
 use Rattle.mount_log.specs.Follows.{replies_to}
 use Rattle.mount_log.specs.declared.logs.ReplyLine.{ReplyLine}
 
@@ -11,6 +11,12 @@ pub record HaveOne (calls : ℕ) (replies : List ReplyLine) : Type 0 where
 pub record AreSeen (calls : ℕ) (replies : List ReplyLine) (seen : List Bool) : Type 0 where
   pub long : length seen ≡ calls
   pub each : (index : ℕ) (b : Bool) → slice_get seen index ≡ Some b → replies_to (index + 1) replies ≡ (if b then 1 else 0)
+
+-- a call was not seen
+pub record IsUnseen (seen : List Bool) (call : ℕ) : Type 0 where
+  pub index : ℕ
+  pub call_is : call ≡ suc index
+  pub unseen : slice_get seen index ≡ Some false
 
 -- a call that was not seen is
 pub record Sees (old : List Bool) (call : ℕ) (new : List Bool) : Type 0 where

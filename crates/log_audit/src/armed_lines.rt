@@ -1,14 +1,15 @@
 //! Lines that can be armed, one behind the other: where they stop at a request, they were armed for it.
-ghost use Rattle.std.specs.Prelude.{◌≡◌, ℕ, List, true, IfOk};
+ghost use Rattle.std.specs.Prelude.{◌≡◌, ◌<◌, ◌↔◌, IsTrue, ℕ, List, Some, true, IfOk, slice_get};
 ghost use Rattle.mount_log.specs.declared.logs.SentLine.{SentLine as Line};
 ghost use Rattle.mount_log.specs.Arms.{AreArmable, CanBeArmed, IsArmedLine};
-ghost use Rattle.log_audit.specs.Armed.{IsArmable, AreArmedFrom, AreAllArmed};
+ghost use Rattle.wire_messages.specs.Messages.{input_in};
+ghost use Rattle.log_audit.specs.Armed.{IsArmable, IsArmedFor, IsAmong, AreArmedFrom, AreAllArmed, AreAllAmong};
 
 use fop_types::Input;
 use mount_log::SentLine;
 use mount_log::requests::is_request;
 use std::alloc::{AllocError, Global};
-use wire_messages::{Message, input_of};
+use wire_messages::{Message, input_of, messages_read_back};
 
 /// The place at which lines that can be armed stop, with the event and the brick of them all.
 #[derive(Clone, Copy)]
@@ -30,7 +31,7 @@ pub fn none_armed() -> ArmedLines
 }
 
 fn can_be_armed(input: &Input) -> bool
-    ensures { result ≡ true → CanBeArmed input.now }
+    ensures { IsTrue result ↔ CanBeArmed input.now }
 {
     match input {
         Input::Down { .. } => true,
@@ -40,7 +41,7 @@ fn can_be_armed(input: &Input) -> bool
 }
 
 fn says_armable(message: &Message<Input>) -> bool
-    ensures { result ≡ true → IsArmable message.now }
+    ensures { IsTrue result ↔ IsArmable message.now }
 {
     match message {
         Message::Whole(input) => can_be_armed(input),
@@ -50,8 +51,10 @@ fn says_armable(message: &Message<Input>) -> bool
 
 // Whether bytes are an input that can be armed. Those of a request are not read.
 fn are_armable(alloc: Global, bytes: &[u8]) -> Result<bool, AllocError>
-    ensures { IfOk result (λ yes. yes ≡ true → AreArmable bytes.now) }
+    ensures sound { IfOk result (λ yes. yes ≡ true → AreArmable bytes.now) }
+    ensures complete { IfOk result (λ yes. IsArmable (input_in bytes.now) → yes ≡ true) }
 {
+    messages_read_back();
     if is_request(bytes) {
         return Ok(false);
     }
@@ -63,7 +66,8 @@ fn are_armable(alloc: Global, bytes: &[u8]) -> Result<bool, AllocError>
 
 // Whether a line can be armed, and is of this event and brick.
 fn is_armed_line(alloc: Global, line: &SentLine, event: u64, brick: u8) -> Result<bool, AllocError>
-    ensures { IfOk result (λ yes. yes ≡ true → IsArmedLine event brick line.now) }
+    ensures sound { IfOk result (λ yes. yes ≡ true → IsArmedLine event brick line.now) }
+    ensures complete { IfOk result (λ yes. IsArmedFor event brick line.now → yes ≡ true) }
 {
     if line.event != event || line.brick != brick {
         return Ok(false);
@@ -80,7 +84,8 @@ fn armed_from(
     event: u64,
     brick: u8,
 ) -> Result<ArmedLines, AllocError>
-    ensures { IfOk result (λ armed. AreArmedFrom sent.now from armed) }
+    ensures sound { IfOk result (λ armed. AreArmedFrom sent.now from armed) }
+    ensures complete { IfOk result (λ armed. (line : Line) → slice_get sent.now from ≡ Some line → IsArmedFor event brick line → from < armed.stop) }
 {
     let mut stop = from;
     while stop < sent.len() {
@@ -104,7 +109,8 @@ pub fn armed_at(
     before: ArmedLines,
 ) -> Result<ArmedLines, AllocError>
     requires { AreArmedFrom sent.now at before }
-    ensures { IfOk result (λ armed. AreArmedFrom sent.now at armed) }
+    ensures sound { IfOk result (λ armed. AreArmedFrom sent.now at armed) }
+    ensures complete { IfOk result (λ armed. IsAmong sent.now at armed) }
 {
     if at < before.stop {
         return Ok(before);
@@ -120,7 +126,8 @@ pub fn armed_at(
 /// # Errors
 /// Out of memory.
 pub fn all_armed(alloc: Global, sent: &[SentLine]) -> Result<Vec<ArmedLines>, AllocError>
-    ensures { IfOk result (λ all. AreAllArmed sent.now all.items) }
+    ensures sound { IfOk result (λ all. AreAllArmed sent.now all.items) }
+    ensures complete { IfOk result (λ all. AreAllAmong sent.now all.items) }
 {
     let mut all = Vec::new(alloc);
     let mut armed = none_armed();

@@ -1,5 +1,5 @@
 //! What a log says of one brick, against the brick's own journal and outputs.
-ghost use Rattle.std.specs.Prelude.{◌≡◌, ◌∷◌, ◌<◌, ◌^◌, true, Some, List, take, length, slice_get, option_copied};
+ghost use Rattle.std.specs.Prelude.{◌≡◌, ◌∷◌, ◌<◌, ◌^◌, ◌↔◌, IsTrue, Some, List, take, length, slice_get, option_copied};
 ghost use Rattle.mount_log.specs.Arrivals.{inputs_to, arrivals_from};
 ghost use Rattle.mount_log.specs.declared.logs.HubEvent.{HubEvent as Event};
 ghost use Rattle.mount_log.specs.declared.logs.SentLine.{SentLine as Line};
@@ -32,7 +32,7 @@ fn arrival<'a>(event: &'a HubEvent, brick: u8) -> Option<&'a Bytes>
 }
 
 fn is_at(list: &[Bytes], at: usize, bytes: &Bytes) -> bool
-    ensures { result ≡ true → slice_get list.now at ≡ Some bytes.now }
+    ensures { IsTrue result ↔ (slice_get list.now at ≡ Some bytes.now) }
 {
     match list.get(at) {
         Some(found) => found.as_slice() == bytes.as_slice(),
@@ -40,16 +40,17 @@ fn is_at(list: &[Bytes], at: usize, bytes: &Bytes) -> bool
     }
 }
 
-// A list of bytes has fewer than 2^64 items.
-pub fn are_few(list: &[Bytes]) -> bool
-    ensures { length list.now < 2 ^ 64 }
+/// How many items a list of bytes has: fewer than 2^64.
+pub fn count_of(list: &[Bytes]) -> usize
+    ensures value { result ≡ length list.now }
+    ensures few { length list.now < 2 ^ 64 }
 {
-    list.is_empty()
+    list.len()
 }
 
 /// Whether a brick's journal is a prefix of what was sent to it.
 pub fn was_sent(brick: u8, sent: &[SentLine], journal: &[Bytes]) -> bool
-    ensures { result ≡ true → take (length journal.now) (inputs_to brick sent.now) ≡ journal.now }
+    ensures { IsTrue result ↔ (take (length journal.now) (inputs_to brick sent.now) ≡ journal.now) }
 {
     let mut at = 0usize;
     for line in sent {
@@ -69,7 +70,7 @@ pub fn was_sent(brick: u8, sent: &[SentLine], journal: &[Bytes]) -> bool
 
 /// Whether what arrived from a brick is a prefix of its outputs.
 pub fn was_put_out(brick: u8, events: &[HubEvent], outputs: &[Bytes]) -> bool
-    ensures { result ≡ true → take (length (arrivals_from brick events.now)) outputs.now ≡ arrivals_from brick events.now }
+    ensures { IsTrue result ↔ (take (length (arrivals_from brick events.now)) outputs.now ≡ arrivals_from brick events.now) }
 {
     let mut at = 0usize;
     for event in events {

@@ -1,7 +1,7 @@
 //! The calls that were submitted, by their numbers.
-ghost use Rattle.std.specs.Prelude.{◌≡◌, IfOk, IfSome, option_copied, slice_get};
+ghost use Rattle.std.specs.Prelude.{◌≡◌, IfOk, IfSome, IfNone, option_copied, slice_get};
 ghost use Rattle.script_lang.specs.Accepted.{IsAccepted};
-ghost use Rattle.log_audit.specs.Called.{AreCalls, call_by};
+ghost use Rattle.log_audit.specs.Called.{AreCalls, SubmitsTooMany, call_by};
 
 use mount_log::by_place::event_at;
 use mount_log::switches::{Switched, passed_to};
@@ -42,7 +42,8 @@ pub fn calls_made(
     log: &Log,
 ) -> Result<Option<Vec<CallMade>>, AllocError>
     requires { IsAccepted script.now }
-    ensures { IfOk result (λ found. IfSome found (λ calls. AreCalls script.now log.now calls.items)) }
+    ensures calls { IfOk result (λ found. IfSome found (λ calls. AreCalls script.now log.now calls.items)) }
+    ensures none { IfOk result (λ found. IfNone found (SubmitsTooMany script.now log.now)) }
 {
     let mut queues = lines_of_sessions(alloc, script)?;
     let mut calls = Vec::new(alloc);

@@ -40,7 +40,8 @@ fn count_calls(phases: &[Phase]) -> usize
 /// Out of memory.
 pub fn is_finished(alloc: Global, script: &Script, log: &Log) -> Result<bool, AllocError>
     requires { IsAccepted script.now }
-    ensures { IfOk result (λ yes. yes ≡ true → AreInOrder script.now log.now → IsFinished script.now log.now) }
+    ensures sound { IfOk result (λ yes. yes ≡ true → AreInOrder script.now log.now → IsFinished script.now log.now) }
+    ensures complete { IfOk result (λ yes. AreInOrder script.now log.now → IsFinished script.now log.now → yes ≡ true) }
 {
     let calls = count_calls(script.phases.as_slice());
     if count_submits(log.events.as_slice()) != calls {

@@ -1,6 +1,6 @@
 //! Whether each call has one reply.
-ghost use Rattle.std.specs.Prelude.{◌≡◌, ◌≤◌, ℕ, true, [], length, IfOk};
-ghost use Rattle.log_audit.specs.Replied.{HaveOne, AreSeen, Sees, all_seen};
+ghost use Rattle.std.specs.Prelude.{◌≡◌, ◌≤◌, ◌↔◌, IsTrue, ℕ, true, [], length, IfOk};
+ghost use Rattle.log_audit.specs.Replied.{HaveOne, AreSeen, IsUnseen, Sees, all_seen};
 
 use mount_log::ReplyLine;
 use std::alloc::{AllocError, Global};
@@ -18,7 +18,8 @@ fn none_seen(alloc: Global, calls: usize) -> Result<Vec<bool>, AllocError>
 
 // A reply to a call is seen. It is false, with nothing changed, where the call is none of those, or was seen before.
 fn see(seen: &mut Vec<bool>, call: u32) -> bool
-    ensures { result ≡ true → Sees seen.old.items call seen.new.items }
+    ensures sound { result ≡ true → Sees seen.old.items call seen.new.items }
+    ensures complete { IsUnseen seen.old.items call → result ≡ true }
 {
     if call == 0 {
         return false;
@@ -43,7 +44,7 @@ fn are_all(seen: &[bool]) -> bool
 }
 
 fn are_as_many(replies: &[ReplyLine], calls: usize) -> bool
-    ensures { result ≡ true → length replies.now ≡ calls }
+    ensures { IsTrue result ↔ (length replies.now ≡ calls) }
 {
     replies.len() == calls
 }
@@ -57,7 +58,7 @@ pub fn have_one_reply(
     calls: usize,
     replies: &[ReplyLine],
 ) -> Result<bool, AllocError>
-    ensures { IfOk result (λ yes. yes ≡ true → HaveOne calls replies.now) }
+    ensures { IfOk result (λ yes. IsTrue yes ↔ HaveOne calls replies.now) }
 {
     if !are_as_many(replies, calls) {
         return Ok(false);

@@ -1,11 +1,11 @@
 //! Whether what arrived is what the bricks make of what was sent to them.
-ghost use Rattle.std.specs.Prelude.{◌≡◌, true};
-ghost use Rattle.log_audit.specs.Arriving.{AreTimely};
+ghost use Rattle.std.specs.Prelude.{◌≡◌, ◌≤◌, ◌<◌, ◌^◌, ◌↔◌, IsTrue, true, length};
+ghost use Rattle.log_audit.specs.Arriving.{AreTimely, SentInOrder};
 ghost use Rattle.mount_log.specs.Heads.{heads_of};
 ghost use Rattle.log_audit.specs.Honest.{IsOfBrick, IsFrom, ArrivedFrom, HasHonestArrivals, HasJournals};
 ghost use Rattle.std.specs.List.{AllByRecursion};
 
-use crate::bricks::{are_few, was_put_out, was_sent};
+use crate::bricks::{count_of, was_put_out, was_sent};
 use crate::timely::are_timely;
 use brick_machine::{Brick, outputs_are_encoded, outputs_are_in_order};
 use mount_log::heads::Head;
@@ -13,7 +13,7 @@ use mount_log::{HubEvent, Log};
 
 // Whether what arrives in an event comes from one of so many bricks.
 fn is_from(event: &HubEvent, many: usize) -> bool
-    ensures { result ≡ true → IsFrom many event.now }
+    ensures { IsTrue result ↔ IsFrom many event.now }
 {
     match event {
         HubEvent::Arrive { brick, .. } => (*brick as usize) < many,
@@ -22,7 +22,7 @@ fn is_from(event: &HubEvent, many: usize) -> bool
 }
 
 fn are_from(events: &[HubEvent], many: usize) -> bool
-    ensures { result ≡ true → AllByRecursion (IsFrom many) events.now }
+    ensures { IsTrue result ↔ AllByRecursion (IsFrom many) events.now }
 {
     for event in events {
         if !is_from(event, many) {
@@ -34,10 +34,11 @@ fn are_from(events: &[HubEvent], many: usize) -> bool
 
 // Whether the journal is a prefix of what was sent to the brick, and what arrived from it a prefix of its outputs.
 fn is_of_brick(log: &Log, brick: u8, at: &Brick) -> bool
-    ensures { result ≡ true → IsOfBrick log.now brick at.now }
+    ensures of_brick { IsTrue result ↔ IsOfBrick log.now brick at.now }
+    ensures few { length at.now.journal < 2 ^ 64 }
 {
     let journal = at.journal();
-    are_few(journal);
+    count_of(journal);
     if !was_sent(brick, log.sent.as_slice(), journal) {
         return false;
     }
@@ -49,6 +50,7 @@ fn is_of_brick(log: &Log, brick: u8, at: &Brick) -> bool
 pub fn arrivals_are_outputs(log: &Log, bricks: &[Brick]) -> bool
     ensures journals { result ≡ true → HasJournals log.now bricks.now }
     ensures arrived { result ≡ true → ArrivedFrom bricks.now log.now.events }
+    ensures complete { length bricks.now ≤ 255 → HasJournals log.now bricks.now → ArrivedFrom bricks.now log.now.events → result ≡ true }
 {
     if bricks.len() > 255 || !are_from(log.events.as_slice(), bricks.len()) {
         return false;
@@ -65,7 +67,8 @@ pub fn arrivals_are_outputs(log: &Log, bricks: &[Brick]) -> bool
 
 fn is_timely(log: &Log, heads: &[Head], brick: u8) -> bool
     requires { heads.now ≡ heads_of log.now.events }
-    ensures { result ≡ true → AreTimely brick log.now.events log.now.sent }
+    ensures sound { result ≡ true → AreTimely brick log.now.events log.now.sent }
+    ensures complete { SentInOrder log.now.events log.now.sent → AreTimely brick log.now.events log.now.sent → result ≡ true }
 {
     are_timely(brick, log.events.as_slice(), heads, log.sent.as_slice())
 }
@@ -77,7 +80,8 @@ pub fn arrivals_are_honest(log: &Log, heads: &[Head], bricks: &[Brick]) -> bool
     requires heads { heads.now ≡ heads_of log.now.events }
     requires journals { HasJournals log.now bricks.now }
     requires arrived { ArrivedFrom bricks.now log.now.events }
-    ensures { result ≡ true → HasHonestArrivals log.now }
+    ensures sound { result ≡ true → HasHonestArrivals log.now }
+    ensures complete { length bricks.now ≤ 255 → SentInOrder log.now.events log.now.sent → HasHonestArrivals log.now → result ≡ true }
 {
     if bricks.len() > 255 {
         return false;

@@ -1,5 +1,5 @@
 //! The last wind of each slot, line by line.
-ghost use Rattle.std.specs.Prelude.{◌≡◌, ◌<◌, ℕ, Some, [], true, IfOk, length, slice_set};
+ghost use Rattle.std.specs.Prelude.{◌≡◌, ◌<◌, ℕ, Some, None, [], true, false, IfOk, length, slice_set};
 ghost use Rattle.log_audit.specs.Slots.{slot_at, step, is_closed, are_closed, Takes};
 
 use mount_log::WindLine;
@@ -110,13 +110,16 @@ impl Slots {
         Ok(())
     }
 
-    /// The winds after a further line. It is false where the line cannot come: an opening while the slot's last wind is open,
-    /// or of a turn that does not rise; an end of another wind than the slot's open one, or in another graph or call.
+    /// The winds after a further line. It is false, with nothing changed, where the line cannot come: an opening while the
+    /// slot's last wind is open, or of a turn that does not rise; an end of another wind than the slot's open one, or in
+    /// another graph or call.
     ///
     /// # Errors
     /// Out of memory.
     pub fn take(&mut self, line: &WindLine) -> Result<bool, AllocError>
-        ensures { IfOk result (λ did. did ≡ true → Takes self.old line.now self.new) }
+        ensures taken { IfOk result (λ did. did ≡ true → Takes self.old line.now self.new) }
+        ensures refused { IfOk result (λ did. did ≡ false → step (slot_at self.old line.now.wind.slot) line.now ≡ None) }
+        ensures unchanged { IfOk result (λ did. did ≡ false → self.new ≡ self.old) }
     {
         let slot = line.wind.slot;
         let Some(next) = after(self.last(slot), line) else {

@@ -1,5 +1,5 @@
 //! Whether each session's calls are submitted in their order in the script.
-ghost use Rattle.std.specs.Prelude.{◌≡◌, true, option_copied, slice_get, IfOk};
+ghost use Rattle.std.specs.Prelude.{◌≡◌, ◌↔◌, IsTrue, option_copied, slice_get, IfOk};
 ghost use Rattle.script_lang.specs.Accepted.{IsAccepted};
 ghost use Rattle.mount_log.specs.Follows.{AreInOrder};
 ghost use Rattle.mount_log.specs.Lines.{line_of};
@@ -33,7 +33,7 @@ fn line_at(script: &Script, at: LineAt) -> Option<&CallLine>
 
 // Whether a place of the script is that of a line with this number.
 fn is_line(script: &Script, at: LineAt, number: u32) -> bool
-    ensures { result ≡ true → HasNumber (line_of script.now at) number }
+    ensures { IsTrue result ↔ HasNumber (line_of script.now at) number }
 {
     match line_at(script, at) {
         Some(line) => line.line == number,
@@ -47,7 +47,7 @@ fn is_line(script: &Script, at: LineAt, number: u32) -> bool
 /// Out of memory.
 pub fn submits_are_in_order(alloc: Global, script: &Script, log: &Log) -> Result<bool, AllocError>
     requires { IsAccepted script.now }
-    ensures { IfOk result (λ yes. yes ≡ true → AreInOrder script.now log.now) }
+    ensures { IfOk result (λ yes. IsTrue yes ↔ AreInOrder script.now log.now) }
 {
     let mut queues = lines_of_sessions(alloc, script)?;
     for event in log.events.as_slice() {

@@ -2,7 +2,7 @@
 ghost use Rattle.std.specs.Prelude.{◌≡◌, ◌≤◌, ◌==◌, ℕ, List, true, if◌then◌else◌};
 ghost use Rattle.mount_log.specs.declared.logs.SentLine.{SentLine as Line};
 ghost use Rattle.mount_log.specs.Arrivals.{sent_before};
-ghost use Rattle.log_audit.specs.Arriving.{IsTimely, AreTimely, IsLow};
+ghost use Rattle.log_audit.specs.Arriving.{IsTimely, AreTimely, IsLow, ArePassed, SentInOrder};
 ghost use Rattle.mount_log.specs.Heads.{head_of, heads_of};
 
 use mount_log::heads::{Head, head_at};
@@ -28,6 +28,7 @@ fn pass_to(brick: u8, sent: &[SentLine], number: u64, passed: Passed, before: u6
     requires low { IsLow brick before sent.now passed }
     requires later { before ≤ number }
     ensures low { IsLow brick number sent.now result }
+    ensures passed { ArePassed number sent.now result }
 {
     let mut now = passed;
     while now.next < sent.len() {
@@ -46,7 +47,8 @@ fn pass_to(brick: u8, sent: &[SentLine], number: u64, passed: Passed, before: u6
 // Whether what arrives in an event is timely, by its head, where so many inputs were sent to the brick before.
 fn is_timely(brick: u8, event: &HubEvent, head: Head, many: usize) -> bool
     requires { head ≡ head_of event.now }
-    ensures { result ≡ true → (sent : List Line) (number : ℕ) → many ≤ sent_before number brick sent → IsTimely brick sent number event.now }
+    ensures sound { result ≡ true → (sent : List Line) (number : ℕ) → many ≤ sent_before number brick sent → IsTimely brick sent number event.now }
+    ensures complete { (sent : List Line) (number : ℕ) → sent_before number brick sent ≤ many → IsTimely brick sent number event.now → result ≡ true }
 {
     match event {
         HubEvent::Arrive { brick: from, .. } => {
@@ -60,10 +62,11 @@ fn is_timely(brick: u8, event: &HubEvent, head: Head, many: usize) -> bool
 }
 
 /// Whether each output that arrives from a brick counts no more inputs than were sent to the brick before, by the heads of what
-/// arrives.
+/// arrives. It may be false, too, where what was sent is not in the order of its events.
 pub fn are_timely(brick: u8, events: &[HubEvent], heads: &[Head], sent: &[SentLine]) -> bool
     requires { heads.now ≡ heads_of events.now }
-    ensures { result ≡ true → AreTimely brick events.now sent.now }
+    ensures sound { result ≡ true → AreTimely brick events.now sent.now }
+    ensures complete { SentInOrder events.now sent.now → AreTimely brick events.now sent.now → result ≡ true }
 {
     let mut passed = Passed { next: 0, count: 0 };
     for k in 0..events.len() {

@@ -1,7 +1,8 @@
 //! Whether the winds of a log are balanced.
-ghost use Rattle.std.specs.Prelude.{◌≡◌, true, IfOk, IfSome};
+ghost use Rattle.std.specs.Prelude.{◌≡◌, true, IfOk, IfSome, IfNone};
 ghost use Rattle.mount_log.specs.Winds.{WindsAreOnce, WindsAreBalanced};
 ghost use Rattle.log_audit.specs.Agreeing.{Agree};
+ghost use Rattle.log_audit.specs.Following.{WindsFollow};
 
 use crate::slots::Slots;
 use mount_log::WindLine;
@@ -9,7 +10,9 @@ use std::alloc::{AllocError, Global};
 
 // The last wind of each slot, `None` where a line cannot come.
 fn slots_after(alloc: Global, lines: &[WindLine]) -> Result<Option<Slots>, AllocError>
-    ensures { IfOk result (λ o. IfSome o (λ slots. Agree slots lines.now)) }
+    ensures sound { IfOk result (λ o. IfSome o (λ slots. Agree slots lines.now)) }
+    ensures follow { IfOk result (λ o. IfSome o (λ _. WindsFollow lines.now)) }
+    ensures complete { IfOk result (λ o. IfNone o (WindsAreOnce lines.now → WindsFollow lines.now → ⊥)) }
 {
     let mut slots = Slots::new(alloc);
     for line in lines {
@@ -21,13 +24,16 @@ fn slots_after(alloc: Global, lines: &[WindLine]) -> Result<Option<Slots>, Alloc
 }
 
 /// Whether the winds of a log are balanced: each was opened once and ended once, after its opening and in its graph and call.
-/// It is false, too, where a slot's winds do not follow one another with rising turns, as a frame stack's do.
+/// It is false, too, where a slot's winds do not follow one another with rising turns, as a frame stack's do; where they do, it
+/// says which.
 ///
 /// # Errors
 /// Out of memory.
-#[tactic(auto, using(crate::proofs::Balanced::balanced))]
+#[tactic(auto, using(crate::proofs::Balanced::balanced, crate::proofs::Following::all_closed))]
 pub fn winds_are_balanced(alloc: Global, lines: &[WindLine]) -> Result<bool, AllocError>
-    ensures { IfOk result (λ yes. yes ≡ true → WindsAreBalanced lines.now) }
+    ensures sound { IfOk result (λ yes. yes ≡ true → WindsAreBalanced lines.now) }
+    ensures follow { IfOk result (λ yes. yes ≡ true → WindsFollow lines.now) }
+    ensures complete { IfOk result (λ yes. WindsAreBalanced lines.now → WindsFollow lines.now → yes ≡ true) }
 {
     match slots_after(alloc, lines)? {
         Some(slots) => Ok(slots.are_closed()),
@@ -42,7 +48,9 @@ pub fn winds_are_balanced(alloc: Global, lines: &[WindLine]) -> Result<bool, All
 /// Out of memory.
 #[tactic(auto, using(crate::proofs::Balanced::once))]
 pub fn winds_are_once(alloc: Global, lines: &[WindLine]) -> Result<bool, AllocError>
-    ensures { IfOk result (λ yes. yes ≡ true → WindsAreOnce lines.now) }
+    ensures sound { IfOk result (λ yes. yes ≡ true → WindsAreOnce lines.now) }
+    ensures follow { IfOk result (λ yes. yes ≡ true → WindsFollow lines.now) }
+    ensures complete { IfOk result (λ yes. WindsAreOnce lines.now → WindsFollow lines.now → yes ≡ true) }
 {
     match slots_after(alloc, lines)? {
         Some(_) => Ok(true),
