@@ -11,6 +11,7 @@ use Rattle.graph_nodes.specs.Calls.{CallGives}
 use Rattle.graph_nodes.specs.Live.{AllLive}
 use Rattle.graph_nodes.specs.Mounted.{Mounted}
 use Rattle.graph_nodes.specs.Ready.{tasks_in}
+use Rattle.graph_nodes.specs.Seen.{seen_in}
 
 pub gives_at : (number : ℕ) (starts : Start) (live live_new : BTreeMap ℕ Graph) (g g_new : Graph) (mount mount_new : Mount) (moved : Moved) → Some g ≡ get nat_cmp live number → WritesThrough nat_cmp (nat_cmp number) live g_new live_new
     → CallGives (starts g mount) g mount moved g_new mount_new → GivesAt number starts live mount moved live_new mount_new
@@ -28,7 +29,7 @@ some_weaker (Some x) A P Q f h = f x h
 
 -- what is seen before a call of graphs that are not spent
 abbrev seen_as : BTreeMap ℕ Graph → Mount → Bool → Mounted
-seen_as live mount spent = record { numbers = keys live; tasks = tasks_in live.entries; inodes = mount.inodes; history = mount.ledger.history; spent = spent }
+seen_as live mount spent = record { numbers = keys live; graphs = seen_in live.entries; tasks = tasks_in live.entries; inodes = mount.inodes; history = mount.ledger.history; spent = spent }
 
 pub seems_to_give : {T : Type 0} (moved : T → Moved) (starts : T → Start) (number : ℕ) (old : Mounted) (live live_new : BTreeMap ℕ Graph) (mount mount_new : Mount) (spent : Bool) (o : Option T) → seen_as live mount spent ≡ old → spent ≡ false → AllLive live mount
     → IfSome o (λ x. GivesAt number (starts x) live mount (moved x) live_new mount_new) → IfSome o (λ x. SeemsToGive number (starts x) old (moved x) (seen live_new mount_new))
