@@ -67,6 +67,9 @@ put_back [] brick c is = absurd cc
 put_back (x ∷ xs) zero c is = let this : x ≡ c = cc in ap (λ (y : ClientState). y ∷ xs) (sym this)
 put_back (x ∷ xs) (suc brick) c is = ap (λ (cs : List ClientState). x ∷ cs) (put_back xs brick c is)
 
+pub next_is : (cs : List ClientState) (brick : ℕ) (b : Bool) → may_connect cs brick ≡ b → (if b then Some (last_at cs brick + 1) else None) ≡ next_connection cs brick
+next_is cs brick b is = ap (λ (x : Bool). if x then Some (last_at cs brick + 1) else None) (sym is)
+
 -- a client changes, and is seen to change so
 changed_seen : (change seen : ClientState → ClientState) → ((c : ClientState) → seen_client (change c) ≡ seen (seen_client c)) → (cs : List ClientState) (brick : ℕ)
     → seen_clients (changed_by change cs brick (slice_get cs brick)) ≡ changed_by seen (seen_clients cs) brick (slice_get (seen_clients cs) brick)
