@@ -10,17 +10,15 @@ ghost use Rattle.graph_nodes.specs.Among.{SeemsToGive, submits, holds, arrives, 
 ghost use Rattle.graph_nodes.specs.Mounted.{has, KeepsMounted, IsSpentBy};
 ghost use Rattle.graph_nodes.specs.Plans.{IsPlan};
 ghost use Rattle.graph_nodes.specs.Seen.{is_drained_in, changed_at, next_in, connects, new_graph, Works, same_clients};
-ghost use Rattle.inode_table.specs.Inodes.{CanLink, inode_at, with_link, with_release};
 
 use crate::graph::Graph;
+use crate::making::{make_in, remove_in};
 use crate::mounted::{
-    arrive_in, bail_in, connect_in, drop_pages_in, held_in, make_in, remove_in, retire_in,
-    run_task_in, submit_in,
+    arrive_in, bail_in, connect_in, drop_pages_in, held_in, retire_in, run_task_in, submit_in,
 };
 use crate::moved::{Mount, Moved};
-use fop_types::{BrickRep, Fop, Gfid, Kind, Seq};
+use fop_types::{BrickRep, Fop, Gfid, Seq};
 use graph_build::Plan;
-use inode_table::InodeTable;
 use std::alloc::{AllocError, Global};
 use std::collections::BTreeMap;
 use std::marker::Model;
@@ -30,7 +28,8 @@ use xlator_law::{Settled, Stop, WindNo};
 /// no such graph.
 ///
 /// Contracts see the numbers, by them the connections of each graph and whether it has frames, the ready tasks, the inodes in
-/// use, the history, and whether the graphs are spent: once a call failed, each answers so from then on. They are not dropped: [`Graphs::discard`] ends them, so that no crate above proves how.
+/// use, the history, and whether the graphs are spent: once a call failed, each answers so from then on. They are not
+/// dropped: [`Graphs::discard`] ends them, so that no crate above proves how.
 pub struct Graphs {
     pub(crate) live: BTreeMap<u32, Graph>,
     pub(crate) mount: Mount,
@@ -257,33 +256,6 @@ impl Graphs {
         ensures there { result ≡ has self.old.numbers number }
     {
         retire_in(&mut self.live, number)
-    }
-
-    /// The inodes in use.
-    pub fn inodes(&self) -> &InodeTable
-        ensures { result.now ≡ self.now.inodes }
-    {
-        &self.mount.inodes
-    }
-
-    /// Takes a reference to an inode, as `InodeTable::link` does.
-    ///
-    /// # Errors
-    /// Out of memory, and nothing changed.
-    pub fn link(&mut self, alloc: Global, gfid: Gfid, kind: Kind, set: u8) -> Result<(), AllocError>
-        requires { CanLink kind (inode_at self.old.inodes gfid) }
-        ensures ok { OnOk result (self.new ≡ record self.old { inodes = with_link self.old.inodes gfid kind set }) }
-        ensures err { OnErr result (self.new ≡ self.old) }
-    {
-        self.mount.inodes.link(alloc, gfid, kind, set)?;
-        Ok(())
-    }
-
-    /// Gives a reference to an inode back, as `InodeTable::release` does.
-    pub fn release(&mut self, gfid: Gfid)
-        ensures { self.new ≡ record self.old { inodes = with_release self.old.inodes gfid } }
-    {
-        self.mount.inodes.release(gfid);
     }
 
     /// Ends the graphs, with all that they have.

@@ -3,7 +3,7 @@ use Rattle.std.specs.Prelude.{not}
 use Rattle.graph_nodes.proofs.Together.{made_all, absent_by, put_numbers, same_numbers}
 use Rattle.graph_nodes.proofs.Ready.{put_tasks}
 use Rattle.graph_nodes.proofs.Seen.{made_seen}
-use Rattle.graph_nodes.proofs.mounted.make_in.Goals as goal
+use Rattle.graph_nodes.proofs.making.make_in.Goals as goal
 
 pub returns-clause-live : goal.returns-clause-live
 returns-clause-live c = λ mount all. made_all c.args.live.now c.insert.new.self c.args.number c.in_ok-graph.graph mount all

@@ -4,7 +4,7 @@ use Rattle.std.specs.Ordering.{nat_cmp}
 use Rattle.graph_nodes.proofs.Together.{dropped_by, gone_numbers}
 use Rattle.graph_nodes.specs.Seen.{seen_in}
 use Rattle.graph_nodes.proofs.Seen.{gone_seen}
-use Rattle.graph_nodes.proofs.mounted.remove_in.Goals as goal
+use Rattle.graph_nodes.proofs.making.remove_in.Goals as goal
 
 pub returns-then-drained-clause-live : goal.returns-then-drained-clause-live
 returns-then-drained-clause-live c = λ mount all. dropped_by c.args.live.now c.remove.new.self c.args.number mount (c.is_drained_in-drained.ensures.frames c.if-drained.true) c.remove.ensures.updates.0 all
