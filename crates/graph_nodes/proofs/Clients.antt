@@ -1,6 +1,6 @@
 -- No node changes the clients that it shares: after a call they are as they were where its run began.
 use Rattle.std.proofs.Common.{◌≡◌, refl, sym, ap, subst, ◌∙◌}
-use Rattle.std.specs.Prelude.{ℕ, ◌==◌, ◌++◌, Bool, true, false, List, [], ◌∷◌, Option, None, Some, Result, Ok, Err, IfNone, IfOk, OnOk, MatchOption, if◌then◌else◌}
+use Rattle.std.specs.Prelude.{ℕ, ◌==◌, ◌++◌, Bool, true, false, List, [], ◌∷◌, length, Option, None, Some, Result, Ok, Err, IfNone, IfOk, OnOk, MatchOption, if◌then◌else◌}
 use Rattle.std.specs.BTreeMap.{is_at}
 use Rattle.std.specs.Ordering.{nat_cmp}
 use Rattle.std.specs.Set.{remove_key}
@@ -16,6 +16,7 @@ use Rattle.fop_types.specs.declared.jobs.SetReply.{SetReply}
 use Rattle.fop_types.specs.declared.jobs.SetReply.TheVariants as reply
 use Rattle.fop_types.specs.declared.messages.BrickRep.{BrickRep}
 use Rattle.afr_ledger.specs.Ledger.{State}
+use Rattle.afr_transaction.specs.Answers.{answered, copied}
 use Rattle.afr_transaction.specs.declared.need.Need.{Need}
 use Rattle.afr_transaction.specs.declared.need.Need.TheVariants as need
 use Rattle.afr_transaction.specs.declared.txn.Txn.{Txn}
@@ -58,9 +59,10 @@ use Rattle.graph_nodes.specs.declared.moved.Mount.{Mount}
 use Rattle.graph_nodes.specs.declared.moved.Moved.{Moved}
 use Rattle.graph_nodes.specs.Calls.{Running, CallGives, Enters, Wakes, RunsTask, TakesOutput, Bails, after_turn, turn_at, asked_by, brick_of, is_done}
 use Rattle.graph_nodes.specs.Live.{borrowing}
+use Rattle.graph_nodes.specs.Costs.{requests_for}
 use Rattle.graph_nodes.specs.Distribute.{Gives, with_hold, may_begin, BeginsBy, OnReply, GoesOn, OnExtended, IsBegun as FopBegins}
 use Rattle.graph_nodes.specs.Nodes.{Plainly, FopResumes, FopGoes, JobResumes, FopMakes, JobMakes, QueueMakes, CacheMakes, MakesByKind, node_makes}
-use Rattle.graph_nodes.specs.Replicate.{Turn, noted, went, turned, recorded, live, lasts, on_copy_done, on_copy, on_reply, resume_of, IsBegun as JobBegins}
+use Rattle.graph_nodes.specs.Replicate.{Turn, noted, went, turned, recorded, live, lasts, on_copy_done, on_copy, on_reply, said_of, IsBegun as JobBegins}
 use Rattle.graph_nodes.proofs.Seen.{seen_clients, noted_unseen}
 
 -- ---- a fop
@@ -142,21 +144,21 @@ turned_keeps plan requests cx t = went_keeps plan t.0 requests (record cx { ledg
 copied_keeps : (plan : SetPlan) (requests : ℕ) (cx : Context) (txn : Txn) (c : CopyRun × CopyNeed) → (on_copy plan requests cx txn c).cx.clients ≡ cx.clients
 copied_keeps plan requests cx txn (run, copy_need.Send list) = refl
 copied_keeps plan requests cx txn (run, copy_need.Wait) = refl
-copied_keeps plan requests cx txn (run, copy_need.Done done) = turned_keeps plan requests (recorded plan.bricks cx done.records) _
+copied_keeps plan requests cx txn (run, copy_need.Done done) = turned_keeps plan requests (recorded plan.bricks cx done.records) (copied txn done cx.ledger (live plan cx.clients) (lasts plan cx.clients))
 
 answered_keeps : (plan : SetPlan) (requests : ℕ) (cx : Context) (txn : Txn) (copy : Option CopyRun) (slot : ℕ) (said : ReplyValue) → (on_reply plan requests cx txn copy slot said).cx.clients ≡ cx.clients
-answered_keeps plan requests cx txn None slot said = turned_keeps plan requests cx _
+answered_keeps plan requests cx txn None slot said = turned_keeps plan requests cx (answered txn slot said.rep said.mark cx.ledger (live plan cx.clients) (lasts plan cx.clients))
 answered_keeps plan requests cx txn (Some run) slot said = copied_keeps plan requests cx txn (copy_answered run slot said.rep said.mark)
 
 job_resumes_keeps : (p : Replicate) (cx : Context) (l : Local) (slot : ℕ) (r : Up) (step : Step Down Up Local) (cx_new : Context) → JobResumes p cx l slot r step cx_new → cx_new.clients ≡ cx.clients
-job_resumes_keeps p cx (local.Set frame) slot r step cx_new is = ap (λ (x : Context). x.clients) is.cx ∙ answered_keeps p.plan frame.requests cx frame.txn frame.copy slot _
+job_resumes_keeps p cx (local.Set frame) slot r step cx_new is = ap (λ (x : Context). x.clients) is.cx ∙ answered_keeps p.plan frame.requests cx frame.txn frame.copy slot (said_of r)
 job_resumes_keeps p cx local.Relay slot r step cx_new is = absurd is
 job_resumes_keeps p cx (local.Queued what) slot r step cx_new is = absurd is
 job_resumes_keeps p cx (local.Pages read) slot r step cx_new is = absurd is
 job_resumes_keeps p cx (local.Distribute frame) slot r step cx_new is = absurd is
 
 job_begun_keeps : (plan : SetPlan) (cx : Context) (call : ℕ) (what : Down) (step : Step Down Up Local) (cx_new : Context) → JobBegins plan cx call what step cx_new → cx_new.clients ≡ cx.clients
-job_begun_keeps plan cx call (down.Job j) step cx_new is = ap (λ (x : Context). x.clients) is.turn.cx ∙ went_keeps plan is.txn _ cx is.need
+job_begun_keeps plan cx call (down.Job j) step cx_new is = ap (λ (x : Context). x.clients) is.turn.cx ∙ went_keeps plan is.txn (requests_for (length plan.bricks)) cx is.need
 job_begun_keeps plan cx call (down.Fop f) step cx_new is = ap (λ (x : Context). x.clients) is.cx
 job_begun_keeps plan cx call (down.Request r) step cx_new is = ap (λ (x : Context). x.clients) is.cx
 
