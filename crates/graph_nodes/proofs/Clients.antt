@@ -1,13 +1,12 @@
 -- No node changes the clients that it shares: after a call they are as they were where its run began.
-use Rattle.std.proofs.Common.{◌≡◌, refl, sym, ap, subst, ◌∙◌}
-use Rattle.std.specs.Prelude.{ℕ, ◌==◌, ◌++◌, Bool, true, false, List, [], ◌∷◌, length, Option, None, Some, Result, Ok, Err, IfNone, IfOk, OnOk, MatchOption, if◌then◌else◌}
+use Rattle.std.proofs.Common.{◌≡◌, refl, ap, ◌∙◌}
+use Rattle.std.specs.Prelude.{ℕ, ◌==◌, Bool, true, false, List, length, Option, None, Some, Result, Ok, Err, IfNone, IfOk, OnOk, MatchOption, if◌then◌else◌}
 use Rattle.std.specs.BTreeMap.{is_at}
 use Rattle.std.specs.Ordering.{nat_cmp}
 use Rattle.std.specs.Set.{remove_key}
 use Rattle.dht_fops.specs.declared.step.DhtNext.{DhtNext}
 use Rattle.dht_fops.specs.declared.step.DhtNext.TheVariants as next
 use Rattle.fop_types.specs.declared.cells.Cell.{Cell}
-use Rattle.fop_types.specs.declared.copy_jobs.CopyDone.{CopyDone}
 use Rattle.fop_types.specs.declared.fops.Fop.{Fop}
 use Rattle.fop_types.specs.declared.jobs.Job.{Job}
 use Rattle.fop_types.specs.declared.jobs.Job.TheVariants as job
@@ -20,8 +19,7 @@ use Rattle.afr_transaction.specs.Answers.{answered, copied}
 use Rattle.afr_transaction.specs.declared.need.Need.{Need}
 use Rattle.afr_transaction.specs.declared.need.Need.TheVariants as need
 use Rattle.afr_transaction.specs.declared.txn.Txn.{Txn}
-use Rattle.client_xlator.specs.Client.{ClientState}
-use Rattle.frame_driver.specs.Machine.{Graph as Machine, Makes, IsEntered, EntersBy, IsDone, IsRun, IsCarried, is_lost, place_for, queued}
+use Rattle.frame_driver.specs.Machine.{Makes, EntersBy, IsDone, IsRun, is_lost, queued}
 use Rattle.frame_driver.specs.Machine.IsRun.{NoTask, OneTask}
 use Rattle.frame_driver.specs.declared.items.Task.{Task}
 use Rattle.frame_driver.specs.declared.items.Task.TheVariants.{Enter, Resume, Go}
@@ -52,7 +50,6 @@ use Rattle.graph_nodes.specs.declared.kinds.Kind.TheVariants as kind
 use Rattle.graph_nodes.specs.declared.kinds.Node.{Node}
 use Rattle.graph_nodes.specs.declared.kinds.Replicate.{Replicate}
 use Rattle.graph_nodes.specs.declared.locals.FopState.{FopState}
-use Rattle.graph_nodes.specs.declared.locals.JobState.{JobState}
 use Rattle.graph_nodes.specs.declared.locals.Local.{Local}
 use Rattle.graph_nodes.specs.declared.locals.Local.TheVariants as local
 use Rattle.graph_nodes.specs.declared.moved.Mount.{Mount}
@@ -61,8 +58,8 @@ use Rattle.graph_nodes.specs.Calls.{Running, CallGives, Enters, Wakes, RunsTask,
 use Rattle.graph_nodes.specs.Live.{borrowing}
 use Rattle.graph_nodes.specs.Costs.{requests_for}
 use Rattle.graph_nodes.specs.Distribute.{Gives, with_hold, may_begin, BeginsBy, OnReply, GoesOn, OnExtended, IsBegun as FopBegins}
-use Rattle.graph_nodes.specs.Nodes.{Plainly, FopResumes, FopGoes, JobResumes, FopMakes, JobMakes, QueueMakes, CacheMakes, MakesByKind, node_makes}
-use Rattle.graph_nodes.specs.Replicate.{Turn, noted, went, turned, recorded, live, lasts, on_copy_done, on_copy, on_reply, said_of, IsBegun as JobBegins}
+use Rattle.graph_nodes.specs.Nodes.{FopResumes, FopGoes, JobResumes, FopMakes, JobMakes, QueueMakes, CacheMakes, MakesByKind, node_makes}
+use Rattle.graph_nodes.specs.Replicate.{noted, went, turned, recorded, live, lasts, on_copy, on_reply, said_of, IsBegun as JobBegins}
 use Rattle.graph_nodes.proofs.Seen.{seen_clients, noted_unseen}
 
 -- ---- a fop

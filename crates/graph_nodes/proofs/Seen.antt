@@ -1,9 +1,9 @@
 -- What is seen of graphs: how it is looked up, and what is seen after one of them changed.
-use Rattle.std.proofs.Common.{◌≡◌, refl, sym, ap, subst, ◌∙◌}
-use Rattle.std.proofs.lemmas.Bool.{eq-eqb, ne_eqb, lt-ltb, le-ltb}
+use Rattle.std.proofs.Common.{◌≡◌, refl, sym, ap, ◌∙◌}
+use Rattle.std.proofs.lemmas.Bool.{eq-eqb, ne_eqb}
 use Rattle.std.proofs.lemmas.List.{length-map, map-set}
 use Rattle.std.proofs.lemmas.Option.{slice_get-map}
-use Rattle.std.specs.Prelude.{ℕ, zero, suc, ◌<◌, ◌≤◌, ◌+◌, ◌==◌, ◌&&◌, ◌↔◌, nat_lt, Bool, true, false, cond, IsTrue, List, [], ◌∷◌, length, map, Option, None, Some, is_some, option_map, slice_get, slice_set, if◌then◌else◌}
+use Rattle.std.specs.Prelude.{ℕ, zero, suc, ◌+◌, ◌==◌, ◌&&◌, ◌↔◌, nat_lt, Bool, true, false, cond, IsTrue, List, [], ◌∷◌, length, map, Option, None, Some, is_some, option_map, slice_get, slice_set, if◌then◌else◌}
 use Rattle.std.specs.BTreeMap.{BTreeMap, get, insert_entry, is_at}
 use Rattle.std.specs.List.{range_with_len}
 use Rattle.std.specs.Map.{lookup, remove_entry, set_value}
@@ -23,7 +23,7 @@ use Rattle.graph_nodes.specs.declared.graph.Graph.{Graph}
 use Rattle.graph_nodes.specs.declared.locals.Local.{Local}
 use Rattle.graph_nodes.specs.declared.outer.Waiting.{Waiting}
 use Rattle.graph_nodes.specs.declared.opening.Asked.{Asked}
-use Rattle.graph_nodes.specs.Calls.{noted_as, noted_by, noted_for, noted_of}
+use Rattle.graph_nodes.specs.Calls.{noted_as, noted_by, noted_of}
 use Rattle.graph_nodes.specs.Plans.{bricks_in}
 use Rattle.graph_nodes.specs.OpenWinds.{WindsState, opened_in, waiting_in}
 use Rattle.graph_nodes.specs.Seen.{SeenGraph, new_graph, seen_client, seen_graph, seen_entry, seen_in, graph_at, changed_at, may_connect, next_connection, connects, Works}
