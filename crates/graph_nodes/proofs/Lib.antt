@@ -25,3 +25,5 @@ pub mod PlanLoads
 pub mod Ready
 pub mod Together
 pub mod Among
+pub mod Seen
+pub mod Clients

@@ -3,12 +3,13 @@ use Rattle.std.proofs.Common.{◌≡◌, refl, sym, ap, subst, ◌∙◌, arith,
 use Rattle.std.proofs.lemmas.List.{length-append, length-map}
 use Rattle.std.proofs.lemmas.List.Elements.{recursion_from_All}
 use Rattle.std.specs.Prelude.{ℕ, zero, suc, ◌<◌, ◌≤◌, ◌+◌, ◌-◌, ◌==◌, cond, min, Bool, true, false, ◌&&◌, ◌||◌, List, [], ◌∷◌, ◌++◌, map, length, slice_get, None, Some}
-use Rattle.std.specs.BTreeMap.{BTreeMap, get, is_at}
+use Rattle.std.specs.BTreeMap.{BTreeMap, get, insert_entry, is_at}
 use Rattle.std.specs.List.{All, AllByRecursion, list_any}
 use Rattle.std.specs.List.Sorted.{IsStrictlySortedBy}
 use Rattle.std.specs.Map.{lookup, keys_of, set_value, values_of}
-use Rattle.std.specs.Ordering.{nat_cmp, is_eq, is_lt}
-use Rattle.std.specs.declared.cmp.Ordering.TheVariants.{Less}
+use Rattle.std.specs.Ordering.{nat_cmp, is_eq, is_lt, match_ordering}
+use Rattle.std.specs.declared.cmp.Ordering.{Ordering}
+use Rattle.std.specs.declared.cmp.Ordering.TheVariants.{Less, Equal, Greater}
 use Rattle.graph_nodes.specs.declared.graph.Graph.{Graph}
 use Rattle.graph_nodes.specs.Ready.{task_of, tasks_of, tasks_in, has_task}
 use Rattle.graph_nodes.proofs.Together.{is_same, at_is}
@@ -150,3 +151,17 @@ tasks_kept n (e ∷ es) old new found same = by (is_at (nat_cmp n) e.0) found (�
 pub called_tasks : (live : BTreeMap ℕ Graph) (written : List (ℕ × Graph)) (n : ℕ) (old new : Graph) → Some old ≡ get nat_cmp live n → written ≡ set_value (is_at (nat_cmp n)) live.entries new → new.cx.ready.keys ≡ old.cx.ready.keys
     → tasks_in written ≡ tasks_in live.entries
 called_tasks live written n old new found is same = ap tasks_in is ∙ tasks_kept n live.entries old new (sym found) same
+
+-- ---- a graph without ready tasks comes
+
+tasks_put : (es : List (ℕ × Graph)) (n : ℕ) (g : Graph) → lookup (is_at (nat_cmp n)) es ≡ None → g.cx.ready.keys ≡ [] → tasks_in (insert_entry nat_cmp es n g) ≡ tasks_in es
+tasks_put [] n g none idle = ap (λ (ks : List ℕ). map (task_of n) ks ++ []) idle
+tasks_put (e ∷ es) n g none idle = by (nat_cmp n e.0) none (λ later. tasks_put es n g later idle) where
+  by : (o : Ordering) → cond (is_eq o) (Some e.1) (lookup (is_at (nat_cmp n)) es) ≡ None → (lookup (is_at (nat_cmp n)) es ≡ None → tasks_in (insert_entry nat_cmp es n g) ≡ tasks_in es)
+      → tasks_in (match_ordering o ((n, g) ∷ e ∷ es) ((e.0, g) ∷ es) (e ∷ insert_entry nat_cmp es n g)) ≡ tasks_in (e ∷ es)
+  by Less none rest = ap (λ (ks : List ℕ). map (task_of n) ks ++ tasks_in (e ∷ es)) idle
+  by Equal none rest = absurd cc
+  by Greater none rest = ap (λ (ts : List (ℕ × ℕ)). tasks_of e.0 e.1 ++ ts) (rest none)
+
+pub put_tasks : (live live_new : BTreeMap ℕ Graph) (n : ℕ) (g : Graph) → get nat_cmp live n ≡ None → live_new.entries ≡ insert_entry nat_cmp live.entries n g → g.cx.ready.keys ≡ [] → tasks_in live_new.entries ≡ tasks_in live.entries
+put_tasks live live_new n g none put idle = ap tasks_in put ∙ tasks_put live.entries n g none idle

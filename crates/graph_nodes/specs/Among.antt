@@ -13,6 +13,7 @@ use Rattle.graph_nodes.specs.Calls.{Running, CallGives, Enters, Wakes, RunsTask,
 use Rattle.graph_nodes.specs.Live.{AllLive}
 use Rattle.graph_nodes.specs.Mounted.{Mounted}
 use Rattle.graph_nodes.specs.Ready.{tasks_in}
+use Rattle.graph_nodes.specs.Seen.{seen_in}
 
 -- how a call of a graph of this mount starts
 abbrev pub Start : Type 1
@@ -43,7 +44,7 @@ pub record GivesAt (number : ℕ) (starts : Start) (live : BTreeMap ℕ Graph) (
 
 -- what is seen of graphs that are not spent
 abbrev pub seen : BTreeMap ℕ Graph → Mount → Mounted
-seen live mount = record { numbers = keys live; tasks = tasks_in live.entries; inodes = mount.inodes; history = mount.ledger.history; spent = false }
+seen live mount = record { numbers = keys live; graphs = seen_in live.entries; tasks = tasks_in live.entries; inodes = mount.inodes; history = mount.ledger.history; spent = false }
 
 -- There are graphs that are live and seen so, of which the graph of this number gives it; and they are seen so after it.
 pub record SeemsToGive (number : ℕ) (starts : Start) (old : Mounted) (moved : Moved) (new : Mounted) : Type 0 where

@@ -2,7 +2,7 @@
 -- of a plan; io-threads and io-cache; the set's node; the node of fops; what the frames of both keep between two turns, and
 -- what a turn gives; the shape of a transaction under way; what a node promises; what its steps make; plans; what a graph
 -- keeps from call to call; the winds that are open at a brick; what a call of a graph gives; how pages are dropped; which
--- tasks are ready; and what contracts see of all graphs, and of a call of one of them.
+-- tasks are ready; and what contracts see of a graph, of all graphs, and of a call of one of them.
 pub mod Moves
 pub mod Root
 pub mod Pass
@@ -26,5 +26,6 @@ pub mod OpenWinds
 pub mod Calls
 pub mod Caching
 pub mod Ready
+pub mod Seen
 pub mod Mounted
 pub mod Among

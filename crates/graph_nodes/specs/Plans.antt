@@ -1,5 +1,5 @@
 -- What a graph asks of its plan: that its nodes and its sets are those of a plan that a volfile gives.
-use Rattle.std.specs.Prelude.{ℕ, ◌≤◌, List, IsSomeAnd, slice_get}
+use Rattle.std.specs.Prelude.{ℕ, ◌≤◌, ◌+◌, max, min, List, [], ◌∷◌, IsSomeAnd, slice_get}
 use Rattle.fop_types.specs.Jobs.{IsSetPlan}
 use Rattle.fop_types.specs.declared.jobs.SetPlan.{SetPlan}
 use Rattle.graph_build.specs.NodeLaw.{AreNodes}
@@ -25,3 +25,21 @@ Needs sets pages Pass = Unit {0}
 
 abbrev pub HasNeeds : List SetPlan → NodePlan → Type 0
 HasNeeds sets n = Needs sets n.cache_pages n.kind
+
+-- ---- the bricks that a plan uses, by the clients among its nodes
+
+abbrev pub with_brick : ℕ → NodeKind → ℕ
+with_brick count (Client brick) = max count (min (brick + 1) 255)
+with_brick count (Replicate number) = count
+with_brick count Distribute = count
+with_brick count IoCache = count
+with_brick count IoThreads = count
+with_brick count Pass = count
+
+abbrev pub bricks_from : ℕ → List NodePlan → ℕ
+bricks_from count [] = count
+bricks_from count (n ∷ ns) = bricks_from (with_brick count n.kind) ns
+
+-- one more than the greatest number of a brick
+abbrev pub bricks_in : List NodePlan → ℕ
+bricks_in nodes = bricks_from 0 nodes

@@ -1,6 +1,6 @@
 //! The calls of a graph. Each borrows the mount's stack and ledger, does its part, runs the tasks that are left, and gives
 //! both back.
-ghost use Rattle.std.specs.Prelude.{ℕ, List, ◌≡◌, ◌<◌, None, length, map, IfOk, OnOk, IsErrOf, MatchOption};
+ghost use Rattle.std.specs.Prelude.{ℕ, List, ◌≡◌, ◌<◌, None, length, map, IfNone, IfOk, OnOk, IsErrOf, MatchOption};
 ghost use Rattle.std.specs.BTreeMap.{get};
 ghost use Rattle.std.specs.Ordering.{nat_cmp};
 ghost use Rattle.fop_types.specs.Bounds.{IsFop};
@@ -182,6 +182,7 @@ impl Graph {
         ensures kept { KeepsMount self.old mount.old self.new mount.new }
         ensures live { OnOk result (StaysLive self.old mount.old self.new mount.new) }
         ensures gives { IfOk result (λ moved. MatchOption moved (turn_at self.old.nodes.items task ≡ None) (λ m. CallGives (RunsTask task mount.old.parked.keys) self.old mount.old m self.new mount.new)) }
+        ensures idle { IfOk result (λ moved. IfNone moved (self.new.cx ≡ self.old.cx)) }
         ensures winds { IsErrOf result Stop.Winds → CallEndsEarly (RunsTask task mount.old.parked.keys) self.old mount.old self.new mount.new }
     {
         let Some(frame) = take_turn(&mut self.nodes, &mut self.cx, task) else {
@@ -196,6 +197,7 @@ impl Graph {
 fn take_turn(nodes: &mut Vec<Node>, cx: &mut Context, task: u32) -> Option<u32>
     ensures promises { map node_promise nodes.new.items ≡ map node_promise nodes.old.items }
     ensures turn { MatchOption result (turn_at nodes.old.items task ≡ None) (λ key. TakesTurn task nodes.old.items cx.old key nodes.new.items cx.new) }
+    ensures idle { IfNone result (cx.new ≡ cx.old) }
 {
     if task as usize >= nodes.len() {
         return None;
@@ -207,6 +209,7 @@ fn take_turn(nodes: &mut Vec<Node>, cx: &mut Context, task: u32) -> Option<u32>
 fn take_turn_in(node: &mut Node, cx: &mut Context) -> Option<u32>
     ensures promise { node_promise node.new ≡ node_promise node.old }
     ensures turn { MatchOption result (turn_by node.old.kind ≡ None) (λ key. TurnIs node.old cx.old key node.new cx.new) }
+    ensures idle { IfNone result (cx.new ≡ cx.old) }
 {
     match &mut node.kind {
         Kind::IoThreads(queue) => queue.take(cx),

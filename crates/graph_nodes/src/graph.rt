@@ -1,11 +1,11 @@
-ghost use Rattle.std.specs.Prelude.{◌≡◌, ◌<◌, ◌+◌, ◌↔◌, min, IfOk, IsTrue, length, map, slice_get};
+ghost use Rattle.std.specs.Prelude.{◌≡◌, ◌<◌, ◌+◌, ◌↔◌, [], min, IfOk, IsTrue, length, map, slice_get};
 ghost use Rattle.std.specs.BTreeSet.{contains_by};
 ghost use Rattle.std.specs.Ordering.{nat_cmp};
 ghost use Rattle.frame_driver.specs.Follows.{Fits};
 ghost use Rattle.frame_driver.specs.Machine.{empty_board};
-ghost use Rattle.graph_items.specs.Clients.{connection_at, last_at, connected_at};
+ghost use Rattle.graph_items.specs.Clients.{new_clients, connection_at, last_at, connected_at};
 ghost use Rattle.graph_nodes.specs.Caching.{cached_by, retired, without_pages};
-ghost use Rattle.graph_nodes.specs.Plans.{IsPlan};
+ghost use Rattle.graph_nodes.specs.Plans.{IsPlan, with_brick, bricks_in};
 ghost use Rattle.graph_nodes.specs.Promises.{node_promise};
 
 use crate::caches::{drop_pages_at, retire_at};
@@ -38,14 +38,22 @@ pub struct Graph {
     pub(crate) cache: Option<u16>,
 }
 
+fn with_brick(count: u8, kind: NodeKind) -> u8
+    ensures { result ≡ with_brick count kind }
+{
+    match kind {
+        NodeKind::Client(brick) => count.max(brick.saturating_add(1)),
+        _ => count,
+    }
+}
+
 // One more than the greatest number of a brick that the plan uses.
-fn bricks_of(plan: &Plan) -> u8 {
+fn bricks_of(plan: &Plan) -> u8
+    ensures { result ≡ bricks_in plan.now.nodes }
+{
     let mut count: u8 = 0;
     for node in plan.nodes.as_slice() {
-        match node.kind {
-            NodeKind::Client(brick) => count = count.max(brick.saturating_add(1)),
-            _ => {}
-        }
+        count = with_brick(count, node.kind);
     }
     count
 }
@@ -75,7 +83,10 @@ fn cache_of(plan: &Plan) -> Option<u16> {
 }
 
 // What the nodes of a new graph share. The ledger is an empty one, until the mount's is borrowed.
-fn context_of(alloc: Global, bricks: u8, number: u32) -> Result<Context, AllocError> {
+fn context_of(alloc: Global, bricks: u8, number: u32) -> Result<Context, AllocError>
+    ensures clients { IfOk result (λ cx. cx.clients ≡ new_clients bricks number) }
+    ensures ready { IfOk result (λ cx. cx.ready.keys ≡ []) }
+{
     let clients = Clients::new(alloc, bricks, number)?;
     Ok(Context {
         ledger: MountLedger::new(alloc),
@@ -99,6 +110,8 @@ impl Graph {
         ensures board { IfOk result (λ g. g.board ≡ empty_board number) }
         ensures fits { IfOk result (λ g. Fits (map node_promise g.nodes.items) g.wiring) }
         ensures top { IfOk result (λ g. g.top < length g.nodes.items) }
+        ensures clients { IfOk result (λ g. g.cx.clients ≡ new_clients (bricks_in plan.now.nodes) number) }
+        ensures ready { IfOk result (λ g. g.cx.ready.keys ≡ []) }
     {
         let bricks = bricks_of(plan);
         let tree = tree_of(alloc, plan)?;

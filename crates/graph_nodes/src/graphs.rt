@@ -1,23 +1,24 @@
 //! The graphs of a mount by their numbers, with what they share.
-ghost use Rattle.std.specs.Prelude.{ℕ, ◌≡◌, ◌||◌, ◌&&◌, not, true, false, [], None, is_some, IfSome, IfOk, OnOk, OnErr};
-ghost use Rattle.std.specs.BTreeMap.{is_at};
+ghost use Rattle.std.specs.Prelude.{ℕ, ◌≡◌, ◌||◌, ◌&&◌, not, true, false, [], None, is_some, IfSome, IfOk, OnOk, OnErr, if◌then◌else◌};
+ghost use Rattle.std.specs.BTreeMap.{insert_entry, is_at};
+ghost use Rattle.std.specs.Map.{remove_entry};
 ghost use Rattle.std.specs.Ordering.{nat_cmp};
 ghost use Rattle.std.specs.FinMap as map;
 ghost use Rattle.fop_types.specs.Bounds.{IsFop, IsRep};
+ghost use Rattle.graph_items.specs.Clients.{ended_at};
 ghost use Rattle.graph_nodes.specs.Among.{SeemsToGive, submits, holds, arrives, bails, runs_task};
 ghost use Rattle.graph_nodes.specs.Mounted.{has, KeepsMounted, IsSpentBy};
 ghost use Rattle.graph_nodes.specs.Plans.{IsPlan};
-ghost use Rattle.inode_table.specs.Inodes.{CanLink, inode_at, with_link, with_release};
+ghost use Rattle.graph_nodes.specs.Seen.{is_drained_in, changed_at, next_in, connects, new_graph, Works, same_clients};
 
 use crate::graph::Graph;
+use crate::making::{make_in, remove_in};
 use crate::mounted::{
-    arrive_in, bail_in, connect_in, drop_pages_in, held_in, make_in, remove_in, retire_in,
-    run_task_in, submit_in,
+    arrive_in, bail_in, connect_in, drop_pages_in, held_in, retire_in, run_task_in, submit_in,
 };
 use crate::moved::{Mount, Moved};
-use fop_types::{BrickRep, Fop, Gfid, Kind, Seq};
+use fop_types::{BrickRep, Fop, Gfid, Seq};
 use graph_build::Plan;
-use inode_table::InodeTable;
 use std::alloc::{AllocError, Global};
 use std::collections::BTreeMap;
 use std::marker::Model;
@@ -26,8 +27,9 @@ use xlator_law::{Settled, Stop, WindNo};
 /// The graphs of a mount and what they share. Each call names a graph by its number, and answers `None` where there is
 /// no such graph.
 ///
-/// Contracts see the numbers, the ready tasks, the inodes in use, the history, and whether the graphs are spent: once a call failed, each
-/// answers so from then on. They are not dropped: [`Graphs::discard`] ends them, so that no crate above proves how.
+/// Contracts see the numbers, by them the connections of each graph and whether it has frames, the ready tasks, the inodes in
+/// use, the history, and whether the graphs are spent: once a call failed, each answers so from then on. They are not
+/// dropped: [`Graphs::discard`] ends them, so that no crate above proves how.
 pub struct Graphs {
     pub(crate) live: BTreeMap<u32, Graph>,
     pub(crate) mount: Mount,
@@ -40,12 +42,13 @@ impl Model for Graphs {
     ghost use Rattle.graph_nodes.specs.Live.{AllLive};
     ghost use Rattle.graph_nodes.specs.Mounted.{Mounted, mounted_code};
     ghost use Rattle.graph_nodes.specs.Ready.{tasks_in};
+    ghost use Rattle.graph_nodes.specs.Seen.{seen_in};
 
     ghost Value = { Mounted };
 
     ghost coded = { mounted_code };
 
-    ghost view = { λ g. record { numbers = keys g.live; tasks = tasks_in g.live.entries; inodes = g.mount.inodes; history = g.mount.ledger.history; spent = g.is_spent } };
+    ghost view = { λ g. record { numbers = keys g.live; graphs = seen_in g.live.entries; tasks = tasks_in g.live.entries; inodes = g.mount.inodes; history = g.mount.ledger.history; spent = g.is_spent } };
 
     ghost invariant = { λ g. MatchBool g.is_spent (Unit {0}) (AllLive g.live g.mount) };
 }
@@ -53,7 +56,7 @@ impl Model for Graphs {
 impl Graphs {
     /// No graphs, in a mount whose first graph will have so many sets. It takes no memory.
     pub fn new(alloc: Global, root_sets: u8) -> Graphs
-        ensures { result ≡ record { numbers = []; tasks = []; inodes = map.empty; history = []; spent = false } }
+        ensures { result ≡ record { numbers = []; graphs = []; tasks = []; inodes = map.empty; history = []; spent = false } }
     {
         Graphs {
             live: BTreeMap::new(alloc),
@@ -73,6 +76,8 @@ impl Graphs {
         ensures ok { OnOk result ((self.old.spent ≡ false) × (self.new.spent ≡ false)) }
         ensures made { IfOk result (λ made. made ≡ not (has self.old.numbers number)) }
         ensures numbers { OnOk result ((q : ℕ) → has self.new.numbers q ≡ (is_at (nat_cmp number) q || has self.old.numbers q)) }
+        ensures graphs { IfOk result (λ made. self.new.graphs ≡ (if made then insert_entry nat_cmp self.old.graphs number (new_graph plan.now number) else self.old.graphs)) }
+        ensures tasks { OnOk result (self.new.tasks ≡ self.old.tasks) }
         ensures err { OnErr result (IsSpentBy self.old self.new) }
     {
         if self.is_spent {
@@ -84,12 +89,14 @@ impl Graphs {
         Ok(made)
     }
 
-    /// Drops a graph without frames. False comes where it has some, or there is no such graph.
+    /// Drops a graph without frames. False comes exactly where it has some, or there is no such graph.
     pub fn remove(&mut self, number: u32) -> bool
         ensures inodes { self.new.inodes ≡ self.old.inodes }
         ensures history { self.new.history ≡ self.old.history }
         ensures spent { self.new.spent ≡ self.old.spent }
         ensures numbers { (q : ℕ) → has self.new.numbers q ≡ (not (result && is_at (nat_cmp number) q) && has self.old.numbers q) }
+        ensures drained { result ≡ is_drained_in self.old.graphs number }
+        ensures graphs { self.new.graphs ≡ (if result then remove_entry (is_at (nat_cmp number)) self.old.graphs else self.old.graphs) }
     {
         remove_in(&mut self.live, number)
     }
@@ -107,6 +114,7 @@ impl Graphs {
     ) -> Result<Option<Moved>, Stop>
         requires { IsFop fop }
         ensures ok { OnOk result (KeepsMounted self.old self.new) }
+        ensures graphs { OnOk result (Works same_clients number self.old.graphs self.new.graphs) }
         ensures gives { IfOk result (λ moved. IfSome moved (λ m. SeemsToGive number (submits call fop) self.old m self.new)) }
         ensures there { IfOk result (λ moved. is_some moved ≡ has self.old.numbers number) }
         ensures err { OnErr result (IsSpentBy self.old self.new) }
@@ -127,6 +135,7 @@ impl Graphs {
     /// As for [`Graphs::submit`].
     pub fn held(&mut self, alloc: Global, number: u32, call: u32) -> Result<Option<Moved>, Stop>
         ensures ok { OnOk result (KeepsMounted self.old self.new) }
+        ensures graphs { OnOk result (Works same_clients number self.old.graphs self.new.graphs) }
         ensures gives { IfOk result (λ moved. IfSome moved (λ m. SeemsToGive number (holds call) self.old m self.new)) }
         ensures there { IfOk result (λ moved. is_some moved ≡ has self.old.numbers number) }
         ensures err { OnErr result (IsSpentBy self.old self.new) }
@@ -154,6 +163,7 @@ impl Graphs {
     ) -> Result<Option<(Option<Settled>, Moved)>, Stop>
         requires { IsRep true rep }
         ensures ok { OnOk result (KeepsMounted self.old self.new) }
+        ensures graphs { OnOk result (Works same_clients number self.old.graphs self.new.graphs) }
         ensures gives { IfOk result (λ arrived. IfSome arrived (λ r. SeemsToGive number (arrives wind rep taken r.0) self.old r.1 self.new)) }
         ensures there { IfOk result (λ arrived. is_some arrived ≡ has self.old.numbers number) }
         ensures err { OnErr result (IsSpentBy self.old self.new) }
@@ -187,6 +197,7 @@ impl Graphs {
         brick: u8,
     ) -> Result<Option<(u32, Moved)>, Stop>
         ensures ok { OnOk result (KeepsMounted self.old self.new) }
+        ensures graphs { OnOk result (Works (λ cs. ended_at cs brick) number self.old.graphs self.new.graphs) }
         ensures gives { IfOk result (λ bailed. IfSome bailed (λ r. SeemsToGive number (bails brick r.0) self.old r.1 self.new)) }
         ensures there { IfOk result (λ bailed. is_some bailed ≡ has self.old.numbers number) }
         ensures err { OnErr result (IsSpentBy self.old self.new) }
@@ -206,6 +217,7 @@ impl Graphs {
     /// As for [`Graphs::submit`].
     pub fn run_task(&mut self, alloc: Global, number: u32, task: u32) -> Result<Option<Moved>, Stop>
         ensures ok { OnOk result (KeepsMounted self.old self.new) }
+        ensures graphs { OnOk result (Works same_clients number self.old.graphs self.new.graphs) }
         ensures gives { IfOk result (λ moved. IfSome moved (λ m. SeemsToGive number (runs_task task) self.old m self.new)) }
         ensures absent { has self.old.numbers number ≡ false → IfOk result (λ moved. moved ≡ None) }
         ensures err { OnErr result (IsSpentBy self.old self.new) }
@@ -219,10 +231,12 @@ impl Graphs {
         Ok(moved)
     }
 
-    /// A graph opens its next connection to a brick, whose number this gives. `None` comes too where the graph does not use
-    /// the brick, or has an open connection to it, or has opened 4,294,967,295.
+    /// A graph opens its next connection to a brick, whose number this gives. `None` comes exactly where there is no such
+    /// graph, or it uses neither this brick nor one with a greater number, or has an open connection to it, or has opened
+    /// 4,294,967,295.
     pub fn connect(&mut self, number: u32, brick: u8) -> Option<u32>
-        ensures same { self.new ≡ self.old }
+        ensures number { result ≡ next_in self.old.graphs number brick }
+        ensures connects { self.new ≡ record self.old { graphs = changed_at (connects brick) number self.old.graphs } }
         ensures absent { has self.old.numbers number ≡ false → result ≡ None }
     {
         connect_in(&mut self.live, number, brick)
@@ -242,33 +256,6 @@ impl Graphs {
         ensures there { result ≡ has self.old.numbers number }
     {
         retire_in(&mut self.live, number)
-    }
-
-    /// The inodes in use.
-    pub fn inodes(&self) -> &InodeTable
-        ensures { result.now ≡ self.now.inodes }
-    {
-        &self.mount.inodes
-    }
-
-    /// Takes a reference to an inode, as `InodeTable::link` does.
-    ///
-    /// # Errors
-    /// Out of memory, and nothing changed.
-    pub fn link(&mut self, alloc: Global, gfid: Gfid, kind: Kind, set: u8) -> Result<(), AllocError>
-        requires { CanLink kind (inode_at self.old.inodes gfid) }
-        ensures ok { OnOk result (self.new ≡ record self.old { inodes = with_link self.old.inodes gfid kind set }) }
-        ensures err { OnErr result (self.new ≡ self.old) }
-    {
-        self.mount.inodes.link(alloc, gfid, kind, set)?;
-        Ok(())
-    }
-
-    /// Gives a reference to an inode back, as `InodeTable::release` does.
-    pub fn release(&mut self, gfid: Gfid)
-        ensures { self.new ≡ record self.old { inodes = with_release self.old.inodes gfid } }
-    {
-        self.mount.inodes.release(gfid);
     }
 
     /// Ends the graphs, with all that they have.

@@ -1,70 +1,21 @@
 //! Calls of one graph among those of a mount: what they leave of the others.
-ghost use Rattle.std.specs.Prelude.{ℕ, ◌≡◌, ◌<◌, ◌||◌, ◌&&◌, not, true, false, None, length, is_some, IsSomeAnd, IfSome, IfOk, OnOk, OnErr};
-ghost use Rattle.std.specs.BTreeMap.{get, is_at, keys};
+ghost use Rattle.std.specs.Prelude.{◌≡◌, ◌<◌, true, false, None, length, is_some, IfSome, IfOk, OnOk};
+ghost use Rattle.std.specs.BTreeMap.{get, keys};
 ghost use Rattle.std.specs.Ordering.{nat_cmp};
 ghost use Rattle.fop_types.specs.Bounds.{IsFop, IsRep};
-ghost use Rattle.graph_items.specs.Clients.{last_at};
+ghost use Rattle.graph_items.specs.Clients.{ended_at, last_at};
 ghost use Rattle.graph_nodes.specs.declared.moved.Mount.{Mount};
 ghost use Rattle.graph_nodes.specs.Among.{GivesAt, submits, holds, arrives, bails, runs_task};
 ghost use Rattle.graph_nodes.specs.Live.{AllLive, KeepsMount, StaysLive};
-ghost use Rattle.graph_nodes.specs.Plans.{IsPlan};
 ghost use Rattle.graph_nodes.specs.Ready.{tasks_in};
+ghost use Rattle.graph_nodes.specs.Seen.{seen_graph, seen_in, changed_at, may_connect, next_connection, next_in, connects, Works, same_clients};
 
 use crate::graph::Graph;
 use crate::moved::{Mount, Moved};
 use fop_types::{BrickRep, Fop, Gfid};
-use graph_build::Plan;
-use std::alloc::{AllocError, Global};
+use std::alloc::Global;
 use std::collections::BTreeMap;
 use xlator_law::{Settled, Stop, WindNo};
-
-/// A graph of this number comes, unless there is one.
-///
-/// # Errors
-/// Out of memory.
-pub(crate) fn make_in(
-    alloc: Global,
-    live: &mut BTreeMap<u32, Graph>,
-    plan: &Plan,
-    number: u32,
-) -> Result<bool, AllocError>
-    requires plan { IsPlan plan.now }
-    ensures live { OnOk result ((mount : Mount) → AllLive live.old mount → AllLive live.new mount) }
-    ensures made { IfOk result (λ made. made ≡ not (is_some (get nat_cmp live.old number))) }
-    ensures numbers { OnOk result ((q : ℕ) → is_some (get nat_cmp live.new q) ≡ (is_at (nat_cmp number) q || is_some (get nat_cmp live.old q))) }
-    ensures err { OnErr result (keys live.new ≡ keys live.old) }
-{
-    let there = live.contains_key(&number);
-    if there {
-        return Ok(false);
-    }
-    let graph = Graph::new(alloc, plan, number)?;
-    drop(live.insert(number, graph)?);
-    Ok(true)
-}
-
-// Whether there is a graph of this number, without frames.
-fn is_drained_in(live: &BTreeMap<u32, Graph>, number: u32) -> bool
-    ensures { result ≡ true → IsSomeAnd (get nat_cmp live.now number) (λ g. g.board.frames ≡ 0) }
-{
-    match live.get(&number) {
-        Some(graph) => graph.is_drained(),
-        None => false,
-    }
-}
-
-/// A graph without frames goes.
-pub(crate) fn remove_in(live: &mut BTreeMap<u32, Graph>, number: u32) -> bool
-    ensures live { (mount : Mount) → AllLive live.old mount → AllLive live.new mount }
-    ensures numbers { (q : ℕ) → is_some (get nat_cmp live.new q) ≡ (not (result && is_at (nat_cmp number) q) && is_some (get nat_cmp live.old q)) }
-{
-    let drained = is_drained_in(live, number);
-    if drained {
-        drop(live.remove(&number));
-        return true;
-    }
-    false
-}
 
 /// A fop of a call enters a graph.
 ///
@@ -84,6 +35,7 @@ pub(crate) fn submit_in(
     ensures gives { IfOk result (λ moved. IfSome moved (λ m. GivesAt number (submits call fop) live.old mount.old m live.new mount.new)) }
     ensures there { IfOk result (λ moved. is_some moved ≡ is_some (get nat_cmp live.old number)) }
     ensures numbers { keys live.new ≡ keys live.old }
+    ensures graphs { OnOk result (Works same_clients number (seen_in live.old.entries) (seen_in live.new.entries)) }
     ensures inodes { mount.new.inodes ≡ mount.old.inodes }
 {
     match live.get_mut(&number) {
@@ -114,6 +66,7 @@ pub(crate) fn held_in(
     ensures gives { IfOk result (λ moved. IfSome moved (λ m. GivesAt number (holds call) live.old mount.old m live.new mount.new)) }
     ensures there { IfOk result (λ moved. is_some moved ≡ is_some (get nat_cmp live.old number)) }
     ensures numbers { keys live.new ≡ keys live.old }
+    ensures graphs { OnOk result (Works same_clients number (seen_in live.old.entries) (seen_in live.new.entries)) }
     ensures inodes { mount.new.inodes ≡ mount.old.inodes }
 {
     match live.get_mut(&number) {
@@ -144,6 +97,7 @@ pub(crate) fn arrive_in(
     ensures gives { IfOk result (λ arrived. IfSome arrived (λ r. GivesAt number (arrives wind rep taken r.0) live.old mount.old r.1 live.new mount.new)) }
     ensures there { IfOk result (λ arrived. is_some arrived ≡ is_some (get nat_cmp live.old number)) }
     ensures numbers { keys live.new ≡ keys live.old }
+    ensures graphs { OnOk result (Works same_clients number (seen_in live.old.entries) (seen_in live.new.entries)) }
     ensures inodes { mount.new.inodes ≡ mount.old.inodes }
 {
     match live.get_mut(&number) {
@@ -174,6 +128,7 @@ pub(crate) fn bail_in(
     ensures gives { IfOk result (λ bailed. IfSome bailed (λ r. GivesAt number (bails brick r.0) live.old mount.old r.1 live.new mount.new)) }
     ensures there { IfOk result (λ bailed. is_some bailed ≡ is_some (get nat_cmp live.old number)) }
     ensures numbers { keys live.new ≡ keys live.old }
+    ensures graphs { OnOk result (Works (λ cs. ended_at cs brick) number (seen_in live.old.entries) (seen_in live.new.entries)) }
     ensures inodes { mount.new.inodes ≡ mount.old.inodes }
 {
     match live.get_mut(&number) {
@@ -201,6 +156,7 @@ pub(crate) fn run_task_in(
     ensures gives { IfOk result (λ moved. IfSome moved (λ m. GivesAt number (runs_task task) live.old mount.old m live.new mount.new)) }
     ensures absent { is_some (get nat_cmp live.old number) ≡ false → IfOk result (λ moved. moved ≡ None) }
     ensures numbers { keys live.new ≡ keys live.old }
+    ensures graphs { OnOk result (Works same_clients number (seen_in live.old.entries) (seen_in live.new.entries)) }
     ensures inodes { mount.new.inodes ≡ mount.old.inodes }
 {
     match live.get_mut(&number) {
@@ -212,6 +168,8 @@ pub(crate) fn run_task_in(
 // A graph opens its next connection to a brick that it uses and has no open connection to, unless the numbers of its
 // connections have come to their end.
 fn connect_next(graph: &mut Graph, brick: u8) -> Option<u32>
+    ensures number { result ≡ next_connection graph.old.cx.clients brick }
+    ensures connects { seen_graph graph.new ≡ connects brick (seen_graph graph.old) }
     ensures stays { (mount : Mount) → StaysLive graph.old mount graph.new mount }
     ensures kept { (mount : Mount) → KeepsMount graph.old mount graph.new mount }
     ensures ready { graph.new.cx.ready.keys ≡ graph.old.cx.ready.keys }
@@ -225,7 +183,8 @@ fn connect_next(graph: &mut Graph, brick: u8) -> Option<u32>
 }
 
 fn may_connect(graph: &Graph, brick: u8) -> bool
-    ensures { result ≡ true → (brick < length graph.now.cx.clients) × (last_at graph.now.cx.clients brick < 4294967295) }
+    ensures exact { result ≡ may_connect graph.now.cx.clients brick }
+    ensures needs { result ≡ true → (brick < length graph.now.cx.clients) × (last_at graph.now.cx.clients brick < 4294967295) }
 {
     if graph.connection(brick).is_some() {
         return false;
@@ -237,6 +196,8 @@ fn may_connect(graph: &Graph, brick: u8) -> bool
 pub(crate) fn connect_in(live: &mut BTreeMap<u32, Graph>, number: u32, brick: u8) -> Option<u32>
     ensures live { (mount : Mount) → AllLive live.old mount → AllLive live.new mount }
     ensures absent { is_some (get nat_cmp live.old number) ≡ false → result ≡ None }
+    ensures number { result ≡ next_in (seen_in live.old.entries) number brick }
+    ensures connects { seen_in live.new.entries ≡ changed_at (connects brick) number (seen_in live.old.entries) }
     ensures numbers { keys live.new ≡ keys live.old }
     ensures tasks { tasks_in live.new.entries ≡ tasks_in live.old.entries }
 {
@@ -250,6 +211,7 @@ fn drop_pages_of(graph: &mut Graph, gfid: Gfid)
     ensures stays { (mount : Mount) → StaysLive graph.old mount graph.new mount }
     ensures kept { (mount : Mount) → KeepsMount graph.old mount graph.new mount }
     ensures ready { graph.new.cx.ready.keys ≡ graph.old.cx.ready.keys }
+    ensures seen { seen_graph graph.new ≡ seen_graph graph.old }
 {
     graph.drop_pages(gfid);
 }
@@ -258,6 +220,7 @@ fn drop_pages_of(graph: &mut Graph, gfid: Gfid)
 pub(crate) fn drop_pages_in(live: &mut BTreeMap<u32, Graph>, number: u32, gfid: Gfid) -> bool
     ensures live { (mount : Mount) → AllLive live.old mount → AllLive live.new mount }
     ensures there { result ≡ is_some (get nat_cmp live.old number) }
+    ensures graphs { seen_in live.new.entries ≡ seen_in live.old.entries }
     ensures numbers { keys live.new ≡ keys live.old }
     ensures tasks { tasks_in live.new.entries ≡ tasks_in live.old.entries }
 {
@@ -274,6 +237,7 @@ fn retire_of(graph: &mut Graph)
     ensures stays { (mount : Mount) → StaysLive graph.old mount graph.new mount }
     ensures kept { (mount : Mount) → KeepsMount graph.old mount graph.new mount }
     ensures ready { graph.new.cx.ready.keys ≡ graph.old.cx.ready.keys }
+    ensures seen { seen_graph graph.new ≡ seen_graph graph.old }
 {
     graph.retire();
 }
@@ -282,6 +246,7 @@ fn retire_of(graph: &mut Graph)
 pub(crate) fn retire_in(live: &mut BTreeMap<u32, Graph>, number: u32) -> bool
     ensures live { (mount : Mount) → AllLive live.old mount → AllLive live.new mount }
     ensures there { result ≡ is_some (get nat_cmp live.old number) }
+    ensures graphs { seen_in live.new.entries ≡ seen_in live.old.entries }
     ensures numbers { keys live.new ≡ keys live.old }
     ensures tasks { tasks_in live.new.entries ≡ tasks_in live.old.entries }
 {

@@ -2,6 +2,7 @@
 ghost use Rattle.std.specs.Prelude.{◌≡◌, false, None, min, length, slice_get};
 ghost use Rattle.graph_nodes.specs.Mounted.{has};
 ghost use Rattle.graph_nodes.specs.Ready.{has_task};
+ghost use Rattle.graph_nodes.specs.Seen.{connection_in, is_drained_in};
 
 use crate::graphs::Graphs;
 use fop_types::Entry;
@@ -24,7 +25,8 @@ impl Graphs {
 
     /// Whether no frame of a graph is open. It is false where there is no such graph.
     pub fn is_drained(&self, number: u32) -> bool
-        ensures { has self.now.numbers number ≡ false → result ≡ false }
+        ensures drained { result ≡ is_drained_in self.now.graphs number }
+        ensures absent { has self.now.numbers number ≡ false → result ≡ false }
     {
         match self.live.get(&number) {
             Some(graph) => graph.is_drained(),
@@ -34,7 +36,8 @@ impl Graphs {
 
     /// The number of a graph's open connection to a brick.
     pub fn connection(&self, number: u32, brick: u8) -> Option<u32>
-        ensures { has self.now.numbers number ≡ false → result ≡ None }
+        ensures connection { result ≡ connection_in self.now.graphs number brick }
+        ensures absent { has self.now.numbers number ≡ false → result ≡ None }
     {
         match self.live.get(&number) {
             Some(graph) => graph.connection(brick),

@@ -1,6 +1,6 @@
 //! The io-threads node: what enters it waits in the queue of its priority until a task of the node is run. Replies pass at
 //! once.
-ghost use Rattle.std.specs.Prelude.{◌≡◌, IfOk, IfSome, OnOk};
+ghost use Rattle.std.specs.Prelude.{◌≡◌, IfNone, IfOk, IfSome, OnOk};
 ghost use Rattle.io_threads.specs.Lanes.{first_of, in_turn, without_first};
 ghost use Rattle.graph_nodes.specs.Calls.{after_turn, rested};
 ghost use Rattle.graph_nodes.specs.IoThreads.{IsQueued, go_on_of, priority_of, priority_of_fop, queued, ready_with};
@@ -101,6 +101,7 @@ impl IoThreads {
         ensures rest { self.new.queues ≡ without_first self.old.queues }
         ensures node { IfSome result (λ _. self.new ≡ after_turn self.old) }
         ensures cx { IfSome result (λ _. cx.new ≡ rested (after_turn self.old) cx.old) }
+        ensures idle { IfNone result (cx.new ≡ cx.old) }
     {
         let frame = self.queues.pop()?;
         self.waiting = self.waiting.saturating_sub(1);

@@ -5,6 +5,9 @@ use Rattle.graph_nodes.specs.declared.graph.Graph.{Graph}
 use Rattle.graph_nodes.proofs.Together.{one_found, called_through, all_same}
 use Rattle.graph_nodes.specs.Among.{arrives}
 use Rattle.graph_nodes.proofs.Among.{gives_at}
+use Rattle.graph_nodes.proofs.Seen.{works_through, works_none}
+use Rattle.graph_nodes.proofs.Clients.{output_clients}
+use Rattle.graph_nodes.specs.Seen.{same_clients}
 use Rattle.graph_nodes.proofs.mounted.arrive_in.Goals as goal
 
 pub arrive-requires-clause-live : goal.arrive-requires-clause-live
@@ -40,3 +43,10 @@ returns-in-None-clause-there c = ap is_some c.in-None.ensures.value
 
 pub returns-in_ok-arrived-in-Some-clause-gives : goal.returns-in_ok-arrived-in-Some-clause-gives
 returns-in_ok-arrived-in-Some-clause-gives c = gives_at c.args.number (arrives c.args.wind c.args.rep c.args.taken c.in_ok-arrived-in-Some.arrived.0) c.args.live.now _ c.in-Some.graph.now c.arrive.new.self c.args.mount.now c.arrive.new.mount c.in_ok-arrived-in-Some.arrived.1 c.in-Some.ensures.value (c.get_mut.follows.holds c.arrive.new.self) c.in_ok-arrived-in-Some.ensures.gives
+
+pub returns-in_ok-arrived-in-Some-clause-graphs : goal.returns-in_ok-arrived-in-Some-clause-graphs
+returns-in_ok-arrived-in-Some-clause-graphs c = works_through same_clients c.args.number c.args.live.now _ c.in-Some.graph.now c.arrive.new.self c.in-Some.ensures.value (c.get_mut.follows.holds c.arrive.new.self).0
+    (output_clients c.in-Some.graph.now c.args.mount.now c.in_ok-arrived-in-Some.arrived.1 c.arrive.new.self c.arrive.new.mount c.args.wind c.args.rep c.args.taken c.in_ok-arrived-in-Some.arrived.0 c.in_ok-arrived-in-Some.ensures.gives)
+
+pub returns-in-None-clause-graphs : goal.returns-in-None-clause-graphs
+returns-in-None-clause-graphs c = works_none same_clients c.args.number c.args.live.now _ c.in-None.ensures.value c.get_mut.follows.holds-at-none

@@ -5,6 +5,8 @@ use Rattle.graph_nodes.specs.declared.graph.Graph.{Graph}
 use Rattle.graph_nodes.specs.Ready.{tasks_in}
 use Rattle.graph_nodes.proofs.Ready.{called_tasks}
 use Rattle.graph_nodes.proofs.Together.{called_through, all_same}
+use Rattle.graph_nodes.specs.Seen.{seen_in}
+use Rattle.graph_nodes.proofs.Seen.{seen_through}
 use Rattle.graph_nodes.proofs.mounted.drop_pages_in.Goals as goal
 
 pub returns-in-Some-clause-live : goal.returns-in-Some-clause-live
@@ -31,3 +33,9 @@ returns-in-Some-clause-tasks c = called_tasks c.args.live.now _ c.args.number c.
 
 pub returns-in-None-clause-tasks : goal.returns-in-None-clause-tasks
 returns-in-None-clause-tasks c = ap (λ (m : BTreeMap ℕ Graph). tasks_in m.entries) c.get_mut.follows.holds-at-none
+
+pub returns-in-Some-clause-graphs : goal.returns-in-Some-clause-graphs
+returns-in-Some-clause-graphs c = seen_through c.args.live.now _ c.args.number c.in-Some.graph.now c.drop_pages_of.new.graph c.in-Some.ensures.value (c.get_mut.follows.holds c.drop_pages_of.new.graph).0 c.drop_pages_of.ensures.seen
+
+pub returns-in-None-clause-graphs : goal.returns-in-None-clause-graphs
+returns-in-None-clause-graphs c = ap (λ (m : BTreeMap ℕ Graph). seen_in m.entries) c.get_mut.follows.holds-at-none

@@ -1,10 +1,14 @@
 use Rattle.std.proofs.Common.{ap}
 use Rattle.std.specs.Prelude.{ℕ, is_some}
-use Rattle.std.specs.BTreeMap.{BTreeMap, keys}
+use Rattle.std.specs.BTreeMap.{BTreeMap, get, keys}
+use Rattle.std.specs.Ordering.{nat_cmp}
 use Rattle.graph_nodes.specs.declared.graph.Graph.{Graph}
 use Rattle.graph_nodes.proofs.Together.{one_found, called_through, all_same}
 use Rattle.graph_nodes.specs.Among.{holds}
 use Rattle.graph_nodes.proofs.Among.{gives_at}
+use Rattle.graph_nodes.proofs.Seen.{seen_clients, works_through, works_none}
+use Rattle.graph_nodes.proofs.Clients.{wakes_clients}
+use Rattle.graph_nodes.specs.Seen.{same_clients}
 use Rattle.graph_nodes.proofs.mounted.held_in.Goals as goal
 
 pub held-requires : goal.held-requires
@@ -40,3 +44,10 @@ returns-in-None-clause-there c = ap is_some c.in-None.ensures.value
 
 pub returns-in_ok-moved-in-Some-clause-gives : goal.returns-in_ok-moved-in-Some-clause-gives
 returns-in_ok-moved-in-Some-clause-gives c = gives_at c.args.number (holds c.args.call) c.args.live.now _ c.in-Some.graph.now c.held.new.self c.args.mount.now c.held.new.mount c.in_ok-moved-in-Some.moved c.in-Some.ensures.value (c.get_mut.follows.holds c.held.new.self) c.in_ok-moved-in-Some.ensures.gives
+
+pub returns-in_ok-moved-in-Some-clause-graphs : goal.returns-in_ok-moved-in-Some-clause-graphs
+returns-in_ok-moved-in-Some-clause-graphs c = works_through same_clients c.args.number c.args.live.now _ c.in-Some.graph.now c.held.new.self c.in-Some.ensures.value (c.get_mut.follows.holds c.held.new.self).0
+    (ap seen_clients (wakes_clients c.in-Some.graph.now c.args.mount.now c.in_ok-moved-in-Some.moved c.held.new.self c.held.new.mount c.args.mount.now.parked.keys (get nat_cmp c.in-Some.graph.now.waits c.args.call) c.in_ok-moved-in-Some.ensures.gives))
+
+pub returns-in-None-clause-graphs : goal.returns-in-None-clause-graphs
+returns-in-None-clause-graphs c = works_none same_clients c.args.number c.args.live.now _ c.in-None.ensures.value c.get_mut.follows.holds-at-none

@@ -5,6 +5,7 @@ use Rattle.graph_items.specs.declared.items.Up.{Up}
 use Rattle.graph_nodes.specs.declared.context.Context.{Context}
 use Rattle.graph_nodes.specs.declared.locals.Local.{Local}
 use Rattle.graph_nodes.proofs.Living.{turned_live, keeps_all}
+use Rattle.graph_nodes.proofs.Seen.{seen_same}
 use Rattle.graph_nodes.proofs.mounted.retire_of.Goals as goal
 
 pub returns-clause-stays : goal.returns-clause-stays
@@ -15,3 +16,6 @@ returns-clause-kept c = λ mount. keeps_all c.args.graph.now c.retire.new.self m
 
 pub returns-clause-ready : goal.returns-clause-ready
 returns-clause-ready c = ap (λ (x : Context). x.ready.keys) c.retire.ensures.cx
+
+pub returns-clause-seen : goal.returns-clause-seen
+returns-clause-seen c = seen_same c.args.graph.now c.retire.new.self c.retire.ensures.board c.retire.ensures.cx

@@ -1,4 +1,4 @@
-use Rattle.std.proofs.Common.{ap, ◌∙◌}
+use Rattle.std.proofs.Common.{ap, subst, ◌∙◌}
 use Rattle.graph_nodes.specs.Mounted.{Mounted, has}
 use Rattle.graph_nodes.specs.Live.{AllLive}
 use Rattle.graph_nodes.proofs.Together.{usable, has_is}
@@ -7,6 +7,7 @@ use Rattle.xlator_law.specs.declared.winds.Settled.{Settled}
 use Rattle.graph_nodes.specs.declared.moved.Moved.{Moved}
 use Rattle.graph_nodes.specs.Among.{arrives}
 use Rattle.graph_nodes.proofs.Among.{seems_to_give}
+use Rattle.graph_nodes.specs.Seen.{Works, same_clients, seen_in}
 use Rattle.graph_nodes.proofs.graphs.Graphs.arrive.Goals as goal
 
 pub arrive_in-requires-clause-live : goal.arrive_in-requires-clause-live
@@ -18,3 +19,6 @@ returns-clause-there c = c.in_ok-arrived.ensures.there ∙ has_is c.self.inside.
 pub returns-clause-gives : goal.returns-clause-gives
 returns-clause-gives c = seems_to_give (λ (r : Option Settled × Moved). r.1) (λ (r : Option Settled × Moved). arrives c.args.wind c.args.rep c.args.taken r.0) c.args.number c.args.self.now c.self.inside.live c.arrive_in.new.live c.self.inside.mount c.arrive_in.new.mount c.self.inside.is_spent c.in_ok-arrived.arrived c.self.view_is c.if-self.false
     (usable c.self.inside.is_spent (AllLive c.self.inside.live c.self.inside.mount) c.self.invariant c.if-self.false) c.in_ok-arrived.ensures.gives
+
+pub returns-clause-graphs : goal.returns-clause-graphs
+returns-clause-graphs c = subst (λ (m : Mounted). Works same_clients c.args.number m.graphs (seen_in c.arrive_in.new.live.entries)) c.self.view_is c.in_ok-arrived.ensures.graphs

@@ -1,4 +1,4 @@
-use Rattle.std.proofs.Common.{ap, ◌∙◌}
+use Rattle.std.proofs.Common.{ap, subst, ◌∙◌}
 use Rattle.graph_nodes.specs.Mounted.{Mounted, has}
 use Rattle.graph_nodes.specs.Live.{AllLive}
 use Rattle.graph_nodes.proofs.Together.{usable, has_is}
@@ -6,6 +6,8 @@ use Rattle.std.specs.Prelude.{ℕ}
 use Rattle.graph_nodes.specs.declared.moved.Moved.{Moved}
 use Rattle.graph_nodes.specs.Among.{bails}
 use Rattle.graph_nodes.proofs.Among.{seems_to_give}
+use Rattle.graph_nodes.specs.Seen.{Works, seen_in}
+use Rattle.graph_items.specs.Clients.{ended_at}
 use Rattle.graph_nodes.proofs.graphs.Graphs.bail.Goals as goal
 
 pub bail_in-requires : goal.bail_in-requires
@@ -17,3 +19,6 @@ returns-clause-there c = c.in_ok-bailed.ensures.there ∙ has_is c.self.inside.l
 pub returns-clause-gives : goal.returns-clause-gives
 returns-clause-gives c = seems_to_give (λ (r : ℕ × Moved). r.1) (λ (r : ℕ × Moved). bails c.args.brick r.0) c.args.number c.args.self.now c.self.inside.live c.bail_in.new.live c.self.inside.mount c.bail_in.new.mount c.self.inside.is_spent c.in_ok-bailed.bailed c.self.view_is c.if-self.false
     (usable c.self.inside.is_spent (AllLive c.self.inside.live c.self.inside.mount) c.self.invariant c.if-self.false) c.in_ok-bailed.ensures.gives
+
+pub returns-clause-graphs : goal.returns-clause-graphs
+returns-clause-graphs c = subst (λ (m : Mounted). Works (λ cs. ended_at cs c.args.brick) c.args.number m.graphs (seen_in c.bail_in.new.live.entries)) c.self.view_is c.in_ok-bailed.ensures.graphs
