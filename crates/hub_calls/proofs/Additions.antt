@@ -12,7 +12,8 @@ use Rattle.mount_log.specs.Logs.{empty_log, with_lines, with_cut}
 use Rattle.script_lang.specs.declared.scripts.Script.{Script}
 use Rattle.hub_tables.specs.Agendas.{with_output}
 use Rattle.hub_tables.specs.declared.actions.Turned.TheVariants as turn
-use Rattle.hub_calls.specs.Hubs.{HubState, AreOfEvent, AddsEvent, ClosesWith, IsTurn, is_due_output, HasCut, IsAfterStop}
+use Rattle.hub_calls.specs.EventNumbers.{AreOfEvent}
+use Rattle.hub_calls.specs.Hubs.{HubState, AddsEvent, ClosesWith, IsTurn, is_due_output, HasCut, IsAfterStop}
 
 pub adds_event : (old new lines : Log) (e : HubEvent) → AreOfEvent (length old.events + 1) lines → new ≡ with_lines old (record lines { events = e ∷ [] }) → AddsEvent old new e
 adds_event old new lines e are added =

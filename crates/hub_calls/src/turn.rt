@@ -1,7 +1,8 @@
 //! The event under way: its lines, and what is still to be done in it.
 ghost use Rattle.std.specs.Prelude.{◌≡◌, ◌∷◌, [], OnOk, OnErr};
 ghost use Rattle.mount_log.specs.Logs.{with_lines};
-ghost use Rattle.hub_calls.specs.Hubs.{AreOfEvent, HasCut, IsAfterStop};
+ghost use Rattle.hub_calls.specs.EventNumbers.{numbered};
+ghost use Rattle.hub_calls.specs.Hubs.{HasCut, IsAfterStop};
 
 use crate::numbering::{
     UNNUMBERED, next_number, number_all, number_replies, number_sent, number_winds,
@@ -84,9 +85,9 @@ impl Turn {
     }
 
     /// The lines so far get the number of their event.
-    #[tactic(auto, using(crate::proofs::EventNumbers::are_of_event))]
+    #[tactic(auto, unfolding(crate::specs::EventNumbers::numbered))]
     pub(crate) fn number_lines(&mut self, alloc: Global, number: u64)
-        ensures { AreOfEvent number self.new.lines }
+        ensures { self.new ≡ record self.old { lines = numbered number self.old.lines } }
     {
         number_sent(alloc, &mut self.lines.sent, number);
         number_replies(alloc, &mut self.lines.replies, number);
