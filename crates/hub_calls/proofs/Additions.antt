@@ -12,7 +12,7 @@ use Rattle.mount_log.specs.Logs.{empty_log, with_lines, with_cut}
 use Rattle.script_lang.specs.declared.scripts.Script.{Script}
 use Rattle.hub_tables.specs.Agendas.{with_output}
 use Rattle.hub_tables.specs.declared.actions.Turned.TheVariants as turn
-use Rattle.hub_calls.specs.EventNumbers.{AreOfEvent}
+use Rattle.hub_calls.specs.EventNumbers.{AreOfEvent, numbered, IsCutOff}
 use Rattle.hub_calls.specs.Hubs.{HubState, AddsEvent, ClosesWith, IsTurn, is_due_output, HasCut, IsAfterStop}
 
 pub adds_event : (old new lines : Log) (e : HubEvent) → AreOfEvent (length old.events + 1) lines → new ≡ with_lines old (record lines { events = e ∷ [] }) → AddsEvent old new e
@@ -47,6 +47,10 @@ has_cut old new lines cut = record { lines = lines; cut = cut }
 
 pub nothing_cut : (old new : Log) → new ≡ old → HasCut old new
 nothing_cut old new same = has_cut old new empty_log (same ∙ ap (λ (winds : List WindLine). record old { winds = winds }) (sym (append-nil old.winds)))
+
+pub after_cut : (s : Stop) (lines old new : Log) → IsCutOff s lines old new → IsAfterStop s old new
+after_cut stopped.Mem lines old new same = same
+after_cut stopped.Winds lines old new cut = has_cut old new (numbered (length old.events + 1) lines) cut
 
 pub after_same : (s : Stop) (log : Log) → IsAfterStop s log log
 after_same stopped.Mem log = refl

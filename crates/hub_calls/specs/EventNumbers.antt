@@ -1,7 +1,9 @@
 -- The lines of an event, each with its number, which they get as it is closed. Ours.
 use Rattle.std.specs.Prelude.{◌≡◌, ℕ, ◌+◌, [], ◌∷◌, length, map}
 use Rattle.std.specs.List.{All}
-use Rattle.mount_log.specs.Logs.{same_number}
+use Rattle.xlator_law.specs.declared.winds.Stop.{Stop}
+use Rattle.xlator_law.specs.declared.winds.Stop.TheVariants as stopped
+use Rattle.mount_log.specs.Logs.{same_number, with_cut}
 use Rattle.mount_log.specs.declared.logs.HubEvent.{HubEvent}
 use Rattle.mount_log.specs.declared.logs.Log.{Log}
 use Rattle.mount_log.specs.declared.logs.ReplyLine.{ReplyLine}
@@ -49,3 +51,9 @@ going_out controls lines = record lines { sent = outgoing controls lines.sent }
 -- the lines with which an event is written behind those of a log: what it has made, with its number, and the event
 abbrev pub written_lines : ControlsState → Log → Log → HubEvent → Log
 written_lines controls log lines e = record (going_out controls (numbered (length log.events + 1) lines)) { events = e ∷ [] }
+
+-- the log after an event was cut that had made these lines: it has their winds more, with the number of the event, where the hub
+-- stops for want of a wind, and is as it was where memory has run out
+abbrev pub IsCutOff : Stop → Log → Log → Log → Type 0
+IsCutOff stopped.Mem lines old new = new ≡ old
+IsCutOff stopped.Winds lines old new = new ≡ with_cut old (numbered (length old.events + 1) lines)

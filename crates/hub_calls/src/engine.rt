@@ -135,6 +135,7 @@ impl Engine {
     ///
     /// # Errors
     /// As for `Hub::submit`.
+    #[tactic(auto, using(crate::proofs::Additions::after_cut))]
     pub(crate) fn close(
         &mut self,
         alloc: Global,
@@ -160,8 +161,7 @@ impl Engine {
             },
             Err(stop) => {
                 drop(event);
-                self.parts.turn.write_cut(alloc, stop, log);
-                Err(stop)
+                Err(self.parts.turn.write_cut(alloc, stop, log))
             }
         }
     }
