@@ -1,9 +1,10 @@
 -- The lines of an event get its number, and what goes out in it has that too.
 use Rattle.std.proofs.Common.{◌≡◌, ℕ, zero, suc, ◌++◌, Bool, true, false, List, [], ◌∷◌, Option, Some, None, length, Result, Ok, Err, OnOk, refl, sym, ap, ◌∙◌, subst, if◌then◌else◌}
-use Rattle.std.proofs.lemmas.List.Elements.{recursion_from_All, All-from_recursion, All-map}
+use Rattle.std.proofs.lemmas.List.Elements.{recursion_from_All, All-from_recursion, All-map, All-append, All-nil}
 use Rattle.std.specs.List.{All, AllByRecursion}
 use Rattle.fop_types.specs.declared.messages.Input.TheVariants as input
 use Rattle.wire_xdr.specs.WireText.{input_text}
+use Rattle.mount_log.specs.Logs.{empty_log, with_lines}
 use Rattle.mount_log.specs.Procedures.{rank_in}
 use Rattle.mount_log.specs.declared.logs.Log.{Log}
 use Rattle.mount_log.specs.declared.logs.ReplyLine.{ReplyLine}
@@ -32,6 +33,30 @@ numbered_are number lines = record {
   copied = All-map (λ (n : ℕ). n ≡ number) (λ _. number) lines.copied (λ k d lt. refl);
   skipped = All-map (λ (n : ℕ). n ≡ number) (λ _. number) lines.skipped (λ k d lt. refl);
 }
+
+-- no lines have any number
+pub none_of_event : (number : ℕ) → AreOfEvent number empty_log
+none_of_event number = record {
+  sent = All-nil (λ (line : SentLine). line.event ≡ number);
+  replies = All-nil (λ (line : ReplyLine). line.event ≡ number);
+  entered = All-nil (λ (n : ℕ). n ≡ number);
+  answered = All-nil (λ (n : ℕ). n ≡ number);
+  winds = All-nil (λ (line : WindLine). line.event ≡ number);
+  copied = All-nil (λ (n : ℕ). n ≡ number);
+  skipped = All-nil (λ (n : ℕ). n ≡ number);
+}
+
+-- lines of an event behind others of the same
+pub both_of_event : (number : ℕ) (old new lines : Log) → AreOfEvent number lines → new ≡ with_lines old (record lines { events = [] }) → AreOfEvent number old → AreOfEvent number new
+both_of_event number old new lines are added before = subst (λ (l : Log). AreOfEvent number l) (sym added) (record {
+  sent = All-append (λ (line : SentLine). line.event ≡ number) old.sent lines.sent before.sent are.sent;
+  replies = All-append (λ (line : ReplyLine). line.event ≡ number) old.replies lines.replies before.replies are.replies;
+  entered = All-append (λ (n : ℕ). n ≡ number) old.entered lines.entered before.entered are.entered;
+  answered = All-append (λ (n : ℕ). n ≡ number) old.answered lines.answered before.answered are.answered;
+  winds = All-append (λ (line : WindLine). line.event ≡ number) old.winds lines.winds before.winds are.winds;
+  copied = All-append (λ (n : ℕ). n ≡ number) old.copied lines.copied before.copied are.copied;
+  skipped = All-append (λ (n : ℕ). n ≡ number) old.skipped lines.skipped before.skipped are.skipped;
+})
 
 -- ---- what goes out
 

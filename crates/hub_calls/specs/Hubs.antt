@@ -136,9 +136,10 @@ IsTurn (turn.Quiet ready arrived) before after old new = (ready ≡ 0) × ((arri
 
 -- ---- the log after a call that stopped
 
--- the log with the winds more of an event that was cut, if it has any
+-- the log with the winds more of an event that was cut, if it has any, with its number
 pub record HasCut (old new : Log) : Type 0 where
   pub lines : Log
+  pub numbered : AreOfEvent (length old.events + 1) lines
   pub cut : new ≡ with_cut old lines
 
 -- the log is as it was, but for the winds of an event that was cut for want of one

@@ -7,7 +7,7 @@ ghost use Rattle.hub_calls.specs.Dues.{is_idle, ready_in};
 ghost use Rattle.hub_calls.specs.EventNumbers.{AreOfEvent, numbered, going_out, written_lines};
 ghost use Rattle.hub_calls.specs.Hubs.{AddsEvent, GoesOut, IsAfterStop, new_replies, new_sent, is_answered_in};
 
-use crate::numbering::next_number;
+use crate::numbering::{UNNUMBERED, next_number};
 use crate::parts::Parts;
 use crate::planned::Planned;
 use crate::writing::add_lines;
@@ -58,7 +58,8 @@ impl Engine {
         Ok(())
     }
 
-    /// Makes the first graph, and begins the first phase that has something left. What the graph sends is written to the log.
+    /// Makes the first graph, and begins the first phase that has something left. What the graph sends is written to the log, with
+    /// event number 0.
     ///
     /// # Errors
     /// Out of memory.
@@ -70,9 +71,11 @@ impl Engine {
         log: &mut Log,
     ) -> Result<(), AllocError>
         ensures events { OnOk result (log.new.events ≡ log.old.events) }
+        ensures numbered { OnOk result (AreOfEvent 0 log.old → AreOfEvent 0 log.new) }
         ensures agenda { OnOk result (self.new.agenda ≡ moved_on (first_line on.now.left) on.now.script.phases (is_idle (ready_in on.now.plans self.new.parts.graphs.nodes.tasks)) (length on.now.script.phases) (with_phase (first_line on.now.left) on.now.script.phases (with_sends self.old.agenda (new_sent log.old log.new)))) }
     {
         self.parts.make_graph(alloc, on, on.script().start)?;
+        self.parts.turn.number_lines(alloc, UNNUMBERED);
         self.send_out(alloc)?;
         let idle = self.is_idle(on);
         self.agenda
