@@ -8,7 +8,7 @@ use Rattle.mount_log.specs.declared.logs.HubEvent.{HubEvent}
 use Rattle.mount_log.specs.declared.logs.HubEvent.TheVariants as logged
 use Rattle.mount_log.specs.declared.logs.Log.{Log}
 use Rattle.mount_log.specs.declared.logs.WindLine.{WindLine}
-use Rattle.mount_log.specs.Logs.{empty_log, with_lines, with_cut}
+use Rattle.mount_log.specs.Logs.{empty_log, with_lines}
 use Rattle.script_lang.specs.declared.scripts.Script.{Script}
 use Rattle.hub_tables.specs.Agendas.{with_output}
 use Rattle.hub_tables.specs.declared.actions.Turned.TheVariants as turn

@@ -1,4 +1,4 @@
-use Rattle.std.proofs.Common.{◌≡◌, ℕ, ◌+◌, length, ap, sym, subst}
+use Rattle.std.proofs.Common.{ℕ, ◌+◌, length, ap, sym, subst}
 use Rattle.hub_calls.specs.EventNumbers.{AreOfEvent}
 use Rattle.hub_calls.specs.declared.parts.Parts.{Parts}
 use Rattle.hub_calls.specs.declared.turn.Turn.{Turn}
