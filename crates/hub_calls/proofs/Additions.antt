@@ -8,11 +8,13 @@ use Rattle.mount_log.specs.declared.logs.HubEvent.{HubEvent}
 use Rattle.mount_log.specs.declared.logs.HubEvent.TheVariants as logged
 use Rattle.mount_log.specs.declared.logs.Log.{Log}
 use Rattle.mount_log.specs.declared.logs.WindLine.{WindLine}
-use Rattle.mount_log.specs.Logs.{empty_log, with_lines, with_cut}
+use Rattle.mount_log.specs.Logs.{empty_log, with_lines}
 use Rattle.script_lang.specs.declared.scripts.Script.{Script}
 use Rattle.hub_tables.specs.Agendas.{with_output}
 use Rattle.hub_tables.specs.declared.actions.Turned.TheVariants as turn
-use Rattle.hub_calls.specs.Hubs.{HubState, AreOfEvent, AddsEvent, ClosesWith, IsTurn, is_due_output, HasCut, IsAfterStop}
+use Rattle.hub_calls.specs.EventNumbers.{AreOfEvent, numbered, IsCutOff}
+use Rattle.hub_calls.proofs.EventNumbers.{numbered_are, none_of_event}
+use Rattle.hub_calls.specs.Hubs.{HubState, AddsEvent, ClosesWith, IsTurn, is_due_output, HasCut, IsAfterStop}
 
 pub adds_event : (old new lines : Log) (e : HubEvent) → AreOfEvent (length old.events + 1) lines → new ≡ with_lines old (record lines { events = e ∷ [] }) → AddsEvent old new e
 adds_event old new lines e are added =
@@ -41,15 +43,20 @@ one_event_more old new e adds = ap (λ (l : Log). l.events) adds.added ∙ ap (�
 
 -- ---- an event that was cut
 
-pub has_cut : (old new lines : Log) → new ≡ with_cut old lines → HasCut old new
-has_cut old new lines cut = record { lines = lines; cut = cut }
+nothing_cut : (log : Log) → HasCut log log
+nothing_cut log = record {
+  lines = empty_log;
+  numbered = none_of_event (length log.events + 1);
+  cut = ap (λ (winds : List WindLine). record log { winds = winds }) (sym (append-nil log.winds));
+}
 
-pub nothing_cut : (old new : Log) → new ≡ old → HasCut old new
-nothing_cut old new same = has_cut old new empty_log (same ∙ ap (λ (winds : List WindLine). record old { winds = winds }) (sym (append-nil old.winds)))
+pub after_cut : (s : Stop) (lines old new : Log) → IsCutOff s lines old new → IsAfterStop s old new
+after_cut stopped.Mem lines old new same = same
+after_cut stopped.Winds lines old new cut = record { lines = numbered (length old.events + 1) lines; numbered = numbered_are (length old.events + 1) lines; cut = cut }
 
 pub after_same : (s : Stop) (log : Log) → IsAfterStop s log log
 after_same stopped.Mem log = refl
-after_same stopped.Winds log = nothing_cut log log refl
+after_same stopped.Winds log = nothing_cut log
 
 -- ---- a turn
 

@@ -1,9 +1,10 @@
--- What goes out in an event has the number of what is sent in it.
-use Rattle.std.proofs.Common.{◌≡◌, ℕ, zero, suc, ◌++◌, Bool, true, false, List, [], ◌∷◌, Option, Some, None, length, Result, Ok, Err, OnOk, refl, sym, subst, if◌then◌else◌}
-use Rattle.std.proofs.lemmas.List.Elements.{recursion_from_All, All-from_recursion}
+-- The lines of an event get its number, and what goes out in it has that too.
+use Rattle.std.proofs.Common.{◌≡◌, ℕ, zero, suc, ◌++◌, Bool, true, false, List, [], ◌∷◌, Option, Some, None, length, Result, Ok, Err, OnOk, refl, sym, ap, ◌∙◌, subst, if◌then◌else◌}
+use Rattle.std.proofs.lemmas.List.Elements.{recursion_from_All, All-from_recursion, All-map, All-append, All-nil}
 use Rattle.std.specs.List.{All, AllByRecursion}
 use Rattle.fop_types.specs.declared.messages.Input.TheVariants as input
 use Rattle.wire_xdr.specs.WireText.{input_text}
+use Rattle.mount_log.specs.Logs.{empty_log, with_lines}
 use Rattle.mount_log.specs.Procedures.{rank_in}
 use Rattle.mount_log.specs.declared.logs.Log.{Log}
 use Rattle.mount_log.specs.declared.logs.ReplyLine.{ReplyLine}
@@ -16,19 +17,48 @@ use Rattle.hub_tables.specs.Arming.{is_armable}
 use Rattle.hub_tables.specs.PhaseControls.{ControlsState, next_count, with_count, next_armed, without_armed}
 use Rattle.hub_tables.specs.declared.controls.Armed.{Armed}
 use Rattle.hub_tables.specs.declared.requests.Nth.{Nth}
-use Rattle.hub_calls.specs.Hubs.{AreOfEvent}
+use Rattle.hub_calls.specs.EventNumbers.{AreOfEvent, sent_in, reply_in, wind_in, numbered, going_out}
 
-pub are_of_event : (number : ℕ) (lines : Log) → All (λ (line : SentLine). line.event ≡ number) lines.sent → All (λ (line : ReplyLine). line.event ≡ number) lines.replies → All (λ (n : ℕ). n ≡ number) lines.entered
-    → All (λ (n : ℕ). n ≡ number) lines.answered → All (λ (line : WindLine). line.event ≡ number) lines.winds → All (λ (n : ℕ). n ≡ number) lines.copied → All (λ (n : ℕ). n ≡ number) lines.skipped → AreOfEvent number lines
-are_of_event number lines sent replies entered answered winds copied skipped = record {
-  sent = sent;
-  replies = replies;
-  entered = entered;
-  answered = answered;
-  winds = winds;
-  copied = copied;
-  skipped = skipped;
+-- ---- the lines get their number
+
+-- lines that were numbered have their number
+pub numbered_are : (number : ℕ) (lines : Log) → AreOfEvent number (numbered number lines)
+unfolding numbered
+numbered_are number lines = record {
+  sent = All-map (λ (line : SentLine). line.event ≡ number) (sent_in number) lines.sent (λ k d lt. refl);
+  replies = All-map (λ (line : ReplyLine). line.event ≡ number) (reply_in number) lines.replies (λ k d lt. refl);
+  entered = All-map (λ (n : ℕ). n ≡ number) (λ _. number) lines.entered (λ k d lt. refl);
+  answered = All-map (λ (n : ℕ). n ≡ number) (λ _. number) lines.answered (λ k d lt. refl);
+  winds = All-map (λ (line : WindLine). line.event ≡ number) (wind_in number) lines.winds (λ k d lt. refl);
+  copied = All-map (λ (n : ℕ). n ≡ number) (λ _. number) lines.copied (λ k d lt. refl);
+  skipped = All-map (λ (n : ℕ). n ≡ number) (λ _. number) lines.skipped (λ k d lt. refl);
 }
+
+-- no lines have any number
+pub none_of_event : (number : ℕ) → AreOfEvent number empty_log
+none_of_event number = record {
+  sent = All-nil (λ (line : SentLine). line.event ≡ number);
+  replies = All-nil (λ (line : ReplyLine). line.event ≡ number);
+  entered = All-nil (λ (n : ℕ). n ≡ number);
+  answered = All-nil (λ (n : ℕ). n ≡ number);
+  winds = All-nil (λ (line : WindLine). line.event ≡ number);
+  copied = All-nil (λ (n : ℕ). n ≡ number);
+  skipped = All-nil (λ (n : ℕ). n ≡ number);
+}
+
+-- lines of an event behind others of the same
+pub both_of_event : (number : ℕ) (old new lines : Log) → AreOfEvent number lines → new ≡ with_lines old (record lines { events = [] }) → AreOfEvent number old → AreOfEvent number new
+both_of_event number old new lines are added before = subst (λ (l : Log). AreOfEvent number l) (sym added) (record {
+  sent = All-append (λ (line : SentLine). line.event ≡ number) old.sent lines.sent before.sent are.sent;
+  replies = All-append (λ (line : ReplyLine). line.event ≡ number) old.replies lines.replies before.replies are.replies;
+  entered = All-append (λ (n : ℕ). n ≡ number) old.entered lines.entered before.entered are.entered;
+  answered = All-append (λ (n : ℕ). n ≡ number) old.answered lines.answered before.answered are.answered;
+  winds = All-append (λ (line : WindLine). line.event ≡ number) old.winds lines.winds before.winds are.winds;
+  copied = All-append (λ (n : ℕ). n ≡ number) old.copied lines.copied before.copied are.copied;
+  skipped = All-append (λ (n : ℕ). n ≡ number) old.skipped lines.skipped before.skipped are.skipped;
+})
+
+-- ---- what goes out
 
 pub in_any_case : {T E A : Type 0} (r : Result T E) → A → OnOk r A
 in_any_case (Ok x) h = h
@@ -88,3 +118,9 @@ sent_of_event c lines sent is n are = record {
   copied = are.copied;
   skipped = are.skipped;
 }
+
+-- what goes out stands for what was sent among the lines, which have their number
+pub lines_out : (c : ControlsState) (number n : ℕ) (old lines after : Log) → number ≡ n → lines ≡ numbered number old → after.sent ≡ outgoing c lines.sent → after ≡ record lines { sent = after.sent } → after ≡ going_out c (numbered n old)
+unfolding going_out
+lines_out c number n old lines after is are sent same =
+    same ∙ ap (λ (ls : List SentLine). record lines { sent = ls }) sent ∙ ap (λ (l : Log). going_out c l) are ∙ ap (λ (k : ℕ). going_out c (numbered k old)) is

@@ -4,3 +4,4 @@ pub mod Finding
 pub mod Planning
 pub mod Agendas
 pub mod EventNumbers
+pub mod Rewriting

@@ -1,8 +1,7 @@
 -- What is seen of a hub: the script that it runs, with its plans, the log of the whole events, the agenda and the ready tasks, which
 -- decide what is due, and why it stopped; what a stop does to later calls; which actions may be carried out; which event a call adds
 -- to the log, and what the event makes of the agenda. Ours.
-use Rattle.std.specs.Prelude.{◌≡◌, ℕ, ◌==◌, nat_lt, Bool, true, false, ◌&&◌, not, List, [], ◌∷◌, length, drop, slice_get, Option, None, Some, Result, Err}
-use Rattle.std.specs.List.{All}
+use Rattle.std.specs.Prelude.{◌≡◌, ℕ, ◌+◌, ◌==◌, nat_lt, Bool, true, false, ◌&&◌, not, List, [], ◌∷◌, length, drop, slice_get, Option, None, Some, Result, Err}
 use Rattle.graph_build.specs.declared.plans.Plan.{Plan}
 use Rattle.script_lang.specs.declared.scripts.CallLine.{CallLine}
 use Rattle.script_lang.specs.declared.scripts.Script.{Script}
@@ -16,7 +15,6 @@ use Rattle.mount_log.specs.Phases.{says_due}
 use Rattle.mount_log.specs.Submissions.{place_of_line, session_line, submits_of}
 use Rattle.mount_log.specs.declared.logs.ReplyLine.{ReplyLine}
 use Rattle.mount_log.specs.declared.logs.SentLine.{SentLine}
-use Rattle.mount_log.specs.declared.logs.WindLine.{WindLine}
 use Rattle.mount_log.specs.declared.places.LineAt.{LineAt}
 use Rattle.wire_messages.specs.Messages.{output_in}
 use Rattle.script_lang.specs.StatementText.{is_great_action}
@@ -28,6 +26,7 @@ use Rattle.hub_tables.specs.PhaseControls.{ControlsState}
 use Rattle.hub_tables.specs.declared.actions.Turned.{Turned}
 use Rattle.hub_tables.specs.declared.actions.Turned.TheVariants as turn
 use Rattle.hub_calls.specs.Dues.{is_idle}
+use Rattle.hub_calls.specs.EventNumbers.{AreOfEvent}
 
 pub record HubState : Type 0 where
   pub script : Script
@@ -57,16 +56,6 @@ ActsWhere a many internal did =
     (is_great_action a ≡ false → did ≡ is_of_brick many a) × ((a ≡ action.Heal → did ≡ not internal) × (is_great_action a ≡ true → did ≡ true → internal ≡ false))
 
 -- ---- what a call adds to the log
-
--- whether each of these lines has the number of one event
-pub record AreOfEvent (number : ℕ) (lines : Log) : Type 0 where
-  pub sent : All (λ (line : SentLine). line.event ≡ number) lines.sent
-  pub replies : All (λ (line : ReplyLine). line.event ≡ number) lines.replies
-  pub entered : All (λ (n : ℕ). n ≡ number) lines.entered
-  pub answered : All (λ (n : ℕ). n ≡ number) lines.answered
-  pub winds : All (λ (line : WindLine). line.event ≡ number) lines.winds
-  pub copied : All (λ (n : ℕ). n ≡ number) lines.copied
-  pub skipped : All (λ (n : ℕ). n ≡ number) lines.skipped
 
 -- the log with one event more, and with its lines, which have its number
 pub record AddsEvent (old new : Log) (e : HubEvent) : Type 0 where
@@ -147,9 +136,10 @@ IsTurn (turn.Quiet ready arrived) before after old new = (ready ≡ 0) × ((arri
 
 -- ---- the log after a call that stopped
 
--- the log with the winds more of an event that was cut, if it has any
+-- the log with the winds more of an event that was cut, if it has any, with its number
 pub record HasCut (old new : Log) : Type 0 where
   pub lines : Log
+  pub numbered : AreOfEvent (length old.events + 1) lines
   pub cut : new ≡ with_cut old lines
 
 -- the log is as it was, but for the winds of an event that was cut for want of one

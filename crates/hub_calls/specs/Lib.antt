@@ -1,5 +1,6 @@
--- In reading order: the script that a hub runs; what is due in it; what is seen of a hub, and what its calls add to the log; a list that grows.
+-- In reading order: the script that a hub runs; what is due in it; the lines of an event; what is seen of a hub, and what its calls add to the log; a list that grows.
 pub mod Plans
 pub mod Dues
+pub mod EventNumbers
 pub mod Hubs
 pub mod Growing

@@ -1,11 +1,13 @@
 //! What an event moves, with what decides what is due; and how an event is closed.
 ghost use Rattle.std.specs.Prelude.{ℕ, ◌≡◌, ◌==◌, ◌+◌, not, length, IsOk, OnOk, OnErr, IfErr};
+ghost use Rattle.mount_log.specs.Logs.{with_lines};
 ghost use Rattle.hub_tables.specs.Agendas.{new_agenda, with_phase, with_sends, outgoing, moved_on, next_agenda};
 ghost use Rattle.hub_tables.specs.Sessions.{first_line};
 ghost use Rattle.hub_calls.specs.Dues.{is_idle, ready_in};
-ghost use Rattle.hub_calls.specs.Hubs.{AreOfEvent, AddsEvent, GoesOut, IsAfterStop, new_replies, new_sent, is_answered_in};
+ghost use Rattle.hub_calls.specs.EventNumbers.{AreOfEvent, numbered, going_out, written_lines};
+ghost use Rattle.hub_calls.specs.Hubs.{AddsEvent, GoesOut, IsAfterStop, new_replies, new_sent, is_answered_in};
 
-use crate::numbering::next_number;
+use crate::numbering::{UNNUMBERED, next_number};
 use crate::parts::Parts;
 use crate::planned::Planned;
 use crate::writing::add_lines;
@@ -62,7 +64,8 @@ impl Engine {
         Ok(())
     }
 
-    /// Makes the first graph, and begins the first phase that has something left. What the graph sends is written to the log.
+    /// Makes the first graph, and begins the first phase that has something left. What the graph sends is written to the log, with
+    /// event number 0.
     ///
     /// # Errors
     /// Out of memory.
@@ -74,9 +77,11 @@ impl Engine {
         log: &mut Log,
     ) -> Result<(), AllocError>
         ensures events { OnOk result (log.new.events ≡ log.old.events) }
+        ensures numbered { OnOk result (AreOfEvent 0 log.old → AreOfEvent 0 log.new) }
         ensures agenda { OnOk result (self.new.agenda ≡ moved_on (first_line on.now.left) on.now.script.phases (is_idle (ready_in on.now.plans self.new.parts.graphs.nodes.tasks)) (length on.now.script.phases) (with_phase (first_line on.now.left) on.now.script.phases (with_sends self.old.agenda (new_sent log.old log.new)))) }
     {
         self.parts.make_graph(alloc, on, on.script().start)?;
+        self.parts.turn.number_lines(alloc, UNNUMBERED);
         self.send_out(alloc)?;
         let idle = self.is_idle(on);
         self.agenda
@@ -90,6 +95,7 @@ impl Engine {
     // that have nothing left end.
     #[tactic(auto, using(crate::proofs::Agendas::goes_out))]
     fn end(&mut self, alloc: Global, on: &Planned, log: &Log) -> Result<(), AllocError>
+        ensures lines { OnOk result (self.new.parts.turn.lines ≡ going_out self.old.agenda.controls (numbered (length log.now.events + 1) self.old.parts.turn.lines)) }
         ensures numbered { OnOk result (AreOfEvent (length log.now.events + 1) self.new.parts.turn.lines) }
         ensures out { OnOk result (GoesOut self.old.agenda.controls self.new.parts.turn.lines.sent) }
         ensures agenda { OnOk result (self.new.agenda ≡ next_agenda (first_line on.now.left) on.now.script.phases (is_idle (ready_in on.now.plans self.new.parts.graphs.nodes.tasks)) self.new.parts.turn.lines.replies self.new.parts.turn.lines.sent (not (length self.new.parts.turn.lines.answered == 0)) self.old.agenda) }
@@ -118,6 +124,7 @@ impl Engine {
         event: HubEvent,
         log: &mut Log,
     ) -> Result<(), AllocError>
+        ensures lines { OnOk result (log.new ≡ with_lines log.old (written_lines self.old.agenda.controls log.old self.old.parts.turn.lines event)) }
         ensures event { OnOk result (AddsEvent log.old log.new event) }
         ensures agenda { OnOk result (self.new.agenda ≡ next_agenda (first_line on.now.left) on.now.script.phases (is_idle (ready_in on.now.plans self.new.parts.graphs.nodes.tasks)) (new_replies log.old log.new) (new_sent log.old log.new) (is_answered_in log.old log.new) self.old.agenda) }
         ensures out { OnOk result (GoesOut self.old.agenda.controls (new_sent log.old log.new)) }
@@ -137,6 +144,7 @@ impl Engine {
     ///
     /// # Errors
     /// As for `Hub::submit`.
+    #[tactic(auto, using(crate::proofs::Additions::after_cut))]
     pub(crate) fn close(
         &mut self,
         alloc: Global,
@@ -162,8 +170,7 @@ impl Engine {
             },
             Err(stop) => {
                 drop(event);
-                self.parts.turn.write_cut(alloc, stop, log);
-                Err(stop)
+                Err(self.parts.turn.write_cut(alloc, stop, log))
             }
         }
     }

@@ -22,7 +22,8 @@ impl Hub {
     /// without a reply, or no line left in the current phase.
     ///
     /// # Errors
-    /// `Winds` where a further wind was needed and 4,294,967,295 were opened; else out of memory.
+    /// `Winds` where a further wind was needed and 4,294,967,295 were opened, and the winds of the event are in the log; else
+    /// out of memory.
     #[tactic(auto, using(crate::proofs::Planning::left_submitted, crate::proofs::Planning::adds_submission, crate::proofs::Additions::after_same, crate::proofs::Agendas::submitted_agenda))]
     pub fn submit(&mut self, alloc: Global, session: u8) -> Result<bool, Stop>
         ensures same { (self.new.script ≡ self.old.script) × (self.new.plans ≡ self.old.plans) }

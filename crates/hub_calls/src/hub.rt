@@ -1,4 +1,5 @@
 ghost use Rattle.std.specs.Prelude.{◌≡◌, Some, None, [], IsOk, OnOk, IfOk, IfErr};
+ghost use Rattle.hub_calls.specs.EventNumbers.{AreOfEvent};
 ghost use Rattle.hub_calls.specs.Hubs.{AddsEvent, ClosesWith, IsAfterStop, agenda_before};
 ghost use Rattle.mount_log.specs.Logs.{is_submit};
 ghost use Rattle.mount_log.specs.Scripts.{IsScript};
@@ -59,6 +60,7 @@ impl Hub {
         requires { IsScript script plans }
         ensures start { IfOk result (λ h. h ≡ record { script = script; plans = plans; log = h.log; agenda = h.agenda; tasks = h.tasks; stop = None }) }
         ensures events { IfOk result (λ h. h.log.events ≡ []) }
+        ensures numbered { IfOk result (λ h. AreOfEvent 0 h.log) }
         ensures agenda { IfOk result (λ h. h.agenda ≡ agenda_before script h.log h.tasks) }
     {
         let planned = Planned::new(alloc, script, plans)?;

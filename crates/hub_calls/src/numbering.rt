@@ -1,9 +1,7 @@
 //! The number of an event, which its lines get as it is closed.
-ghost use Rattle.std.specs.Prelude.{ℕ, ◌≡◌, ◌+◌, length, IfOk};
-ghost use Rattle.std.specs.List.{All};
-ghost use Rattle.mount_log.specs.declared.logs.ReplyLine.{ReplyLine as Reply};
-ghost use Rattle.mount_log.specs.declared.logs.SentLine.{SentLine as Sent};
-ghost use Rattle.mount_log.specs.declared.logs.WindLine.{WindLine as Wind};
+ghost use Rattle.std.specs.Prelude.{◌≡◌, ◌+◌, length, map, IfOk};
+ghost use Rattle.mount_log.specs.Logs.{same_number};
+ghost use Rattle.hub_calls.specs.EventNumbers.{sent_in, reply_in, wind_in};
 
 use fop_types::Seq;
 use mount_log::{Log, ReplyLine, SentLine, WindLine};
@@ -25,7 +23,7 @@ pub(crate) fn next_number(log: &Log) -> Result<u64, AllocError>
 
 // What was sent gets the number of its event.
 pub(crate) fn number_sent(alloc: Global, lines: &mut Seq<SentLine>, number: u64)
-    ensures { All (λ (line : Sent). line.event ≡ number) lines.new }
+    ensures { lines.new ≡ map (sent_in number) lines.old }
 {
     let mut items = mem::replace(lines, Seq::new(alloc)).into_vec();
     for line in items.iter_mut() {
@@ -36,7 +34,7 @@ pub(crate) fn number_sent(alloc: Global, lines: &mut Seq<SentLine>, number: u64)
 
 // Replies get the number of their event.
 pub(crate) fn number_replies(alloc: Global, lines: &mut Seq<ReplyLine>, number: u64)
-    ensures { All (λ (line : Reply). line.event ≡ number) lines.new }
+    ensures { lines.new ≡ map (reply_in number) lines.old }
 {
     let mut items = mem::replace(lines, Seq::new(alloc)).into_vec();
     for line in items.iter_mut() {
@@ -47,7 +45,7 @@ pub(crate) fn number_replies(alloc: Global, lines: &mut Seq<ReplyLine>, number: 
 
 // Winds get the number of their event.
 pub(crate) fn number_winds(alloc: Global, lines: &mut Seq<WindLine>, number: u64)
-    ensures { All (λ (line : Wind). line.event ≡ number) lines.new }
+    ensures { lines.new ≡ map (wind_in number) lines.old }
 {
     let mut items = mem::replace(lines, Seq::new(alloc)).into_vec();
     for line in items.iter_mut() {
@@ -58,7 +56,7 @@ pub(crate) fn number_winds(alloc: Global, lines: &mut Seq<WindLine>, number: u64
 
 // All these numbers become the number of one event.
 pub(crate) fn number_all(alloc: Global, numbers: &mut Seq<u64>, number: u64)
-    ensures { All (λ (n : ℕ). n ≡ number) numbers.new }
+    ensures { numbers.new ≡ same_number number numbers.old }
 {
     let mut items = mem::replace(numbers, Seq::new(alloc)).into_vec();
     for at in items.iter_mut() {

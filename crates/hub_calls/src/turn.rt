@@ -1,7 +1,7 @@
 //! The event under way: its lines, and what is still to be done in it.
-ghost use Rattle.std.specs.Prelude.{◌≡◌, ◌∷◌, [], OnOk, OnErr};
-ghost use Rattle.mount_log.specs.Logs.{with_lines};
-ghost use Rattle.hub_calls.specs.Hubs.{AreOfEvent, HasCut, IsAfterStop};
+ghost use Rattle.std.specs.Prelude.{◌≡◌, ◌+◌, ◌∷◌, [], length, OnOk, OnErr};
+ghost use Rattle.mount_log.specs.Logs.{with_lines, with_cut};
+ghost use Rattle.hub_calls.specs.EventNumbers.{numbered, IsCutOff};
 
 use crate::numbering::{
     UNNUMBERED, next_number, number_all, number_replies, number_sent, number_winds,
@@ -84,9 +84,9 @@ impl Turn {
     }
 
     /// The lines so far get the number of their event.
-    #[tactic(auto, using(crate::proofs::EventNumbers::are_of_event))]
+    #[tactic(auto, unfolding(crate::specs::EventNumbers::numbered))]
     pub(crate) fn number_lines(&mut self, alloc: Global, number: u64)
-        ensures { AreOfEvent number self.new.lines }
+        ensures { self.new ≡ record self.old { lines = numbered number self.old.lines } }
     {
         number_sent(alloc, &mut self.lines.sent, number);
         number_replies(alloc, &mut self.lines.replies, number);
@@ -126,9 +126,9 @@ impl Turn {
     }
 
     // The winds of an event that was cut, with its number, go to the end of the log.
-    #[tactic(auto, using(crate::proofs::Additions::has_cut))]
+    #[tactic(auto, unfolding(crate::specs::EventNumbers::numbered))]
     fn add_cut(&mut self, alloc: Global, log: &mut Log) -> Result<(), AllocError>
-        ensures ok { OnOk result (HasCut log.old log.new) }
+        ensures ok { OnOk result (log.new ≡ with_cut log.old (numbered (length log.old.events + 1) self.old.lines)) }
         ensures err { OnErr result (log.new ≡ log.old) }
     {
         let number = next_number(log)?;
@@ -137,16 +137,17 @@ impl Turn {
         Ok(())
     }
 
-    /// Of an event that was cut, as no wind was left, the winds are written to the log where memory suffices.
-    #[tactic(auto, using(crate::proofs::Additions::nothing_cut))]
-    pub(crate) fn write_cut(&mut self, alloc: Global, stop: Stop, log: &mut Log)
-        ensures { IsAfterStop stop log.old log.new }
+    /// Of an event that was cut, as no wind was left, the winds are written to the log. It answers why the hub stops: where
+    /// memory does not suffice for that, it has run out.
+    pub(crate) fn write_cut(&mut self, alloc: Global, stop: Stop, log: &mut Log) -> Stop
+        ensures cut { IsCutOff result self.old.lines log.old log.new }
+        ensures winds { result ≡ Stop.Winds → stop ≡ Stop.Winds }
     {
         match stop {
-            Stop::Mem => {}
+            Stop::Mem => Stop::Mem,
             Stop::Winds => match self.add_cut(alloc, log) {
-                Ok(()) => {}
-                Err(_) => {}
+                Ok(()) => Stop::Winds,
+                Err(_) => Stop::Mem,
             },
         }
     }

@@ -1,5 +1,5 @@
 //! Whether a fop is within the bounds of fops.
-ghost use Rattle.std.specs.Prelude.{◌≡◌, ◌≤◌, true};
+ghost use Rattle.std.specs.Prelude.{◌≡◌, ◌≤◌, ◌↔◌, IsTrue, true};
 ghost use Rattle.std.specs.List.{list_all};
 ghost use Rattle.fop_types.specs.Limits.{max_data};
 ghost use Rattle.fop_types.specs.Bounds.{Each, IsComponent, IsFop, IsGfid, IsMode, IsObject, IsOpenFd, IsOpened, IsUnit, IsUserAttr, IsUserAttrName, is_component as is_component_word, is_name_byte};
@@ -33,13 +33,13 @@ fn is_component(name: &[u8]) -> bool
 }
 
 fn is_user_attr_name(name: &[u8]) -> bool
-    ensures { result ≡ true → IsUserAttrName name.now }
+    ensures { IsTrue result ↔ IsUserAttrName name.now }
 {
     6 <= name.len() && name.len() <= 64 && &name[..5] == b"user.".as_slice()
 }
 
 fn is_user_attr(attr: &Attr) -> bool
-    ensures { result ≡ true → IsUserAttr attr.now }
+    ensures { IsTrue result ↔ IsUserAttr attr.now }
 {
     is_user_attr_name(attr.name.as_slice()) && attr.value.len() <= VALUE
 }
@@ -70,19 +70,19 @@ fn is_size(size: u32) -> bool
 }
 
 fn is_open_fd(fd: u32) -> bool
-    ensures { result ≡ true → IsOpenFd fd }
+    ensures { IsTrue result ↔ IsOpenFd fd }
 {
     fd >= 1
 }
 
 fn is_opened(fd: OpenFd) -> bool
-    ensures { result ≡ true → IsOpened fd }
+    ensures { IsTrue result ↔ IsOpened fd }
 {
     is_gfid(fd.gfid) && is_open_fd(fd.fd)
 }
 
 fn are_opened(fds: &[OpenFd]) -> bool
-    ensures { result ≡ true → Each IsOpened fds.now }
+    ensures { IsTrue result ↔ Each IsOpened fds.now }
 {
     for fd in fds {
         if !is_opened(*fd) {
@@ -93,32 +93,32 @@ fn are_opened(fds: &[OpenFd]) -> bool
 }
 
 fn is_named(parent: Object, name: &[u8]) -> bool
-    ensures { result ≡ true → IsObject parent × IsComponent name.now }
+    ensures { IsTrue result ↔ (IsObject parent × IsComponent name.now) }
 {
     is_object(parent) && is_component(name)
 }
 
 fn is_mode(mode: u16) -> bool
-    ensures { result ≡ true → IsMode mode }
+    ensures { IsTrue result ↔ IsMode mode }
 {
     mode <= MODE
 }
 
 fn is_made(parent: Object, name: &[u8], mode: u16, drawn: Gfid) -> bool
-    ensures { result ≡ true → IsObject parent × IsComponent name.now × IsMode mode × IsGfid drawn }
+    ensures { IsTrue result ↔ (IsObject parent × IsComponent name.now × IsMode mode × IsGfid drawn) }
 {
     is_gfid(drawn) && is_named(parent, name) && is_mode(mode)
 }
 
 fn is_range(fd: u32, object: Object, offset: u32, len: usize) -> bool
-    ensures { result ≡ true → IsOpenFd fd × IsObject object × (offset ≤ max_data) × (len ≤ max_data) }
+    ensures { IsTrue result ↔ (IsOpenFd fd × IsObject object × (offset ≤ max_data) × (len ≤ max_data)) }
 {
     is_object(object) && is_open_fd(fd) && offset as usize <= DATA && len <= DATA
 }
 
 /// Whether a fop is within its bounds, as those of a script's calls are.
 pub fn is_fop(fop: &Fop) -> bool
-    ensures { result ≡ true → IsFop fop.now }
+    ensures { IsTrue result ↔ IsFop fop.now }
 {
     match fop {
         Fop::Lookup { parent, name } => is_named(*parent, name.as_slice()),

@@ -1,7 +1,6 @@
-use Rattle.std.proofs.Common.{◌≡◌, take}
-use Rattle.std.specs.List.{All}
-use Rattle.mount_log.specs.declared.logs.ReplyLine.{ReplyLine}
+use Rattle.std.proofs.Common.{◌≡◌, ◌++◌, take, drop, map}
+use Rattle.hub_calls.specs.EventNumbers.{reply_in}
 use Rattle.hub_calls.proofs.numbering.number_replies.Given as goal
 
 abbrev pub invariant-loop-line : goal.invariant-loop-line
-invariant-loop-line l = All (λ (x : ReplyLine). x.event ≡ l.number) (take l.line-index l.line-items)
+invariant-loop-line l = l.line-items ≡ map (reply_in l.number) (take l.line-index l.fn.lines) ++ drop l.line-index l.fn.lines

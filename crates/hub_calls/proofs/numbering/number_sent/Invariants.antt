@@ -1,7 +1,6 @@
-use Rattle.std.proofs.Common.{◌≡◌, take}
-use Rattle.std.specs.List.{All}
-use Rattle.mount_log.specs.declared.logs.SentLine.{SentLine}
+use Rattle.std.proofs.Common.{◌≡◌, ◌++◌, take, drop, map}
+use Rattle.hub_calls.specs.EventNumbers.{sent_in}
 use Rattle.hub_calls.proofs.numbering.number_sent.Given as goal
 
 abbrev pub invariant-loop-line : goal.invariant-loop-line
-invariant-loop-line l = All (λ (x : SentLine). x.event ≡ l.number) (take l.line-index l.line-items)
+invariant-loop-line l = l.line-items ≡ map (sent_in l.number) (take l.line-index l.fn.lines) ++ drop l.line-index l.fn.lines

@@ -1,7 +1,7 @@
 use Rattle.std.proofs.Common.{◌≡◌, ap, sym, subst, ◌∙◌}
 use Rattle.mount_log.specs.declared.logs.Log.{Log}
 use Rattle.hub_tables.specs.Agendas.{outgoing}
-use Rattle.hub_calls.specs.Hubs.{AreOfEvent}
+use Rattle.hub_calls.specs.EventNumbers.{AreOfEvent}
 use Rattle.hub_calls.specs.declared.turn.Turn.{Turn}
 use Rattle.hub_calls.proofs.EventNumbers.{sent_of_event}
 use Rattle.hub_calls.proofs.engine.Engine.send_out.Goals as goal
