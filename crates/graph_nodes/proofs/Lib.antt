@@ -27,3 +27,4 @@ pub mod Together
 pub mod Among
 pub mod Seen
 pub mod Clients
+pub mod Owners

@@ -1,5 +1,5 @@
 //! What is asked of the graphs of a mount without changing them.
-ghost use Rattle.std.specs.Prelude.{◌≡◌, false, None, min, length, slice_get};
+ghost use Rattle.std.specs.Prelude.{◌≡◌, true, false, None, IfSome, min, length, slice_get};
 ghost use Rattle.graph_nodes.specs.Mounted.{has};
 ghost use Rattle.graph_nodes.specs.Ready.{has_task};
 ghost use Rattle.graph_nodes.specs.Seen.{connection_in, is_drained_in};
@@ -85,8 +85,10 @@ impl Graphs {
         }
     }
 
-    /// Who waits for a reply to a wind, where one is awaited.
-    pub fn owner(&self, wind: WindNo) -> Option<Owner> {
+    /// Who waits for a reply to a wind, where one is awaited. Until a call fails, its graph is one of these.
+    pub fn owner(&self, wind: WindNo) -> Option<Owner>
+        ensures { self.now.spent ≡ false → IfSome result (λ o. has self.now.numbers o.graph ≡ true) }
+    {
         let parent = self.mount.frames.wound_by(wind)?;
         let place = self.mount.frames.place(parent.frame)?;
         Some(Owner {
