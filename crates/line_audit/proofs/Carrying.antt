@@ -26,7 +26,7 @@ use Rattle.mount_log.specs.declared.logs.HubEvent.TheVariants as logged
 use Rattle.mount_log.specs.declared.logs.Log.{Log}
 use Rattle.mount_log.specs.declared.logs.SentLine.{SentLine}
 use Rattle.line_audit.specs.Caused.{IsSentFor, WasSentFor, IsActionCarried, AreCarried, IsCaused, AreCaused}
-use Rattle.line_audit.specs.Linked.{what_of, item_of, items_of, in_event, IsConnectDue, IsLineDue, IsLinked, AreLinked, AreOfEvents}
+use Rattle.line_audit.specs.Linked.{what_of, item_of, items_of, in_event, IsConnectDue, IsLineDue, AreLinked, AreOfEvents}
 use Rattle.line_audit.proofs.Linking.{at_line}
 use Rattle.mount_log.proofs.Bools.{both, same_bool}
 use Rattle.mount_log.proofs.Lists.{lists_same, same_list}

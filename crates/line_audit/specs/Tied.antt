@@ -1,5 +1,5 @@
 -- What an audit of ties finds, by the calls of a log and by notes of which lines belong together.
-use Rattle.std.specs.Prelude.{◌≡◌, ◌≢◌, ℕ, ◌+◌, ◌-◌, ◌<◌, ◌≤◌, ◌==◌, if◌then◌else◌, false, List, [], Option, None, Some, length, slice_get, slice_index_or, take}
+use Rattle.std.specs.Prelude.{◌≡◌, ◌≢◌, ℕ, ◌+◌, ◌-◌, ◌≤◌, ◌==◌, if◌then◌else◌, false, List, [], Option, None, Some, length, slice_get, slice_index_or, take}
 use Rattle.fop_types.specs.declared.answers.Answer.TheVariants.{Io}
 use Rattle.fop_types.specs.declared.answers.IoError.{IoError}
 use Rattle.fop_types.specs.declared.messages.Input.{Input}

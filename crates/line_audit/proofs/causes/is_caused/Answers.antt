@@ -1,4 +1,4 @@
-use Rattle.std.proofs.Common.{◌≡◌, ℕ, ◌<◌, length, subst}
+use Rattle.std.proofs.Common.{ℕ, ◌<◌, length, subst}
 use Rattle.line_audit.proofs.Causing.{long_caused}
 use Rattle.line_audit.proofs.causes.is_caused.Goals as goal
 

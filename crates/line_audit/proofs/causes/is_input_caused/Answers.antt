@@ -1,4 +1,4 @@
-use Rattle.std.proofs.Common.{◌≡◌, sym, subst}
+use Rattle.std.proofs.Common.{sym, subst}
 use Rattle.fop_types.specs.declared.messages.Input.{Input}
 use Rattle.line_audit.specs.Caused.{IsInputCaused, IsInputActed}
 use Rattle.line_audit.proofs.causes.is_input_caused.Goals as goal

@@ -1,5 +1,5 @@
-use Rattle.std.proofs.Common.{◌≡◌, ◌<◌, ◌≤◌, sym, arith}
-use Rattle.std.specs.Prelude.{ℕ, length, slice_get}
+use Rattle.std.proofs.Common.{sym, arith}
+use Rattle.std.specs.Prelude.{ℕ}
 use Rattle.std.proofs.lemmas.Option.{slice_get_within}
 use Rattle.wire_messages.specs.Messages.{input_in}
 use Rattle.mount_log.specs.declared.logs.SentLine.{SentLine}

@@ -1,4 +1,4 @@
-use Rattle.std.proofs.Common.{◌≡◌, sym}
+use Rattle.std.proofs.Common.{sym}
 use Rattle.line_audit.proofs.Carrying.{sent_for}
 use Rattle.line_audit.proofs.downs.is_sent.Goals as goal
 

@@ -1,5 +1,4 @@
-use Rattle.std.proofs.Common.{◌≡◌, ap, arith, length}
-use Rattle.std.specs.Prelude.{◌<◌}
+use Rattle.std.proofs.Common.{ap, arith, length}
 use Rattle.std.proofs.lemmas.Option.{slice_get_within}
 use Rattle.line_audit.proofs.Firsts.{not_behind, behind_it}
 use Rattle.line_audit.proofs.due.ends_in.Goals as goal

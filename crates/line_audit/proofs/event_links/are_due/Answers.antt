@@ -1,4 +1,4 @@
-use Rattle.std.proofs.Common.{◌≡◌, sym, ◌∙◌}
+use Rattle.std.proofs.Common.{sym, ◌∙◌}
 use Rattle.line_audit.specs.Linked.{IsItemDue}
 use Rattle.line_audit.proofs.Firsts.{all_get}
 use Rattle.line_audit.proofs.event_links.are_due.Goals as goal

@@ -1,4 +1,4 @@
-use Rattle.std.proofs.Common.{◌≡◌, sym, ◌∙◌, arith}
+use Rattle.std.proofs.Common.{sym, ◌∙◌, arith}
 use Rattle.line_audit.proofs.event_links.newest_is_met.Goals as goal
 
 pub returns-then-not-is_met : goal.returns-then-not-is_met

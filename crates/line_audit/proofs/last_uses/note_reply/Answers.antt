@@ -1,4 +1,4 @@
-use Rattle.std.proofs.Common.{◌≡◌, sym}
+use Rattle.std.proofs.Common.{sym}
 use Rattle.line_audit.proofs.Lasting.{reply_noted}
 use Rattle.line_audit.proofs.last_uses.note_reply.Goals as goal
 

@@ -1,5 +1,5 @@
-use Rattle.std.proofs.Common.{◌≡◌, sym, ◌∙◌, map}
-use Rattle.line_audit.proofs.Linking.{next_put, all_put}
+use Rattle.std.proofs.Common.{sym, ◌∙◌, map}
+use Rattle.line_audit.proofs.Linking.{next_put}
 use Rattle.line_audit.proofs.lines_sent.by_event.Goals as goal
 
 pub loop-k-preserved : goal.loop-k-preserved

@@ -1,4 +1,4 @@
-use Rattle.std.proofs.Common.{◌≡◌, arith}
+use Rattle.std.proofs.Common.{arith}
 use Rattle.line_audit.proofs.Linking.{puts_in}
 use Rattle.line_audit.proofs.lines_sent.put.Goals as goal
 

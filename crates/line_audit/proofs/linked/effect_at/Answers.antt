@@ -1,4 +1,4 @@
-use Rattle.std.proofs.Common.{◌≡◌, sym}
+use Rattle.std.proofs.Common.{sym}
 use Rattle.mount_log.proofs.Heading.{head_is}
 use Rattle.line_audit.proofs.Firsts.{no_head, none_there}
 use Rattle.line_audit.proofs.linked.effect_at.Goals as goal

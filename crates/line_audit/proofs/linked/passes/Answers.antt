@@ -1,5 +1,5 @@
-use Rattle.std.proofs.Common.{◌≡◌, sym, subst, ◌∙◌, arith}
-use Rattle.std.specs.Prelude.{ℕ, ◌<◌, ◌≤◌, ◌^◌}
+use Rattle.std.proofs.Common.{sym, subst, ◌∙◌, arith}
+use Rattle.std.specs.Prelude.{ℕ, ◌<◌, ◌^◌}
 use Rattle.line_audit.proofs.Passing.{known_next}
 use Rattle.line_audit.proofs.Wanting.{event_linked, event_back, few_behind}
 use Rattle.line_audit.proofs.linked.passes.Goals as goal

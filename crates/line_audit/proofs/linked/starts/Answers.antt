@@ -1,4 +1,4 @@
-use Rattle.std.proofs.Common.{◌≡◌, refl, sym, ◌∙◌}
+use Rattle.std.proofs.Common.{refl, sym, ◌∙◌}
 use Rattle.line_audit.specs.declared.effects.Effect.TheVariants as effect
 use Rattle.line_audit.proofs.Passing.{known_first}
 use Rattle.line_audit.proofs.Wanting.{start_linked, start_back}
