@@ -26,7 +26,7 @@ use Rattle.mount_log.specs.declared.logs.HubEvent.TheVariants as logged
 use Rattle.mount_log.specs.declared.logs.Log.{Log}
 use Rattle.mount_log.specs.declared.logs.SentLine.{SentLine}
 use Rattle.line_audit.specs.Caused.{IsSentFor, WasSentFor, IsActionCarried, AreCarried, IsCaused, AreCaused}
-use Rattle.line_audit.specs.Linked.{what_of, IsConnectDue, IsLineDue, AreLinked}
+use Rattle.line_audit.specs.Linked.{what_of, item_of, items_of, in_event, IsConnectDue, IsLineDue, AreLinked, AreOfEvents}
 use Rattle.line_audit.proofs.Linking.{at_line}
 use Rattle.mount_log.proofs.Bools.{both, same_bool}
 use Rattle.mount_log.proofs.Lists.{lists_same, same_list}
@@ -148,3 +148,41 @@ module _ (back : MessagesReadBack) (script : Script) (plans : List Plan) (log : 
       cut graph brick number fits event opened =
           let from = event.from_one in let lt = slice_get_within log.events (number - 1) (logged.Act (action.Cut brick)) event.there in
           (linked.each number (omega (arith, from, lt))).cuts graph brick fits event opened
+
+-- ---- and back
+
+none_of : (sent : List SentLine) (events number : ℕ) → AreOfEvents sent events → events < number → in_event number (items_of sent) ≡ []
+none_of [] events number are later = refl
+none_of (line ∷ sent) events number are later = by (line.event == number) refl (none_of sent events number (λ k l there. are (suc k) l there) later) where
+  by : (b : Bool) → (line.event == number) ≡ b → in_event number (items_of sent) ≡ [] → (if b then item_of line ∷ in_event number (items_of sent) else in_event number (items_of sent)) ≡ []
+  by true e rest = let le = are 0 line refl in let same = eqb-true line.event number e in absurd (omega (arith, le, same, later))
+  by false e rest = rest
+
+module _ (back : MessagesReadBack) (script : Script) (plans : List Plan) (log : Log) (caused : ConnectsAreCaused script plans log)
+    (bricks : (k : ℕ) (line : SentLine) → slice_get log.sent k ≡ Some line → line.brick < 256) where
+  line_due_back : (k : ℕ) (line : SentLine) → slice_get log.sent k ≡ Some line → (m : Message Input) → input_in line.bytes ≡ m → IsLineDue script plans log line (what_of m)
+  line_due_back k line there (Whole (input.Connect graph version)) read =
+      let own = back.0.1 line.bytes (input.Connect graph version) read in let fits : IsUnit graph = own.0.0 in
+      let text : line.bytes ≡ input_text (input.Connect graph 1) = own.1 ∙ ap (λ (n : ℕ). input_text (input.Connect graph n)) own.0.1 in
+      record {
+        due = sym (caused.connects graph line.brick line.event fits (bricks k line there)) ∙ sent_at log k line.event line.brick (input.Connect graph 1) line there refl refl text;
+        once = caused.once graph line.brick line.event fits;
+      }
+  line_due_back k line there (Whole (input.Disconnect graph)) read = let own = back.0.1 line.bytes (input.Disconnect graph) read in caused.disconnects k graph line there own.0 own.1
+  line_due_back k line there (Whole (input.Request wind graph req)) read = caused.requests k wind graph line req there read
+  line_due_back k line there (Whole (input.Down serve)) read = tt
+  line_due_back k line there (Whole input.Up) read = tt
+  line_due_back k line there (Whole (input.FaultAt p n)) read = tt
+  line_due_back k line there (Wrong place) read =
+      let text = caused.inputs k line there in
+      let no : Wrong place ≡ Whole text.sent = sym read ∙ ap input_in text.text ∙ back.0.0 text.sent text.legal in absurd cc
+
+  pub linked_back : AreOfEvents log.sent (length log.events) → AreLinked script plans log
+  linked_back are = record {
+    each = λ number le. record {
+      lines = λ k line there same. line_due_back k line there (input_in line.bytes) refl;
+      due = λ graph brick fits low due. caused.connects graph brick number fits low ∙ due;
+      cuts = λ graph brick fits acts opened. caused.cuts graph brick number fits acts opened;
+    };
+    no_later = λ number later. none_of log.sent (length log.events) number are later;
+  }

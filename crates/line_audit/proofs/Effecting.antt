@@ -1,6 +1,6 @@
 -- What an event does to connections, by what it is.
 use Rattle.std.proofs.Common.{◌≡◌, refl, sym, ap, subst, ◌∙◌, arith}
-use Rattle.std.specs.Prelude.{ℕ, ◌+◌, ◌-◌, ◌==◌, ◌&&◌, true, false, List, Some, length, take, slice_get}
+use Rattle.std.specs.Prelude.{ℕ, ◌+◌, ◌==◌, ◌&&◌, true, false, List, Some, length, take, slice_get}
 use Rattle.std.proofs.lemmas.Bool.{eq-eqb, eqb-true}
 use Rattle.fop_types.specs.declared.messages.BrickRep.{BrickRep}
 use Rattle.fop_types.specs.declared.messages.BrickRep.TheVariants as rep
@@ -219,3 +219,10 @@ module _ (log : Log) (now : Moment) (graph brick : ℕ) where
   gone_is number (logged.Submit session line) same event gone = absurd gone
   gone_is number (logged.Run g task) same event gone = absurd gone
   gone_is number (logged.Arm at p count a) same event gone = absurd gone
+
+  -- and where it answers Gone, that is what the event does
+  pub gone_back : (number : ℕ) (e : HubEvent) → now.number ≡ number → (gone : IsGone log graph brick number) → e ≡ logged.Arrive brick gone.bytes → IsGoneAs log now graph brick (effect_of e)
+  gone_back number e same gone is =
+      subst (λ (x : HubEvent). IsGoneAs log now graph brick (effect_of x)) (sym is)
+      (subst (λ (m : Message Output). IsGoneAs log now graph brick (arrives brick (head_in m).said)) (sym gone.read)
+      (subst (λ (kind : OutKind). IsGoneAs log now graph brick (arrives brick (kind_head kind))) (sym gone.says) (refl, subst (λ (n : ℕ). IsEndIn log.winds gone.wind graph n) (sym same) gone.ends)))

@@ -1,4 +1,7 @@
 pub mod Causing
+pub mod Ordering
+pub mod Finding
+pub mod Firsts
 pub mod Carrying
 pub mod Tying
 pub mod Ending

@@ -128,6 +128,14 @@ at_line P (l ∷ lines) (suc k) number line is same all = rest (l.event == numbe
   rest true found behind = behind found.1
   rest false found behind = behind found
 
+-- what holds of each line of an event holds of its items
+pub all_lines : (P : Item → Type 0) (lines : List SentLine) (number : ℕ) → ((k : ℕ) (line : SentLine) → slice_get lines k ≡ Some line → line.event ≡ number → P (item_of line)) → AllByRecursion P (in_event number (items_of lines))
+all_lines P [] number each = tt
+all_lines P (l ∷ lines) number each = by (l.event == number) refl (all_lines P lines number (λ k line there. each (suc k) line there)) where
+  by : (b : Bool) → (l.event == number) ≡ b → AllByRecursion P (in_event number (items_of lines)) → AllByRecursion P (if b then item_of l ∷ in_event number (items_of lines) else in_event number (items_of lines))
+  by true e rest = (each 0 l refl (eqb-true l.event number e), rest)
+  by false e rest = rest
+
 -- ---- by event
 
 pub in_event_push : (number : ℕ) (lines : List SentLine) (line : SentLine) → in_event number (items_of (lines ++ line ∷ [])) ≡ in_event number (items_of lines) ++ in_event number (item_of line ∷ [])

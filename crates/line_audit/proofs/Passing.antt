@@ -1,15 +1,20 @@
 -- What is known of connections behind an event, by what is known before it.
 use Rattle.std.proofs.Common.{◌≡◌, refl, sym, ap, subst, ◌∙◌, arith}
 use Rattle.std.specs.Prelude.{ℕ, suc, ◌+◌, ◌-◌, ◌==◌, ◌&&◌, ◌||◌, not, Bool, true, false, List, [], ◌∷◌, ◌++◌, slice_get, if◌then◌else◌}
-use Rattle.std.specs.List.{list_any}
+use Rattle.std.specs.List.{list_any, AllByRecursion}
 use Rattle.std.proofs.lemmas.Bool.{eqb-true, eqb-false, ne_eqb}
 use Rattle.std.proofs.lemmas.List.Folds.{list_any-append}
+use Rattle.fop_types.specs.declared.messages.Input.{Input}
 use Rattle.fop_types.specs.declared.messages.Input.TheVariants as input
-use Rattle.wire_messages.specs.Messages.{MessagesReadBack}
+use Rattle.wire_xdr.specs.Xdr.{IsUnit}
+use Rattle.wire_messages.specs.Messages.{input_in, MessagesReadBack}
+use Rattle.wire_messages.specs.declared.messages.Message.{Message}
+use Rattle.wire_messages.specs.declared.messages.Message.TheVariants.{Whole, Wrong}
 use Rattle.mount_log.specs.Connections.{was_sent, closes_by, is_open_after}
 use Rattle.mount_log.specs.Connects.{newest_graph, opens_by, is_closed_after}
 use Rattle.mount_log.specs.declared.logs.Log.{Log}
-use Rattle.line_audit.specs.Linked.{items_of, in_event, connects, disconnects, has_connect, has_disconnect, opened_as, closed_as, newest_after, has_link, without_brick, without_link, closed_by, dropped_as, dropped, added_as, added, links_after, without_number, closed_after, IsEffectAt, IsKnown}
+use Rattle.mount_log.specs.declared.logs.SentLine.{SentLine}
+use Rattle.line_audit.specs.Linked.{what_of, items_of, in_event, connects, disconnects, has_connect, has_disconnect, opened_as, closed_as, newest_after, has_link, without_brick, without_link, closed_by, dropped_as, dropped, added_as, added, links_after, without_number, closed_after, AreUnits, IsEffectAt, IsKnown}
 use Rattle.line_audit.specs.declared.effects.Effect.{Effect}
 use Rattle.line_audit.specs.declared.effects.Effect.TheVariants as effect
 use Rattle.line_audit.specs.declared.known.Known.{Known}
@@ -18,7 +23,7 @@ use Rattle.line_audit.specs.declared.lines_sent.What.{What}
 use Rattle.line_audit.specs.declared.lines_sent.What.TheVariants as what
 use Rattle.line_audit.specs.declared.links.Link.{Link}
 use Rattle.line_audit.proofs.Effecting.{closes_is, opens_is, newest_next}
-use Rattle.line_audit.proofs.Linking.{connect_sent, disconnect_sent}
+use Rattle.line_audit.proofs.Linking.{connect_sent, disconnect_sent, all_lines}
 use Rattle.mount_log.proofs.Bools.{and_true, and_false, both}
 
 -- ---- links
@@ -170,6 +175,82 @@ module _ (graph brick : ℕ) where
         joined true false d = refl
         joined false x d = refl
 
+-- ---- numbers of graphs
+
+units_without_brick : (c : ℕ) (ls : List Link) → AreUnits ls → AreUnits (without_brick c ls)
+units_without_brick c [] are = tt
+units_without_brick c (l ∷ ls) are = by (l.brick == c) (units_without_brick c ls are.1) where
+  by : (b : Bool) → AreUnits (without_brick c ls) → AreUnits (if b then without_brick c ls else l ∷ without_brick c ls)
+  by true rest = rest
+  by false rest = (are.0, rest)
+
+units_without_link : (g c : ℕ) (ls : List Link) → AreUnits ls → AreUnits (without_link g c ls)
+units_without_link g c [] are = tt
+units_without_link g c (l ∷ ls) are = by ((l.graph == g) && (l.brick == c)) (units_without_link g c ls are.1) where
+  by : (b : Bool) → AreUnits (without_link g c ls) → AreUnits (if b then without_link g c ls else l ∷ without_link g c ls)
+  by true rest = rest
+  by false rest = (are.0, rest)
+
+units_closed : (f : Effect) (ls : List Link) → AreUnits ls → AreUnits (closed_by f ls)
+units_closed (effect.Closed c) ls are = units_without_brick c ls are
+units_closed effect.Started ls are = are
+units_closed effect.Switched ls are = are
+units_closed (effect.Opened c) ls are = are
+units_closed (effect.Cut c) ls are = are
+units_closed (effect.Gone c wind) ls are = are
+units_closed effect.Other ls are = are
+
+units_dropped_as : (c : ℕ) (w : What) (ls : List Link) → AreUnits ls → AreUnits (dropped_as c w ls)
+units_dropped_as c (what.Disconnect g) ls are = units_without_link g c ls are
+units_dropped_as c (what.Connect g) ls are = are
+units_dropped_as c (what.Request g) ls are = are
+units_dropped_as c what.Other ls are = are
+units_dropped_as c what.Wrong ls are = are
+
+units_dropped : (items : List Item) (ls : List Link) → AreUnits ls → AreUnits (dropped items ls)
+units_dropped [] ls are = are
+units_dropped (i ∷ is) ls are = units_dropped is (dropped_as i.brick i.what ls) (units_dropped_as i.brick i.what ls are)
+
+units_push : (ls : List Link) (l : Link) → AreUnits ls → IsUnit l.graph → AreUnits (ls ++ l ∷ [])
+units_push [] l are own = (own, tt)
+units_push (k ∷ ls) l are own = (are.0, units_push ls l are.1 own)
+
+-- a Connect is of such a graph
+abbrev Fits : What → Type 0
+Fits (what.Connect g) = IsUnit g
+Fits (what.Disconnect g) = Unit {0}
+Fits (what.Request g) = Unit {0}
+Fits what.Other = Unit {0}
+Fits what.Wrong = Unit {0}
+
+units_added_as : (c : ℕ) (w : What) (ls : List Link) → Fits w → AreUnits ls → AreUnits (added_as c w ls)
+units_added_as c (what.Connect g) ls fits are = units_push ls (record { graph = g; brick = c }) are fits
+units_added_as c (what.Disconnect g) ls fits are = are
+units_added_as c (what.Request g) ls fits are = are
+units_added_as c what.Other ls fits are = are
+units_added_as c what.Wrong ls fits are = are
+
+units_added : (items : List Item) (ls : List Link) → AllByRecursion (λ (i : Item). Fits i.what) items → AreUnits ls → AreUnits (added items ls)
+units_added [] ls fit are = are
+units_added (i ∷ is) ls fit are = units_added is (added_as i.brick i.what ls) fit.1 (units_added_as i.brick i.what ls fit.0 are)
+
+line_fits : MessagesReadBack → (line : SentLine) → Fits (what_of (input_in line.bytes))
+line_fits back line = by (input_in line.bytes) refl where
+  by : (m : Message Input) → input_in line.bytes ≡ m → Fits (what_of m)
+  by (Whole (input.Connect graph version)) is = (back.0.1 line.bytes (input.Connect graph version) is).0.0
+  by (Whole (input.Disconnect graph)) is = tt
+  by (Whole (input.Request wind graph req)) is = tt
+  by (Whole (input.Down serve)) is = tt
+  by (Whole input.Up) is = tt
+  by (Whole (input.FaultAt p n)) is = tt
+  by (Wrong place) is = tt
+
+units_after : MessagesReadBack → (f : Effect) (number : ℕ) (lines : List SentLine) (items : List Item) (ls : List Link) → items ≡ in_event number (items_of lines) → AreUnits ls → AreUnits (links_after f items ls)
+units_after back f number lines items ls is are =
+    units_added items (dropped items (closed_by f ls))
+    (subst (AllByRecursion (λ (i : Item). Fits i.what)) (sym is) (all_lines (λ (i : Item). Fits i.what) lines number (λ k line there same. line_fits back line)))
+    (units_dropped items (closed_by f ls) (units_closed f ls are))
+
 -- ---- closed bricks
 
 module _ (brick : ℕ) where
@@ -237,6 +318,7 @@ module _ (back : MessagesReadBack) (log : Log) where
             ∙ shut (closed_as brick f) (closes_by brick (slice_get log.events k)) (list_any (λ b. b == brick) old.closed.items) (is_closed_after log brick k) (opened_as brick f) (opens_by brick (slice_get log.events k))
             (ap (closed_as brick) at.is ∙ sym (closes_is brick at.event) ∙ ap (closes_by brick) (sym at.there)) (known.closed brick)
             (ap (opened_as brick) at.is ∙ sym (opens_is brick at.event) ∙ ap (opens_by brick) (sym at.there));
+        units = subst AreUnits (sym links) (units_after back f (suc k) log.sent items old.links.items items_are known.units);
         newest = newest_is ∙ next ∙ ap (λ (n : ℕ). newest_after n f) known.newest ∙ ap (newest_after (newest_graph log k)) at.is ∙ sym (newest_next log k at.event at.there) ∙ ap (newest_graph log) (sym one);
       }) where
         one : suc k ≡ k + 1
@@ -259,6 +341,7 @@ module _ (back : MessagesReadBack) (log : Log) where
         ap (has_link graph brick) (links ∙ ap (links_after effect.Started items) no_links) ∙ links_next graph brick effect.Started items []
         ∙ or_false (has_connect graph brick items) ∙ ap (has_connect graph brick) is ∙ sym (connect_sent back log graph fits 0 brick);
     closed = λ brick. ap (λ (xs : List ℕ). list_any (λ b. b == brick) xs) (closed ∙ none_closed);
+    units = subst AreUnits (sym links) (units_after back effect.Started 0 log.sent items old.links.items is (subst AreUnits (sym no_links) tt));
     newest = newest_is;
   } where
     or_false : (b : Bool) → (b || false) ≡ b

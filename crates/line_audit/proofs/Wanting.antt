@@ -1,8 +1,9 @@
 -- What is due in an event, by what is known before it, is what is due by the log.
 use Rattle.std.proofs.Common.{◌≡◌, refl, sym, ap, subst, ◌∙◌, arith, inl, inr}
-use Rattle.std.specs.Prelude.{ℕ, suc, ◌+◌, ◌-◌, ◌<◌, ◌≤◌, ◌==◌, nat_lt, ◌&&◌, ◌||◌, ◌⊎◌, not, Bool, true, false, List, [], ◌∷◌, Some, slice_get}
+use Rattle.std.specs.Prelude.{ℕ, suc, ◌+◌, ◌-◌, ◌^◌, ◌<◌, ◌≤◌, ◌==◌, nat_lt, ◌&&◌, ◌||◌, ◌⊎◌, not, Bool, true, false, List, [], ◌∷◌, Some, slice_get}
 use Rattle.std.specs.List.{list_any, AllByRecursion}
-use Rattle.std.proofs.lemmas.Bool.{eqb-true, ltb-true, ltb-false}
+use Rattle.std.specs.Cmp.Derive.{both_true}
+use Rattle.std.proofs.lemmas.Bool.{eqb-true, eq-eqb, ltb-true, ltb-false, or_right}
 use Rattle.fop_types.specs.declared.messages.Input.{Input}
 use Rattle.fop_types.specs.declared.messages.Input.TheVariants as input
 use Rattle.graph_build.specs.declared.plans.Plan.{Plan}
@@ -20,7 +21,7 @@ use Rattle.mount_log.specs.declared.logs.HubEvent.{HubEvent}
 use Rattle.mount_log.specs.declared.logs.HubEvent.TheVariants as logged
 use Rattle.mount_log.specs.declared.logs.Log.{Log}
 use Rattle.mount_log.specs.declared.logs.SentLine.{SentLine}
-use Rattle.line_audit.specs.Linked.{what_of, items_of, in_event, has_connect, has_disconnect, count_connects, is_started, is_switched, opened_as, cut_as, newest_after, has_link, until_at, live_as, uses_as, started_as, made_as, opened_for_as, due_as, IsGoneAs, IsLostAs, CutAs, GoneAs, EndAs, IsDueAs, IsItemDue, all_cut, IsLinkedAs, IsEffectAt, IsKnown, AreGraphTables, IsLineDue, IsLinked}
+use Rattle.line_audit.specs.Linked.{what_of, items_of, in_event, has_connect, has_disconnect, count_connects, is_started, is_switched, opened_as, cut_as, newest_after, has_link, until_at, live_as, uses_as, started_as, made_as, opened_for_as, due_as, IsGoneAs, IsLostAs, CutAs, GoneAs, EndAs, IsDueAs, IsItemDue, all_cut, AreUnits, IsLinkedAs, IsEffectAt, IsKnown, AreGraphTables, AreGraphsFew, IsLineDue, IsLinked}
 use Rattle.line_audit.specs.declared.due.GraphTables.{GraphTables}
 use Rattle.line_audit.specs.declared.due.Moment.{Moment}
 use Rattle.line_audit.specs.declared.effects.Effect.{Effect}
@@ -28,9 +29,10 @@ use Rattle.line_audit.specs.declared.effects.Effect.TheVariants as effect
 use Rattle.line_audit.specs.declared.known.Known.{Known}
 use Rattle.line_audit.specs.declared.lines_sent.Item.{Item}
 use Rattle.line_audit.specs.declared.links.Link.{Link}
-use Rattle.line_audit.proofs.Effecting.{opens_is, switch_is, none_starts, newest_next, cut_is, cuts_it, gone_is}
-use Rattle.line_audit.proofs.Linking.{connect_sent, connect_times, disconnect_sent, at_line}
+use Rattle.line_audit.proofs.Effecting.{opens_is, switch_is, none_starts, newest_next, cut_is, cuts_it, gone_is, gone_back}
+use Rattle.line_audit.proofs.Linking.{connect_sent, connect_times, disconnect_sent, at_line, all_lines}
 use Rattle.mount_log.proofs.Bools.{both}
+use Rattle.mount_log.proofs.Items.{some_is}
 
 and_same : (a a' b b' : Bool) → a ≡ a' → b ≡ b' → (a && b) ≡ (a' && b')
 and_same a a' b b' p q = cc
@@ -73,6 +75,22 @@ cut_each graph brick items (l ∷ ls) all has =
           let cut : (not true || has_disconnect l.graph brick items) ≡ true = ap (λ (b : Bool). not b || has_disconnect l.graph brick items) (sym p.1) ∙ parts.0 in
           ap (λ (g : ℕ). has_disconnect g brick items) (sym (eqb-true l.graph graph p.0)) ∙ cut
       by (inr rest) parts behind = behind parts.1 rest
+
+-- each link of a brick is cut, where each of its graphs disconnects
+cut_all : (brick : ℕ) (items : List Item) (all ls : List Link) → ((g : ℕ) → IsUnit g → has_link g brick all ≡ true → has_disconnect g brick items ≡ true) → ((g : ℕ) → has_link g brick ls ≡ true → has_link g brick all ≡ true)
+    → AreUnits ls → all_cut brick items ls ≡ true
+cut_all brick items all [] each within units = refl
+cut_all brick items all (l ∷ ls) each within units =
+    both_true (own (l.brick == brick) refl) (cut_all brick items all ls each (λ g has. within g (or_right ((l.graph == g) && (l.brick == brick)) (has_link g brick ls) has)) units.1) where
+      own : (b : Bool) → (l.brick == brick) ≡ b → (not b || has_disconnect l.graph brick items) ≡ true
+      own false e = refl
+      own true e = each l.graph units.0 (within l.graph (ap (λ (x : Bool). x || has_link l.graph brick ls) (both_true (eq-eqb l.graph l.graph refl) e)))
+
+-- a further graph has a number, where graphs are few
+pub few_behind : (log : Log) (k : ℕ) (known : Known) (f : Effect) → AreGraphsFew log → IsKnown log k known → IsEffectAt log k f → newest_after known.newest f < 2 ^ 32
+few_behind log k known f few is_known at =
+    let is : newest_after known.newest f ≡ newest_graph log (k + 1) = ap (λ (n : ℕ). newest_after n f) is_known.newest ∙ ap (newest_after (newest_graph log k)) at.is ∙ sym (newest_next log k at.event at.there) in
+    let low = few (k + 1) in omega (arith, is, low)
 
 -- ---- graphs
 
@@ -176,6 +194,93 @@ module _ (script : Script) (plans : List Plan) (log : Log) (tables : GraphTables
           ∙ cut_each graph brick items known.links.items (linked.cuts brick (ap (cut_as brick) at.is ∙ cuts_it brick at.event is)) (is_known.links graph brick fits ∙ ap (is_open_after log graph brick) (sym less) ∙ opened);
     }
 
+    -- ---- and back: what is due by the log is due by what is known
+
+    has_back : (graph brick event : ℕ) → event ≡ k + 1 → IsUnit graph → is_open_after log graph brick (event - 1) ≡ true → has_link graph brick known.links.items ≡ true
+    has_back graph brick number is fits opened = is_known.links graph brick fits ∙ sym (ap (is_open_after log graph brick) less) ∙ sym (ap (λ (n : ℕ). is_open_after log graph brick (n - 1)) is) ∙ opened
+
+    event_is : (number : ℕ) (e : HubEvent) → number ≡ k + 1 → IsEvent log number e → at.event ≡ e
+    event_is number e same acts = some_is at.event e (sym event.there ∙ ap (λ (n : ℕ). slice_get log.events (n - 1)) (sym same) ∙ acts.there)
+
+    lost_back : (line : SentLine) (graph : ℕ) → line.event ≡ k + 1 → IsUnit graph → IsDisconnected script plans log line graph → IsLostAs log plans tables known now graph line.brick
+    lost_back line graph same fits (ByCut opened acts) =
+        CutAs (has_back graph line.brick line.event same fits opened) (ap (cut_as line.brick) at.is ∙ cuts_it line.brick at.event (event_is line.event (logged.Act (action.Cut line.brick)) same acts))
+    lost_back line graph same fits (ByGone opened gone) =
+        GoneAs (has_back graph line.brick line.event same fits opened)
+        (subst (λ (f : Effect). IsGoneAs log now graph line.brick f) (sym at.is)
+        (gone_back log now graph line.brick line.event at.event (number ∙ sym same) gone (event_is line.event (logged.Arrive line.brick gone.bytes) same gone.arrives)))
+    lost_back line graph same fits (AtEnd uses before behind) =
+        let before_is : now.number - 1 ≡ k = ap (λ (n : ℕ). n - 1) number ∙ less in
+        let was : live_as tables.until.items known.newest graph (now.number - 1) ≡ true =
+        sym (ap (λ (n : ℕ). is_live log graph (n - 1)) same ∙ ap (is_live log graph) less ∙ sym (live_is known.newest graph k is_known.newest) ∙ ap (live_as tables.until.items known.newest graph) (sym before_is)) ∙ before in
+        let is : live_as tables.until.items now.newest graph now.number ≡ false =
+        sym (ap (is_live log graph) (same ∙ sym one) ∙ sym (live_is now.newest graph (suc k) newest_is) ∙ ap (live_as tables.until.items now.newest graph) (one ∙ sym number)) ∙ behind in
+        EndAs (both_true (both_true was (ap not is)) (uses_is graph line.brick ∙ uses))
+
+    line_back : (line : SentLine) → line.event ≡ k + 1 → (m : Message Input) → input_in line.bytes ≡ m → IsLineDue script plans log line (what_of m) → IsDueAs log plans tables known now items line.brick (what_of m)
+    line_back line same (Whole (input.Connect graph version)) is wanted =
+        let fits : IsUnit graph = (back.0.1 line.bytes (input.Connect graph version) is).0.0 in
+        record {
+          due = due_is graph line.brick fits ∙ ap (is_connect_due script plans log graph line.brick) (sym same) ∙ wanted.due;
+          once = subst (λ (n : ℕ). n ≤ 1) (ap (λ (n : ℕ). times_sent log n line.brick (input.Connect graph 1)) same ∙ connect_times back log graph fits (k + 1) line.brick ∙ ap (count_connects graph line.brick) (sym items_are)) wanted.once;
+        }
+    line_back line same (Whole (input.Disconnect graph)) is due = lost_back line graph same (back.0.1 line.bytes (input.Disconnect graph) is).0 due
+    line_back line same (Whole (input.Request wind graph req)) is due =
+        let fits : IsUnit graph = (back.0.1 line.bytes (input.Request wind graph req) is).0.1 in by fits due where
+          by : IsUnit graph → (is_open_after log graph line.brick (line.event - 1) ≡ true) ⊎ (was_sent log line.event line.brick (input.Connect graph 1) ≡ true)
+              → (has_link graph line.brick known.links.items || has_connect graph line.brick items) ≡ true
+          by fits (inl opened) = ap (λ (b : Bool). b || has_connect graph line.brick items) (has_back graph line.brick line.event same fits opened)
+          by fits (inr sent) =
+              or_right (has_link graph line.brick known.links.items) (has_connect graph line.brick items)
+              (ap (has_connect graph line.brick) items_are ∙ sym (connect_sent back log graph fits (k + 1) line.brick) ∙ ap (λ (n : ℕ). was_sent log n line.brick (input.Connect graph 1)) (sym same) ∙ sent)
+    line_back line same (Whole (input.Down serve)) is due = due
+    line_back line same (Whole input.Up) is due = due
+    line_back line same (Whole (input.FaultAt p n)) is due = due
+    line_back line same (Wrong place) is due = due
+
+    live_low : (graph : ℕ) → live_as tables.until.items now.newest graph now.number ≡ true → graph ≤ now.newest
+    live_low graph live = by (or_parts_true (graph == now.newest) (nat_lt 0 graph && (nat_lt graph now.newest && nat_lt now.number (until_at tables.until.items graph))) live) where
+      by : ((graph == now.newest) ≡ true) ⊎ ((nat_lt 0 graph && (nat_lt graph now.newest && nat_lt now.number (until_at tables.until.items graph))) ≡ true) → graph ≤ now.newest
+      by (inl e) = let same = eqb-true graph now.newest e in omega (arith, same)
+      by (inr e) =
+          let p = both (nat_lt 0 graph) (nat_lt graph now.newest && nat_lt now.number (until_at tables.until.items graph)) e in
+          let q = both (nat_lt graph now.newest) (nat_lt now.number (until_at tables.until.items graph)) p.1 in
+          let lt = ltb-true graph now.newest q.0 in omega (arith, lt)
+
+    -- a graph that is to connect is not above the newest
+    due_low : (graph brick : ℕ) → due_as plans tables known now graph brick ≡ true → graph ≤ now.newest
+    due_low graph brick due =
+        let p = both (started_as now graph || (made_as known now graph brick || opened_for_as tables known now graph brick)) (uses_as plans tables graph brick) due in
+        by (or_parts_true (started_as now graph) (made_as known now graph brick || opened_for_as tables known now graph brick) p.0) where
+          opens : (made_as known now graph brick ≡ true) ⊎ (opened_for_as tables known now graph brick ≡ true) → graph ≤ now.newest
+          opens (inl made) =
+              let p = both (is_switched now.effect) ((graph == now.newest) && not (list_any (λ b. b == brick) known.closed.items)) made in
+              let q = both (graph == now.newest) (not (list_any (λ b. b == brick) known.closed.items)) p.1 in
+              let same = eqb-true graph now.newest q.0 in omega (arith, same)
+          opens (inr opened) =
+              let p = both (opened_as brick now.effect) (live_as tables.until.items now.newest graph now.number && not (has_link graph brick known.links.items)) opened in
+              let q = both (live_as tables.until.items now.newest graph now.number) (not (has_link graph brick known.links.items)) p.1 in
+              live_low graph q.0
+
+          by : (started_as now graph ≡ true) ⊎ ((made_as known now graph brick || opened_for_as tables known now graph brick) ≡ true) → graph ≤ now.newest
+          by (inl started) = let none = not_started graph in absurd cc
+          by (inr other) = opens (or_parts_true (made_as known now graph brick) (opened_for_as tables known now graph brick) other)
+
+    pub event_back : now.newest < 2 ^ 32 → IsLinked script plans log (k + 1) → IsLinkedAs log plans tables known now items
+    event_back few linked = record {
+      each = subst (AllByRecursion (IsItemDue log plans tables known now items)) (sym items_are)
+          (all_lines (IsItemDue log plans tables known now items) log.sent (k + 1) (λ i line there same. line_back line same (input_in line.bytes) refl (linked.lines i line there same)));
+      due = λ graph brick low due.
+          let fits : IsUnit graph = let le = due_low graph brick due in omega (arith, le, few) in
+          ap (has_connect graph brick) items_are ∙ sym (connect_sent back log graph fits (k + 1) brick) ∙ linked.due graph brick fits low (sym (due_is graph brick fits) ∙ due);
+      cuts = λ brick cut.
+          cut_all brick items known.links.items known.links.items
+          (λ g fits has.
+          ap (has_disconnect g brick) items_are ∙ sym (disconnect_sent back log g fits (k + 1) brick)
+          ∙ linked.cuts g brick fits (subst (λ (e : HubEvent). IsEvent log (k + 1) e) (cut_is brick at.event (ap (cut_as brick) (sym at.is) ∙ cut)) event) (open_is g brick (k + 1) refl fits has))
+          (λ g has. has) is_known.units;
+    }
+
   -- ---- the making
 
   module _ (back : MessagesReadBack) (known : Known) (now : Moment) (items : List Item) (no_links : known.links.items ≡ []) (starts : now.effect ≡ effect.Started) (number : now.number ≡ 0) (known_newest : known.newest ≡ 1)
@@ -229,4 +334,47 @@ module _ (script : Script) (plans : List Plan) (log : Log) (tables : GraphTables
       lines = λ i line there same. start_line line same (input_in line.bytes) refl (at_line (IsItemDue log plans tables known now items) log.sent i 0 line there same (subst (AllByRecursion (IsItemDue log plans tables known now items)) items_are linked.each));
       due = λ graph brick fits low wanted. connect_sent back log graph fits 0 brick ∙ ap (has_connect graph brick) (sym items_are) ∙ linked.due graph brick low (start_due graph brick ∙ wanted);
       cuts = λ graph brick fits acts opened. let from = acts.from_one in let no : 1 ≤ 0 = from in absurd (omega (arith, no));
+    }
+
+    -- ---- and back
+
+    none_disconnected : (line : SentLine) (graph : ℕ) → line.event ≡ 0 → IsDisconnected script plans log line graph → ⊥
+    none_disconnected line graph same (ByCut opened acts) = let from = acts.from_one in absurd (omega (arith, from, same))
+    none_disconnected line graph same (ByGone opened gone) = let from = gone.arrives.from_one in absurd (omega (arith, from, same))
+    none_disconnected line graph same (AtEnd uses before behind) =
+        let n : line.event - 1 ≡ line.event = omega (arith, same) in
+        let no : true ≡ false = sym before ∙ ap (is_live log graph) n ∙ behind in absurd cc
+
+    start_line_back : (line : SentLine) → line.event ≡ 0 → (m : Message Input) → input_in line.bytes ≡ m → IsLineDue script plans log line (what_of m) → IsDueAs log plans tables known now items line.brick (what_of m)
+    start_line_back line same (Whole (input.Connect graph version)) is wanted =
+        let fits : IsUnit graph = (back.0.1 line.bytes (input.Connect graph version) is).0.0 in
+        record {
+          due = start_due graph line.brick ∙ ap (is_connect_due script plans log graph line.brick) (sym same) ∙ wanted.due;
+          once = subst (λ (n : ℕ). n ≤ 1) (ap (λ (n : ℕ). times_sent log n line.brick (input.Connect graph 1)) same ∙ connect_times back log graph fits 0 line.brick ∙ ap (count_connects graph line.brick) (sym items_are)) wanted.once;
+        }
+    start_line_back line same (Whole (input.Disconnect graph)) is due = absurd (none_disconnected line graph same due)
+    start_line_back line same (Whole (input.Request wind graph req)) is due =
+        let fits : IsUnit graph = (back.0.1 line.bytes (input.Request wind graph req) is).0.1 in by fits due where
+          sent_back : IsUnit graph → was_sent log 0 line.brick (input.Connect graph 1) ≡ true → (has_link graph line.brick known.links.items || has_connect graph line.brick items) ≡ true
+          sent_back fits sent = or_right (has_link graph line.brick known.links.items) (has_connect graph line.brick items) (ap (has_connect graph line.brick) items_are ∙ sym (connect_sent back log graph fits 0 line.brick) ∙ sent)
+
+          by : IsUnit graph → (is_open_after log graph line.brick (line.event - 1) ≡ true) ⊎ (was_sent log line.event line.brick (input.Connect graph 1) ≡ true)
+              → (has_link graph line.brick known.links.items || has_connect graph line.brick items) ≡ true
+          by fits (inl opened) = let n : line.event - 1 ≡ 0 = omega (arith, same) in sent_back fits (sym (ap (is_open_after log graph line.brick) n) ∙ opened)
+          by fits (inr sent) = sent_back fits (ap (λ (n : ℕ). was_sent log n line.brick (input.Connect graph 1)) (sym same) ∙ sent)
+    start_line_back line same (Whole (input.Down serve)) is due = due
+    start_line_back line same (Whole input.Up) is due = due
+    start_line_back line same (Whole (input.FaultAt p n)) is due = due
+    start_line_back line same (Wrong place) is due = due
+
+    pub start_back : IsLinked script plans log 0 → IsLinkedAs log plans tables known now items
+    start_back linked = record {
+      each = subst (AllByRecursion (IsItemDue log plans tables known now items)) (sym items_are)
+          (all_lines (IsItemDue log plans tables known now items) log.sent 0 (λ i line there same. start_line_back line same (input_in line.bytes) refl (linked.lines i line there same)));
+      due = λ graph brick low due.
+          let wanted : is_connect_due script plans log graph brick 0 ≡ true = sym (start_due graph brick) ∙ due in
+          let p = both (graph == 1) (uses_brick script plans log graph brick) wanted in
+          let fits : IsUnit graph = let same = eqb-true graph 1 p.0 in omega (arith, same) in
+          ap (has_connect graph brick) items_are ∙ sym (connect_sent back log graph fits 0 brick) ∙ linked.due graph brick fits low wanted;
+      cuts = λ brick cut. let none : cut_as brick now.effect ≡ false = ap (cut_as brick) starts in let no : true ≡ false = sym cut ∙ none in absurd cc;
     }

@@ -42,6 +42,22 @@ IsCaused log line (Wrong place) = Unit {0}
 pub record AreCaused (log : Log) : Type 0 where
   pub each : (k : ℕ) (line : SentLine) → slice_get log.sent k ≡ Some line → IsCaused log line (input_in line.bytes)
 
+-- each input that has a brick go down or up is sent in the event of its action, and none before a request
+abbrev pub IsInputActed : Log → SentLine → Input → Type 0
+IsInputActed log line input.Up = IsEvent log line.event (logged.Act (action.Up line.brick))
+IsInputActed log line (input.Connect graph version) = Unit {0}
+IsInputActed log line (input.Down serve) = IsEvent log line.event (logged.Act (action.Down line.brick serve))
+IsInputActed log line (input.Request wind graph req) = Unit {0}
+IsInputActed log line (input.Disconnect graph) = Unit {0}
+IsInputActed log line (input.FaultAt p number) = Unit {0}
+
+abbrev pub IsActed : Log → SentLine → Message Input → Type 0
+IsActed log line (Whole x) = IsInputActed log line x
+IsActed log line (Wrong place) = Unit {0}
+
+pub record AreActed (log : Log) : Type 0 where
+  pub each : (k : ℕ) (line : SentLine) → slice_get log.sent k ≡ Some line → IsActed log line (input_in line.bytes)
+
 -- ---- what is sent for an action
 
 -- the input is the one that the action sends
@@ -57,6 +73,22 @@ pub record IsTextFor (a : Action) (bytes : List ℕ) : Type 0 where
   pub sent : Input
   pub is_for : IsFor a sent
   pub text : bytes ≡ input_text sent
+
+-- what a line is read as is the input of the action
+abbrev pub SaysFor : Action → Message Input → Type 0
+SaysFor a (Whole x) = IsFor a x
+SaysFor a (Wrong place) = ⊥
+
+-- in this event the line sends the brick what is read as the input of the action
+pub record IsLineFor (number brick : ℕ) (a : Action) (line : SentLine) : Type 0 where
+  pub event : line.event ≡ number
+  pub brick_is : line.brick ≡ brick
+  pub says : SaysFor a (input_in line.bytes)
+
+pub record IsLineAt (sent : List SentLine) (at number brick : ℕ) (a : Action) : Type 0 where
+  pub line : SentLine
+  pub there : slice_get sent at ≡ Some line
+  pub is : IsLineFor number brick a line
 
 -- in this event the brick was sent the input of the action
 pub record IsSentFor (number brick : ℕ) (a : Action) (line : SentLine) : Type 0 where
@@ -89,3 +121,50 @@ IsEventCarried log number (logged.Arm at p count a) = Unit {0}
 
 pub record AreCarried (log : Log) : Type 0 where
   pub each : (k : ℕ) (e : HubEvent) → slice_get log.events k ≡ Some e → IsEventCarried log (k + 1) e
+
+-- ---- and is sent first
+
+-- each line before this place was sent before the event
+abbrev pub AreBefore : List SentLine → ℕ → ℕ → Type 0
+AreBefore sent at number = (k : ℕ) (line : SentLine) → k < at → slice_get sent k ≡ Some line → line.event < number
+
+-- the first line of the event, or of a later one, sends the brick the input of the action
+pub record IsSentFirst (log : Log) (number brick : ℕ) (a : Action) : Type 0 where
+  pub place : ℕ
+  pub first : AreBefore log.sent place number
+  pub sends : IsLineAt log.sent place number brick a
+
+abbrev pub IsActionAt : List SentLine → ℕ → ℕ → Action → Type 0
+IsActionAt sent at number (action.Down brick serve) = IsLineAt sent at number brick (action.Down brick serve)
+IsActionAt sent at number (action.Up brick) = IsLineAt sent at number brick (action.Up brick)
+IsActionAt sent at number (action.Fault brick p n) = IsLineAt sent at number brick (action.Fault brick p n)
+IsActionAt sent at number (action.Cut brick) = Unit {0}
+IsActionAt sent at number action.Heal = Unit {0}
+IsActionAt sent at number (action.Switch volfile) = Unit {0}
+
+abbrev pub IsActionFirst : Log → ℕ → Action → Type 0
+IsActionFirst log number (action.Down brick serve) = IsSentFirst log number brick (action.Down brick serve)
+IsActionFirst log number (action.Up brick) = IsSentFirst log number brick (action.Up brick)
+IsActionFirst log number (action.Fault brick p n) = IsSentFirst log number brick (action.Fault brick p n)
+IsActionFirst log number (action.Cut brick) = Unit {0}
+IsActionFirst log number action.Heal = Unit {0}
+IsActionFirst log number (action.Switch volfile) = Unit {0}
+
+abbrev pub IsEventAt : List SentLine → ℕ → ℕ → HubEvent → Type 0
+IsEventAt sent at number (logged.Act a) = IsActionAt sent at number a
+IsEventAt sent at number (logged.Submit session line) = Unit {0}
+IsEventAt sent at number (logged.Arrive from bytes) = Unit {0}
+IsEventAt sent at number (logged.Run graph task) = Unit {0}
+IsEventAt sent at number (logged.Arm p q count a) = Unit {0}
+
+abbrev pub IsEventFirst : Log → ℕ → HubEvent → Type 0
+IsEventFirst log number (logged.Act a) = IsActionFirst log number a
+IsEventFirst log number (logged.Submit session line) = Unit {0}
+IsEventFirst log number (logged.Arrive from bytes) = Unit {0}
+IsEventFirst log number (logged.Run graph task) = Unit {0}
+IsEventFirst log number (logged.Arm at p count a) = Unit {0}
+
+-- The input of each action that has one is the first that its event sends. A hub sends it before all else; the audit asks for this,
+-- and the definition only that it was sent.
+pub record AreSentFirst (log : Log) : Type 0 where
+  pub each : (k : ℕ) (e : HubEvent) → slice_get log.events k ≡ Some e → IsEventFirst log (k + 1) e

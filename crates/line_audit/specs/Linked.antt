@@ -1,7 +1,7 @@
 -- What is looked up of connections, event by event: what an event sends and does, as far as connections go; which connections
 -- are open before it, which bricks are known to be closed, and which graph is the newest; and until which event something of
 -- each graph is left.
-use Rattle.std.specs.Prelude.{◌≡◌, ℕ, ◌+◌, ◌-◌, ◌<◌, ◌≤◌, ◌==◌, ◌⊎◌, nat_lt, Bool, true, false, ◌&&◌, ◌||◌, not, List, [], ◌∷◌, ◌++◌, Some, slice_get, slice_index_or, length, if◌then◌else◌}
+use Rattle.std.specs.Prelude.{◌≡◌, ℕ, ◌+◌, ◌-◌, ◌^◌, ◌<◌, ◌≤◌, ◌==◌, ◌⊎◌, nat_lt, Bool, true, false, ◌&&◌, ◌||◌, not, List, [], ◌∷◌, ◌++◌, Some, slice_get, slice_index_or, length, if◌then◌else◌}
 use Rattle.std.specs.List.{list_any, AllByRecursion}
 use Rattle.fop_types.specs.declared.messages.Input.{Input}
 use Rattle.fop_types.specs.declared.messages.Input.TheVariants as input
@@ -13,6 +13,7 @@ use Rattle.wire_xdr.specs.Xdr.{IsUnit}
 use Rattle.wire_messages.specs.Messages.{input_in, output_in}
 use Rattle.wire_messages.specs.declared.messages.Message.{Message}
 use Rattle.wire_messages.specs.declared.messages.Message.TheVariants.{Whole, Wrong}
+use Rattle.mount_log.specs.CallGraphs.{calls_from, call_at}
 use Rattle.mount_log.specs.Causes.{plan_of_volfile}
 use Rattle.mount_log.specs.Connections.{was_sent, is_open_after}
 use Rattle.mount_log.specs.Connects.{times_sent, plan_uses, newest_graph, is_wind_behind, is_reply_behind, is_closed_after, is_connect_due, IsEndIn, IsDisconnected}
@@ -27,6 +28,8 @@ use Rattle.mount_log.specs.declared.logs.WindLine.{WindLine}
 use Rattle.mount_log.specs.Heads.{head_in}
 use Rattle.mount_log.specs.declared.heads.Said.{Said}
 use Rattle.mount_log.specs.declared.heads.Said.TheVariants as said
+use Rattle.mount_log.specs.declared.call_graphs.CallAt.{CallAt}
+use Rattle.line_audit.specs.Slots.{AreSlotsLow}
 use Rattle.line_audit.specs.declared.effects.Effect.{Effect}
 use Rattle.line_audit.specs.declared.effects.Effect.TheVariants as effect
 use Rattle.line_audit.specs.declared.lines_sent.Item.{Item}
@@ -241,6 +244,15 @@ abbrev pub end_as : List Plan → GraphTables → Known → Moment → ℕ → �
 end_as plans tables known now graph brick =
     (live_as tables.until.items known.newest graph (now.number - 1) && not (live_as tables.until.items now.newest graph now.number)) && uses_as plans tables graph brick
 
+-- a wind line is not of an earlier event than one before it
+abbrev pub WindsInOrder : List WindLine → Type 0
+WindsInOrder winds = (i j : ℕ) (a b : WindLine) → i ≤ j → slice_get winds i ≡ Some a → slice_get winds j ≡ Some b → a.event ≤ b.event
+
+-- the lines before this place are of earlier events, and no other is
+pub record IsFirstOf (winds : List WindLine) (number first : ℕ) : Type 0 where
+  pub before : (k : ℕ) (line : WindLine) → k < first → slice_get winds k ≡ Some line → line.event < number
+  pub behind : (k : ℕ) (line : WindLine) → first ≤ k → slice_get winds k ≡ Some line → number ≤ line.event
+
 abbrev pub IsGoneAs : Log → Moment → ℕ → ℕ → Effect → Type 0
 IsGoneAs log now graph brick (effect.Gone b wind) = (b ≡ brick) × IsEndIn log.winds wind graph now.number
 IsGoneAs log now graph brick effect.Started = ⊥
@@ -305,11 +317,16 @@ AreUsesNoted log answered until = (g n : ℕ) → nat_lt n (until_at until g) �
 
 -- ---- the log
 
+-- the graphs of connections have numbers of four bytes
+abbrev pub AreUnits : List Link → Type 0
+AreUnits links = AllByRecursion (λ (l : Link). IsUnit l.graph) links
+
 -- what is known before the event of the next number
 pub record IsKnown (log : Log) (n : ℕ) (known : Known) : Type 0 where
   pub links : (graph brick : ℕ) → IsUnit graph → has_link graph brick known.links.items ≡ is_open_after log graph brick n
   pub closed : (brick : ℕ) → list_any (λ b. b == brick) known.closed.items ≡ is_closed_after log brick n
   pub newest : known.newest ≡ newest_graph log n
+  pub units : AreUnits known.links.items
 
 pub record AreGraphTables (script : Script) (log : Log) (tables : GraphTables) : Type 0 where
   pub volfiles : tables.volfiles.items ≡ volfiles_of script log
@@ -338,3 +355,35 @@ pub record IsLinked (script : Script) (plans : List Plan) (log : Log) (number : 
 pub record AreLinked (script : Script) (plans : List Plan) (log : Log) : Type 0 where
   pub each : (number : ℕ) → number ≤ length log.events → IsLinked script plans log number
   pub no_later : (number : ℕ) → length log.events < number → in_event number (items_of log.sent) ≡ []
+
+-- ---- logs for which the audit has room
+
+-- graphs have numbers of four bytes
+abbrev pub AreGraphsFew : Log → Type 0
+AreGraphsFew log = (n : ℕ) → newest_graph log n < 2 ^ 32
+
+-- each line was sent by the hub's making or by one of so many events
+abbrev pub AreOfEvents : List SentLine → ℕ → Type 0
+AreOfEvents sent events = (k : ℕ) (line : SentLine) → slice_get sent k ≡ Some line → line.event ≤ events
+
+-- a call was submitted in a graph of a number below this one
+pub record IsCallBelow (log : Log) (count call : ℕ) : Type 0 where
+  pub at : CallAt
+  pub there : call_at (calls_from 0 1 log.events) call ≡ Some at
+  pub low : at.graph < count
+
+-- the graphs of wind lines, and those of the calls that have a reply, have numbers below this one
+pub record AreUsesBelow (log : Log) (count : ℕ) : Type 0 where
+  pub winds : (k : ℕ) (line : WindLine) → slice_get log.winds k ≡ Some line → line.graph < count
+  pub replies : (k : ℕ) (reply : ReplyLine) → slice_get log.replies k ≡ Some reply → IsCallBelow log count reply.call
+
+-- What the audit asks for besides, which each log of a run has: lines are of events that there are, and winds stand in their order;
+-- winds, and calls that have a reply, are of graphs that there are; and slots, graphs and events are not too many.
+pub record CanBeLinked (script : Script) (log : Log) : Type 0 where
+  pub sent : AreOfEvents log.sent (length log.events)
+  pub bricks : (k : ℕ) (line : SentLine) → slice_get log.sent k ≡ Some line → line.brick < 256
+  pub winds : WindsInOrder log.winds
+  pub slots : AreSlotsLow log.winds
+  pub graphs : AreGraphsFew log
+  pub uses : AreUsesBelow log (length (volfiles_of script log) + 1)
+  pub events : length log.events + 1 < 2 ^ 64

@@ -1,5 +1,5 @@
 //! Whether each input that has a brick go down or up was sent for a cause.
-ghost use Rattle.std.specs.Prelude.{◌≡◌, Some, true, is_some, slice_get, IfOk};
+ghost use Rattle.std.specs.Prelude.{◌≡◌, ◌↔◌, IsTrue, Some, true, is_some, slice_get, IfOk};
 ghost use Rattle.script_lang.specs.declared.scripts.Action.TheVariants as action;
 ghost use Rattle.mount_log.specs.declared.logs.HubEvent.TheVariants as logged;
 ghost use Rattle.mount_log.specs.Connects.{IsForDown};
@@ -9,7 +9,7 @@ ghost use Rattle.fop_types.specs.declared.messages.Input.TheVariants as input;
 ghost use Rattle.wire_xdr.specs.WireText.{input_text};
 ghost use Rattle.wire_messages.specs.Messages.{input_in};
 ghost use Rattle.log_audit.specs.Armed.{AreArmedFrom};
-ghost use Rattle.line_audit.specs.Caused.{IsBeforeRequest, IsInputCaused, IsCaused, AreCaused};
+ghost use Rattle.line_audit.specs.Caused.{IsBeforeRequest, IsInputCaused, IsCaused, AreCaused, IsInputActed, IsActed, AreActed};
 
 use fop_types::Input;
 use log_audit::armed_lines::{ArmedLines, armed_at, none_armed};
@@ -24,7 +24,7 @@ use wire_messages::{Message, input_of, messages_read_back};
 // ---- up
 
 fn is_up(a: &Action, brick: u8) -> bool
-    ensures { result ≡ true → a.now ≡ action.Up brick }
+    ensures { IsTrue result ↔ (a.now ≡ action.Up brick) }
 {
     match a {
         Action::Up(at) => *at == brick,
@@ -33,7 +33,7 @@ fn is_up(a: &Action, brick: u8) -> bool
 }
 
 fn acts_up(event: &HubEvent, brick: u8) -> bool
-    ensures { result ≡ true → event.now ≡ logged.Act (action.Up brick) }
+    ensures { IsTrue result ↔ (event.now ≡ logged.Act (action.Up brick)) }
 {
     match event {
         HubEvent::Act(a) => is_up(a, brick),
@@ -42,7 +42,7 @@ fn acts_up(event: &HubEvent, brick: u8) -> bool
 }
 
 fn is_up_caused(log: &Log, line: &SentLine) -> bool
-    ensures { result ≡ true → IsEvent log.now line.now.event (logged.Act (action.Up line.now.brick)) }
+    ensures { IsTrue result ↔ IsEvent log.now line.now.event (logged.Act (action.Up line.now.brick)) }
 {
     match event_at(log, line.event) {
         Some(event) => acts_up(event, line.brick),
@@ -53,7 +53,7 @@ fn is_up_caused(log: &Log, line: &SentLine) -> bool
 // ---- down
 
 fn is_down(a: &Action, brick: u8, serve: u32) -> bool
-    ensures { result ≡ true → a.now ≡ action.Down brick serve }
+    ensures { IsTrue result ↔ (a.now ≡ action.Down brick serve) }
 {
     match a {
         Action::Down(at, number) => *at == brick && *number == serve,
@@ -62,7 +62,7 @@ fn is_down(a: &Action, brick: u8, serve: u32) -> bool
 }
 
 fn acts_down(event: &HubEvent, brick: u8, serve: u32) -> bool
-    ensures { result ≡ true → event.now ≡ logged.Act (action.Down brick serve) }
+    ensures { IsTrue result ↔ (event.now ≡ logged.Act (action.Down brick serve)) }
 {
     match event {
         HubEvent::Act(a) => is_down(a, brick, serve),
@@ -71,7 +71,7 @@ fn acts_down(event: &HubEvent, brick: u8, serve: u32) -> bool
 }
 
 fn is_act_of_down(log: &Log, line: &SentLine, serve: u32) -> bool
-    ensures { result ≡ true → IsEvent log.now line.now.event (logged.Act (action.Down line.now.brick serve)) }
+    ensures { IsTrue result ↔ IsEvent log.now line.now.event (logged.Act (action.Down line.now.brick serve)) }
 {
     match event_at(log, line.event) {
         Some(event) => acts_down(event, line.brick, serve),
@@ -89,13 +89,14 @@ fn is_request_line(line: &SentLine) -> bool
 fn are_together(a: &SentLine, b: &SentLine) -> bool
     ensures brick { result ≡ true → a.now.brick ≡ b.now.brick }
     ensures event { result ≡ true → a.now.event ≡ b.now.event }
+    ensures complete { a.now.brick ≡ b.now.brick → a.now.event ≡ b.now.event → result ≡ true }
 {
     a.brick == b.brick && a.event == b.event
 }
 
 // Whether the line at a place behind another is a request to the same brick in the same event.
 fn is_before_request(log: &Log, k: usize, next: usize, line: &SentLine) -> bool
-    ensures { result ≡ true → IsBeforeRequest log.now.sent k next line.now }
+    ensures { IsTrue result ↔ IsBeforeRequest log.now.sent k next line.now }
 {
     if next <= k {
         return false;
@@ -124,7 +125,9 @@ fn is_down_caused(log: &Log, k: usize, line: &SentLine, serve: u32, armed: Armed
     requires there { slice_get log.now.sent k ≡ Some line.now }
     requires bytes { line.now.bytes ≡ input_text (input.Down serve) }
     requires armed { AreArmedFrom log.now.sent k armed }
-    ensures { result ≡ true → IsForDown log.now line.now serve }
+    ensures sound { result ≡ true → IsForDown log.now line.now serve }
+    ensures acted { IsEvent log.now line.now.event (logged.Act (action.Down line.now.brick serve)) → result ≡ true }
+    ensures armed { IsBeforeRequest log.now.sent k armed.stop line.now → result ≡ true }
 {
     if is_act_of_down(log, line, serve) {
         return true;
@@ -138,7 +141,8 @@ fn is_input_caused(log: &Log, k: usize, line: &SentLine, input: &Input, armed: A
     requires there { slice_get log.now.sent k ≡ Some line.now }
     requires bytes { line.now.bytes ≡ input_text input.now }
     requires armed { AreArmedFrom log.now.sent k armed }
-    ensures { result ≡ true → IsInputCaused log.now line.now input.now }
+    ensures sound { result ≡ true → IsInputCaused log.now line.now input.now }
+    ensures acted { IsInputActed log.now line.now input.now → result ≡ true }
 {
     match input {
         Input::Up => is_up_caused(log, line),
@@ -159,7 +163,8 @@ fn is_caused(
 ) -> Result<bool, AllocError>
     requires there { slice_get log.now.sent k ≡ Some line.now }
     requires armed { AreArmedFrom log.now.sent k armed }
-    ensures { IfOk result (λ yes. yes ≡ true → IsCaused log.now line.now (input_in line.now.bytes)) }
+    ensures sound { IfOk result (λ yes. yes ≡ true → IsCaused log.now line.now (input_in line.now.bytes)) }
+    ensures acted { IfOk result (λ yes. IsActed log.now line.now (input_in line.now.bytes) → yes ≡ true) }
 {
     messages_read_back();
     if line.bytes.len() > LONGEST {
@@ -180,7 +185,8 @@ fn is_caused(
 /// # Errors
 /// Out of memory.
 pub fn lines_are_caused(alloc: Global, log: &Log) -> Result<bool, AllocError>
-    ensures { IfOk result (λ yes. yes ≡ true → AreCaused log.now) }
+    ensures sound { IfOk result (λ yes. yes ≡ true → AreCaused log.now) }
+    ensures acted { IfOk result (λ yes. AreActed log.now → yes ≡ true) }
 {
     let mut armed = none_armed();
     for k in 0..log.sent.len() {

@@ -2,6 +2,8 @@
 ghost use Rattle.std.specs.Prelude.{◌≡◌, true, IfOk};
 ghost use Rattle.mount_log.specs.Connects.{ConnectsAreCaused};
 ghost use Rattle.mount_log.specs.Heads.{heads_of};
+ghost use Rattle.line_audit.specs.Caused.{AreActed, AreSentFirst};
+ghost use Rattle.line_audit.specs.Linked.{CanBeLinked};
 
 use crate::causes::lines_are_caused;
 use crate::downs::downs_are_carried;
@@ -28,7 +30,8 @@ pub fn connects_are_caused(
     heads: &[Head],
 ) -> Result<bool, AllocError>
     requires heads { heads.now ≡ heads_of log.now.events }
-    ensures { IfOk result (λ yes. yes ≡ true → ConnectsAreCaused script.now plans.now log.now) }
+    ensures sound { IfOk result (λ yes. yes ≡ true → ConnectsAreCaused script.now plans.now log.now) }
+    ensures complete { IfOk result (λ yes. CanBeLinked script.now log.now → AreSentFirst log.now → AreActed log.now → ConnectsAreCaused script.now plans.now log.now → yes ≡ true) }
 {
     messages_read_back();
     if !lines_are_caused(alloc, log)? {

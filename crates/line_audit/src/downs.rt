@@ -1,7 +1,9 @@
 //! Whether each action that has an input sends its brick that input.
-ghost use Rattle.std.specs.Prelude.{◌≡◌, Some, true, IfOk};
+ghost use Rattle.std.specs.Prelude.{◌≡◌, ◌↔◌, ◌≤◌, ◌<◌, ℕ, IsTrue, Some, true, slice_get, IfOk};
 ghost use Rattle.fop_types.specs.declared.messages.Input.TheVariants as input;
-ghost use Rattle.line_audit.specs.Caused.{IsFor, IsTextFor, IsSentFor, WasSentFor, IsActionCarried, IsEventCarried, AreCarried};
+ghost use Rattle.mount_log.specs.declared.logs.SentLine.{SentLine as Line};
+ghost use Rattle.wire_messages.specs.Messages.{input_in};
+ghost use Rattle.line_audit.specs.Caused.{IsFor, SaysFor, IsTextFor, IsLineFor, IsLineAt, IsSentFor, WasSentFor, IsActionCarried, IsActionAt, IsEventCarried, IsEventAt, AreCarried, AreBefore, AreSentFirst};
 
 use fop_types::{Input, Proc};
 use mount_log::by_place::{event_at, line_at};
@@ -11,7 +13,10 @@ use std::alloc::{AllocError, Global};
 use wire_messages::{Message, input_of};
 
 // The place of the first line behind `at` that was sent in this event or later, the number of lines where there is none.
-fn skip_to(sent: &[SentLine], at: usize, number: u64) -> usize {
+fn skip_to(sent: &[SentLine], at: usize, number: u64) -> usize
+    ensures before { AreBefore sent.now at number → AreBefore sent.now result number }
+    ensures stops { (line : Line) → slice_get sent.now result ≡ Some line → number ≤ line.event }
+{
     let mut now = at;
     while now < sent.len() {
         if sent[now].event >= number {
@@ -23,7 +28,7 @@ fn skip_to(sent: &[SentLine], at: usize, number: u64) -> usize {
 }
 
 fn is_down(sent: &Input, serve: u32) -> bool
-    ensures { result ≡ true → sent.now ≡ input.Down serve }
+    ensures { IsTrue result ↔ (sent.now ≡ input.Down serve) }
 {
     match sent {
         Input::Down { serve: number } => *number == serve,
@@ -32,7 +37,7 @@ fn is_down(sent: &Input, serve: u32) -> bool
 }
 
 fn is_up(sent: &Input) -> bool
-    ensures { result ≡ true → sent.now ≡ input.Up }
+    ensures { IsTrue result ↔ (sent.now ≡ input.Up) }
 {
     match sent {
         Input::Up => true,
@@ -41,7 +46,7 @@ fn is_up(sent: &Input) -> bool
 }
 
 fn is_fault(sent: &Input, proc: Proc, number: u32) -> bool
-    ensures { result ≡ true → sent.now ≡ input.FaultAt proc number }
+    ensures { IsTrue result ↔ (sent.now ≡ input.FaultAt proc number) }
 {
     match sent {
         Input::FaultAt { proc: p, number: n } => *p == proc && *n == number,
@@ -51,7 +56,7 @@ fn is_fault(sent: &Input, proc: Proc, number: u32) -> bool
 
 // Whether an input is the one that an action sends.
 fn is_for(sent: &Input, a: &Action) -> bool
-    ensures { result ≡ true → IsFor a.now sent.now }
+    ensures { IsTrue result ↔ IsFor a.now sent.now }
 {
     match a {
         Action::Down(_, serve) => is_down(sent, *serve),
@@ -62,7 +67,8 @@ fn is_for(sent: &Input, a: &Action) -> bool
 }
 
 fn is_text_for(alloc: Global, bytes: &[u8], a: &Action) -> Result<bool, AllocError>
-    ensures { IfOk result (λ yes. yes ≡ true → IsTextFor a.now bytes.now) }
+    ensures sound { IfOk result (λ yes. yes ≡ true → IsTextFor a.now bytes.now) }
+    ensures says { IfOk result (λ yes. IsTrue yes ↔ SaysFor a.now (input_in bytes.now)) }
 {
     match input_of(alloc, bytes)? {
         Message::Whole(input) => {
@@ -81,7 +87,8 @@ fn sends_for(
     brick: u8,
     a: &Action,
 ) -> Result<bool, AllocError>
-    ensures { IfOk result (λ yes. yes ≡ true → IsSentFor number brick a.now line.now) }
+    ensures sound { IfOk result (λ yes. yes ≡ true → IsSentFor number brick a.now line.now) }
+    ensures says { IfOk result (λ yes. IsTrue yes ↔ IsLineFor number brick a.now line.now) }
 {
     if line.event != number || line.brick != brick {
         return Ok(false);
@@ -98,7 +105,8 @@ fn is_sent(
     brick: u8,
     a: &Action,
 ) -> Result<bool, AllocError>
-    ensures { IfOk result (λ yes. yes ≡ true → WasSentFor log.now number brick a.now) }
+    ensures sound { IfOk result (λ yes. yes ≡ true → WasSentFor log.now number brick a.now) }
+    ensures says { IfOk result (λ yes. IsTrue yes ↔ IsLineAt log.now.sent at number brick a.now) }
 {
     let Some(line) = line_at(log, at) else {
         return Ok(false);
@@ -114,7 +122,8 @@ fn is_action_carried(
     number: u64,
     a: &Action,
 ) -> Result<bool, AllocError>
-    ensures { IfOk result (λ yes. yes ≡ true → IsActionCarried log.now number a.now) }
+    ensures sound { IfOk result (λ yes. yes ≡ true → IsActionCarried log.now number a.now) }
+    ensures says { IfOk result (λ yes. IsTrue yes ↔ IsActionAt log.now.sent at number a.now) }
 {
     match a {
         Action::Down(brick, _) => is_sent(alloc, log, at, number, *brick, a),
@@ -131,7 +140,8 @@ fn is_carried(
     number: u64,
     event: &HubEvent,
 ) -> Result<bool, AllocError>
-    ensures { IfOk result (λ yes. yes ≡ true → IsEventCarried log.now number event.now) }
+    ensures sound { IfOk result (λ yes. yes ≡ true → IsEventCarried log.now number event.now) }
+    ensures says { IfOk result (λ yes. IsTrue yes ↔ IsEventAt log.now.sent at number event.now) }
 {
     match event {
         HubEvent::Act(a) => is_action_carried(alloc, log, at, number, a),
@@ -139,12 +149,13 @@ fn is_carried(
     }
 }
 
-/// Whether each action that has an input sends its brick that input.
+/// Whether each action that has an input sends its brick that input, before all else of its event.
 ///
 /// # Errors
 /// Out of memory.
 pub fn downs_are_carried(alloc: Global, log: &Log) -> Result<bool, AllocError>
-    ensures { IfOk result (λ yes. yes ≡ true → AreCarried log.now) }
+    ensures sound { IfOk result (λ yes. yes ≡ true → AreCarried log.now) }
+    ensures exact { IfOk result (λ yes. IsTrue yes ↔ AreSentFirst log.now) }
 {
     let mut at = 0usize;
     for k in 0..log.events.len() {

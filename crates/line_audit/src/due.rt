@@ -1,9 +1,10 @@
 //! Which connections are due to be opened in an event, and which to end.
-ghost use Rattle.std.specs.Prelude.{◌≡◌, ◌-◌, ◌||◌, true, false, slice_get};
+ghost use Rattle.std.specs.Prelude.{◌≡◌, ◌-◌, ◌||◌, ◌<◌, true, false, slice_get};
 ghost use Rattle.std.specs.List.{list_any};
 ghost use Rattle.mount_log.specs.Connects.{has_brick, IsEndIn};
 ghost use Rattle.mount_log.specs.Ties.{IsNumberOf};
-ghost use Rattle.line_audit.specs.Linked.{until_at, live_as, uses_as, started_as, made_as, opened_for_as, due_as, end_as, IsGoneAs, IsLostAs};
+ghost use Rattle.line_audit.specs.Slots.{AreSlotsLow};
+ghost use Rattle.line_audit.specs.Linked.{WindsInOrder, IsFirstOf, until_at, live_as, uses_as, started_as, made_as, opened_for_as, due_as, end_as, IsGoneAs, IsLostAs};
 
 use crate::effects::{Effect, cut_as, is_started, is_switched, opened_as};
 use crate::known::Known;
@@ -142,7 +143,9 @@ pub fn is_due(
 // ---- a Disconnect
 
 // The first place of a line of this event or a later one, where lines stand in the order of their events.
-fn first_of(winds: &[WindLine], number: u64) -> usize {
+fn first_of(winds: &[WindLine], number: u64) -> usize
+    ensures { WindsInOrder winds.now → IsFirstOf winds.now number result }
+{
     let mut low = 0usize;
     let mut high = winds.len();
     while low < high {
@@ -161,6 +164,7 @@ fn is_end(line: &WindLine, wind: u64, graph: u32, number: u64) -> bool
     ensures wind { result ≡ true → IsNumberOf line.now.wind wind }
     ensures graph { result ≡ true → line.now.graph ≡ graph }
     ensures event { result ≡ true → line.now.event ≡ number }
+    ensures complete { line.now.wind.slot < 2147483648 → line.now.opened ≡ false → IsNumberOf line.now.wind wind → line.now.graph ≡ graph → line.now.event ≡ number → result ≡ true }
 {
     if line.opened || line.graph != graph || line.event != number {
         return false;
@@ -169,7 +173,8 @@ fn is_end(line: &WindLine, wind: u64, graph: u32, number: u64) -> bool
 }
 
 fn ends_at(log: &Log, place: usize, wind: u64, graph: u32, number: u64) -> bool
-    ensures { result ≡ true → IsEndIn log.now.winds wind graph number }
+    ensures sound { result ≡ true → IsEndIn log.now.winds wind graph number }
+    ensures complete { AreSlotsLow log.now.winds → (e : IsEndIn log.now.winds wind graph number) → e.place ≡ place → result ≡ true }
 {
     match wind_at(log, place) {
         Some(line) => is_end(line, wind, graph, number),
@@ -179,7 +184,8 @@ fn ends_at(log: &Log, place: usize, wind: u64, graph: u32, number: u64) -> bool
 
 // Whether a wind of a graph ends in an event.
 fn ends_in(log: &Log, wind: u64, graph: u32, number: u64) -> bool
-    ensures { result ≡ true → IsEndIn log.now.winds wind graph number }
+    ensures sound { result ≡ true → IsEndIn log.now.winds wind graph number }
+    ensures complete { AreSlotsLow log.now.winds → WindsInOrder log.now.winds → IsEndIn log.now.winds wind graph number → result ≡ true }
 {
     let winds = log.winds.as_slice();
     let from = first_of(winds, number);
@@ -195,7 +201,8 @@ fn ends_in(log: &Log, wind: u64, graph: u32, number: u64) -> bool
 }
 
 fn is_gone(log: &Log, now: Moment, graph: u32, brick: u8) -> bool
-    ensures { result ≡ true → IsGoneAs log.now now graph brick now.effect }
+    ensures sound { result ≡ true → IsGoneAs log.now now graph brick now.effect }
+    ensures complete { AreSlotsLow log.now.winds → WindsInOrder log.now.winds → IsGoneAs log.now now graph brick now.effect → result ≡ true }
 {
     match now.effect {
         Effect::Gone(from, wind) => {
@@ -238,7 +245,8 @@ pub fn is_lost(
     graph: u32,
     brick: u8,
 ) -> bool
-    ensures { result ≡ true → IsLostAs log.now plans.now tables.now known.now now graph brick }
+    ensures sound { result ≡ true → IsLostAs log.now plans.now tables.now known.now now graph brick }
+    ensures complete { AreSlotsLow log.now.winds → WindsInOrder log.now.winds → IsLostAs log.now plans.now tables.now known.now now graph brick → result ≡ true }
 {
     if has_ended(plans, tables, known, now, graph, brick) {
         return true;

@@ -1,5 +1,5 @@
 //! What an event does to connections.
-ghost use Rattle.std.specs.Prelude.{◌≡◌, IfSome};
+ghost use Rattle.std.specs.Prelude.{◌≡◌, ◌≤◌, ◌^◌, IfNone, IfSome};
 ghost use Rattle.mount_log.specs.Heads.{head_of};
 ghost use Rattle.line_audit.specs.Linked.{arrives, acts, effect_of, is_started, is_switched, opened_as, closed_as, cut_as, newest_after};
 
@@ -95,7 +95,8 @@ pub fn cut_as(effect: Effect, brick: u8) -> bool
 
 /// The newest graph behind an event, where its number has a next one.
 pub fn newest_after(newest: u32, effect: Effect) -> Option<u32>
-    ensures { IfSome result (λ n. n ≡ newest_after newest effect) }
+    ensures next { IfSome result (λ n. n ≡ newest_after newest effect) }
+    ensures none { IfNone result (2 ^ 32 ≤ newest_after newest effect) }
 {
     match effect {
         Effect::Switched => {

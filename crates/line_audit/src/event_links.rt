@@ -1,8 +1,9 @@
 //! Whether what an event sends to connect and disconnect is what is due in it.
-ghost use Rattle.std.specs.Prelude.{◌≡◌, ◌<◌, ◌≤◌, ◌||◌, ℕ, true};
+ghost use Rattle.std.specs.Prelude.{◌≡◌, ◌<◌, ◌≤◌, ◌||◌, ◌↔◌, ℕ, IsTrue, true};
 ghost use Rattle.std.specs.List.{AllByRecursion};
 ghost use Rattle.line_audit.specs.declared.effects.Effect.TheVariants.{Started};
-ghost use Rattle.line_audit.specs.Linked.{IsDueAs, IsItemDue, IsDueOnce, AreCut, HasDue, IsLinkedAs, due_as, has_link, has_connect};
+ghost use Rattle.line_audit.specs.Slots.{AreSlotsLow};
+ghost use Rattle.line_audit.specs.Linked.{WindsInOrder, IsDueAs, IsItemDue, IsDueOnce, AreCut, HasDue, IsLinkedAs, due_as, has_link, has_connect};
 
 use crate::due::{GraphTables, Moment, is_due, is_lost};
 use crate::effects::Effect;
@@ -30,7 +31,7 @@ fn is_due_once(
     graph: u32,
     brick: u8,
 ) -> bool
-    ensures { result ≡ true → IsDueOnce plans.now tables.now known.now now items.now graph brick }
+    ensures { IsTrue result ↔ IsDueOnce plans.now tables.now known.now now items.now graph brick }
 {
     if count_connects(items, graph, brick) > 1 {
         return false;
@@ -48,7 +49,8 @@ fn is_item_due(
     brick: u8,
     what: What,
 ) -> bool
-    ensures { result ≡ true → IsDueAs log.now plans.now tables.now known.now now items.now brick what }
+    ensures sound { result ≡ true → IsDueAs log.now plans.now tables.now known.now now items.now brick what }
+    ensures complete { AreSlotsLow log.now.winds → WindsInOrder log.now.winds → IsDueAs log.now plans.now tables.now known.now now items.now brick what → result ≡ true }
 {
     match what {
         What::Connect(graph) => is_due_once(plans, tables, known, now, items, graph, brick),
@@ -67,7 +69,8 @@ fn are_due(
     now: Moment,
     items: &[Item],
 ) -> bool
-    ensures { result ≡ true → AllByRecursion (IsItemDue log.now plans.now tables.now known.now now items.now) items.now }
+    ensures sound { result ≡ true → AllByRecursion (IsItemDue log.now plans.now tables.now known.now now items.now) items.now }
+    ensures complete { AreSlotsLow log.now.winds → WindsInOrder log.now.winds → AllByRecursion (IsItemDue log.now plans.now tables.now known.now now items.now) items.now → result ≡ true }
 {
     for item in items {
         if !is_item_due(log, plans, tables, known, now, items, item.brick, item.what) {
@@ -88,7 +91,7 @@ fn is_met(
     graph: u32,
     brick: u8,
 ) -> bool
-    ensures { result ≡ true → due_as plans.now tables.now known.now now graph brick ≡ true → has_connect graph brick items.now ≡ true }
+    ensures { IsTrue result ↔ (due_as plans.now tables.now known.now now graph brick ≡ true → has_connect graph brick items.now ≡ true) }
 {
     if !is_due(plans, tables, known, now, graph, brick) {
         return true;
@@ -104,7 +107,7 @@ fn newest_is_met(
     now: Moment,
     items: &[Item],
 ) -> bool
-    ensures { result ≡ true → (brick : ℕ) → brick < 256 → due_as plans.now tables.now known.now now now.newest brick ≡ true → has_connect now.newest brick items.now ≡ true }
+    ensures { IsTrue result ↔ ((brick : ℕ) → brick < 256 → due_as plans.now tables.now known.now now now.newest brick ≡ true → has_connect now.newest brick items.now ≡ true) }
 {
     for brick in 0..255u8 {
         if !is_met(plans, tables, known, now, items, now.newest, brick) {
@@ -123,7 +126,7 @@ fn opened_is_met(
     items: &[Item],
     brick: u8,
 ) -> bool
-    ensures { result ≡ true → (graph : ℕ) → graph ≤ now.newest → due_as plans.now tables.now known.now now graph brick ≡ true → has_connect graph brick items.now ≡ true }
+    ensures { IsTrue result ↔ ((graph : ℕ) → graph ≤ now.newest → due_as plans.now tables.now known.now now graph brick ≡ true → has_connect graph brick items.now ≡ true) }
 {
     for graph in 0..now.newest {
         if !is_met(plans, tables, known, now, items, graph, brick) {
@@ -136,7 +139,7 @@ fn opened_is_met(
 // At the making graph 1 is the newest.
 fn has_due(plans: &[Plan], tables: &GraphTables, known: &Known, now: Moment, items: &[Item]) -> bool
     requires { now.effect ≡ Started → now.newest ≡ 1 }
-    ensures { result ≡ true → HasDue plans.now tables.now known.now now items.now }
+    ensures { IsTrue result ↔ HasDue plans.now tables.now known.now now items.now }
 {
     match now.effect {
         Effect::Started => newest_is_met(plans, tables, known, now, items),
@@ -147,7 +150,7 @@ fn has_due(plans: &[Plan], tables: &GraphTables, known: &Known, now: Moment, ite
 }
 
 fn are_cut(known: &Known, effect: Effect, items: &[Item]) -> bool
-    ensures { result ≡ true → AreCut items.now known.now.links.items effect }
+    ensures { IsTrue result ↔ AreCut items.now known.now.links.items effect }
 {
     match effect {
         Effect::Cut(brick) => all_cut(known.links.as_slice(), items, brick),
@@ -167,7 +170,8 @@ pub fn is_linked(
     items: &[Item],
 ) -> bool
     requires { now.effect ≡ Started → now.newest ≡ 1 }
-    ensures { result ≡ true → IsLinkedAs log.now plans.now tables.now known.now now items.now }
+    ensures sound { result ≡ true → IsLinkedAs log.now plans.now tables.now known.now now items.now }
+    ensures complete { AreSlotsLow log.now.winds → WindsInOrder log.now.winds → IsLinkedAs log.now plans.now tables.now known.now now items.now → result ≡ true }
 {
     if !are_due(log, plans, tables, known, now, items)
         || !has_due(plans, tables, known, now, items)

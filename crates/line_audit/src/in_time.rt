@@ -1,5 +1,5 @@
 //! Whether numbers of events do not fall.
-ghost use Rattle.std.specs.Prelude.{◌≡◌, ◌&&◌, nat_le, map, length, true};
+ghost use Rattle.std.specs.Prelude.{◌≡◌, ◌&&◌, ◌↔◌, IsTrue, nat_le, map, length, true};
 ghost use Rattle.mount_log.specs.Ties.{do_rise, NumbersRise};
 
 use mount_log::{Log, ReplyLine, SentLine, WindLine};
@@ -68,6 +68,7 @@ fn others_rise(log: &Log, last: u64) -> bool
     ensures answered { result ≡ true → do_rise 1 last log.now.answered ≡ true }
     ensures copied { result ≡ true → do_rise 1 last log.now.copied ≡ true }
     ensures skipped { result ≡ true → do_rise 1 last log.now.skipped ≡ true }
+    ensures complete { do_rise 1 last log.now.entered ≡ true → do_rise 1 last log.now.answered ≡ true → do_rise 1 last log.now.copied ≡ true → do_rise 1 last log.now.skipped ≡ true → result ≡ true }
 {
     numbers_rise(1, log.entered.as_slice(), last)
         && numbers_rise(1, log.answered.as_slice(), last)
@@ -78,7 +79,7 @@ fn others_rise(log: &Log, last: u64) -> bool
 /// Whether the numbers of events of what was sent, the replies, the winds, the entries, the copies, the skips and the answers
 /// of internal calls do not fall, and are those of events.
 pub fn all_numbers_rise(log: &Log) -> bool
-    ensures { result ≡ true → NumbersRise log.now }
+    ensures { IsTrue result ↔ NumbersRise log.now }
 {
     let last = log.events.len() as u64;
     if !sent_rises(log.sent.as_slice(), last) || !replies_rise(log.replies.as_slice(), last) {

@@ -9,8 +9,9 @@
 //! Where a brick answers Gone, or a graph ends, a Disconnect has a cause, but none is asked for.
 //!
 //! Each goes through the log a fixed number of times. As each audit of `log_audit`, it knows nothing of how the log came
-//! about: true says that its definition holds of the log; false alone says nothing, and an audit may ask for more than its
-//! definition, where every log of a run has it.
+//! about: true says that its definition holds of the log. Where `connects_are_caused` answers false, its definition does not
+//! hold, or the log lacks what the clause `complete` names besides: each log of a run has that, if no Down of the run is armed
+//! for a request. Where `lines_are_tied` answers false, nothing is known yet.
 #![tactic(auto)]
 
 mod causes;

@@ -1,7 +1,7 @@
 //! What was sent, by the events that sent it, as far as connections go.
-ghost use Rattle.std.specs.Prelude.{◌≡◌, [], true, map, length, option_copied, slice_get, IfOk, IfSome, OnOk};
+ghost use Rattle.std.specs.Prelude.{◌≡◌, ◌+◌, ◌<◌, ◌^◌, IsSome, [], true, map, length, option_copied, slice_get, IfOk, IfSome, OnOk};
 ghost use Rattle.wire_messages.specs.Messages.{input_in};
-ghost use Rattle.line_audit.specs.Linked.{what_in, what_of, item_of, items_of, items_at, IsPutIn, AreByEvent, connects, disconnects, has_connect, has_disconnect, count_connects};
+ghost use Rattle.line_audit.specs.Linked.{what_in, what_of, item_of, items_of, items_at, IsPutIn, AreByEvent, AreOfEvents, connects, disconnects, has_connect, has_disconnect, count_connects};
 
 use fop_types::Input;
 use mount_log::by_place::line_at;
@@ -65,7 +65,8 @@ fn item_of(alloc: Global, line: &SentLine) -> Result<Item, AllocError>
 // ---- by event
 
 fn empty_lists(alloc: Global, count: usize) -> Result<Vec<Vec<Item>>, AllocError>
-    ensures { IfOk result (λ lists. AreByEvent [] (map (λ l. l.items) lists.items)) }
+    ensures empty { IfOk result (λ lists. AreByEvent [] (map (λ l. l.items) lists.items)) }
+    ensures many { IfOk result (λ lists. length lists.items ≡ count) }
 {
     let mut lists = Vec::new(alloc);
     for _ in 0..count {
@@ -76,7 +77,9 @@ fn empty_lists(alloc: Global, count: usize) -> Result<Vec<Vec<Item>>, AllocError
 
 // Puts an item into its event's list. It is false where there is none.
 fn put(lists: &mut Vec<Vec<Item>>, item: Item) -> Result<bool, AllocError>
-    ensures { IfOk result (λ yes. yes ≡ true → IsPutIn (map (λ l. l.items) lists.old.items) item (map (λ l. l.items) lists.new.items)) }
+    ensures sound { IfOk result (λ yes. yes ≡ true → IsPutIn (map (λ l. l.items) lists.old.items) item (map (λ l. l.items) lists.new.items)) }
+    ensures complete { IfOk result (λ yes. item.event < length lists.old.items → yes ≡ true) }
+    ensures many { IfOk result (λ yes. length lists.new.items ≡ length lists.old.items) }
 {
     if item.event >= lists.len() as u64 {
         return Ok(false);
@@ -90,7 +93,9 @@ fn put(lists: &mut Vec<Vec<Item>>, item: Item) -> Result<bool, AllocError>
 /// # Errors
 /// Out of memory.
 pub fn by_event(alloc: Global, log: &Log) -> Result<Option<Vec<Vec<Item>>>, AllocError>
-    ensures { IfOk result (λ found. IfSome found (λ lists. AreByEvent (items_of log.now.sent) (map (λ l. l.items) lists.items))) }
+    ensures lists { IfOk result (λ found. IfSome found (λ lists. AreByEvent (items_of log.now.sent) (map (λ l. l.items) lists.items))) }
+    ensures many { IfOk result (λ found. IfSome found (λ lists. length lists.items ≡ length log.now.events + 1)) }
+    ensures complete { IfOk result (λ found. length log.now.events + 1 < 2 ^ 64 → AreOfEvents log.now.sent (length log.now.events) → IsSome found) }
 {
     if log.events.len() == usize::MAX {
         return Ok(None);

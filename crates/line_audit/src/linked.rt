@@ -1,8 +1,10 @@
 //! Whether in each event graphs connect where they are to, and disconnect for a cause.
-ghost use Rattle.std.specs.Prelude.{◌≡◌, ◌<◌, ◌≤◌, ◌+◌, ℕ, [], true, length, map, IfOk, IfSome};
+ghost use Rattle.std.specs.Prelude.{◌≡◌, ◌<◌, ◌≤◌, ◌+◌, ◌^◌, ℕ, [], true, length, map, IsSome, IfNone, IfOk, IfSome};
 ghost use Rattle.wire_messages.specs.Messages.{MessagesReadBack};
 ghost use Rattle.mount_log.specs.Heads.{heads_of};
-ghost use Rattle.line_audit.specs.Linked.{items_of, in_event, AreByEvent, IsEffectAt, IsKnown, AreGraphTables, IsLinked, AreLinked};
+ghost use Rattle.mount_log.specs.Graphs.{volfiles_of};
+ghost use Rattle.line_audit.specs.Slots.{AreSlotsLow};
+ghost use Rattle.line_audit.specs.Linked.{items_of, in_event, AreByEvent, WindsInOrder, IsEffectAt, IsKnown, AreGraphTables, IsLinked, AreLinked, AreGraphsFew, AreUsesBelow, CanBeLinked};
 
 use crate::due::{GraphTables, Moment};
 use crate::effects::{Effect, effect_of, newest_after};
@@ -39,6 +41,7 @@ fn starts(
     requires newest { known.old.newest ≡ 1 }
     ensures linked { IfOk result (λ yes. yes ≡ true → IsLinked script.now plans.now log.now 0) }
     ensures known { IfOk result (λ yes. yes ≡ true → IsKnown log.now 0 known.new) }
+    ensures complete { IfOk result (λ yes. AreSlotsLow log.now.winds → WindsInOrder log.now.winds → IsLinked script.now plans.now log.now 0 → yes ≡ true) }
 {
     let _ = script;
     let now = Moment {
@@ -75,6 +78,7 @@ fn passes(
     requires known { IsKnown log.now k known.old }
     ensures linked { IfOk result (λ yes. yes ≡ true → IsLinked script.now plans.now log.now (k + 1)) }
     ensures known { IfOk result (λ yes. yes ≡ true → IsKnown log.now (k + 1) known.new) }
+    ensures complete { IfOk result (λ yes. AreGraphsFew log.now → AreSlotsLow log.now.winds → WindsInOrder log.now.winds → IsLinked script.now plans.now log.now (k + 1) → yes ≡ true) }
 {
     let _ = script;
     let _ = k;
@@ -95,7 +99,8 @@ fn passes(
 
 fn effect_at(log: &Log, heads: &[Head], k: usize) -> Option<Effect>
     requires { heads.now ≡ heads_of log.now.events }
-    ensures { IfSome result (λ e. IsEffectAt log.now k e) }
+    ensures effect { IfSome result (λ e. IsEffectAt log.now k e) }
+    ensures none { IfNone result (length log.now.events ≤ k) }
 {
     let Some(head) = head_at(heads, k) else {
         return None;
@@ -127,6 +132,7 @@ fn next_passes(
     requires known { IsKnown log.now k known.old }
     ensures linked { IfOk result (λ yes. yes ≡ true → IsLinked script.now plans.now log.now (k + 1)) }
     ensures known { IfOk result (λ yes. yes ≡ true → IsKnown log.now (k + 1) known.new) }
+    ensures complete { IfOk result (λ yes. AreGraphsFew log.now → AreSlotsLow log.now.winds → WindsInOrder log.now.winds → IsLinked script.now plans.now log.now (k + 1) → yes ≡ true) }
 {
     let Some(effect) = effect_at(log, heads, k) else {
         return Ok(false);
@@ -140,7 +146,8 @@ fn next_passes(
 // ---- all events
 
 fn tables_of(alloc: Global, script: &Script, log: &Log) -> Result<Option<GraphTables>, AllocError>
-    ensures { IfOk result (λ found. IfSome found (AreGraphTables script.now log.now)) }
+    ensures tables { IfOk result (λ found. IfSome found (AreGraphTables script.now log.now)) }
+    ensures complete { IfOk result (λ found. AreGraphsFew log.now → AreUsesBelow log.now (length (volfiles_of script.now log.now) + 1) → IsSome found) }
 {
     let volfiles = graphs_of(alloc, script, log)?;
     if volfiles.len() == usize::MAX {
@@ -164,7 +171,8 @@ fn all_pass(
     requires heads { heads.now ≡ heads_of log.now.events }
     requires tables { AreGraphTables script.now log.now tables.now }
     requires lists { AreByEvent (items_of log.now.sent) (map (λ l. l.items) lists.now) }
-    ensures { IfOk result (λ yes. yes ≡ true → (number : ℕ) → number ≤ length log.now.events → IsLinked script.now plans.now log.now number) }
+    ensures sound { IfOk result (λ yes. yes ≡ true → (number : ℕ) → number ≤ length log.now.events → IsLinked script.now plans.now log.now number) }
+    ensures complete { IfOk result (λ yes. AreGraphsFew log.now → AreSlotsLow log.now.winds → WindsInOrder log.now.winds → ((number : ℕ) → number ≤ length log.now.events → IsLinked script.now plans.now log.now number) → yes ≡ true) }
 {
     messages_read_back();
     let mut known = Known::new(alloc);
@@ -203,7 +211,8 @@ pub fn are_linked(
     heads: &[Head],
 ) -> Result<bool, AllocError>
     requires heads { heads.now ≡ heads_of log.now.events }
-    ensures { IfOk result (λ yes. yes ≡ true → AreLinked script.now plans.now log.now) }
+    ensures sound { IfOk result (λ yes. yes ≡ true → AreLinked script.now plans.now log.now) }
+    ensures complete { IfOk result (λ yes. CanBeLinked script.now log.now → AreLinked script.now plans.now log.now → yes ≡ true) }
 {
     let Some(tables) = tables_of(alloc, script, log)? else {
         return Ok(false);

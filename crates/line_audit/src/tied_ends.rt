@@ -1,10 +1,11 @@
 //! Whether the wind of a request ends by what arrives, or with its connection.
-ghost use Rattle.std.specs.Prelude.{◌≡◌, Some, true, IfOk, option_copied, slice_get};
+ghost use Rattle.std.specs.Prelude.{◌≡◌, ◌<◌, ◌↔◌, ℕ, IsTrue, Some, true, IfOk, option_copied, slice_get};
 ghost use Rattle.fop_types.specs.declared.messages.Input.TheVariants as input;
 ghost use Rattle.wire_messages.specs.Messages.{input_in};
 ghost use Rattle.mount_log.specs.Ties.{IsNumberOf, IsEndedBy, HasEnd};
 ghost use Rattle.mount_log.specs.Heads.{head_of, heads_of};
-ghost use Rattle.line_audit.specs.Ended.{head_by, SaysEnd, IsEndEvent, SaysDisconnect, IsDisconnect, IsDisconnectAt, IsEndingOf, IsInputEnded, IsEnded};
+ghost use Rattle.line_audit.specs.Slots.{AreSlotsLow};
+ghost use Rattle.line_audit.specs.Ended.{head_by, SaysEnd, IsEndEvent, IsEndedByOutput, SaysDisconnect, IsDisconnect, IsDisconnectAt, IsPlaceOfDisconnect, IsEndingOf, IsPlaceOfEnding, IsInputEnded, IsInputEndedAt, IsEnded, IsEndedAt};
 
 use crate::tied_replies::wind_at;
 use crate::tied_requests::is_number_of_open;
@@ -26,7 +27,8 @@ pub struct EndedAt {
 
 /// Whether a number on the wire is that of a wind, or of the open before its request.
 pub fn is_number_of(wind: WindNo, number: u64) -> bool
-    ensures { result ≡ true → IsNumberOf wind number }
+    ensures sound { result ≡ true → IsNumberOf wind number }
+    ensures complete { wind.slot < 2147483648 → IsNumberOf wind number → result ≡ true }
 {
     if wind.number() == number {
         return true;
@@ -37,7 +39,8 @@ pub fn is_number_of(wind: WindNo, number: u64) -> bool
 // ---- by an output
 
 fn says_end(said: Said, wind: WindNo) -> bool
-    ensures { result ≡ true → SaysEnd wind said }
+    ensures sound { result ≡ true → SaysEnd wind said }
+    ensures complete { wind.slot < 2147483648 → SaysEnd wind said → result ≡ true }
 {
     match said {
         Said::Reply(number) => is_number_of(wind, number),
@@ -49,7 +52,8 @@ fn says_end(said: Said, wind: WindNo) -> bool
 
 fn is_end_event(event: &HubEvent, head: Head, brick: u8, wind: WindNo) -> bool
     requires { head ≡ head_of event.now }
-    ensures { result ≡ true → IsEndEvent brick wind event.now }
+    ensures sound { result ≡ true → IsEndEvent brick wind event.now }
+    ensures complete { wind.slot < 2147483648 → IsEndEvent brick wind event.now → result ≡ true }
 {
     match event {
         HubEvent::Arrive { brick: from, .. } => *from == brick && says_end(head.said, wind),
@@ -69,7 +73,8 @@ fn head_by(heads: &[Head], number: u64) -> Option<Head>
 
 fn is_ended_by_output(log: &Log, heads: &[Head], brick: u8, line: &WindLine) -> bool
     requires { heads.now ≡ heads_of log.now.events }
-    ensures { result ≡ true → IsEndedBy log.now brick line.now }
+    ensures sound { result ≡ true → IsEndedBy log.now brick line.now }
+    ensures complete { line.now.wind.slot < 2147483648 → IsEndedByOutput log.now brick line.now → result ≡ true }
 {
     let Some(head) = head_by(heads, line.event) else {
         return false;
@@ -83,7 +88,7 @@ fn is_ended_by_output(log: &Log, heads: &[Head], brick: u8, line: &WindLine) -> 
 // ---- by a Disconnect
 
 fn disconnects(found: &Input, graph: u32) -> bool
-    ensures { result ≡ true → found.now ≡ input.Disconnect graph }
+    ensures { IsTrue result ↔ (found.now ≡ input.Disconnect graph) }
 {
     match found {
         Input::Disconnect { graph: of } => *of == graph,
@@ -92,7 +97,7 @@ fn disconnects(found: &Input, graph: u32) -> bool
 }
 
 fn says_disconnect(alloc: Global, bytes: &[u8], graph: u32) -> Result<bool, AllocError>
-    ensures { IfOk result (λ yes. yes ≡ true → SaysDisconnect graph (input_in bytes.now)) }
+    ensures { IfOk result (λ yes. IsTrue yes ↔ SaysDisconnect graph (input_in bytes.now)) }
 {
     match input_of(alloc, bytes)? {
         Message::Whole(found) => {
@@ -111,7 +116,7 @@ fn sends_disconnect(
     brick: u8,
     graph: u32,
 ) -> Result<bool, AllocError>
-    ensures { IfOk result (λ yes. yes ≡ true → IsDisconnect number brick graph line.now) }
+    ensures { IfOk result (λ yes. IsTrue yes ↔ IsDisconnect number brick graph line.now) }
 {
     if line.event != number || line.brick != brick {
         return Ok(false);
@@ -128,7 +133,7 @@ fn is_disconnect_at(
     brick: u8,
     graph: u32,
 ) -> Result<bool, AllocError>
-    ensures { IfOk result (λ yes. yes ≡ true → IsDisconnectAt log.now.sent at number brick graph) }
+    ensures { IfOk result (λ yes. IsTrue yes ↔ IsDisconnectAt log.now.sent at number brick graph) }
 {
     let Some(line) = line_at(log, at) else {
         return Ok(false);
@@ -148,7 +153,8 @@ fn is_ended_by(
     line: &WindLine,
 ) -> Result<bool, AllocError>
     requires { heads.now ≡ heads_of log.now.events }
-    ensures { IfOk result (λ yes. yes ≡ true → IsEndedBy log.now brick line.now) }
+    ensures sound { IfOk result (λ yes. yes ≡ true → IsEndedBy log.now brick line.now) }
+    ensures complete { IfOk result (λ yes. line.now.wind.slot < 2147483648 → IsPlaceOfDisconnect log.now brick line.now disconnect → IsEndedBy log.now brick line.now → yes ≡ true) }
 {
     if is_ended_by_output(log, heads, brick, line) {
         return Ok(true);
@@ -158,7 +164,8 @@ fn is_ended_by(
 }
 
 fn is_ending_of(line: &WindLine, number: u64, graph: u32) -> bool
-    ensures { result ≡ true → IsEndingOf number graph line.now }
+    ensures sound { result ≡ true → IsEndingOf number graph line.now }
+    ensures complete { line.now.wind.slot < 2147483648 → IsEndingOf number graph line.now → result ≡ true }
 {
     !line.opened && line.graph == graph && is_number_of(line.wind, number)
 }
@@ -174,7 +181,8 @@ fn has_end(
     graph: u32,
 ) -> Result<bool, AllocError>
     requires { heads.now ≡ heads_of log.now.events }
-    ensures { IfOk result (λ yes. yes ≡ true → HasEnd log.now brick number graph) }
+    ensures sound { IfOk result (λ yes. yes ≡ true → HasEnd log.now brick number graph) }
+    ensures complete { IfOk result (λ yes. AreSlotsLow log.now.winds → IsPlaceOfEnding log.now brick number graph ended → HasEnd log.now brick number graph → yes ≡ true) }
 {
     let Some(line) = wind_at(log, ended.end) else {
         return Ok(false);
@@ -195,7 +203,8 @@ fn is_input_ended(
     found: &Input,
 ) -> Result<bool, AllocError>
     requires { heads.now ≡ heads_of log.now.events }
-    ensures { IfOk result (λ yes. yes ≡ true → IsInputEnded log.now brick found.now) }
+    ensures sound { IfOk result (λ yes. yes ≡ true → IsInputEnded log.now brick found.now) }
+    ensures complete { IfOk result (λ yes. AreSlotsLow log.now.winds → IsInputEndedAt log.now brick ended found.now → IsInputEnded log.now brick found.now → yes ≡ true) }
 {
     match found {
         Input::Request { wind, graph, .. } => has_end(
@@ -219,7 +228,8 @@ pub fn is_message_ended(
     message: &Message<Input>,
 ) -> Result<bool, AllocError>
     requires { heads.now ≡ heads_of log.now.events }
-    ensures { IfOk result (λ yes. yes ≡ true → IsEnded log.now brick message.now) }
+    ensures sound { IfOk result (λ yes. yes ≡ true → IsEnded log.now brick message.now) }
+    ensures complete { IfOk result (λ yes. AreSlotsLow log.now.winds → IsEndedAt log.now brick ended message.now → IsEnded log.now brick message.now → yes ≡ true) }
 {
     match message {
         Message::Whole(found) => is_input_ended(alloc, log, heads, ended, brick, found),

@@ -1,11 +1,11 @@
 //! Whether replies are tied to their calls and their events.
-ghost use Rattle.std.specs.Prelude.{◌≡◌, ◌≢◌, false, true, [], option_copied, slice_get};
+ghost use Rattle.std.specs.Prelude.{◌≡◌, ◌≢◌, ◌↔◌, IsTrue, false, true, [], option_copied, slice_get, slice_index_or};
 ghost use Rattle.fop_types.specs.declared.answers.Answer.TheVariants as answer;
 ghost use Rattle.fop_types.specs.declared.answers.IoError.{IoError};
 ghost use Rattle.mount_log.specs.Follows.{IsEvent};
-ghost use Rattle.mount_log.specs.Ties.{EndsIn, IsAnsweredBy};
+ghost use Rattle.mount_log.specs.Ties.{IsAnsweredBy};
 ghost use Rattle.mount_log.specs.declared.logs.HubEvent.TheVariants as logged;
-ghost use Rattle.line_audit.specs.Tied.{IsReplyOf, AreRepliesTied};
+ghost use Rattle.line_audit.specs.Tied.{IsEndAt, IsAtOnce, IsPlaceOfEnd, ArePlacesOfEnds, IsReplyOf, AreRepliesTied};
 
 use fop_types::Answer;
 use log_audit::calls_made::{CallMade, call_of};
@@ -23,13 +23,14 @@ fn is_end(line: &WindLine, call: u32, number: u64) -> bool
     ensures opened { result ≡ true → line.now.opened ≡ false }
     ensures call { result ≡ true → line.now.call ≡ call }
     ensures event { result ≡ true → line.now.event ≡ number }
+    ensures complete { line.now.opened ≡ false → line.now.call ≡ call → line.now.event ≡ number → result ≡ true }
 {
     !line.opened && line.call == call && line.event == number
 }
 
 // Whether the wind line at a place is the end of a wind of the call in the event.
 fn ends_in(log: &Log, at: usize, call: u32, number: u64) -> bool
-    ensures { result ≡ true → EndsIn log.now.winds call number }
+    ensures { IsTrue result ↔ IsEndAt log.now.winds at call number }
 {
     match wind_at(log, at) {
         Some(line) => is_end(line, call, number),
@@ -38,7 +39,7 @@ fn ends_in(log: &Log, at: usize, call: u32, number: u64) -> bool
 }
 
 fn submits(event: &HubEvent, by: u8, at: u32) -> bool
-    ensures { result ≡ true → event.now ≡ logged.Submit by at }
+    ensures { IsTrue result ↔ (event.now ≡ logged.Submit by at) }
 {
     match event {
         HubEvent::Submit { session, line } => *session == by && *line == at,
@@ -47,7 +48,7 @@ fn submits(event: &HubEvent, by: u8, at: u32) -> bool
 }
 
 fn is_submitted_in(log: &Log, reply: &ReplyLine) -> bool
-    ensures { result ≡ true → IsEvent log.now reply.now.event (logged.Submit reply.now.session reply.now.line) }
+    ensures { IsTrue result ↔ IsEvent log.now reply.now.event (logged.Submit reply.now.session reply.now.line) }
 {
     match event_at(log, reply.event) {
         Some(event) => submits(event, reply.session, reply.line),
@@ -56,7 +57,7 @@ fn is_submitted_in(log: &Log, reply: &ReplyLine) -> bool
 }
 
 fn is_no_io_error(found: &Answer) -> bool
-    ensures { result ≡ true → (error : IoError) → found.now ≢ answer.Io error }
+    ensures { IsTrue result ↔ ((error : IoError) → found.now ≢ answer.Io error) }
 {
     match found {
         Answer::Io(_) => false,
@@ -65,26 +66,27 @@ fn is_no_io_error(found: &Answer) -> bool
 }
 
 fn has_no_place(reply: &ReplyLine) -> bool
-    ensures { result ≡ true → reply.now.places ≡ [] }
+    ensures { IsTrue result ↔ (reply.now.places ≡ []) }
 {
     reply.places.is_empty()
 }
 
 fn is_at_once(log: &Log, reply: &ReplyLine) -> bool
-    ensures { result ≡ true → IsAnsweredBy log.now reply.now }
+    ensures { IsTrue result ↔ IsAtOnce log.now reply.now }
 {
     has_no_place(reply) && is_no_io_error(&reply.answer) && is_submitted_in(log, reply)
 }
 
 // Whether a reply has its cause in its event; the place may be that of a wind's end.
 fn is_answered(log: &Log, reply: &ReplyLine, at: usize) -> bool
-    ensures { result ≡ true → IsAnsweredBy log.now reply.now }
+    ensures sound { result ≡ true → IsAnsweredBy log.now reply.now }
+    ensures complete { IsPlaceOfEnd log.now.winds at reply.now → IsAnsweredBy log.now reply.now → result ≡ true }
 {
     ends_in(log, at, reply.call, reply.event) || is_at_once(log, reply)
 }
 
 fn is_reply_of(calls: &[CallMade], reply: &ReplyLine) -> bool
-    ensures { result ≡ true → IsReplyOf calls.now reply.now }
+    ensures { IsTrue result ↔ IsReplyOf calls.now reply.now }
 {
     match call_of(calls, reply.call) {
         Some(call) => {
@@ -95,7 +97,9 @@ fn is_reply_of(calls: &[CallMade], reply: &ReplyLine) -> bool
 }
 
 /// The place that is noted at this place; 0 where none is.
-pub fn place_for(ends: &[usize], k: usize) -> usize {
+pub fn place_for(ends: &[usize], k: usize) -> usize
+    ensures { result ≡ slice_index_or ends.now k 0 }
+{
     match ends.get(k) {
         Some(at) => *at,
         None => 0,
@@ -112,7 +116,8 @@ pub fn reply_at(log: &Log, k: usize) -> Option<&ReplyLine>
 /// Whether each reply is to the call of its session and line, not before its submission, and has its cause in its event.
 /// `ends` has, for a reply, the place of the end of a wind of its call.
 pub fn replies_are_tied(log: &Log, calls: &[CallMade], ends: &[usize]) -> bool
-    ensures { result ≡ true → AreRepliesTied log.now calls.now }
+    ensures sound { result ≡ true → AreRepliesTied log.now calls.now }
+    ensures complete { ArePlacesOfEnds log.now ends.now → AreRepliesTied log.now calls.now → result ≡ true }
 {
     for k in 0..log.replies.len() {
         let Some(reply) = reply_at(log, k) else {

@@ -1,9 +1,10 @@
 //! Whether a request is tied to its wind.
-ghost use Rattle.std.specs.Prelude.{◌≡◌, true};
+ghost use Rattle.std.specs.Prelude.{◌≡◌, ◌<◌, ◌↔◌, IsTrue, true};
 ghost use Rattle.fop_types.specs.declared.messages.Input.TheVariants as input;
 ghost use Rattle.xlator_law.specs.Numbers.{wind_number, open_before};
 ghost use Rattle.mount_log.specs.Ties.{IsOfCall, IsOpen, HasNumberOf, HasWind};
-ghost use Rattle.line_audit.specs.Tied.{request_at, open_at, IsInputTied, IsTied};
+ghost use Rattle.line_audit.specs.Slots.{AreSlotsLow};
+ghost use Rattle.line_audit.specs.Tied.{request_at, open_at, IsInputTied, IsOpenedAt, IsOpeningOf, IsTied};
 
 use crate::tied_replies::wind_at;
 use fop_types::{BrickReq, Input};
@@ -19,7 +20,7 @@ pub struct SentFor {
 }
 
 fn is_of_call(req: &BrickReq, call: u32) -> bool
-    ensures { result ≡ true → IsOfCall call req.now }
+    ensures { IsTrue result ↔ IsOfCall call req.now }
 {
     match req {
         BrickReq::Lock { call: named, .. } => *named == call,
@@ -29,7 +30,7 @@ fn is_of_call(req: &BrickReq, call: u32) -> bool
 }
 
 fn is_open(req: &BrickReq) -> bool
-    ensures { result ≡ true → IsOpen req.now }
+    ensures { IsTrue result ↔ IsOpen req.now }
 {
     match req {
         BrickReq::Open { .. } => true,
@@ -39,7 +40,8 @@ fn is_open(req: &BrickReq) -> bool
 
 /// Whether a number is that of the open before a wind's request.
 pub fn is_number_of_open(wind: WindNo, number: u64) -> bool
-    ensures { result ≡ true → wind_number (open_before wind) ≡ number }
+    ensures sound { result ≡ true → wind_number (open_before wind) ≡ number }
+    ensures complete { wind.slot < 2147483648 → wind_number (open_before wind) ≡ number → result ≡ true }
 {
     if wind.slot >= 2147483648 {
         return false;
@@ -49,7 +51,8 @@ pub fn is_number_of_open(wind: WindNo, number: u64) -> bool
 
 // Whether the line at a place has the number of an opened wind, as the notes say.
 fn has_number_of(line: &WindLine, sent_for: SentFor, k: usize, number: u64, req: &BrickReq) -> bool
-    ensures { result ≡ true → HasNumberOf line.now sent_for.request sent_for.open k number req.now }
+    ensures sound { result ≡ true → HasNumberOf line.now sent_for.request sent_for.open k number req.now }
+    ensures complete { line.now.wind.slot < 2147483648 → HasNumberOf line.now sent_for.request sent_for.open k number req.now → result ≡ true }
 {
     if line.wind.number() == number {
         return sent_for.request == k;
@@ -61,6 +64,7 @@ fn is_opening(line: &WindLine, graph: u32, event: u64) -> bool
     ensures opened { result ≡ true → line.now.opened ≡ true }
     ensures graph { result ≡ true → line.now.graph ≡ graph }
     ensures event { result ≡ true → line.now.event ≡ event }
+    ensures complete { line.now.opened ≡ true → line.now.graph ≡ graph → line.now.event ≡ event → result ≡ true }
 {
     line.opened && line.graph == graph && line.event == event
 }
@@ -90,7 +94,8 @@ fn has_wind(
     event: u64,
     req: &BrickReq,
 ) -> bool
-    ensures { result ≡ true → HasWind log.now (request_at all.now) (open_at all.now) k number graph event req.now }
+    ensures sound { result ≡ true → HasWind log.now (request_at all.now) (open_at all.now) k number graph event req.now }
+    ensures complete { AreSlotsLow log.now.winds → (w : HasWind log.now (request_at all.now) (open_at all.now) k number graph event req.now) → w.place ≡ place → result ≡ true }
 {
     match wind_at(log, place) {
         Some(line) => {
@@ -110,7 +115,8 @@ fn is_input_tied(
     event: u64,
     found: &Input,
 ) -> bool
-    ensures { result ≡ true → IsInputTied log.now all.now k event found.now }
+    ensures sound { result ≡ true → IsInputTied log.now all.now k event found.now }
+    ensures complete { AreSlotsLow log.now.winds → IsOpenedAt log.now all.now place k event found.now → IsInputTied log.now all.now k event found.now → result ≡ true }
 {
     match found {
         Input::Request { wind, graph, req } => {
@@ -130,7 +136,8 @@ pub fn is_message_tied(
     event: u64,
     message: &Message<Input>,
 ) -> bool
-    ensures { result ≡ true → IsTied log.now all.now k event message.now }
+    ensures sound { result ≡ true → IsTied log.now all.now k event message.now }
+    ensures complete { AreSlotsLow log.now.winds → IsOpeningOf log.now all.now place k event message.now → IsTied log.now all.now k event message.now → result ≡ true }
 {
     match message {
         Message::Whole(found) => is_input_tied(log, all, place, k, event, found),

@@ -3,7 +3,9 @@ ghost use Rattle.std.specs.Prelude.{◌≡◌, true, IfOk};
 ghost use Rattle.script_lang.specs.Accepted.{IsAccepted};
 ghost use Rattle.mount_log.specs.Ties.{AreTied, NumbersRise};
 ghost use Rattle.mount_log.specs.Heads.{heads_of};
-ghost use Rattle.line_audit.specs.Tied.{AreLinesTied};
+ghost use Rattle.line_audit.specs.Slots.{AreSlotsLow};
+ghost use Rattle.line_audit.specs.Ended.{AreEnded};
+ghost use Rattle.line_audit.specs.Tied.{AreRepliesTied, AreWindsTied, AreRequestsTied, AreNotesRight, AreLinesTied};
 
 use crate::in_time::all_numbers_rise;
 use crate::tie_notes::{TieNotes, tie_notes_of};
@@ -26,7 +28,8 @@ fn notes_tie(
 ) -> Result<bool, AllocError>
     requires numbers { NumbersRise log.now }
     requires heads { heads.now ≡ heads_of log.now.events }
-    ensures { IfOk result (λ yes. yes ≡ true → AreLinesTied log.now calls.now) }
+    ensures sound { IfOk result (λ yes. yes ≡ true → AreLinesTied log.now calls.now) }
+    ensures complete { IfOk result (λ yes. AreNotesRight log.now notes.now → AreSlotsLow log.now.winds → AreRepliesTied log.now calls.now → AreWindsTied log.now calls.now → AreRequestsTied log.now notes.now.sent_for.items → AreEnded log.now → yes ≡ true) }
 {
     if !winds_are_tied(log, calls, notes.replied.as_slice()) {
         return Ok(false);

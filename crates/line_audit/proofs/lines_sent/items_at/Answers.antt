@@ -1,4 +1,4 @@
-use Rattle.std.proofs.Common.{◌≡◌, sym, ◌∙◌}
+use Rattle.std.proofs.Common.{sym, ◌∙◌}
 use Rattle.line_audit.proofs.Linking.{list_there, list_none}
 use Rattle.line_audit.proofs.lines_sent.items_at.Goals as goal
 
