@@ -1,6 +1,6 @@
 -- How controls are carried out, from what an audit finds.
-use Rattle.std.proofs.Common.{◌≡◌, refl, sym, ap, subst, ◌∙◌, arith}
-use Rattle.std.specs.Prelude.{ℕ, zero, suc, ◌<◌, ◌≤◌, ◌+◌, nat_lt, Bool, true, false, List, [], ◌∷◌, Option, None, Some, length, slice_get}
+use Rattle.std.proofs.Common.{◌≡◌, refl, sym, ap, subst, ◌∙◌, arith, inl, inr}
+use Rattle.std.specs.Prelude.{ℕ, zero, suc, ◌<◌, ◌≤◌, ◌+◌, ◌⊎◌, nat_lt, Bool, true, false, List, [], ◌∷◌, Option, None, Some, length, slice_get}
 use Rattle.std.proofs.lemmas.Bool.{ltb-true, ltb-false}
 use Rattle.fop_types.specs.declared.messages.Input.{Input}
 use Rattle.fop_types.specs.declared.messages.Proc.{Proc}
@@ -9,7 +9,8 @@ use Rattle.script_lang.specs.declared.scripts.ControlLine.{ControlLine}
 use Rattle.script_lang.specs.declared.scripts.Script.{Script}
 use Rattle.script_lang.specs.declared.scripts.When.TheVariants as moment
 use Rattle.wire_xdr.specs.WireText.{input_text, IsInputOf}
-use Rattle.wire_messages.specs.Messages.{IsSaid}
+use Rattle.wire_messages.proofs.ReadBack.{input_read_back}
+use Rattle.wire_messages.specs.Messages.{IsSaid, input_in}
 use Rattle.wire_messages.specs.declared.messages.Message.{Message}
 use Rattle.wire_messages.specs.declared.messages.Message.TheVariants.{Whole, Wrong}
 use Rattle.mount_log.proofs.Items.{some_is}
@@ -23,15 +24,18 @@ use Rattle.mount_log.specs.declared.logs.Log.{Log}
 use Rattle.mount_log.specs.declared.logs.SentLine.{SentLine}
 use Rattle.log_audit.specs.Armed.{AreArmedFrom}
 use Rattle.run_audit.specs.Noted.{event_in, begun, course_of, IsWithin}
-use Rattle.run_audit.specs.Controlled.{Says, SendsAction, IsSentFor, IsCarriedSo, IsArmed, IsControlCarried, IsFound, Passes, AreInTurn, AreSoFar, AreTables}
+use Rattle.run_audit.specs.Controlled.{Says, SendsAction, IsSentFor, IsCarriedSo, IsArmed, IsControlCarried, IsFound, AreControlsCarried, Passes, AreFromOne, AreInTurn, IsOneBefore, AreSoFar, AreTables}
 use Rattle.run_audit.specs.declared.carried.SentTables.{SentTables}
 use Rattle.run_audit.specs.declared.run_notes.Carried.{Carried}
 use Rattle.run_audit.specs.declared.run_notes.RunNotes.{RunNotes}
 use Rattle.mount_log.proofs.Lists.{each_next}
 
 pub sends : (action : Action) (bytes : List ℕ) (message : Message Input) → IsSaid IsInputOf input_text bytes message → Says action message → SendsAction action bytes
-sends action bytes (Whole x) said is = record { sent = x; is_input = is; text = said.1 }
+sends action bytes (Whole x) said is = record { sent = x; is_input = is; legal = said.0; text = said.1 }
 sends action bytes (Wrong place) said none = absurd none
+
+pub said_by : (action : Action) (bytes : List ℕ) (message : Message Input) → message ≡ input_in bytes → SendsAction action bytes → Says action message
+said_by action bytes message read own = subst (λ (m : Message Input). Says action m) (sym (read ∙ ap input_in own.text ∙ input_read_back own.sent own.legal)) own.is_input
 
 line_is : (line : SentLine) (number brick : ℕ) (bytes : List ℕ) → line.event ≡ number → line.brick ≡ brick → line.bytes ≡ bytes → line ≡ record { event = number; brick = brick; bytes = bytes }
 line_is line number brick bytes e b t =
@@ -118,11 +122,16 @@ control_next log tables notes phase controls carried n c how there is own before
     (subst (λ (o : Option Carried). IsFound log tables notes phase n c o) (sym is) own) before
 
 pub none_so_far : (controls : List ControlLine) (carried : List Carried) → AreSoFar controls carried 0 0
-none_so_far controls carried = record { low = λ i a lt is now. absurd (omega (arith, lt)); turns = λ i j a b x y p q lt below. absurd (omega (arith, below)) }
+none_so_far controls carried = record { low = λ i a lt is now. absurd (omega (arith, lt)); turns = λ i j a b x y p q lt below. absurd (omega (arith, below)); own = inl refl }
 
 pub next_so_far : (controls : List ControlLine) (carried : List Carried) (n last next : ℕ) (c : ControlLine) → slice_get controls n ≡ Some c → Passes c (event_in (slice_get carried n)) last next
     → AreSoFar controls carried n last → AreSoFar controls carried (n + 1) next
-next_so_far controls carried n last next c there passes before = record { low = low; turns = turns } where
+next_so_far controls carried n last next c there passes before = record { low = low; turns = turns; own = own passes.is before.own } where
+  own : ((c.when ≡ moment.Now) × (next ≡ event_in (slice_get carried n))) ⊎ (next ≡ last) → (last ≡ 0) ⊎ IsOneBefore controls carried n last → (next ≡ 0) ⊎ IsOneBefore controls carried (n + 1) next
+  own (inl here) was = inr (record { index = n; control = c; early = omega arith; there = there; now = here.0; is = sym here.1 })
+  own (inr kept) (inl none) = inl (kept ∙ none)
+  own (inr kept) (inr one) = inr (record { index = one.index; control = one.control; early = let e = one.early in omega (arith, e); there = one.there; now = one.now; is = one.is ∙ sym kept })
+
   same : (k : ℕ) (a : ControlLine) → n ≡ k → slice_get controls k ≡ Some a → a ≡ c
   same k a e is = some_is a c (sym is ∙ ap (slice_get controls) (sym e) ∙ there)
 
@@ -153,3 +162,21 @@ all_in_turn controls carried n last past so_far i j a b x y p q lt = so_far.turn
   slice_within [] k c e = absurd cc
   slice_within (z ∷ xs) zero c e = omega arith
   slice_within (z ∷ xs) (suc k) c e = let ih = slice_within xs k c e in omega (arith, ih)
+
+-- where controls without a condition are in turn, the next one comes later
+pub in_turn_later : (controls : List ControlLine) (carried : List Carried) (n last : ℕ) (c : ControlLine) → slice_get controls n ≡ Some c → c.when ≡ moment.Now → event_in (slice_get carried n) ≤ last → AreSoFar controls carried n last
+    → AreFromOne controls carried → AreInTurn controls carried → ⊥
+in_turn_later controls carried n last c there now low so_far from_one turns = by so_far.own where
+  by : (last ≡ 0) ⊎ IsOneBefore controls carried n last → ⊥
+  by (inl none) = let f = from_one n c there in absurd (omega (arith, f, none, low))
+  by (inr one) = let t = turns one.index n one.control c one.there there one.now now one.early in let is = one.is in absurd (omega (arith, t, is, low))
+
+-- controls that were carried out were so in events
+pub from_one : (log : Log) (tables : SentTables) (notes : RunNotes) (phase : ℕ) (controls : List ControlLine) (carried : List Carried) → AreControlsCarried log tables notes phase controls carried → AreFromOne controls carried
+from_one log tables notes phase controls carried each i c there = by (slice_get carried i) (each i c there) where
+  by : (o : Option Carried) → IsFound log tables notes phase i c o → 1 ≤ event_in o
+  by None none = absurd none
+  by (Some how) is = let b = is.within.behind in omega (arith, b)
+
+pub found_at : (log : Log) (tables : SentTables) (notes : RunNotes) (phase at : ℕ) (c : ControlLine) (how : Carried) (o : Option Carried) → o ≡ Some how → IsFound log tables notes phase at c o → IsControlCarried log tables notes phase at c how
+found_at log tables notes phase at c how o is own = subst (λ (x : Option Carried). IsFound log tables notes phase at c x) is own

@@ -6,6 +6,7 @@ pub mod Arriving
 pub mod Settling
 pub mod Timing
 pub mod Sending
+pub mod NotedFor
 pub mod Running
 pub mod Numbering
 pub mod Pushing

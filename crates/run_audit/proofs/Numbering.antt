@@ -1,17 +1,19 @@
 -- Requests by their numbers in a phase, line by line.
-use Rattle.std.proofs.Common.{◌≡◌, refl, sym, ap, subst, ◌∙◌, arith}
-use Rattle.std.specs.Prelude.{ℕ, zero, suc, ◌≢◌, ◌<◌, ◌≤◌, ◌+◌, ◌*◌, ◌==◌, ◌&&◌, nat_lt, Bool, true, false, List, [], ◌∷◌, ◌++◌, Option, None, Some, length, slice_get, slice_set, take, if◌then◌else◌}
-use Rattle.std.proofs.lemmas.Bool.{ltb-true, ltb-false, eqb-true, eqb-false, false_from_ne_true, true_from_ne_false}
-use Rattle.std.proofs.lemmas.List.{length-append}
+use Rattle.std.proofs.Common.{◌≡◌, refl, sym, ap, subst, ◌∙◌, arith, inl, inr}
+use Rattle.std.specs.Prelude.{ℕ, zero, suc, ◌≢◌, ◌<◌, ◌≤◌, ◌+◌, ◌-◌, ◌*◌, ◌^◌, ◌==◌, ◌&&◌, ◌⊎◌, nat_lt, nat_le, Bool, true, false, List, [], ◌∷◌, ◌++◌, Option, None, Some, length, map, slice_get, slice_set, take, if◌then◌else◌}
+use Rattle.std.proofs.lemmas.Bool.{ltb-true, ltb-false, leb-true, eqb-true, eqb-false, false_from_ne_true, true_from_ne_false}
+use Rattle.std.proofs.lemmas.List.{length-append, length-take-le}
+use Rattle.std.proofs.lemmas.Option.{slice_get_within}
 use Rattle.mount_log.proofs.Items.{some_is, at_set, beside_set, was_there, is_last}
+use Rattle.mount_log.specs.Ties.{do_rise}
 use Rattle.mount_log.specs.Arms.{is_rank, is_request_since, requests_since}
 use Rattle.mount_log.specs.Procedures.{rank_in}
 use Rattle.mount_log.specs.declared.logs.SentLine.{SentLine}
 use Rattle.run_audit.specs.Noted.{ended_at, begun, AreRising, IsWithin}
-use Rattle.run_audit.specs.Numbered.{held, cell_of, AreZero, HaveCounts, IsOneMore, IsCountedBy, IsCounted, IsNthOf, AreNth}
+use Rattle.run_audit.specs.Numbered.{held, cell_of, AreZero, HaveCounts, IsOneMore, IsCountedBy, IsCounted, AreTooMany, HasNoNumber, AreInEvents, IsNthOf, AreNth}
 use Rattle.run_audit.specs.declared.nth_requests.PhaseCount.{PhaseCount}
 use Rattle.mount_log.proofs.Lists.{take_next, each_push}
-use Rattle.run_audit.proofs.Phased.{begun_behind, same_phase}
+use Rattle.run_audit.proofs.Phased.{begun_next, begun_behind, same_phase}
 
 -- ---- tests
 
@@ -240,3 +242,88 @@ module _ (ended : List ℕ) (last : ℕ) (rising : AreRising ended last) where
 
 pub zero_more : (counts : List PhaseCount) → AreZero counts → AreZero (counts ++ record { phase = 0; count = 0 } ∷ [])
 zero_more counts zeros = each_push (λ (i : ℕ) (found : PhaseCount). (found.phase ≡ 0) × (found.count ≡ 0)) counts (record { phase = 0; count = 0 }) (refl, refl) zeros
+
+-- ---- lines in the order of their events
+
+-- no line from a place on is before the floor, which is behind the phases before
+pub record IsFloor (ended : List ℕ) (last : ℕ) (sent : List SentLine) (k phase floor : ℕ) : Type 0 where
+  pub low : (j : ℕ) (line : SentLine) → k ≤ j → slice_get sent j ≡ Some line → floor ≤ line.event
+  pub behind : 1 ≤ phase → begun ended last phase < floor
+
+all_rise : (a b : Bool) → (a && b) ≡ true → (a ≡ true) × (b ≡ true)
+all_rise true b e = (refl, e)
+all_rise false b e = absurd cc
+
+no_lower : (floor last : ℕ) (xs : List SentLine) (j : ℕ) (line : SentLine) → do_rise floor last (map (λ l. l.event) xs) ≡ true → slice_get xs j ≡ Some line → (floor ≤ line.event) × (line.event ≤ last)
+no_lower floor last [] j line rises is = absurd cc
+no_lower floor last (x ∷ xs) zero line rises is =
+    let e = all_rise (nat_le floor x.event) (nat_le x.event last && do_rise x.event last (map (λ l. l.event) xs)) rises in let f = all_rise (nat_le x.event last) (do_rise x.event last (map (λ l. l.event) xs)) e.1 in
+    let own = ap (λ (l : SentLine). l.event) (some_is x line is) in let a = leb-true floor x.event e.0 in let b = leb-true x.event last f.0 in
+    (omega (arith, a, own), omega (arith, b, own))
+no_lower floor last (x ∷ xs) (suc j) line rises is =
+    let e = all_rise (nat_le floor x.event) (nat_le x.event last && do_rise x.event last (map (λ l. l.event) xs)) rises in let f = all_rise (nat_le x.event last) (do_rise x.event last (map (λ l. l.event) xs)) e.1 in
+    let ih = no_lower x.event last xs j line f.1 is in let a = leb-true floor x.event e.0 in let i = ih.0 in
+    (omega (arith, a, i), ih.1)
+
+in_their_order : (floor last : ℕ) (xs : List SentLine) (i j : ℕ) (a b : SentLine) → do_rise floor last (map (λ l. l.event) xs) ≡ true → i ≤ j → slice_get xs i ≡ Some a → slice_get xs j ≡ Some b → a.event ≤ b.event
+in_their_order floor last [] i j a b rises le x y = absurd cc
+in_their_order floor last (z ∷ zs) zero zero a b rises le x y = let e = ap (λ (l : SentLine). l.event) (some_is a b (sym x ∙ y)) in omega (arith, e)
+in_their_order floor last (z ∷ zs) zero (suc j) a b rises le x y =
+    let e = all_rise (nat_le floor z.event) (nat_le z.event last && do_rise z.event last (map (λ l. l.event) zs)) rises in let f = all_rise (nat_le z.event last) (do_rise z.event last (map (λ l. l.event) zs)) e.1 in
+    let own = ap (λ (l : SentLine). l.event) (some_is z a x) in let n = no_lower z.event last zs j b f.1 y in let m = n.0 in omega (arith, m, own)
+in_their_order floor last (z ∷ zs) (suc i) zero a b rises le x y = absurd (omega (arith, le))
+in_their_order floor last (z ∷ zs) (suc i) (suc j) a b rises le x y =
+    let e = all_rise (nat_le floor z.event) (nat_le z.event last && do_rise z.event last (map (λ l. l.event) zs)) rises in let f = all_rise (nat_le z.event last) (do_rise z.event last (map (λ l. l.event) zs)) e.1 in
+    in_their_order z.event last zs i j a b f.1 (omega (arith, le)) x y
+
+few_since : (since brick rank : ℕ) (lines : List SentLine) → requests_since since brick rank lines ≤ length lines
+few_since since brick rank [] = omega arith
+few_since since brick rank (x ∷ xs) = let ih = few_since since brick rank xs in one (is_request_since since brick rank x) (requests_since since brick rank xs) (length xs) ih where
+  one : (b : Bool) (m n : ℕ) → m ≤ n → (if b then 1 else 0) + m ≤ suc n
+  one true m n le = omega (arith, le)
+  one false m n le = omega (arith, le)
+
+pub not_higher : (last : ℕ) (sent : List SentLine) (k : ℕ) (line : SentLine) → slice_get sent k ≡ Some line → AreInEvents last sent → line.event ≤ last
+not_higher last sent k line there order = (no_lower 0 last sent k line order.rises there).1
+
+pub first_floor : (ended : List ℕ) (last : ℕ) (sent : List SentLine) → IsFloor ended last sent 0 0 0
+first_floor ended last sent = record { low = λ j line le is. omega arith; behind = λ one. absurd (omega (arith, one)) }
+
+module _ (ended : List ℕ) (last : ℕ) (sent : List SentLine) (k phase q floor : ℕ) (line : SentLine) (there : slice_get sent k ≡ Some line) (le : phase ≤ q) (first : phase < q → ended_at ended last (q - 1) < line.event) (order : AreInEvents last sent)
+    (is : IsFloor ended last sent k phase floor) where
+  not_lower : floor ≤ line.event
+  not_lower = is.low k line (omega arith) there
+
+  begun_before : 1 ≤ q → begun ended last q < line.event
+  begun_before one = by (nat_lt phase q) refl where
+    by : (b : Bool) → nat_lt phase q ≡ b → begun ended last q < line.event
+    by true e =
+        let s : q - 1 + 1 ≡ q = omega (arith, one) in let f = first (ltb-true phase q e) in
+        subst (λ (n : ℕ). begun ended last n < line.event) s (subst (λ (n : ℕ). n < line.event) (sym (begun_next ended last (q - 1))) f)
+    by false e =
+        let g = ltb-false phase q e in let same : phase ≡ q = omega (arith, g, le) in
+        subst (λ (n : ℕ). begun ended last n < line.event) same (let b = is.behind (omega (arith, one, same)) in let l = not_lower in omega (arith, b, l))
+
+  pub next_floor : IsFloor ended last sent (k + 1) q line.event
+  next_floor = record { low = λ j other later here. in_their_order 0 last sent k j line other order.rises (omega (arith, later)) there here; behind = begun_before }
+
+  -- a request is behind the phases before
+  pub request_behind : (rank : ℕ) → rank_in line.bytes ≡ Some rank → line.event ≤ begun ended last q → ⊥
+  request_behind rank ranked low = by (q == 0) refl where
+    by : (b : Bool) → (q == 0) ≡ b → ⊥
+    by true e =
+        let z : begun ended last q ≡ 0 = ap (λ (n : ℕ). begun ended last n) (eqb-true q 0 e) in let one = order.requests k rank line there ranked in absurd (omega (arith, z, one, low))
+    by false e = let ne = eqb-false q 0 e in let b = begun_before (omega (arith, ne)) in absurd (omega (arith, b, low))
+
+  -- and there are not too many
+  pub has_number : (counts : List PhaseCount) → AreRising ended last → line.event ≤ ended_at ended last q → length sent < 2 ^ 64 → HaveCounts ended last (take k sent) phase floor counts → HasNoNumber ended last q line counts → ⊥
+  has_number counts rising until fits have none = by none.is where
+    so_far : HaveCounts ended last (take k sent) q line.event counts
+    so_far = moved ended last rising (take k sent) phase q floor line.event counts le not_lower until have
+
+    by : (line.event ≤ begun ended last q) ⊎ AreTooMany q none.rank line counts → ⊥
+    by (inl low) = request_behind none.rank none.rank_is low
+    by (inr too) =
+        let many = too.many in let c = so_far.counts_are line.brick none.rank too.brick_fits too.rank_fits in let f = few_since (begun ended last q) line.brick none.rank (take k sent) in
+        let l = length-take-le k sent in let w = slice_get_within sent k line there in
+        absurd (omega (arith, many, c, f, l, w, fits))

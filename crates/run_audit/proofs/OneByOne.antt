@@ -1,23 +1,27 @@
 -- Sessions submit one call at a time, from the calls that were found.
 use Rattle.std.proofs.Common.{◌≡◌, refl, sym, ap, subst, ◌∙◌, arith}
-use Rattle.std.specs.Prelude.{ℕ, zero, suc, ◌<◌, ◌≤◌, ◌+◌, ◌-◌, List, [], ◌∷◌, Some, length, slice_get, take}
+use Rattle.std.specs.Prelude.{ℕ, zero, suc, ◌<◌, ◌≤◌, ◌+◌, ◌-◌, nat_lt, Bool, true, false, List, [], ◌∷◌, Some, length, slice_get, slice_set, slice_index_or, take}
 use Rattle.script_lang.specs.declared.scripts.Script.{Script}
-use Rattle.mount_log.proofs.Items.{some_is}
+use Rattle.std.proofs.lemmas.Bool.{ltb-true, ltb-false}
+use Rattle.std.proofs.lemmas.List.{length-set}
+use Rattle.std.proofs.lemmas.Option.{slice_get_within}
+use Rattle.mount_log.proofs.Items.{some_is, at_set, beside_set}
 use Rattle.mount_log.specs.Logs.{submits_in, is_submit}
 use Rattle.mount_log.specs.Turns.{IsRepliedBy, AreAlone}
 use Rattle.mount_log.specs.declared.logs.HubEvent.{HubEvent}
 use Rattle.mount_log.specs.declared.logs.HubEvent.TheVariants as logged
 use Rattle.mount_log.specs.declared.logs.Log.{Log}
+use Rattle.mount_log.specs.declared.logs.ReplyLine.{ReplyLine}
 use Rattle.log_audit.specs.Called.{IsCallAt, AreCalls}
-use Rattle.run_audit.specs.CallPhases.{AreOneByOne}
+use Rattle.run_audit.specs.CallPhases.{AreSingle, ArePlaces, ArePlacesTo, AreOneByOne}
 use Rattle.log_audit.specs.declared.calls_made.CallMade.{CallMade}
 use Rattle.log_audit.proofs.Calling.{counted, same_place}
 
-record HasItem {X : Type 0} (xs : List X) (n : ℕ) : Type 0 where
+pub record HasItem {X : Type 0} (xs : List X) (n : ℕ) : Type 0 where
   pub item : X
   pub there : slice_get xs n ≡ Some item
 
-has_item : {X : Type 0} → (xs : List X) (n : ℕ) → n < length xs → HasItem xs n
+pub has_item : {X : Type 0} → (xs : List X) (n : ℕ) → n < length xs → HasItem xs n
 has_item [] n lt = absurd (omega (arith, lt))
 has_item (x ∷ xs) zero lt = record { item = x; there = refl }
 has_item (x ∷ xs) (suc n) lt = let rest = has_item xs n (omega (arith, lt)) in record { item = rest.item; there = rest.there }
@@ -67,3 +71,45 @@ module _ (script : Script) (log : Log) (calls : List CallMade) (are : AreCalls s
       let number = b.event_is in let n : b.call.event - 1 ≡ k = omega (arith, number) in
       subst (λ (m : ℕ). IsRepliedBy log (submits_in (take j log.events) + 1) m) n
       (each (submits_in (take k log.events)) b.call b.there (submits_in (take j log.events)) a.call (submits_below log.events j k session earlier first lt) a.there (a.session_is ∙ sym b.session_is))
+
+-- ---- the places of replies
+
+module _ (replies : List ReplyLine) (k : ℕ) (reply : ReplyLine) (old : List ℕ) (there : slice_get replies k ≡ Some reply) (single : AreSingle replies) (before : ArePlacesTo k replies old) where
+  -- the reply is to a call of those
+  pub place_more : ArePlacesTo (k + 1) replies (slice_set old (reply.call - 1) k)
+  place_more m i r low lt is call = by (nat_lt i k) refl where
+    few : m < length old
+    few = let s = length-set old (reply.call - 1) k in omega (arith, low, s)
+
+    by : (t : Bool) → nat_lt i k ≡ t → slice_get (slice_set old (reply.call - 1) k) m ≡ Some i
+    by true e = beside_set old (reply.call - 1) m k (λ same. absurd (let one = single.from_one k reply there in let j = single.once i k r reply is there (omega (arith, call, same, one)) in let l = ltb-true i k e in omega (arith, j, l)))
+        ∙ before m i r few (ltb-true i k e) is call
+    by false e =
+        let le = ltb-false i k e in let same : i ≡ k = omega (arith, lt, le) in
+        let own : r ≡ reply = some_is r reply (sym is ∙ ap (slice_get replies) same ∙ there) in
+        let at : reply.call - 1 ≡ m = (let c = ap (λ (x : ReplyLine). x.call) own in omega (arith, c, call)) in
+        subst (λ (n : ℕ). slice_get (slice_set old n k) m ≡ Some i) (sym at) (at_set old m k few ∙ ap Some (sym same))
+
+  -- or to none
+  pub place_none : length old ≤ reply.call - 1 → ArePlacesTo (k + 1) replies old
+  place_none past m i r low lt is call = by (nat_lt i k) refl where
+    by : (t : Bool) → nat_lt i k ≡ t → slice_get old m ≡ Some i
+    by true e = before m i r low (ltb-true i k e) is call
+    by false e =
+        let le = ltb-false i k e in let same : i ≡ k = omega (arith, lt, le) in
+        let own : r ≡ reply = some_is r reply (sym is ∙ ap (slice_get replies) same ∙ there) in
+        absurd (let c = ap (λ (x : ReplyLine). x.call) own in omega (arith, c, call, low, past))
+
+pub none_placed : (replies : List ReplyLine) (places : List ℕ) → ArePlacesTo 0 replies places
+none_placed replies places m k r low lt is call = absurd (omega (arith, lt))
+
+pub all_placed : (replies : List ReplyLine) (k : ℕ) (places : List ℕ) → length replies ≤ k → ArePlacesTo k replies places → ArePlaces replies places
+all_placed replies k places past to m i r low is call = to m i r low (let lt = slice_get_within replies i r is in omega (arith, lt, past)) is call
+
+-- the place of a reply is read
+pub place_is : (places : List ℕ) (m k place : ℕ) → slice_get places m ≡ Some k → place ≡ slice_index_or places m 0 → place ≡ k
+place_is places m k place there is = is ∙ by places m there where
+  by : (xs : List ℕ) (n : ℕ) → slice_get xs n ≡ Some k → slice_index_or xs n 0 ≡ k
+  by [] n e = absurd cc
+  by (x ∷ xs) zero e = some_is x k e
+  by (x ∷ xs) (suc n) e = by xs n e

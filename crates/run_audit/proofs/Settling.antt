@@ -30,3 +30,17 @@ module _ (log : Log) (numbers : Numbers) (are : AreNumbers log numbers) where
 
     before : (i answer next : ℕ) → slice_get log.answered i ≡ Some answer → slice_get (internal_from 1 log.events) (i + 1) ≡ Some next → answer < next
     before i answer next a b = (moved.each i (subst (λ (n : ℕ). i < n) moved.many (slice_get_within log.answered i answer a))).before_next answer next a b
+
+  pub answered_by : AreAnswered log → AreAnsweredBy numbers.internal numbers.answered
+  answered_by are_answered =
+      subst (λ (l : List ℕ). AreAnsweredBy numbers.internal l) (sym are.answered)
+      (subst (λ (l : List ℕ). AreAnsweredBy l log.answered) (sym are.internal) (record { many = are_answered.many; each = λ i lt. record { later = are_answered.later i; before_next = are_answered.before_next i } }))
+
+  -- and the other way round
+  pub settled_by : (script : Script) (phase number : ℕ) → HasNothingElse script log phase number → IsSettled script numbers phase number
+  settled_by script phase number is = record {
+    replied = subst (λ (l : List ℕ). length (calls_of (take (phase + 1) script.phases)) ≤ count_below (number + 1) l) (sym are.replied) is.replied;
+    internal = as_many (number + 1) _ _ numbers.internal numbers.answered (sym are.internal) (sym are.answered) is.internal;
+    outputs = as_many (number + 1) _ _ numbers.owed numbers.arrived (sym are.owed) (sym are.arrived) is.outputs;
+    winds = as_many (number + 1) _ _ numbers.opened numbers.ended (sym are.opened) (sym are.ended) is.winds;
+  }

@@ -1,6 +1,6 @@
 -- What an audit of controls finds: what sends an action's input, how a control was carried out, and of which control an
 -- event is.
-use Rattle.std.specs.Prelude.{◌≡◌, ℕ, ◌+◌, ◌<◌, ◌≤◌, List, Option, None, Some, length, slice_get}
+use Rattle.std.specs.Prelude.{◌≡◌, ℕ, ◌+◌, ◌<◌, ◌≤◌, ◌⊎◌, List, Option, None, Some, length, slice_get}
 use Rattle.fop_types.specs.declared.messages.Input.{Input}
 use Rattle.fop_types.specs.declared.messages.Proc.{Proc}
 use Rattle.script_lang.specs.declared.scripts.Action.{Action}
@@ -8,11 +8,11 @@ use Rattle.script_lang.specs.declared.scripts.ControlLine.{ControlLine}
 use Rattle.script_lang.specs.declared.scripts.Phase.{Phase}
 use Rattle.script_lang.specs.declared.scripts.Script.{Script}
 use Rattle.script_lang.specs.declared.scripts.When.TheVariants as moment
-use Rattle.wire_xdr.specs.WireText.{input_text}
+use Rattle.wire_xdr.specs.WireText.{input_text, IsInput}
 use Rattle.wire_messages.specs.declared.messages.Message.{Message}
 use Rattle.wire_messages.specs.declared.messages.Message.TheVariants.{Whole, Wrong}
 use Rattle.mount_log.specs.Arms.{input_of}
-use Rattle.mount_log.specs.Controls.{IsArmedIn, IsCarriedAt, IsControlBefore, AreAnswered}
+use Rattle.mount_log.specs.Controls.{control_at, IsArmedIn, IsCarriedAt, IsControlBefore, AreAnswered}
 use Rattle.mount_log.specs.Events.{IsEvent}
 use Rattle.mount_log.specs.Procedures.{proc_in}
 use Rattle.mount_log.specs.declared.logs.HubEvent.{HubEvent}
@@ -21,7 +21,7 @@ use Rattle.mount_log.specs.declared.logs.Log.{Log}
 use Rattle.mount_log.specs.declared.logs.SentLine.{SentLine}
 use Rattle.log_audit.specs.Armed.{AreAllArmed}
 use Rattle.run_audit.specs.InLine.{AreInLine}
-use Rattle.run_audit.specs.Noted.{event_in, among, noted_for, course_of, begun, IsWithin}
+use Rattle.run_audit.specs.Noted.{event_in, among, how_at, noted_for, course_of, begun, IsWithin}
 use Rattle.run_audit.specs.Numbered.{AreNth}
 use Rattle.run_audit.specs.SentFor.{AreSentFor}
 use Rattle.run_audit.specs.Timed.{AreAllTimely}
@@ -39,9 +39,11 @@ abbrev pub Says : Action → Message Input → Type 0
 Says action (Whole sent) = IsActionInput action sent
 Says action (Wrong place) = ⊥
 
+-- bytes are the input of an action, which has an encoding
 pub record SendsAction (action : Action) (bytes : List ℕ) : Type 0 where
   pub sent : Input
   pub is_input : IsActionInput action sent
+  pub legal : IsInput sent
   pub text : bytes ≡ input_text sent
 
 -- the line sends the brick a request of this procedure in the event
@@ -106,6 +108,17 @@ pub record IsControlCarried (log : Log) (tables : SentTables) (notes : RunNotes)
   pub arm : IsArmNoted notes phase at how.armed c
   pub carried : IsCarriedSo log tables how.event how.sent c
 
+-- a control is noted for what carried it out, which is an event, if it follows a request, and, if it goes before one, for the event
+-- that armed it
+pub record IsNoted (notes : RunNotes) (phase at : ℕ) (c : ControlLine) (how : Carried) : Type 0 where
+  pub own : noted_for notes how.event how.sent ≡ Some (record { phase = phase; at = at })
+  pub arm : IsArmNoted notes phase at how.armed c
+  pub by_event : (brick count : ℕ) (p : Proc) → c.when ≡ moment.After brick p count → how.sent ≡ None
+
+-- each control is noted so
+abbrev pub AreNoted : Script → RunNotes → Type 0
+AreNoted script notes = (phase at : ℕ) (c : ControlLine) (how : Carried) → control_at script phase at ≡ Some c → how_at notes.carried phase at ≡ Some how → IsNoted notes phase at c how
+
 abbrev pub IsFound : Log → SentTables → RunNotes → ℕ → ℕ → ControlLine → Option Carried → Type 0
 IsFound log tables notes phase at c None = ⊥
 IsFound log tables notes phase at c (Some how) = IsControlCarried log tables notes phase at c how
@@ -118,17 +131,32 @@ pub record Passes (c : ControlLine) (number last next : ℕ) : Type 0 where
   pub kept : last ≤ next
   pub rises : c.when ≡ moment.Now → last < number
   pub own : c.when ≡ moment.Now → number ≤ next
+  pub is : ((c.when ≡ moment.Now) × (next ≡ number)) ⊎ (next ≡ last)
+
+-- each control was carried out in an event, and these are numbered from 1
+abbrev pub AreFromOne : List ControlLine → List Carried → Type 0
+AreFromOne controls carried = (i : ℕ) (c : ControlLine) → slice_get controls i ≡ Some c → 1 ≤ event_in (slice_get carried i)
 
 abbrev pub AreInTurn : List ControlLine → List Carried → Type 0
 AreInTurn controls carried =
     (i j : ℕ) (a b : ControlLine) → slice_get controls i ≡ Some a → slice_get controls j ≡ Some b → a.when ≡ moment.Now → b.when ≡ moment.Now → i < j
     → event_in (slice_get carried i) < event_in (slice_get carried j)
 
+-- one of the first n controls has no condition, and was carried out in the event
+pub record IsOneBefore (controls : List ControlLine) (carried : List Carried) (n number : ℕ) : Type 0 where
+  pub index : ℕ
+  pub control : ControlLine
+  pub early : index < n
+  pub there : slice_get controls index ≡ Some control
+  pub now : control.when ≡ moment.Now
+  pub is : event_in (slice_get carried index) ≡ number
+
 -- the first n controls are carried out in turn, those without a condition by the event `last`
 pub record AreSoFar (controls : List ControlLine) (carried : List Carried) (n last : ℕ) : Type 0 where
   pub low : (i : ℕ) (a : ControlLine) → i < n → slice_get controls i ≡ Some a → a.when ≡ moment.Now → event_in (slice_get carried i) ≤ last
   pub turns : (i j : ℕ) (a b : ControlLine) → slice_get controls i ≡ Some a → slice_get controls j ≡ Some b → a.when ≡ moment.Now → b.when ≡ moment.Now → i < j → j < n
       → event_in (slice_get carried i) < event_in (slice_get carried j)
+  pub own : (last ≡ 0) ⊎ IsOneBefore controls carried n last
 
 pub record IsPhaseCarried (log : Log) (tables : SentTables) (notes : RunNotes) (phase : ℕ) (controls : List ControlLine) : Type 0 where
   pub each : AreControlsCarried log tables notes phase controls (among (slice_get notes.carried phase))
@@ -154,6 +182,7 @@ AreOfControls script notes log = (k : ℕ) (e : HubEvent) → slice_get log.even
 pub record AreTables (ended : List ℕ) (log : Log) (tables : SentTables) : Type 0 where
   pub armed : AreAllArmed log.sent tables.armed.items
   pub nth : AreNth ended (length log.events) log.sent tables.nth.items
+  pub many : length tables.nth.items ≡ length log.sent
 
 pub record AreCarriedOut (script : Script) (log : Log) (notes : RunNotes) : Type 0 where
   pub acts : AreOfControls script notes log

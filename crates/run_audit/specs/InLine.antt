@@ -2,9 +2,18 @@
 use Rattle.std.specs.Prelude.{◌≡◌, ℕ, ◌<◌, List, Option, Some, slice_get}
 use Rattle.fop_types.specs.declared.messages.Proc.{Proc}
 use Rattle.script_lang.specs.declared.scripts.ControlLine.{ControlLine}
+use Rattle.script_lang.specs.declared.scripts.When.{When}
 use Rattle.script_lang.specs.declared.scripts.When.TheVariants as moment
 use Rattle.run_audit.specs.Noted.{sent_in}
 use Rattle.run_audit.specs.declared.run_notes.Carried.{Carried}
+
+-- two moments are before one request
+pub record AreBeforeOne (one other : When) : Type 0 where
+  pub brick : ℕ
+  pub proc : Proc
+  pub count : ℕ
+  pub first : one ≡ moment.Before brick proc count
+  pub second : other ≡ moment.Before brick proc count
 
 -- two controls before one request, with the lines that carry them out
 abbrev pub IsApart : ControlLine → ControlLine → Option ℕ → Option ℕ → Type 0

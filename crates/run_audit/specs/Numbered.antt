@@ -1,7 +1,8 @@
 -- Requests by their numbers in a phase: counts by brick and procedure, each of its last phase.
-use Rattle.std.specs.Prelude.{◌≡◌, ℕ, ◌+◌, ◌*◌, ◌<◌, ◌≤◌, ◌==◌, List, Option, None, Some, length, slice_get, slice_set, take, if◌then◌else◌}
+use Rattle.std.specs.Prelude.{◌≡◌, ℕ, ◌+◌, ◌*◌, ◌^◌, ◌<◌, ◌≤◌, ◌==◌, ◌⊎◌, true, List, Option, None, Some, length, map, slice_get, slice_set, take, if◌then◌else◌}
 use Rattle.mount_log.specs.Arms.{requests_since}
 use Rattle.mount_log.specs.Procedures.{rank_in}
+use Rattle.mount_log.specs.Ties.{do_rise}
 use Rattle.mount_log.specs.declared.logs.SentLine.{SentLine}
 use Rattle.run_audit.specs.Noted.{ended_at, begun, IsWithin}
 use Rattle.run_audit.specs.declared.nth_requests.PhaseCount.{PhaseCount}
@@ -39,6 +40,23 @@ IsCountedBy (Some rank) ended last phase line old n new = IsOneMore ended last p
 
 abbrev pub IsCounted : List ℕ → ℕ → ℕ → SentLine → List PhaseCount → ℕ → List PhaseCount → Type 0
 IsCounted ended last phase line old n new = IsCountedBy (rank_in line.bytes) ended last phase line old n new
+
+-- there is no number for one request more
+pub record AreTooMany (phase rank : ℕ) (line : SentLine) (old : List PhaseCount) : Type 0 where
+  pub brick_fits : line.brick < 256
+  pub rank_fits : rank < 256
+  pub many : 2 ^ 64 ≤ held phase (slice_get old (cell_of line.brick rank)) + 1
+
+-- a request has no number: it is not behind the phases before, or there are too many
+pub record HasNoNumber (ended : List ℕ) (last phase : ℕ) (line : SentLine) (old : List PhaseCount) : Type 0 where
+  pub rank : ℕ
+  pub rank_is : rank_in line.bytes ≡ Some rank
+  pub is : (line.event ≤ begun ended last phase) ⊎ AreTooMany phase rank line old
+
+-- lines are in the order of their events, none behind the last one; and a request was sent in an event, from 1
+pub record AreInEvents (last : ℕ) (sent : List SentLine) : Type 0 where
+  pub rises : do_rise 0 last (map (λ l. l.event) sent) ≡ true
+  pub requests : (k rank : ℕ) (line : SentLine) → slice_get sent k ≡ Some line → rank_in line.bytes ≡ Some rank → 1 ≤ line.event
 
 -- the line at a place is number n, if it is a request
 abbrev pub IsNthOf : List ℕ → ℕ → List SentLine → ℕ → ℕ → SentLine → Type 0

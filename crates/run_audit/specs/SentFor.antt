@@ -16,6 +16,12 @@ use Rattle.mount_log.specs.declared.logs.SentLine.{SentLine}
 abbrev pub HasAction : ℕ → List ℕ → Option Action → Type 0
 HasAction brick bytes found = (sent : Input) (a : Action) → input_in bytes ≡ Whole sent → action_for brick sent ≡ Some a → found ≡ Some a
 
+-- bytes to a brick are the input of the action
+pub record IsActionOf (brick : ℕ) (bytes : List ℕ) (a : Action) : Type 0 where
+  pub sent : Input
+  pub is : input_in bytes ≡ Whole sent
+  pub by : action_for brick sent ≡ Some a
+
 pub record HasControl (script : Script) (phase at : ℕ) : Type 0 where
   pub control : ControlLine
   pub there : control_at script phase at ≡ Some control

@@ -1,9 +1,10 @@
 //! Whether each action of a log is that of a control, and what is armed is a control.
-ghost use Rattle.std.specs.Prelude.{◌≡◌, true, slice_get, option_copied};
+ghost use Rattle.std.specs.Prelude.{◌≡◌, ◌≤◌, ◌↔◌, IsTrue, true, None, Some, length, slice_get, option_copied};
+ghost use Rattle.script_lang.specs.declared.scripts.ControlLine.{ControlLine as Line};
 ghost use Rattle.script_lang.specs.declared.scripts.When.TheVariants as moment;
 ghost use Rattle.mount_log.specs.Controls.{control_at, IsCarriedAt, IsControlBefore};
-ghost use Rattle.run_audit.specs.Noted.{how_at, carried_at, sent_at, armed_at, course_of};
-ghost use Rattle.run_audit.specs.Controlled.{IsOfControl, AreOfControls};
+ghost use Rattle.run_audit.specs.Noted.{how_at, carried_at, sent_at, armed_at, noted_for, course_of};
+ghost use Rattle.run_audit.specs.Controlled.{AreNoted, IsOfControl, AreOfControls};
 
 use crate::carried::is_same;
 use crate::run_notes::{Carried, ControlAt, RunNotes, control_of};
@@ -60,7 +61,8 @@ fn is_carried_at(
     number: u64,
     action: Action,
 ) -> bool
-    ensures { result ≡ true → IsCarriedAt script.now (course_of notes.now last) number action }
+    ensures sound { result ≡ true → IsCarriedAt script.now (course_of notes.now last) number action }
+    ensures complete { (c : Line) → control_at script.now at.phase at.at ≡ Some c → carried_at notes.now.carried at.phase at.at ≡ number → sent_at notes.now.carried at.phase at.at ≡ None → c.action ≡ action → result ≡ true }
 {
     if number_of(notes, at) != number || sent_of(notes, at).is_some() {
         return false;
@@ -72,7 +74,7 @@ fn is_carried_at(
 }
 
 fn is_before(when: When, brick: u8, proc: Proc, count: u32) -> bool
-    ensures { result ≡ true → when ≡ moment.Before brick proc count }
+    ensures { IsTrue result ↔ (when ≡ moment.Before brick proc count) }
 {
     match when {
         When::Before(at, which, nth) => at == brick && which == proc && nth == count,
@@ -83,6 +85,7 @@ fn is_before(when: When, brick: u8, proc: Proc, count: u32) -> bool
 fn is_control(control: &ControlLine, brick: u8, proc: Proc, count: u32, action: Action) -> bool
     ensures when { result ≡ true → control.now.when ≡ moment.Before brick proc count }
     ensures action { result ≡ true → control.now.action ≡ action }
+    ensures complete { control.now.when ≡ moment.Before brick proc count → control.now.action ≡ action → result ≡ true }
 {
     is_before(control.when, brick, proc, count) && is_same(control.action, action)
 }
@@ -99,7 +102,8 @@ fn is_control_before(
     count: u32,
     action: Action,
 ) -> bool
-    ensures { result ≡ true → IsControlBefore script.now (course_of notes.now last) number brick proc count action }
+    ensures sound { result ≡ true → IsControlBefore script.now (course_of notes.now last) number brick proc count action }
+    ensures complete { (c : Line) → control_at script.now at.phase at.at ≡ Some c → armed_at notes.now.carried at.phase at.at ≡ number → c.when ≡ moment.Before brick proc count → c.action ≡ action → result ≡ true }
 {
     match control_of(script, at) {
         Some(control) => {
@@ -117,7 +121,8 @@ fn is_of_control(
     number: u64,
     event: &HubEvent,
 ) -> bool
-    ensures { result ≡ true → IsOfControl script.now notes.now last number event.now }
+    ensures sound { result ≡ true → IsOfControl script.now notes.now last number event.now }
+    ensures complete { AreNoted script.now notes.now → 1 ≤ number → noted_for notes.now number None ≡ Some at → IsOfControl script.now notes.now last number event.now → result ≡ true }
 {
     match event {
         HubEvent::Act(action) => is_carried_at(script, notes, last, at, number, *action),
@@ -130,9 +135,11 @@ fn is_of_control(
     }
 }
 
-/// Whether each action of the log is that of a control which is carried out there, and what is armed are controls.
+/// Whether each action of the log is that of a control which is carried out there, and what is armed are controls. Of an event,
+/// it looks at the control that is noted for it.
 pub fn acts_are_of_controls(script: &Script, log: &Log, notes: &RunNotes) -> bool
-    ensures { result ≡ true → AreOfControls script.now notes.now log.now }
+    ensures sound { result ≡ true → AreOfControls script.now notes.now log.now }
+    ensures complete { AreNoted script.now notes.now → length log.now.events ≤ length notes.now.by_event → AreOfControls script.now notes.now log.now → result ≡ true }
 {
     let last = log.events.len() as u64;
     for k in 0..log.events.len() {

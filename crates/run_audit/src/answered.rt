@@ -1,12 +1,13 @@
 //! Whether each heal and switch was answered before the next.
-ghost use Rattle.std.specs.Prelude.{◌≡◌, true};
+ghost use Rattle.std.specs.Prelude.{◌≡◌, ◌<◌, ◌↔◌, IsTrue, true, length};
 ghost use Rattle.run_audit.specs.Counting.{IsAnsweredAt, AreAnsweredBy};
 
 use crate::numbers::Numbers;
 
 // Whether the act of this number, from 0, was answered, not before it and before the next.
 fn is_answered(acts: &[u64], answers: &[u64], i: usize) -> bool
-    ensures { result ≡ true → IsAnsweredAt acts.now answers.now i }
+    ensures sound { result ≡ true → IsAnsweredAt acts.now answers.now i }
+    ensures complete { i < length acts.now → i < length answers.now → IsAnsweredAt acts.now answers.now i → result ≡ true }
 {
     let Some(act) = acts.get(i) else {
         return false;
@@ -24,7 +25,7 @@ fn is_answered(acts: &[u64], answers: &[u64], i: usize) -> bool
 }
 
 fn each_is_answered(acts: &[u64], answers: &[u64]) -> bool
-    ensures { result ≡ true → AreAnsweredBy acts.now answers.now }
+    ensures { IsTrue result ↔ AreAnsweredBy acts.now answers.now }
 {
     if acts.len() != answers.len() {
         return false;
@@ -39,7 +40,7 @@ fn each_is_answered(acts: &[u64], answers: &[u64]) -> bool
 
 /// Whether each heal and switch was answered, in its event or later, and before the next.
 pub fn acts_are_answered(numbers: &Numbers) -> bool
-    ensures { result ≡ true → AreAnsweredBy numbers.now.internal numbers.now.answered }
+    ensures { IsTrue result ↔ AreAnsweredBy numbers.now.internal numbers.now.answered }
 {
     each_is_answered(numbers.internal.as_slice(), numbers.answered.as_slice())
 }

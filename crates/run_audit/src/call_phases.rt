@@ -1,5 +1,5 @@
 //! Whether calls are submitted and answered in the phases of their lines.
-ghost use Rattle.std.specs.Prelude.{◌≡◌, true};
+ghost use Rattle.std.specs.Prelude.{◌↔◌, IsTrue};
 ghost use Rattle.run_audit.specs.CallPhases.{AreInPhases, IsAnsweredIn, AreAnsweredIn};
 
 use crate::phase_ends::{end_of, is_within};
@@ -8,7 +8,7 @@ use mount_log::ReplyLine;
 
 /// Whether each call was submitted within the phase of its line.
 pub fn are_in_phases(calls: &[CallMade], ended: &[u64], last: u64) -> bool
-    ensures { result ≡ true → AreInPhases ended.now last calls.now }
+    ensures { IsTrue result ↔ AreInPhases ended.now last calls.now }
 {
     for k in 0..calls.len() {
         let Some(call) = calls.get(k) else {
@@ -22,7 +22,7 @@ pub fn are_in_phases(calls: &[CallMade], ended: &[u64], last: u64) -> bool
 }
 
 fn is_answered_in(calls: &[CallMade], ended: &[u64], last: u64, reply: &ReplyLine) -> bool
-    ensures { result ≡ true → IsAnsweredIn calls.now ended.now last reply.now }
+    ensures { IsTrue result ↔ IsAnsweredIn calls.now ended.now last reply.now }
 {
     match call_of(calls, reply.call) {
         Some(call) => reply.event <= end_of(ended, last, call.phase as usize),
@@ -32,7 +32,7 @@ fn is_answered_in(calls: &[CallMade], ended: &[u64], last: u64, reply: &ReplyLin
 
 /// Whether each reply is to a call, and comes before the end of the phase of its line.
 pub fn are_answered_in(calls: &[CallMade], ended: &[u64], last: u64, replies: &[ReplyLine]) -> bool
-    ensures { result ≡ true → AreAnsweredIn calls.now ended.now last replies.now }
+    ensures { IsTrue result ↔ AreAnsweredIn calls.now ended.now last replies.now }
 {
     for k in 0..replies.len() {
         let Some(reply) = replies.get(k) else {

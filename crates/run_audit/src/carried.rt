@@ -1,10 +1,11 @@
 //! Whether each control was carried out where the notes of a run say.
-ghost use Rattle.std.specs.Prelude.{◌≡◌, true, None, Some, IfOk, IfSome, length, option_copied, slice_get};
+ghost use Rattle.std.specs.Prelude.{◌≡◌, ◌≤◌, ◌↔◌, IsTrue, true, None, Some, IfOk, IfSome, IfNone, length, option_copied, slice_get};
 ghost use Rattle.fop_types.specs.declared.messages.Input.TheVariants as input;
+ghost use Rattle.script_lang.specs.declared.scripts.When.TheVariants as moment;
 ghost use Rattle.mount_log.specs.Events.{IsEvent};
 ghost use Rattle.mount_log.specs.declared.logs.HubEvent.TheVariants as logged;
 ghost use Rattle.run_audit.specs.Noted.{event_in, among, noted_for, begun, IsWithin};
-ghost use Rattle.run_audit.specs.Controlled.{IsActionInput, Says, SendsAction, IsRequestTo, IsRequestAt, IsSentAt, GoesBefore, IsSentFor, IsSentControl, IsCarriedSo, IsArmed, IsNotedArm, IsArmNoted, IsControlCarried, AreControlsCarried, Passes, AreInTurn, IsPhaseCarried, ArePhasesCarried};
+ghost use Rattle.run_audit.specs.Controlled.{IsActionInput, Says, SendsAction, IsRequestTo, IsRequestAt, IsSentAt, GoesBefore, IsSentFor, IsSentControl, IsCarriedSo, IsArmed, IsNotedArm, IsArmNoted, IsControlCarried, AreControlsCarried, Passes, AreFromOne, AreInTurn, IsPhaseCarried, ArePhasesCarried};
 
 use crate::in_line::are_in_line;
 use crate::phase_ends::{begun_of, is_within};
@@ -29,7 +30,7 @@ pub struct SentTables {
 
 /// Whether two actions are the same.
 pub fn is_same(one: Action, other: Action) -> bool
-    ensures { result ≡ true → one ≡ other }
+    ensures { IsTrue result ↔ (one ≡ other) }
 {
     match (one, other) {
         (Action::Down(a, s), Action::Down(b, t)) => a == b && s == t,
@@ -45,7 +46,7 @@ pub fn is_same(one: Action, other: Action) -> bool
 // ---- by an event
 
 fn acts(event: &HubEvent, action: Action) -> bool
-    ensures { result ≡ true → event.now ≡ logged.Act action }
+    ensures { IsTrue result ↔ (event.now ≡ logged.Act action) }
 {
     match event {
         HubEvent::Act(a) => is_same(*a, action),
@@ -55,7 +56,7 @@ fn acts(event: &HubEvent, action: Action) -> bool
 
 /// Whether the event of this number carries out an action.
 pub fn is_act(log: &Log, number: u64, action: Action) -> bool
-    ensures { result ≡ true → IsEvent log.now number (logged.Act action) }
+    ensures { IsTrue result ↔ IsEvent log.now number (logged.Act action) }
 {
     match event_at(log, number) {
         Some(event) => acts(event, action),
@@ -66,7 +67,7 @@ pub fn is_act(log: &Log, number: u64, action: Action) -> bool
 // ---- before a request
 
 fn is_down(found: &Input, serve: u32) -> bool
-    ensures { result ≡ true → found.now ≡ input.Down serve }
+    ensures { IsTrue result ↔ (found.now ≡ input.Down serve) }
 {
     match found {
         Input::Down { serve: number } => *number == serve,
@@ -75,7 +76,7 @@ fn is_down(found: &Input, serve: u32) -> bool
 }
 
 fn is_fault(found: &Input, proc: Proc, number: u32) -> bool
-    ensures { result ≡ true → found.now ≡ input.FaultAt proc number }
+    ensures { IsTrue result ↔ (found.now ≡ input.FaultAt proc number) }
 {
     match found {
         Input::FaultAt {
@@ -87,7 +88,7 @@ fn is_fault(found: &Input, proc: Proc, number: u32) -> bool
 }
 
 fn is_action_input(found: &Input, action: Action) -> bool
-    ensures { result ≡ true → IsActionInput action found.now }
+    ensures { IsTrue result ↔ IsActionInput action found.now }
 {
     match action {
         Action::Down(_, serve) => is_down(found, serve),
@@ -97,7 +98,7 @@ fn is_action_input(found: &Input, action: Action) -> bool
 }
 
 fn says(message: &Message<Input>, action: Action) -> bool
-    ensures { result ≡ true → Says action message.now }
+    ensures { IsTrue result ↔ Says action message.now }
 {
     match message {
         Message::Whole(found) => is_action_input(found, action),
@@ -107,7 +108,7 @@ fn says(message: &Message<Input>, action: Action) -> bool
 
 // Whether bytes are the input of an action.
 fn sends_action(alloc: Global, bytes: &[u8], action: Action) -> Result<bool, AllocError>
-    ensures { IfOk result (λ yes. yes ≡ true → SendsAction action bytes.now) }
+    ensures { IfOk result (λ yes. IsTrue yes ↔ SendsAction action bytes.now) }
 {
     let message = input_of(alloc, bytes)?;
     let yes = says(&message, action);
@@ -118,19 +119,20 @@ fn sends_action(alloc: Global, bytes: &[u8], action: Action) -> Result<bool, All
 fn is_to(line: &SentLine, number: u64, brick: u8) -> bool
     ensures event { result ≡ true → line.now.event ≡ number }
     ensures brick { result ≡ true → line.now.brick ≡ brick }
+    ensures complete { line.now.event ≡ number → line.now.brick ≡ brick → result ≡ true }
 {
     line.event == number && line.brick == brick
 }
 
 fn is_request_to(line: &SentLine, number: u64, brick: u8, proc: Proc) -> bool
-    ensures { result ≡ true → IsRequestTo number brick proc line.now }
+    ensures { IsTrue result ↔ IsRequestTo number brick proc line.now }
 {
     is_to(line, number, brick) && is_request_of(line.bytes.as_slice(), proc)
 }
 
 // Whether the line at a place is a request of a procedure, sent to the brick in the event.
 fn is_request_at(log: &Log, at: usize, number: u64, brick: u8, proc: Proc) -> bool
-    ensures { result ≡ true → IsRequestAt log.now.sent at number brick proc }
+    ensures { IsTrue result ↔ IsRequestAt log.now.sent at number brick proc }
 {
     match line_at(log, at) {
         Some(line) => is_request_to(line, number, brick, proc),
@@ -147,7 +149,7 @@ fn is_sent_at(
     brick: u8,
     action: Action,
 ) -> Result<bool, AllocError>
-    ensures { IfOk result (λ yes. yes ≡ true → IsSentAt log.now.sent at number brick action) }
+    ensures { IfOk result (λ yes. IsTrue yes ↔ IsSentAt log.now.sent at number brick action) }
 {
     let Some(line) = line_at(log, at) else {
         return Ok(false);
@@ -161,7 +163,7 @@ fn is_sent_at(
 
 /// Whether a request is this one of its procedure in its phase.
 pub fn is_nth(tables: &SentTables, at: usize, count: u32) -> bool
-    ensures { result ≡ true → slice_get tables.now.nth.items at ≡ Some count }
+    ensures { IsTrue result ↔ (slice_get tables.now.nth.items at ≡ Some count) }
 {
     match tables.nth.as_slice().get(at) {
         Some(n) => *n == count as u64,
@@ -186,7 +188,7 @@ fn goes_before(
     proc: Proc,
     count: u32,
 ) -> bool
-    ensures { result ≡ true → GoesBefore log.now.sent tables.now at number brick proc count }
+    ensures { IsTrue result ↔ GoesBefore log.now.sent tables.now at number brick proc count }
 {
     let Some(lines) = stop_of(tables, at) else {
         return false;
@@ -209,7 +211,7 @@ fn is_sent_before(
     count: u32,
     action: Action,
 ) -> Result<bool, AllocError>
-    ensures { IfOk result (λ yes. yes ≡ true → IsSentFor log.now.sent tables.now at number brick proc count action) }
+    ensures { IfOk result (λ yes. IsTrue yes ↔ IsSentFor log.now.sent tables.now at number brick proc count action) }
 {
     if !goes_before(log, tables, at, number, brick, proc, count) {
         return Ok(false);
@@ -226,7 +228,7 @@ fn is_sent_control(
     number: u64,
     at: usize,
 ) -> Result<bool, AllocError>
-    ensures { IfOk result (λ yes. yes ≡ true → IsSentControl log.now.sent tables.now at number control.now) }
+    ensures { IfOk result (λ yes. IsTrue yes ↔ IsSentControl log.now.sent tables.now at number control.now) }
 {
     let When::Before(brick, proc, count) = control.when else {
         return Ok(false);
@@ -254,7 +256,7 @@ fn is_carried(
     control: &ControlLine,
     how: Carried,
 ) -> Result<bool, AllocError>
-    ensures { IfOk result (λ yes. yes ≡ true → IsCarriedSo log.now tables.now how.event how.sent control.now) }
+    ensures { IfOk result (λ yes. IsTrue yes ↔ IsCarriedSo log.now tables.now how.event how.sent control.now) }
 {
     match how.sent {
         Some(at) => is_sent_control(alloc, log, tables, control, how.event, at),
@@ -282,7 +284,7 @@ fn noted(notes: &RunNotes, how: Carried) -> Option<ControlAt>
 
 // Whether how a control was carried out is noted for it, and so for no other.
 fn is_its_own(notes: &RunNotes, phase: usize, at: usize, how: Carried) -> bool
-    ensures { result ≡ true → noted_for notes.now how.event how.sent ≡ Some (record { phase = phase; at = at }) }
+    ensures { IsTrue result ↔ (noted_for notes.now how.event how.sent ≡ Some (record { phase = phase; at = at })) }
 {
     match noted(notes, how) {
         Some(found) => found.phase == phase && found.at == at,
@@ -291,7 +293,7 @@ fn is_its_own(notes: &RunNotes, phase: usize, at: usize, how: Carried) -> bool
 }
 
 fn arms(event: &HubEvent, brick: u8, proc: Proc, count: u32, action: Action) -> bool
-    ensures { result ≡ true → event.now ≡ logged.Arm brick proc count action }
+    ensures { IsTrue result ↔ (event.now ≡ logged.Arm brick proc count action) }
 {
     match event {
         HubEvent::Arm(at, which, nth, what) => {
@@ -302,7 +304,7 @@ fn arms(event: &HubEvent, brick: u8, proc: Proc, count: u32, action: Action) -> 
 }
 
 fn is_noted_arm(notes: &RunNotes, phase: usize, at: usize, number: u64) -> bool
-    ensures { result ≡ true → IsNotedArm notes.now phase at number }
+    ensures { IsTrue result ↔ IsNotedArm notes.now phase at number }
 {
     match noted_at(notes, number) {
         Some(found) => found.phase == phase && found.at == at,
@@ -312,7 +314,7 @@ fn is_noted_arm(notes: &RunNotes, phase: usize, at: usize, number: u64) -> bool
 
 // Whether the event that arms a control, if it goes before a request, is noted for it, and so for no other.
 fn is_own_arm(notes: &RunNotes, phase: usize, at: usize, control: &ControlLine, number: u64) -> bool
-    ensures { result ≡ true → IsArmNoted notes.now phase at number control.now }
+    ensures { IsTrue result ↔ IsArmNoted notes.now phase at number control.now }
 {
     match control.when {
         When::Before(_, _, _) => is_noted_arm(notes, phase, at, number),
@@ -321,7 +323,7 @@ fn is_own_arm(notes: &RunNotes, phase: usize, at: usize, control: &ControlLine, 
 }
 
 fn is_arm(log: &Log, number: u64, brick: u8, proc: Proc, count: u32, action: Action) -> bool
-    ensures { result ≡ true → IsEvent log.now number (logged.Arm brick proc count action) }
+    ensures { IsTrue result ↔ IsEvent log.now number (logged.Arm brick proc count action) }
 {
     match event_at(log, number) {
         Some(event) => arms(event, brick, proc, count, action),
@@ -331,7 +333,7 @@ fn is_arm(log: &Log, number: u64, brick: u8, proc: Proc, count: u32, action: Act
 
 // Whether a control that goes before a request was armed behind an event, before it was carried out.
 fn is_armed(log: &Log, control: &ControlLine, how: Carried, since: u64) -> bool
-    ensures { result ≡ true → IsArmed log.now how.armed control.now since how.event }
+    ensures { IsTrue result ↔ IsArmed log.now how.armed control.now since how.event }
 {
     let When::Before(brick, proc, count) = control.when else {
         return true;
@@ -344,7 +346,7 @@ fn is_armed(log: &Log, control: &ControlLine, how: Carried, since: u64) -> bool
 
 /// Whether an event is one of a phase.
 pub fn is_in_phase(log: &Log, notes: &RunNotes, phase: usize, number: u64) -> bool
-    ensures { result ≡ true → IsWithin notes.now.ended (length log.now.events) phase number }
+    ensures { IsTrue result ↔ IsWithin notes.now.ended (length log.now.events) phase number }
 {
     is_within(
         notes.ended.as_slice(),
@@ -372,7 +374,7 @@ fn is_control_carried(
     control: &ControlLine,
     how: Carried,
 ) -> Result<bool, AllocError>
-    ensures { IfOk result (λ yes. yes ≡ true → IsControlCarried log.now tables.now notes.now phase at control.now how) }
+    ensures { IfOk result (λ yes. IsTrue yes ↔ IsControlCarried log.now tables.now notes.now phase at control.now how) }
 {
     if !is_in_phase(log, notes, phase, how.event) || !is_its_own(notes, phase, at, how) {
         return Ok(false);
@@ -395,7 +397,7 @@ fn are_controls_carried(
     controls: &[ControlLine],
     carried: &[Carried],
 ) -> Result<bool, AllocError>
-    ensures { IfOk result (λ yes. yes ≡ true → AreControlsCarried log.now tables.now notes.now phase controls.now carried.now) }
+    ensures { IfOk result (λ yes. IsTrue yes ↔ AreControlsCarried log.now tables.now notes.now phase controls.now carried.now) }
 {
     for at in 0..controls.len() {
         let Some(control) = controls.get(at) else {
@@ -425,7 +427,8 @@ pub fn number_at(carried: &[Carried], at: usize) -> u64
 
 // The last event of controls without a condition, with one control more; `None` where that is one and does not come later.
 fn last_with(control: &ControlLine, number: u64, last: u64) -> Option<u64>
-    ensures { IfSome result (λ next. Passes control.now number last next) }
+    ensures some { IfSome result (λ next. Passes control.now number last next) }
+    ensures none { IfNone result ((control.now.when ≡ moment.Now) × (number ≤ last)) }
 {
     match control.when {
         When::Now => { if last < number { Some(number) } else { None } }
@@ -435,7 +438,8 @@ fn last_with(control: &ControlLine, number: u64, last: u64) -> Option<u64>
 
 // Whether the controls without a condition were carried out in their order.
 fn are_in_turn(controls: &[ControlLine], carried: &[Carried]) -> bool
-    ensures { result ≡ true → AreInTurn controls.now carried.now }
+    ensures sound { result ≡ true → AreInTurn controls.now carried.now }
+    ensures complete { AreFromOne controls.now carried.now → AreInTurn controls.now carried.now → result ≡ true }
 {
     let mut last = 0u64;
     for at in 0..controls.len() {
@@ -470,7 +474,7 @@ fn is_phase_carried(
     phase: usize,
     controls: &[ControlLine],
 ) -> Result<bool, AllocError>
-    ensures { IfOk result (λ yes. yes ≡ true → IsPhaseCarried log.now tables.now notes.now phase controls.now) }
+    ensures { IfOk result (λ yes. IsTrue yes ↔ IsPhaseCarried log.now tables.now notes.now phase controls.now) }
 {
     let carried = carried_of(notes, phase);
     if !are_in_turn(controls, carried) {
@@ -495,7 +499,7 @@ pub fn phases_are_carried(
     tables: &SentTables,
     notes: &RunNotes,
 ) -> Result<bool, AllocError>
-    ensures { IfOk result (λ yes. yes ≡ true → ArePhasesCarried script.now log.now tables.now notes.now) }
+    ensures { IfOk result (λ yes. IsTrue yes ↔ ArePhasesCarried script.now log.now tables.now notes.now) }
 {
     for k in 0..script.phases.len() {
         let Some(phase) = phase_at(script, k) else {

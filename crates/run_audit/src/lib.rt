@@ -8,9 +8,10 @@
 //!
 //! `noting` notes how the log carried out its script, without a contract: of which control an event or a line is, and where
 //! phases end. What was noted is then checked against script and log, and an audit's `true` rests on that alone. As each
-//! audit of `log_audit`, it knows nothing of how the log came about: true says that its definition holds of the log; false
-//! alone says nothing. Of what arrived it takes the heads. It goes through the log a fixed number of times, and once more
-//! through what was sent for each control whose request has not come.
+//! audit of `log_audit`, it knows nothing of how the log came about: true says that its definition holds of the log. Each
+//! check of the notes is also true where what it checks holds of them: a clause that is called `complete` says what else that
+//! takes. That a run is noted, and its calls are found, is not proved, so false alone says nothing of the log. Of what arrived it takes the heads. It goes through the log a fixed number of times, and
+//! once more through what was sent for each control whose request has not come.
 #![tactic(auto)]
 
 mod acts;

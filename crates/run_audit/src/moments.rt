@@ -1,14 +1,17 @@
 //! Whether each control that was carried out by an event was so in its moment.
-ghost use Rattle.std.specs.Prelude.{◌≡◌, ◌≤◌, ◌<◌, ◌+◌, ◌-◌, ◌⊎◌, ℕ, Some, None, true, false, length, option_copied, slice_get};
+ghost use Rattle.std.specs.Prelude.{◌≡◌, ◌≤◌, ◌<◌, ◌+◌, ◌-◌, ◌⊎◌, ◌↔◌, IsTrue, ℕ, Some, None, true, false, length, option_copied, slice_get};
 ghost use Rattle.script_lang.specs.declared.scripts.ControlLine.{ControlLine as Line};
+ghost use Rattle.script_lang.specs.declared.scripts.Phase.{Phase as Part};
+ghost use Rattle.run_audit.specs.declared.run_notes.Carried.{Carried as Done};
 ghost use Rattle.script_lang.specs.declared.scripts.When.TheVariants as moment;
-ghost use Rattle.mount_log.specs.Controls.{NamesRequest, IsRequestOf, HasNotCome, IsFollowing, HasCome, IsFirstLeft, IsTimely};
+ghost use Rattle.mount_log.specs.Controls.{control_at, NamesRequest, IsRequestOf, HasNotCome, IsFollowing, HasCome, IsFirstLeft, IsTimely};
 ghost use Rattle.mount_log.specs.Phases.{HasNothingElse};
 ghost use Rattle.mount_log.specs.Submissions.{count_below};
-ghost use Rattle.run_audit.specs.Controlled.{AreTables};
+ghost use Rattle.run_audit.specs.Controlled.{AreNoted, ArePhasesCarried, AreTables};
 ghost use Rattle.run_audit.specs.Counting.{AreNumbers, DoAllRise};
-ghost use Rattle.run_audit.specs.Noted.{ended_at, begun, course_of, event_in, among, IsWithin};
-ghost use Rattle.run_audit.specs.Timed.{IsOther, IsAfter, AreEarlier, IsHowTimely, ArePhaseTimely, AreAllTimely};
+ghost use Rattle.run_audit.specs.Noted.{ended_at, carried_at, noted_for, begun, course_of, event_in, among, IsWithin};
+ghost use Rattle.run_audit.specs.declared.run_notes.ControlAt.{ControlAt as Place};
+ghost use Rattle.run_audit.specs.Timed.{IsOther, IsAfter, IsRequestPlace, IsRequestNoted, AreRequestsNoted, AreEarlier, IsHowTimely, ArePhaseTimely, AreAllTimely};
 
 use crate::acts::number_of;
 use crate::carried::{SentTables, begun_in, carried_of, is_in_phase, is_nth, number_at};
@@ -37,7 +40,8 @@ fn is_request(
 ) -> bool
     requires there { slice_get log.now.sent place ≡ Some line.now }
     requires tables { AreTables notes.now.ended log.now tables.now }
-    ensures { result ≡ true → IsRequestOf log.now (begun notes.now.ended (length log.now.events) phase) place brick proc count line.now }
+    ensures sound { result ≡ true → IsRequestOf log.now (begun notes.now.ended (length log.now.events) phase) place brick proc count line.now }
+    ensures complete { line.now.event ≤ ended_at notes.now.ended (length log.now.events) phase → IsRequestOf log.now (begun notes.now.ended (length log.now.events) phase) place brick proc count line.now → result ≡ true }
 {
     if line.brick != brick || !is_request_of(line.bytes.as_slice(), proc) {
         return false;
@@ -50,7 +54,7 @@ fn is_request(
 
 // Whether the line at a place is counted as another request.
 fn is_other(tables: &SentTables, place: usize, count: u32) -> bool
-    ensures { result ≡ true → IsOther tables.now.nth.items place count }
+    ensures { IsTrue result ↔ IsOther tables.now.nth.items place count }
 {
     match tables.nth.as_slice().get(place) {
         Some(n) => *n != count as u64,
@@ -74,7 +78,7 @@ fn is_no_request(
     requires there { slice_get log.now.sent place ≡ Some line.now }
     requires tables { AreTables notes.now.ended log.now tables.now }
     requires within { IsWithin notes.now.ended (length log.now.events) phase number }
-    ensures { result ≡ true → IsRequestOf log.now (begun notes.now.ended (length log.now.events) phase) place brick proc count line.now → number ≤ line.now.event }
+    ensures { IsTrue result ↔ (IsRequestOf log.now (begun notes.now.ended (length log.now.events) phase) place brick proc count line.now → number ≤ line.now.event) }
 {
     if line.event >= number {
         return true;
@@ -101,7 +105,7 @@ fn has_not_come(
 ) -> bool
     requires tables { AreTables notes.now.ended log.now tables.now }
     requires within { IsWithin notes.now.ended (length log.now.events) phase number }
-    ensures { result ≡ true → HasNotCome log.now (begun notes.now.ended (length log.now.events) phase) number brick proc count }
+    ensures { IsTrue result ↔ HasNotCome log.now (begun notes.now.ended (length log.now.events) phase) number brick proc count }
 {
     for k in 0..log.sent.len() {
         let Some(line) = line_at(log, k) else {
@@ -119,7 +123,7 @@ fn has_not_come(
 // ---- between a request and its control
 
 fn is_after(control: &ControlLine) -> bool
-    ensures { result ≡ true → IsAfter control.now }
+    ensures { IsTrue result ↔ IsAfter control.now }
 {
     match control.when {
         When::After(_, _, _) => true,
@@ -136,7 +140,8 @@ fn is_following(
     number: u64,
     at: ControlAt,
 ) -> bool
-    ensures { result ≡ true → IsFollowing script.now (course_of notes.now last) phase number }
+    ensures sound { result ≡ true → IsFollowing script.now (course_of notes.now last) phase number }
+    ensures complete { (c : Line) → at.phase ≡ phase → carried_at notes.now.carried at.phase at.at ≡ number → control_at script.now at.phase at.at ≡ Some c → IsAfter c → result ≡ true }
 {
     if at.phase != phase {
         return false;
@@ -150,7 +155,9 @@ fn is_following(
     }
 }
 
-fn noted_at(notes: &RunNotes, number: u64) -> ControlAt {
+fn noted_at(notes: &RunNotes, number: u64) -> ControlAt
+    ensures { (at : Place) → noted_for notes.now number None ≡ Some at → result ≡ at }
+{
     match notes
         .by_event
         .as_slice()
@@ -170,7 +177,8 @@ fn are_following(
     since: u64,
     number: u64,
 ) -> bool
-    ensures { result ≡ true → (m : ℕ) → since < m → m < number → IsFollowing script.now (course_of notes.now last) phase m }
+    ensures sound { result ≡ true → (m : ℕ) → since < m → m < number → IsFollowing script.now (course_of notes.now last) phase m }
+    ensures complete { AreNoted script.now notes.now → ((m : ℕ) → since < m → m < number → IsFollowing script.now (course_of notes.now last) phase m) → result ≡ true }
 {
     for m in since..number {
         if m == since {
@@ -198,7 +206,8 @@ fn has_come(
     count: u32,
 ) -> bool
     requires tables { AreTables notes.now.ended log.now tables.now }
-    ensures { result ≡ true → HasCome script.now log.now (course_of notes.now (length log.now.events)) phase number brick proc count }
+    ensures sound { result ≡ true → HasCome script.now log.now (course_of notes.now (length log.now.events)) phase number brick proc count }
+    ensures complete { AreNoted script.now notes.now → IsWithin notes.now.ended (length log.now.events) phase number → IsRequestPlace script.now log.now (course_of notes.now (length log.now.events)) phase number brick proc count (Some place) → result ≡ true }
 {
     let Some(line) = line_at(log, place) else {
         return false;
@@ -222,7 +231,7 @@ fn has_come(
 // ---- what is left
 
 fn is_now(control: &ControlLine) -> bool
-    ensures { control.now.when ≡ moment.Now → result ≡ true }
+    ensures { IsTrue result ↔ (control.now.when ≡ moment.Now) }
 {
     match control.when {
         When::Now => true,
@@ -232,7 +241,7 @@ fn is_now(control: &ControlLine) -> bool
 
 // Whether a control at a place, if it is before another or has no condition, was carried out before an event.
 fn is_earlier(control: &ControlLine, j: usize, at: usize, event: u64, number: u64) -> bool
-    ensures { result ≡ true → (j < at) ⊎ (control.now.when ≡ moment.Now) → event < number }
+    ensures { IsTrue result ↔ ((j < at) ⊎ (control.now.when ≡ moment.Now) → event < number) }
 {
     if event < number {
         return true;
@@ -242,7 +251,7 @@ fn is_earlier(control: &ControlLine, j: usize, at: usize, event: u64, number: u6
 
 // Whether each control of a phase that is before a place, or has no condition, was carried out before an event.
 fn are_earlier(controls: &[ControlLine], carried: &[Carried], at: usize, number: u64) -> bool
-    ensures { result ≡ true → AreEarlier controls.now carried.now at number (length controls.now) }
+    ensures { IsTrue result ↔ AreEarlier controls.now carried.now at number (length controls.now) }
 {
     for j in 0..controls.len() {
         let Some(control) = controls.get(j) else {
@@ -268,7 +277,8 @@ fn is_first_left(
 ) -> bool
     requires numbers { AreNumbers log.now numbers.now }
     requires rise { DoAllRise numbers.now }
-    ensures { result ≡ true → IsFirstLeft script.now log.now (course_of notes.now (length log.now.events)) phase at number }
+    ensures sound { result ≡ true → IsFirstLeft script.now log.now (course_of notes.now (length log.now.events)) phase at number }
+    ensures complete { 1 ≤ number → phase < length script.now.phases → IsFirstLeft script.now log.now (course_of notes.now (length log.now.events)) phase at number → result ≡ true }
 {
     if number == 0 {
         return false;
@@ -293,7 +303,8 @@ fn is_first_left(
 // Whether each heal and switch before an event was answered before.
 fn is_next(numbers: &Numbers, number: u64) -> bool
     requires { DoAllRise numbers.now }
-    ensures { result ≡ true → count_below number numbers.now.internal ≡ count_below number numbers.now.answered }
+    ensures sound { result ≡ true → count_below number numbers.now.internal ≡ count_below number numbers.now.answered }
+    ensures complete { 1 ≤ number → count_below number numbers.now.internal ≡ count_below number numbers.now.answered → result ≡ true }
 {
     if number == 0 {
         return false;
@@ -325,6 +336,7 @@ fn is_left(
     requires within { IsWithin notes.now.ended (length log.now.events) phase number }
     ensures not_come { result ≡ true → HasNotCome log.now (begun notes.now.ended (length log.now.events) phase) number brick proc count }
     ensures first { result ≡ true → IsFirstLeft script.now log.now (course_of notes.now (length log.now.events)) phase at number }
+    ensures complete { phase < length script.now.phases → HasNotCome log.now (begun notes.now.ended (length log.now.events) phase) number brick proc count → IsFirstLeft script.now log.now (course_of notes.now (length log.now.events)) phase at number → result ≡ true }
 {
     if !has_not_come(log, tables, notes, phase, number, brick, proc, count) {
         return false;
@@ -351,7 +363,8 @@ fn is_after_moment(
     requires numbers { AreNumbers log.now numbers.now }
     requires rise { DoAllRise numbers.now }
     requires within { IsWithin notes.now.ended (length log.now.events) phase number }
-    ensures { result ≡ true → (c : Line) → c.when ≡ moment.After brick proc count → IsTimely script.now log.now (course_of notes.now (length log.now.events)) phase at number c }
+    ensures sound { result ≡ true → (c : Line) → c.when ≡ moment.After brick proc count → IsTimely script.now log.now (course_of notes.now (length log.now.events)) phase at number c }
+    ensures complete { AreNoted script.now notes.now → phase < length script.now.phases → IsRequestPlace script.now log.now (course_of notes.now (length log.now.events)) phase number brick proc count place → (c : Line) → c.when ≡ moment.After brick proc count → IsTimely script.now log.now (course_of notes.now (length log.now.events)) phase at number c → result ≡ true }
 {
     match place {
         Some(place) => has_come(
@@ -380,7 +393,8 @@ fn is_moment(
     requires numbers { AreNumbers log.now numbers.now }
     requires rise { DoAllRise numbers.now }
     requires within { IsWithin notes.now.ended (length log.now.events) phase number }
-    ensures { result ≡ true → IsTimely script.now log.now (course_of notes.now (length log.now.events)) phase at number control.now }
+    ensures sound { result ≡ true → IsTimely script.now log.now (course_of notes.now (length log.now.events)) phase at number control.now }
+    ensures complete { AreNoted script.now notes.now → phase < length script.now.phases → IsRequestNoted script.now log.now (course_of notes.now (length log.now.events)) phase number control.now place → IsTimely script.now log.now (course_of notes.now (length log.now.events)) phase at number control.now → result ≡ true }
 {
     match control.when {
         When::Now => is_next(numbers, number),
@@ -408,7 +422,8 @@ fn is_timely(
     requires tables { AreTables notes.now.ended log.now tables.now }
     requires numbers { AreNumbers log.now numbers.now }
     requires rise { DoAllRise numbers.now }
-    ensures { result ≡ true → how.sent ≡ None → IsTimely script.now log.now (course_of notes.now (length log.now.events)) phase at how.event control.now }
+    ensures sound { result ≡ true → how.sent ≡ None → IsTimely script.now log.now (course_of notes.now (length log.now.events)) phase at how.event control.now }
+    ensures complete { AreNoted script.now notes.now → phase < length script.now.phases → IsWithin notes.now.ended (length log.now.events) phase how.event → (how.sent ≡ None → IsRequestNoted script.now log.now (course_of notes.now (length log.now.events)) phase how.event control.now how.request) → (how.sent ≡ None → IsTimely script.now log.now (course_of notes.now (length log.now.events)) phase at how.event control.now) → result ≡ true }
 {
     if how.sent.is_some() {
         return true;
@@ -444,7 +459,8 @@ fn is_how_timely(
     requires tables { AreTables notes.now.ended log.now tables.now }
     requires numbers { AreNumbers log.now numbers.now }
     requires rise { DoAllRise numbers.now }
-    ensures { result ≡ true → IsHowTimely script.now log.now notes.now phase at control.now (slice_get carried.now at) }
+    ensures sound { result ≡ true → IsHowTimely script.now log.now notes.now phase at control.now (slice_get carried.now at) }
+    ensures complete { (how : Done) → slice_get carried.now at ≡ Some how → AreNoted script.now notes.now → phase < length script.now.phases → IsWithin notes.now.ended (length log.now.events) phase how.event → (how.sent ≡ None → IsRequestNoted script.now log.now (course_of notes.now (length log.now.events)) phase how.event control.now how.request) → IsHowTimely script.now log.now notes.now phase at control.now (Some how) → result ≡ true }
 {
     match carried.get(at) {
         Some(how) => is_timely(
@@ -466,7 +482,8 @@ fn is_phase_timely(
     requires tables { AreTables notes.now.ended log.now tables.now }
     requires numbers { AreNumbers log.now numbers.now }
     requires rise { DoAllRise numbers.now }
-    ensures { result ≡ true → ArePhaseTimely script.now log.now notes.now phase controls.now }
+    ensures sound { result ≡ true → ArePhaseTimely script.now log.now notes.now phase controls.now }
+    ensures complete { (here : Part) → slice_get script.now.phases phase ≡ Some here → here.controls ≡ controls.now → ArePhasesCarried script.now log.now tables.now notes.now → AreRequestsNoted script.now log.now notes.now → ArePhaseTimely script.now log.now notes.now phase controls.now → result ≡ true }
 {
     let carried = carried_of(notes, phase);
     for at in 0..controls.len() {
@@ -493,7 +510,8 @@ pub fn are_timely(
     requires tables { AreTables notes.now.ended log.now tables.now }
     requires numbers { AreNumbers log.now numbers.now }
     requires rise { DoAllRise numbers.now }
-    ensures { result ≡ true → AreAllTimely script.now log.now notes.now }
+    ensures sound { result ≡ true → AreAllTimely script.now log.now notes.now }
+    ensures complete { ArePhasesCarried script.now log.now tables.now notes.now → AreRequestsNoted script.now log.now notes.now → AreAllTimely script.now log.now notes.now → result ≡ true }
 {
     for k in 0..script.phases.len() {
         let Some(phase) = phase_at(script, k) else {

@@ -1,7 +1,7 @@
 //! Which one of its procedure each request is, among those that were sent to its brick in its phase.
-ghost use Rattle.std.specs.Prelude.{◌≡◌, ◌≤◌, ◌<◌, ◌+◌, Some, length, slice_get, slice_set, IfOk, IfSome};
+ghost use Rattle.std.specs.Prelude.{◌≡◌, ◌≤◌, ◌<◌, ◌+◌, ◌^◌, Some, length, slice_get, slice_set, IfOk, IfSome, IfNone, IsSome};
 ghost use Rattle.run_audit.specs.Noted.{AreRising};
-ghost use Rattle.run_audit.specs.Numbered.{held, cell_of, AreZero, IsCounted as IsLineCounted, AreNth};
+ghost use Rattle.run_audit.specs.Numbered.{held, cell_of, AreZero, IsCounted as IsLineCounted, HasNoNumber, AreInEvents, AreNth};
 
 use crate::phase_ends::{begun_of, phase_from};
 use mount_log::SentLine;
@@ -36,7 +36,8 @@ fn no_counts(alloc: Global) -> Result<Vec<PhaseCount>, AllocError>
 
 // The count of a phase with one more. So many that there is no next number are not counted.
 fn next_count(found: PhaseCount, phase: usize) -> Option<u64>
-    ensures { IfSome result (λ n. n ≡ held phase (Some found) + 1) }
+    ensures some { IfSome result (λ n. n ≡ held phase (Some found) + 1) }
+    ensures none { IfNone result (2 ^ 64 ≤ held phase (Some found) + 1) }
 {
     if found.phase == phase {
         found.count.checked_add(1)
@@ -49,6 +50,7 @@ fn count_one(counts: &mut Vec<PhaseCount>, at: usize, phase: usize) -> Option<u6
     requires { at < length counts.old.items }
     ensures count { IfSome result (λ n. n ≡ held phase (slice_get counts.old.items at) + 1) }
     ensures counts { IfSome result (λ n. counts.new.items ≡ slice_set counts.old.items at (record { phase = phase; count = n })) }
+    ensures none { IfNone result (2 ^ 64 ≤ held phase (slice_get counts.old.items at) + 1) }
 {
     let n = next_count(counts[at], phase)?;
     counts[at] = PhaseCount { phase, count: n };
@@ -64,7 +66,8 @@ fn count_line(
     line: &SentLine,
 ) -> Option<u64>
     requires { length counts.old.items ≡ 65536 }
-    ensures { IfSome result (λ n. IsLineCounted ended.now last phase line.now counts.old.items n counts.new.items) }
+    ensures some { IfSome result (λ n. IsLineCounted ended.now last phase line.now counts.old.items n counts.new.items) }
+    ensures none { IfNone result (HasNoNumber ended.now last phase line.now counts.old.items) }
 {
     let Some(rank) = rank_of(line.bytes.as_slice()) else {
         return Some(0);
@@ -86,7 +89,9 @@ fn count_lines(
     requires rising { AreRising ended.now last }
     requires many { length counts.old.items ≡ 65536 }
     requires zero { AreZero counts.old.items }
-    ensures { IfOk result (λ found. IfSome found (λ nth. AreNth ended.now last sent.now nth.items)) }
+    ensures nth { IfOk result (λ found. IfSome found (λ nth. AreNth ended.now last sent.now nth.items)) }
+    ensures many { IfOk result (λ found. IfSome found (λ nth. length nth.items ≡ length sent.now)) }
+    ensures complete { IfOk result (λ found. AreInEvents last sent.now → IsSome found) }
 {
     let mut phase = 0usize;
     let mut floor = 0u64;
@@ -123,7 +128,9 @@ pub fn nth_requests(
     last: u64,
 ) -> Result<Option<Vec<u64>>, AllocError>
     requires { AreRising ended.now last }
-    ensures { IfOk result (λ found. IfSome found (λ nth. AreNth ended.now last sent.now nth.items)) }
+    ensures nth { IfOk result (λ found. IfSome found (λ nth. AreNth ended.now last sent.now nth.items)) }
+    ensures many { IfOk result (λ found. IfSome found (λ nth. length nth.items ≡ length sent.now)) }
+    ensures complete { IfOk result (λ found. AreInEvents last sent.now → IsSome found) }
 {
     let mut counts = no_counts(alloc)?;
     let nth = count_lines(alloc, &mut counts, sent, ended, last);

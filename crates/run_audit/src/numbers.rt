@@ -1,5 +1,5 @@
 //! The numbers of the events in which something was done, in order.
-ghost use Rattle.std.specs.Prelude.{◌≡◌, ◌++◌, ◌∷◌, ℕ, List, true, map, IfOk, OnOk, if◌then◌else◌};
+ghost use Rattle.std.specs.Prelude.{◌≡◌, ◌++◌, ◌∷◌, ◌↔◌, IsTrue, ℕ, List, map, IfOk, OnOk, if◌then◌else◌};
 ghost use Rattle.mount_log.specs.Phases.{is_internal, begins_internal, internal_from, has_output, is_owed, owed_in, arrived_from, opened_in, ended_in};
 ghost use Rattle.wire_messages.specs.Messages.{input_in};
 ghost use Rattle.mount_log.specs.Heads.{heads_of};
@@ -222,7 +222,7 @@ fn do_not_fall(numbers: &[u64]) -> bool
 
 /// Whether the numbers of each kind do not fall.
 pub fn do_all_rise(numbers: &Numbers) -> bool
-    ensures { result ≡ true → DoAllRise numbers.now }
+    ensures { IsTrue result ↔ DoAllRise numbers.now }
 {
     do_not_fall(numbers.replied.as_slice())
         && do_not_fall(numbers.internal.as_slice())

@@ -1,5 +1,5 @@
 //! The last events of phases.
-ghost use Rattle.std.specs.Prelude.{◌≡◌, ◌≤◌, true};
+ghost use Rattle.std.specs.Prelude.{◌≡◌, ◌<◌, ◌≤◌, ◌-◌, ◌↔◌, IsTrue};
 ghost use Rattle.run_audit.specs.Noted.{ended_at, begun, AreRising, IsWithin};
 
 /// The last event of a phase; of one that is not there, the last event of all.
@@ -14,7 +14,7 @@ pub fn end_of(ended: &[u64], last: u64, phase: usize) -> u64
 
 /// Whether no phase ends before an earlier one.
 pub fn ends_rise(ended: &[u64], last: u64) -> bool
-    ensures { result ≡ true → AreRising ended.now last }
+    ensures { IsTrue result ↔ AreRising ended.now last }
 {
     for phase in 0..ended.len() {
         if end_of(ended, last, phase) > end_of(ended, last, phase + 1) {
@@ -36,7 +36,7 @@ pub fn begun_of(ended: &[u64], last: u64, phase: usize) -> u64
 
 /// Whether an event is behind the phase before, and not behind the phase.
 pub fn is_within(ended: &[u64], last: u64, phase: usize, number: u64) -> bool
-    ensures { result ≡ true → IsWithin ended.now last phase number }
+    ensures { IsTrue result ↔ IsWithin ended.now last phase number }
 {
     if begun_of(ended, last, phase) >= number {
         return false;
@@ -49,6 +49,7 @@ pub fn phase_from(ended: &[u64], last: u64, from: usize, number: u64) -> usize
     requires { number ≤ last }
     ensures later { from ≤ result }
     ensures until { number ≤ ended_at ended.now last result }
+    ensures first { from < result → ended_at ended.now last (result - 1) < number }
 {
     let mut phase = from;
     while phase < ended.len() {

@@ -1,16 +1,16 @@
 //! Whether a log is that of a run of its script.
-ghost use Rattle.std.specs.Prelude.{◌≡◌, true, IfOk, IfSome, length};
+ghost use Rattle.std.specs.Prelude.{◌≡◌, ◌≤◌, ◌↔◌, IsTrue, true, IfOk, IfSome, IsSome, length};
 ghost use Rattle.script_lang.specs.Accepted.{IsAccepted};
 ghost use Rattle.mount_log.specs.Controls.{AreAnswered};
 ghost use Rattle.mount_log.specs.Follows.{RunOf, FollowsScript};
 ghost use Rattle.log_audit.specs.Armed.{AreAllArmed};
 ghost use Rattle.mount_log.specs.Heads.{heads_of};
-ghost use Rattle.run_audit.specs.CallPhases.{AreOneByOne, AreInPhases, AreAnsweredIn, HaveCalls};
-ghost use Rattle.run_audit.specs.Controlled.{AreOfControls, ArePhasesCarried, AreCarriedOut, AreTables};
+ghost use Rattle.run_audit.specs.CallPhases.{AreSingle, AreOneByOne, AreInPhases, AreAnsweredIn, HaveCalls};
+ghost use Rattle.run_audit.specs.Controlled.{AreNoted, AreOfControls, ArePhasesCarried, AreCarriedOut, AreTables};
 ghost use Rattle.run_audit.specs.Counting.{AreNumbers, DoAllRise, AreSettled};
 ghost use Rattle.run_audit.specs.Noted.{AreRising};
-ghost use Rattle.run_audit.specs.Numbered.{AreNth};
-ghost use Rattle.run_audit.specs.Timed.{AreAllTimely};
+ghost use Rattle.run_audit.specs.Numbered.{AreNth, AreInEvents};
+ghost use Rattle.run_audit.specs.Timed.{AreRequestsNoted, AreAllTimely};
 
 use crate::acts::acts_are_of_controls;
 use crate::alone::{are_one_by_one, reply_places};
@@ -36,26 +36,27 @@ use std::alloc::{AllocError, Global};
 // ---- calls
 
 fn phases_rise(log: &Log, notes: &RunNotes) -> bool
-    ensures { result ≡ true → AreRising notes.now.ended (length log.now.events) }
+    ensures { IsTrue result ↔ AreRising notes.now.ended (length log.now.events) }
 {
     ends_rise(notes.ended.as_slice(), log.events.len() as u64)
 }
 
 fn are_submitted(log: &Log, notes: &RunNotes, calls: &[CallMade]) -> bool
-    ensures { result ≡ true → AreInPhases notes.now.ended (length log.now.events) calls.now }
+    ensures { IsTrue result ↔ AreInPhases notes.now.ended (length log.now.events) calls.now }
 {
     are_in_phases(calls, notes.ended.as_slice(), log.events.len() as u64)
 }
 
 fn are_answered(log: &Log, notes: &RunNotes, calls: &[CallMade]) -> bool
-    ensures { result ≡ true → AreAnsweredIn calls.now notes.now.ended (length log.now.events) log.now.replies }
+    ensures { IsTrue result ↔ AreAnsweredIn calls.now notes.now.ended (length log.now.events) log.now.replies }
 {
     let last = log.events.len() as u64;
     are_answered_in(calls, notes.ended.as_slice(), last, log.replies.as_slice())
 }
 
 fn are_alone(alloc: Global, log: &Log, calls: &[CallMade]) -> Result<bool, AllocError>
-    ensures { IfOk result (λ yes. yes ≡ true → AreOneByOne log.now calls.now) }
+    ensures sound { IfOk result (λ yes. yes ≡ true → AreOneByOne log.now calls.now) }
+    ensures complete { IfOk result (λ yes. AreSingle log.now.replies → AreOneByOne log.now calls.now → yes ≡ true) }
 {
     let places = reply_places(alloc, calls.len(), log.replies.as_slice())?;
     let yes = are_one_by_one(log, calls, places.as_slice());
@@ -91,7 +92,9 @@ fn calls_are_in_phases(
 
 fn nth_of(alloc: Global, log: &Log, notes: &RunNotes) -> Result<Option<Vec<u64>>, AllocError>
     requires { AreRising notes.now.ended (length log.now.events) }
-    ensures { IfOk result (λ found. IfSome found (λ nth. AreNth notes.now.ended (length log.now.events) log.now.sent nth.items)) }
+    ensures nth { IfOk result (λ found. IfSome found (λ nth. AreNth notes.now.ended (length log.now.events) log.now.sent nth.items)) }
+    ensures many { IfOk result (λ found. IfSome found (λ nth. length nth.items ≡ length log.now.sent)) }
+    ensures complete { IfOk result (λ found. AreInEvents (length log.now.events) log.now.sent → IsSome found) }
 {
     let last = log.events.len() as u64;
     let found = nth_requests(alloc, log.sent.as_slice(), notes.ended.as_slice(), last)?;
@@ -108,7 +111,8 @@ fn armed_of(alloc: Global, log: &Log) -> Result<Vec<ArmedLines>, AllocError>
 // What the audit of controls looks up of what was sent.
 fn sent_tables(alloc: Global, log: &Log, notes: &RunNotes) -> Result<Option<SentTables>, AllocError>
     requires { AreRising notes.now.ended (length log.now.events) }
-    ensures { IfOk result (λ found. IfSome found (λ tables. AreTables notes.now.ended log.now tables)) }
+    ensures sound { IfOk result (λ found. IfSome found (λ tables. AreTables notes.now.ended log.now tables)) }
+    ensures complete { IfOk result (λ found. AreInEvents (length log.now.events) log.now.sent → IsSome found) }
 {
     let Some(nth) = nth_of(alloc, log, notes)? else {
         return Ok(None);
@@ -122,6 +126,7 @@ fn acts_are_right(script: &Script, log: &Log, numbers: &Numbers, notes: &RunNote
     requires { AreNumbers log.now numbers.now }
     ensures acts { result ≡ true → AreOfControls script.now notes.now log.now }
     ensures answered { result ≡ true → AreAnswered log.now }
+    ensures complete { AreNoted script.now notes.now → length log.now.events ≤ length notes.now.by_event → AreOfControls script.now notes.now log.now → AreAnswered log.now → result ≡ true }
 {
     if !acts_are_answered(numbers) {
         return false;
@@ -143,6 +148,7 @@ fn are_carried(
     requires rise { DoAllRise numbers.now }
     ensures timely { IfOk result (λ yes. yes ≡ true → AreAllTimely script.now log.now notes.now) }
     ensures phases { IfOk result (λ yes. yes ≡ true → ArePhasesCarried script.now log.now tables.now notes.now) }
+    ensures complete { IfOk result (λ yes. AreRequestsNoted script.now log.now notes.now → AreAllTimely script.now log.now notes.now → ArePhasesCarried script.now log.now tables.now notes.now → yes ≡ true) }
 {
     if !are_timely(script, log, tables, numbers, notes) {
         return Ok(false);
@@ -182,7 +188,7 @@ fn controls_are_carried(
 
 fn phases_end(script: &Script, log: &Log, numbers: &Numbers, notes: &RunNotes) -> bool
     requires { DoAllRise numbers.now }
-    ensures { result ≡ true → AreSettled script.now numbers.now notes.now.ended (length log.now.events) }
+    ensures { IsTrue result ↔ AreSettled script.now numbers.now notes.now.ended (length log.now.events) }
 {
     let last = log.events.len() as u64;
     phases_are_settled(script, numbers, notes.ended.as_slice(), last)

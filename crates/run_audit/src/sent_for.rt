@@ -1,11 +1,14 @@
 //! Whether each Down and FaultAt was sent for an action's event, or as an armed control.
-ghost use Rattle.std.specs.Prelude.{◌≡◌, true, length, IfOk};
+ghost use Rattle.std.specs.Prelude.{◌≡◌, ◌<◌, ◌↔◌, IsTrue, true, Some, length, slice_get, IfOk, IfSome};
 ghost use Rattle.mount_log.specs.declared.logs.SentLine.{SentLine as Line};
 ghost use Rattle.script_lang.specs.declared.scripts.Action.{Action as Act};
+ghost use Rattle.script_lang.specs.declared.scripts.ControlLine.{ControlLine as Control};
 ghost use Rattle.mount_log.specs.Arms.{action_for};
-ghost use Rattle.mount_log.specs.Controls.{IsSentFor};
-ghost use Rattle.run_audit.specs.Noted.{course_of};
-ghost use Rattle.run_audit.specs.SentFor.{HasControl, HasAction, IsFirst, IsLineFor, AreSentFor};
+ghost use Rattle.mount_log.specs.Controls.{control_at, IsSentFor};
+ghost use Rattle.run_audit.specs.Noted.{sent_at, course_of};
+ghost use Rattle.run_audit.specs.Controlled.{AreNoted};
+ghost use Rattle.run_audit.specs.declared.run_notes.ControlAt.{ControlAt as Place};
+ghost use Rattle.run_audit.specs.SentFor.{HasControl, HasAction, IsActionOf, IsFirst, IsLineFor, AreSentFor};
 
 use crate::acts::sent_of;
 use crate::carried::is_act;
@@ -32,7 +35,8 @@ const LONGEST: usize = 12;
 
 // The action by which bytes are sent to a brick, if they can be armed.
 fn action_in(alloc: Global, brick: u8, bytes: &[u8]) -> Result<Option<Action>, AllocError>
-    ensures { IfOk result (λ found. HasAction brick bytes.now found) }
+    ensures has { IfOk result (λ found. HasAction brick bytes.now found) }
+    ensures is { IfOk result (λ found. IfSome found (λ action. IsActionOf brick bytes.now action)) }
 {
     messages_read_back();
     if bytes.len() > LONGEST {
@@ -50,7 +54,8 @@ fn action_in(alloc: Global, brick: u8, bytes: &[u8]) -> Result<Option<Action>, A
 
 // Whether a line is the first of its event.
 fn is_first(log: &Log, k: usize, number: u64) -> bool
-    ensures { result ≡ true → IsFirst log.now.sent k number }
+    ensures sound { result ≡ true → IsFirst log.now.sent k number }
+    ensures complete { k < length log.now.sent → IsFirst log.now.sent k number → result ≡ true }
 {
     if k == 0 {
         return true;
@@ -62,7 +67,8 @@ fn is_first(log: &Log, k: usize, number: u64) -> bool
 }
 
 fn has_control(script: &Script, at: ControlAt) -> bool
-    ensures { result ≡ true → HasControl script.now at.phase at.at }
+    ensures sound { result ≡ true → HasControl script.now at.phase at.at }
+    ensures complete { (c : Control) → control_at script.now at.phase at.at ≡ Some c → result ≡ true }
 {
     match control_of(script, at) {
         Some(_) => true,
@@ -72,7 +78,8 @@ fn has_control(script: &Script, at: ControlAt) -> bool
 
 // Whether the control at a place was carried out by the line.
 fn is_control_line(script: &Script, log: &Log, notes: &RunNotes, at: ControlAt, k: usize) -> bool
-    ensures { result ≡ true → (line : Line) (a : Act) → IsSentFor script.now log.now (course_of notes.now (length log.now.events)) k line a }
+    ensures sound { result ≡ true → (line : Line) (a : Act) → IsSentFor script.now log.now (course_of notes.now (length log.now.events)) k line a }
+    ensures complete { (c : Control) → control_at script.now at.phase at.at ≡ Some c → sent_at notes.now.carried at.phase at.at ≡ Some k → result ≡ true }
 {
     let _ = log;
     match sent_of(notes, at) {
@@ -82,7 +89,9 @@ fn is_control_line(script: &Script, log: &Log, notes: &RunNotes, at: ControlAt, 
 }
 
 // The control that is noted for a line.
-fn noted_for(notes: &RunNotes, k: usize) -> ControlAt {
+fn noted_for(notes: &RunNotes, k: usize) -> ControlAt
+    ensures { (at : Place) → slice_get notes.now.by_line k ≡ Some at → result ≡ at }
+{
     match notes.by_line.as_slice().get(k) {
         Some(at) => *at,
         None => ControlAt { phase: 0, at: 0 },
@@ -98,7 +107,8 @@ fn has_cause(
     line: &SentLine,
     action: Action,
 ) -> bool
-    ensures { result ≡ true → IsSentFor script.now log.now (course_of notes.now (length log.now.events)) k line.now action }
+    ensures sound { result ≡ true → IsSentFor script.now log.now (course_of notes.now (length log.now.events)) k line.now action }
+    ensures complete { AreNoted script.now notes.now → k < length log.now.sent → IsSentFor script.now log.now (course_of notes.now (length log.now.events)) k line.now action → result ≡ true }
 {
     if is_act(log, line.event, action) && is_first(log, k, line.event) {
         return true;
@@ -114,7 +124,8 @@ fn is_sent_for(
     k: usize,
     line: &SentLine,
 ) -> Result<bool, AllocError>
-    ensures { IfOk result (λ yes. yes ≡ true → IsLineFor script.now log.now (course_of notes.now (length log.now.events)) k line.now) }
+    ensures sound { IfOk result (λ yes. yes ≡ true → IsLineFor script.now log.now (course_of notes.now (length log.now.events)) k line.now) }
+    ensures complete { IfOk result (λ yes. AreNoted script.now notes.now → k < length log.now.sent → IsLineFor script.now log.now (course_of notes.now (length log.now.events)) k line.now → yes ≡ true) }
 {
     let found = action_in(alloc, line.brick, line.bytes.as_slice())?;
     match found {
@@ -133,7 +144,8 @@ pub fn lines_are_sent_for(
     log: &Log,
     notes: &RunNotes,
 ) -> Result<bool, AllocError>
-    ensures { IfOk result (λ yes. yes ≡ true → AreSentFor script.now log.now (course_of notes.now (length log.now.events))) }
+    ensures sound { IfOk result (λ yes. yes ≡ true → AreSentFor script.now log.now (course_of notes.now (length log.now.events))) }
+    ensures complete { IfOk result (λ yes. AreNoted script.now notes.now → AreSentFor script.now log.now (course_of notes.now (length log.now.events)) → yes ≡ true) }
 {
     for k in 0..log.sent.len() {
         let Some(line) = line_at(log, k) else {

@@ -1,5 +1,5 @@
 //! Whether a phase has nothing else left after so many events.
-ghost use Rattle.std.specs.Prelude.{◌≡◌, ◌+◌, ◌≤◌, ◌<◌, true, length, take};
+ghost use Rattle.std.specs.Prelude.{◌≡◌, ◌+◌, ◌≤◌, ◌<◌, ◌↔◌, IsTrue, length, take};
 ghost use Rattle.script_lang.specs.Accepted.{calls_of};
 ghost use Rattle.mount_log.specs.Submissions.{count_below};
 ghost use Rattle.run_audit.specs.Noted.{ended_at};
@@ -45,7 +45,7 @@ pub fn count_to(numbers: &[u64], n: u64) -> usize
 
 // Whether phases have no more than so many calls.
 fn have_at_most(phases: &[Phase], many: usize) -> bool
-    ensures { result ≡ true → length (calls_of phases.now) ≤ many }
+    ensures { IsTrue result ↔ (length (calls_of phases.now) ≤ many) }
 {
     let mut left = many;
     for phase in phases {
@@ -59,7 +59,7 @@ fn have_at_most(phases: &[Phase], many: usize) -> bool
 
 // Whether the phases up to one have no more than so many calls.
 fn calls_are_at_most(phases: &[Phase], phase: usize, many: usize) -> bool
-    ensures { result ≡ true → length (calls_of (take (phase + 1) phases.now)) ≤ many }
+    ensures { IsTrue result ↔ (length (calls_of (take (phase + 1) phases.now)) ≤ many) }
 {
     if phase >= phases.len() {
         return have_at_most(phases, many);
@@ -71,7 +71,7 @@ fn calls_are_at_most(phases: &[Phase], phase: usize, many: usize) -> bool
 pub fn are_as_many(some: &[u64], others: &[u64], n: u64) -> bool
     requires some { DoNotFall some.now }
     requires others { DoNotFall others.now }
-    ensures { result ≡ true → count_below (n + 1) some.now ≡ count_below (n + 1) others.now }
+    ensures { IsTrue result ↔ (count_below (n + 1) some.now ≡ count_below (n + 1) others.now) }
 {
     count_to(some, n) == count_to(others, n)
 }
@@ -79,7 +79,7 @@ pub fn are_as_many(some: &[u64], others: &[u64], n: u64) -> bool
 /// Whether nothing else is left of the phases up to one, after so many events.
 pub fn is_settled(script: &Script, numbers: &Numbers, phase: usize, number: u64) -> bool
     requires { DoAllRise numbers.now }
-    ensures { result ≡ true → IsSettled script.now numbers.now phase number }
+    ensures { IsTrue result ↔ IsSettled script.now numbers.now phase number }
 {
     let replied = count_to(numbers.replied.as_slice(), number);
     calls_are_at_most(script.phases.as_slice(), phase, replied)
@@ -100,7 +100,7 @@ fn is_settled_at_end(
     phase: usize,
 ) -> bool
     requires { DoAllRise numbers.now }
-    ensures { result ≡ true → IsSettled script.now numbers.now phase (ended_at ended.now last phase) }
+    ensures { IsTrue result ↔ IsSettled script.now numbers.now phase (ended_at ended.now last phase) }
 {
     is_settled(script, numbers, phase, end_of(ended, last, phase))
 }
@@ -108,7 +108,7 @@ fn is_settled_at_end(
 /// Whether each phase has nothing else left at its end, and behind the last one there is nothing.
 pub fn phases_are_settled(script: &Script, numbers: &Numbers, ended: &[u64], last: u64) -> bool
     requires { DoAllRise numbers.now }
-    ensures { result ≡ true → AreSettled script.now numbers.now ended.now last }
+    ensures { IsTrue result ↔ AreSettled script.now numbers.now ended.now last }
 {
     let phases = script.phases.len();
     for phase in 0..phases {

@@ -1,4 +1,4 @@
-use Rattle.std.proofs.Common.{◌≡◌, ◌<◌, ◌≤◌, sym, subst, arith}
+use Rattle.std.proofs.Common.{◌≡◌, ◌<◌, ◌≤◌, refl, sym, subst, arith}
 use Rattle.std.specs.Prelude.{ℕ, ◌+◌}
 use Rattle.run_audit.specs.Noted.{ended_at}
 use Rattle.run_audit.proofs.Phased.{rises_next, rises_all}
@@ -11,4 +11,7 @@ loop-phase-preserved c =
     (subst (λ (n : ℕ). c.end_of.result ≤ n) c.end_of-in-loop-phase.ensures c.if-end_of.false))
 
 pub returns : goal.returns
-returns c = λ _. rises_all c.args.ended.now c.args.last c.loop-phase.phase (omega (arith, c.loop-phase-test.false)) c.loop-phase.invariant
+returns c = (λ _. rises_all c.args.ended.now c.args.last c.loop-phase.phase (omega (arith, c.loop-phase-test.false)) c.loop-phase.invariant, λ _. refl)
+
+pub returns-then-end_of : goal.returns-then-end_of
+returns-then-end_of c = (λ no. absurd cc, λ rises. absurd (let r = rises c.loop-phase.phase in omega (arith, r, c.if-end_of.true, c.end_of.ensures, c.end_of-in-loop-phase.ensures)))
