@@ -8,7 +8,7 @@ ghost use Rattle.mount_log.specs.Procedures.{proc_in};
 ghost use Rattle.fop_types.specs.declared.messages.Input.TheVariants as input;
 ghost use Rattle.wire_xdr.specs.WireText.{input_text};
 ghost use Rattle.wire_messages.specs.Messages.{input_in};
-ghost use Rattle.log_audit.specs.Armed.{AreArmedFrom};
+ghost use Rattle.log_audit.specs.Armed.{AreArmedFrom, IsAmong};
 ghost use Rattle.line_audit.specs.Caused.{IsBeforeRequest, IsInputCaused, IsCaused, AreCaused, IsInputActed, IsActed, AreActed};
 
 use fop_types::Input;
@@ -115,7 +115,8 @@ fn armed_by(
     before: ArmedLines,
 ) -> Result<ArmedLines, AllocError>
     requires { AreArmedFrom log.now.sent at before }
-    ensures { IfOk result (λ armed. AreArmedFrom log.now.sent at armed) }
+    ensures sound { IfOk result (λ armed. AreArmedFrom log.now.sent at armed) }
+    ensures complete { IfOk result (λ armed. IsAmong log.now.sent at armed) }
 {
     armed_at(alloc, log.sent.as_slice(), at, before)
 }

@@ -12,7 +12,7 @@ pub loop-k-preserved : goal.loop-k-preserved
 loop-k-preserved c = (
   each_next (λ (n : ℕ) (line : SentLine). IsCaused c.args.log.now line (input_in line.bytes)) c.args.log.now.sent c.loop-k.k c.in-Some.line.now (sym c.in-Some.ensures) (c.in_ok-is_caused.ensures.sound c.if-not-branch.false)
       c.loop-k.invariant.0,
-  armed_later c.args.log.now.sent c.loop-k.k _ c.in_ok-armed.ensures,
+  armed_later c.args.log.now.sent c.loop-k.k _ c.in_ok-armed.ensures.sound,
 )
 
 pub returns-clause-sound : goal.returns-clause-sound
