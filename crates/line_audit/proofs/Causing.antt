@@ -1,8 +1,9 @@
 -- The causes of what was sent, from what an audit finds.
-use Rattle.std.proofs.Common.{◌≡◌, refl, sym, ap, ◌∙◌, arith}
-use Rattle.std.specs.Prelude.{ℕ, zero, suc, ◌≢◌, ◌<◌, ◌≤◌, ◌-◌, ◌==◌, if◌then◌else◌, Bool, true, false, List, [], ◌++◌, Option, None, Some, is_some, length, slice_get}
-use Rattle.std.proofs.lemmas.Bool.{eqb-false}
+use Rattle.std.proofs.Common.{◌≡◌, refl, sym, ap, subst, ◌∙◌, arith, get_or}
+use Rattle.std.specs.Prelude.{ℕ, zero, suc, ◌≢◌, ◌<◌, ◌≤◌, ◌-◌, ◌==◌, nat_lt, if◌then◌else◌, Bool, true, false, List, [], ◌++◌, Option, None, Some, is_some, length, slice_get}
+use Rattle.std.proofs.lemmas.Bool.{eqb-false, ltb-true, ltb-false}
 use Rattle.std.proofs.lemmas.List.{length-append}
+use Rattle.std.proofs.lemmas.Option.{slice_get-get_or, slice_get_within}
 use Rattle.fop_types.specs.declared.messages.Input.{Input}
 use Rattle.fop_types.specs.declared.messages.Input.TheVariants as input
 use Rattle.fop_types.specs.declared.messages.Proc.{Proc}
@@ -16,10 +17,13 @@ use Rattle.mount_log.specs.Connects.{IsForDown, ByArmed}
 use Rattle.mount_log.specs.Follows.{IsEvent, IsArmedLine}
 use Rattle.mount_log.specs.Procedures.{proc_in}
 use Rattle.mount_log.specs.declared.logs.HubEvent.{HubEvent}
+use Rattle.mount_log.specs.declared.logs.HubEvent.TheVariants as logged
+use Rattle.script_lang.specs.declared.scripts.Action.TheVariants as action
 use Rattle.mount_log.specs.declared.logs.Log.{Log}
 use Rattle.mount_log.specs.declared.logs.SentLine.{SentLine}
 use Rattle.mount_log.specs.Switches.{event_of}
-use Rattle.line_audit.specs.Caused.{IsBeforeRequest, IsInputCaused, IsCaused}
+use Rattle.line_audit.specs.Caused.{IsBeforeRequest, IsArmedAt, IsDownAt, ByAct, ByArms, IsInputCaused, IsCaused}
+use Rattle.log_audit.proofs.Arming.{no_request_text}
 use Rattle.log_audit.specs.Armed.{AreArmedFrom}
 use Rattle.log_audit.specs.declared.armed_lines.ArmedLines.{ArmedLines}
 
@@ -61,6 +65,42 @@ down_armed log k line serve armed there bytes is_run before = by (proc_in before
     same_event = before.same_event;
     is_request = is;
   })
+
+-- where the lines from a place up to a request can be armed, the armed lines of the place stop there
+pub armed_stop : (log : Log) (k : ℕ) (line : SentLine) (armed : ArmedLines) → slice_get log.sent k ≡ Some line → AreArmedFrom log.sent k armed → k < armed.stop → IsArmedAt log.sent k line → IsBeforeRequest log.sent k armed.stop line
+armed_stop log k line armed there is_run early at = by (nat_lt armed.stop at.stop) refl where
+  own : IsArmedLine armed.event armed.brick line
+  own = is_run.each k line (omega arith) early there
+
+  -- the line at an earlier stop could be armed, too
+  before : armed.stop < at.stop → ⊥
+  before lt =
+      let within = slice_get_within log.sent at.stop at.request.request at.request.there in
+      let next = slice_get-get_or log.sent armed.stop line (omega (arith, lt, within)) in
+      let is = at.armed armed.stop (get_or log.sent armed.stop line) early lt next in
+      is_run.end (get_or log.sent armed.stop line) early next (record { same_event = is.same_event ∙ own.same_event; same_brick = is.same_brick ∙ own.same_brick; armable = is.armable })
+
+  -- a request before a later stop could be armed
+  behind : at.stop < armed.stop → ⊥
+  behind lt =
+      let later = at.request.later in
+      let is = is_run.each at.stop at.request.request (omega (arith, later)) lt at.request.there in
+      no_request_text at.request.request.bytes at.request.is_request is.armable.sent is.armable.text is.armable.can
+
+  past : (b : Bool) → nat_lt at.stop armed.stop ≡ b → at.stop ≤ armed.stop → IsBeforeRequest log.sent k armed.stop line
+  past true e le = absurd (behind (ltb-true at.stop armed.stop e))
+  past false e le =
+      let ge = ltb-false at.stop armed.stop e in let same : at.stop ≡ armed.stop = omega (arith, le, ge) in
+      subst (λ (n : ℕ). IsBeforeRequest log.sent k n line) same at.request
+
+  by : (b : Bool) → nat_lt armed.stop at.stop ≡ b → IsBeforeRequest log.sent k armed.stop line
+  by true e = absurd (before (ltb-true armed.stop at.stop e))
+  by false e = past (nat_lt at.stop armed.stop) refl (ltb-false armed.stop at.stop e)
+
+pub down_at : (log : Log) (k : ℕ) (line : SentLine) (serve : ℕ) (armed : ArmedLines) → slice_get log.sent k ≡ Some line → AreArmedFrom log.sent k armed → k < armed.stop
+    → (IsEvent log line.event (logged.Act (action.Down line.brick serve)) → ⊥) → IsDownAt log k line serve → IsBeforeRequest log.sent k armed.stop line
+down_at log k line serve armed there is_run early not_act (ByAct acted) = absurd (not_act acted)
+down_at log k line serve armed there is_run early not_act (ByArms at) = armed_stop log k line armed there is_run early at
 
 -- ---- long inputs
 

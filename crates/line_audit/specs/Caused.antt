@@ -16,6 +16,7 @@ use Rattle.mount_log.specs.declared.logs.HubEvent.{HubEvent}
 use Rattle.mount_log.specs.declared.logs.HubEvent.TheVariants as logged
 use Rattle.mount_log.specs.declared.logs.Log.{Log}
 use Rattle.mount_log.specs.declared.logs.SentLine.{SentLine}
+use Rattle.log_audit.specs.Armed.{IsArmedFor}
 
 -- the line at this later place is a request to the same brick in the same event
 pub record IsBeforeRequest (sent : List SentLine) (k next : ℕ) (line : SentLine) : Type 0 where
@@ -42,21 +43,37 @@ IsCaused log line (Wrong place) = Unit {0}
 pub record AreCaused (log : Log) : Type 0 where
   pub each : (k : ℕ) (line : SentLine) → slice_get log.sent k ≡ Some line → IsCaused log line (input_in line.bytes)
 
--- each input that has a brick go down or up is sent in the event of its action, and none before a request
-abbrev pub IsInputActed : Log → SentLine → Input → Type 0
-IsInputActed log line input.Up = IsEvent log line.event (logged.Act (action.Up line.brick))
-IsInputActed log line (input.Connect graph version) = Unit {0}
-IsInputActed log line (input.Down serve) = IsEvent log line.event (logged.Act (action.Down line.brick serve))
-IsInputActed log line (input.Request wind graph req) = Unit {0}
-IsInputActed log line (input.Disconnect graph) = Unit {0}
-IsInputActed log line (input.FaultAt p number) = Unit {0}
+-- ---- at their own places
 
-abbrev pub IsActed : Log → SentLine → Message Input → Type 0
-IsActed log line (Whole x) = IsInputActed log line x
-IsActed log line (Wrong place) = Unit {0}
+-- The line at a place is the first of lines that send its brick, in its event, what is read as inputs that can be armed, up to a
+-- request to the brick in the event.
+pub record IsArmedAt (sent : List SentLine) (k : ℕ) (line : SentLine) : Type 0 where
+  pub stop : ℕ
+  pub armed : (j : ℕ) (other : SentLine) → k < j → j < stop → slice_get sent j ≡ Some other → IsArmedFor line.event line.brick other
+  pub request : IsBeforeRequest sent k stop line
 
-pub record AreActed (log : Log) : Type 0 where
-  pub each : (k : ℕ) (line : SentLine) → slice_get log.sent k ≡ Some line → IsActed log line (input_in line.bytes)
+-- a Down was sent in the event of its action, or is armed at its place
+pub data IsDownAt (log : Log) (k : ℕ) (line : SentLine) (serve : ℕ) : Type 0 where
+  ByAct : IsEvent log line.event (logged.Act (action.Down line.brick serve)) → IsDownAt log k line serve
+  ByArms : IsArmedAt log.sent k line → IsDownAt log k line serve
+
+-- what an input was sent for, at its place
+abbrev pub IsInputCausedAt : Log → ℕ → SentLine → Input → Type 0
+IsInputCausedAt log k line input.Up = IsInputCaused log line input.Up
+IsInputCausedAt log k line (input.Connect graph version) = Unit {0}
+IsInputCausedAt log k line (input.Down serve) = IsDownAt log k line serve
+IsInputCausedAt log k line (input.Request wind graph req) = Unit {0}
+IsInputCausedAt log k line (input.Disconnect graph) = Unit {0}
+IsInputCausedAt log k line (input.FaultAt p number) = Unit {0}
+
+abbrev pub IsCausedAt : Log → ℕ → SentLine → Message Input → Type 0
+IsCausedAt log k line (Whole x) = IsInputCausedAt log k line x
+IsCausedAt log k line (Wrong place) = Unit {0}
+
+-- Each Down and Up that was sent has its cause at its own place. `IsForDown` allows the request behind another line with the same
+-- content.
+pub record AreCausedAt (log : Log) : Type 0 where
+  pub each : (k : ℕ) (line : SentLine) → slice_get log.sent k ≡ Some line → IsCausedAt log k line (input_in line.bytes)
 
 -- ---- what is sent for an action
 

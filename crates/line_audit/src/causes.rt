@@ -1,5 +1,5 @@
 //! Whether each input that has a brick go down or up was sent for a cause.
-ghost use Rattle.std.specs.Prelude.{◌≡◌, ◌↔◌, IsTrue, Some, true, is_some, slice_get, IfOk};
+ghost use Rattle.std.specs.Prelude.{◌≡◌, ◌<◌, ◌↔◌, IsTrue, Some, true, is_some, slice_get, IfOk};
 ghost use Rattle.script_lang.specs.declared.scripts.Action.TheVariants as action;
 ghost use Rattle.mount_log.specs.declared.logs.HubEvent.TheVariants as logged;
 ghost use Rattle.mount_log.specs.Connects.{IsForDown};
@@ -8,8 +8,9 @@ ghost use Rattle.mount_log.specs.Procedures.{proc_in};
 ghost use Rattle.fop_types.specs.declared.messages.Input.TheVariants as input;
 ghost use Rattle.wire_xdr.specs.WireText.{input_text};
 ghost use Rattle.wire_messages.specs.Messages.{input_in};
-ghost use Rattle.log_audit.specs.Armed.{AreArmedFrom, IsAmong};
-ghost use Rattle.line_audit.specs.Caused.{IsBeforeRequest, IsInputCaused, IsCaused, AreCaused, IsInputActed, IsActed, AreActed};
+ghost use Rattle.wire_messages.specs.declared.messages.Message.TheVariants.{Whole};
+ghost use Rattle.log_audit.specs.Armed.{IsArmable, AreArmedFrom, IsAmong};
+ghost use Rattle.line_audit.specs.Caused.{IsBeforeRequest, IsDownAt, IsInputCaused, IsInputCausedAt, IsCaused, IsCausedAt, AreCaused, AreCausedAt};
 
 use fop_types::Input;
 use log_audit::armed_lines::{ArmedLines, armed_at, none_armed};
@@ -129,6 +130,7 @@ fn is_down_caused(log: &Log, k: usize, line: &SentLine, serve: u32, armed: Armed
     ensures sound { result ≡ true → IsForDown log.now line.now serve }
     ensures acted { IsEvent log.now line.now.event (logged.Act (action.Down line.now.brick serve)) → result ≡ true }
     ensures armed { IsBeforeRequest log.now.sent k armed.stop line.now → result ≡ true }
+    ensures complete { k < armed.stop → IsDownAt log.now k line.now serve → result ≡ true }
 {
     if is_act_of_down(log, line, serve) {
         return true;
@@ -143,7 +145,7 @@ fn is_input_caused(log: &Log, k: usize, line: &SentLine, input: &Input, armed: A
     requires bytes { line.now.bytes ≡ input_text input.now }
     requires armed { AreArmedFrom log.now.sent k armed }
     ensures sound { result ≡ true → IsInputCaused log.now line.now input.now }
-    ensures acted { IsInputActed log.now line.now input.now → result ≡ true }
+    ensures complete { (IsArmable (Whole input.now) → k < armed.stop) → IsInputCausedAt log.now k line.now input.now → result ≡ true }
 {
     match input {
         Input::Up => is_up_caused(log, line),
@@ -165,7 +167,7 @@ fn is_caused(
     requires there { slice_get log.now.sent k ≡ Some line.now }
     requires armed { AreArmedFrom log.now.sent k armed }
     ensures sound { IfOk result (λ yes. yes ≡ true → IsCaused log.now line.now (input_in line.now.bytes)) }
-    ensures acted { IfOk result (λ yes. IsActed log.now line.now (input_in line.now.bytes) → yes ≡ true) }
+    ensures complete { IfOk result (λ yes. IsAmong log.now.sent k armed → IsCausedAt log.now k line.now (input_in line.now.bytes) → yes ≡ true) }
 {
     messages_read_back();
     if line.bytes.len() > LONGEST {
@@ -187,7 +189,7 @@ fn is_caused(
 /// Out of memory.
 pub fn lines_are_caused(alloc: Global, log: &Log) -> Result<bool, AllocError>
     ensures sound { IfOk result (λ yes. yes ≡ true → AreCaused log.now) }
-    ensures acted { IfOk result (λ yes. AreActed log.now → yes ≡ true) }
+    ensures complete { IfOk result (λ yes. AreCausedAt log.now → yes ≡ true) }
 {
     let mut armed = none_armed();
     for k in 0..log.sent.len() {

@@ -2,7 +2,7 @@
 ghost use Rattle.std.specs.Prelude.{◌≡◌, true, IfOk};
 ghost use Rattle.mount_log.specs.Connects.{ConnectsAreCaused};
 ghost use Rattle.mount_log.specs.Heads.{heads_of};
-ghost use Rattle.line_audit.specs.Caused.{AreActed, AreSentFirst};
+ghost use Rattle.line_audit.specs.Caused.{AreCausedAt, AreSentFirst};
 ghost use Rattle.line_audit.specs.Linked.{CanBeLinked};
 
 use crate::causes::lines_are_caused;
@@ -31,7 +31,7 @@ pub fn connects_are_caused(
 ) -> Result<bool, AllocError>
     requires heads { heads.now ≡ heads_of log.now.events }
     ensures sound { IfOk result (λ yes. yes ≡ true → ConnectsAreCaused script.now plans.now log.now) }
-    ensures complete { IfOk result (λ yes. CanBeLinked script.now log.now → AreSentFirst log.now → AreActed log.now → ConnectsAreCaused script.now plans.now log.now → yes ≡ true) }
+    ensures complete { IfOk result (λ yes. CanBeLinked script.now log.now → AreSentFirst log.now → AreCausedAt log.now → ConnectsAreCaused script.now plans.now log.now → yes ≡ true) }
 {
     messages_read_back();
     if !lines_are_caused(alloc, log)? {

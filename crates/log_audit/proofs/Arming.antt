@@ -12,6 +12,7 @@ use Rattle.wire_xdr.proofs.QuadLaws.{unit_size}
 use Rattle.wire_messages.specs.Messages.{IsSaid, MessagesReadBack, input_in}
 use Rattle.wire_messages.specs.declared.messages.Message.{Message}
 use Rattle.wire_messages.specs.declared.messages.Message.TheVariants.{Whole, Wrong}
+use Rattle.mount_log.specs.Arms.{CanBeArmed}
 use Rattle.mount_log.specs.Follows.{AreArmable, IsArmedLine}
 use Rattle.mount_log.specs.declared.logs.SentLine.{SentLine}
 use Rattle.mount_log.specs.Procedures.{proc_in, proc_by}
@@ -74,22 +75,22 @@ short bytes lt some = by (nat_lt (length bytes) 20) (lt-ltb (length bytes) 20 lt
   by true e o is = absurd cc
   by false e o is = absurd cc
 
+pub no_request_text : (bytes : List ℕ) → is_some (proc_in bytes) ≡ true → (x : Input) → bytes ≡ input_text x → CanBeArmed x → ⊥
+no_request_text bytes some (input.Down serve) text can =
+    let size : length bytes ≡ length (unit 1 ++ unit serve) = ap length text in let parts = length-append (unit 1) (unit serve) in
+    let first = unit_size 1 in let last = unit_size serve in
+    short bytes (omega (arith, size, parts, first, last)) some
+no_request_text bytes some (input.FaultAt p number) text can =
+    let size : length bytes ≡ length (unit 5 ++ (unit (proc_number p) ++ unit number)) = ap length text in let parts = length-append (unit 5) (unit (proc_number p) ++ unit number) in
+    let others = length-append (unit (proc_number p)) (unit number) in let first = unit_size 5 in let second = unit_size (proc_number p) in let last = unit_size number in
+    short bytes (omega (arith, size, parts, others, first, second, last)) some
+no_request_text bytes some input.Up text can = can
+no_request_text bytes some (input.Connect graph version) text can = can
+no_request_text bytes some (input.Disconnect graph) text can = can
+no_request_text bytes some (input.Request wind graph req) text can = can
+
 pub no_request : MessagesReadBack → (bytes : List ℕ) → is_some (proc_in bytes) ≡ true → IsArmable (input_in bytes) → ⊥
 no_request back bytes some armable = by (input_in bytes) refl armable where
-  whole : (x : Input) → bytes ≡ input_text x → IsArmable (Whole x) → ⊥
-  whole (input.Down serve) text can =
-      let size : length bytes ≡ length (unit 1 ++ unit serve) = ap length text in let parts = length-append (unit 1) (unit serve) in
-      let first = unit_size 1 in let last = unit_size serve in
-      short bytes (omega (arith, size, parts, first, last)) some
-  whole (input.FaultAt p number) text can =
-      let size : length bytes ≡ length (unit 5 ++ (unit (proc_number p) ++ unit number)) = ap length text in let parts = length-append (unit 5) (unit (proc_number p) ++ unit number) in
-      let others = length-append (unit (proc_number p)) (unit number) in let first = unit_size 5 in let second = unit_size (proc_number p) in let last = unit_size number in
-      short bytes (omega (arith, size, parts, others, first, second, last)) some
-  whole input.Up text can = can
-  whole (input.Connect graph version) text can = can
-  whole (input.Disconnect graph) text can = can
-  whole (input.Request wind graph req) text can = can
-
   by : (m : Message Input) → input_in bytes ≡ m → IsArmable m → ⊥
-  by (Whole x) read can = whole x (back.0.1 bytes x read).1 can
+  by (Whole x) read can = no_request_text bytes some x (back.0.1 bytes x read).1 can
   by (Wrong place) read can = can

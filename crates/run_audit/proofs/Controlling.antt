@@ -24,7 +24,7 @@ use Rattle.mount_log.specs.declared.logs.Log.{Log}
 use Rattle.mount_log.specs.declared.logs.SentLine.{SentLine}
 use Rattle.log_audit.specs.Armed.{AreArmedFrom}
 use Rattle.run_audit.specs.Noted.{event_in, begun, course_of, IsWithin}
-use Rattle.run_audit.specs.Controlled.{Says, SendsAction, IsSentFor, IsCarriedSo, IsArmed, IsControlCarried, IsFound, AreControlsCarried, Passes, AreFromOne, AreInTurn, IsOneBefore, AreSoFar, AreTables}
+use Rattle.run_audit.specs.Controlled.{Says, SendsAction, IsSentFor, IsCarriedSo, IsArmed, IsControlCarried, IsFound, AreControlsCarried, Passes, AreFromOne, AreInTurn, AreTables}
 use Rattle.run_audit.specs.declared.carried.SentTables.{SentTables}
 use Rattle.run_audit.specs.declared.run_notes.Carried.{Carried}
 use Rattle.run_audit.specs.declared.run_notes.RunNotes.{RunNotes}
@@ -120,6 +120,22 @@ pub control_next : (log : Log) (tables : SentTables) (notes : RunNotes) (phase :
 control_next log tables notes phase controls carried n c how there is own before =
     each_next (λ (k : ℕ) (a : ControlLine). IsFound log tables notes phase k a (slice_get carried k)) controls n c there
     (subst (λ (o : Option Carried). IsFound log tables notes phase n c o) (sym is) own) before
+
+-- one of the first n controls has no condition, and was carried out in the event
+pub record IsOneBefore (controls : List ControlLine) (carried : List Carried) (n number : ℕ) : Type 0 where
+  pub index : ℕ
+  pub control : ControlLine
+  pub early : index < n
+  pub there : slice_get controls index ≡ Some control
+  pub now : control.when ≡ moment.Now
+  pub is : event_in (slice_get carried index) ≡ number
+
+-- the first n controls are carried out in turn, those without a condition by the event `last`
+pub record AreSoFar (controls : List ControlLine) (carried : List Carried) (n last : ℕ) : Type 0 where
+  pub low : (i : ℕ) (a : ControlLine) → i < n → slice_get controls i ≡ Some a → a.when ≡ moment.Now → event_in (slice_get carried i) ≤ last
+  pub turns : (i j : ℕ) (a b : ControlLine) → slice_get controls i ≡ Some a → slice_get controls j ≡ Some b → a.when ≡ moment.Now → b.when ≡ moment.Now → i < j → j < n
+      → event_in (slice_get carried i) < event_in (slice_get carried j)
+  pub own : (last ≡ 0) ⊎ IsOneBefore controls carried n last
 
 pub none_so_far : (controls : List ControlLine) (carried : List Carried) → AreSoFar controls carried 0 0
 none_so_far controls carried = record { low = λ i a lt is now. absurd (omega (arith, lt)); turns = λ i j a b x y p q lt below. absurd (omega (arith, below)); own = inl refl }

@@ -1,6 +1,7 @@
 pub mod Cutting
 pub mod Phased
 pub mod Controlling
+pub mod Called
 pub mod OneByOne
 pub mod Arriving
 pub mod Settling

@@ -13,7 +13,7 @@ use Rattle.mount_log.specs.declared.logs.HubEvent.TheVariants as logged
 use Rattle.mount_log.specs.declared.logs.Log.{Log}
 use Rattle.mount_log.specs.declared.logs.ReplyLine.{ReplyLine}
 use Rattle.log_audit.specs.Called.{IsCallAt, AreCalls}
-use Rattle.run_audit.specs.CallPhases.{AreSingle, ArePlaces, ArePlacesTo, AreOneByOne}
+use Rattle.run_audit.specs.CallPhases.{AreSingle, ArePlaces, AreOneByOne}
 use Rattle.log_audit.specs.declared.calls_made.CallMade.{CallMade}
 use Rattle.log_audit.proofs.Calling.{counted, same_place}
 
@@ -36,6 +36,20 @@ submits_below (logged.Arrive a b ∷ es) zero (suc k) session line is lt = absur
 submits_below (logged.Run a b ∷ es) zero (suc k) session line is lt = absurd cc
 submits_below (logged.Act a ∷ es) zero (suc k) session line is lt = absurd cc
 submits_below (logged.Arm a p c d ∷ es) zero (suc k) session line is lt = absurd cc
+
+-- of two submissions the one with fewer before it is earlier
+earlier_place : (es : List HubEvent) (j k s l t m : ℕ) → slice_get es j ≡ Some (logged.Submit s l) → slice_get es k ≡ Some (logged.Submit t m) → submits_in (take j es) < submits_in (take k es) → j < k
+earlier_place es j k s l t m a b lt = by (nat_lt j k) refl where
+  past : k ≤ j → (c : Bool) → nat_lt k j ≡ c → j < k
+  past le true e = let more = submits_below es k j t m b (ltb-true k j e) in absurd (omega (arith, lt, more))
+  past le false e =
+      let ge = ltb-false k j e in let same : j ≡ k = omega (arith, le, ge) in
+      let as_many : submits_in (take j es) ≡ submits_in (take k es) = ap (λ (n : ℕ). submits_in (take n es)) same in
+      absurd (omega (arith, lt, as_many))
+
+  by : (c : Bool) → nat_lt j k ≡ c → j < k
+  by true e = ltb-true j k e
+  by false e = past (ltb-false j k e) (nat_lt k j) refl
 
 session_is : (a b c d : ℕ) → logged.Submit a b ≡ logged.Submit c d → a ≡ c
 session_is a b c d e = cc
@@ -72,7 +86,23 @@ module _ (script : Script) (log : Log) (calls : List CallMade) (are : AreCalls s
       subst (λ (m : ℕ). IsRepliedBy log (submits_in (take j log.events) + 1) m) n
       (each (submits_in (take k log.events)) b.call b.there (submits_in (take j log.events)) a.call (submits_below log.events j k session earlier first lt) a.there (a.session_is ∙ sym b.session_is))
 
+  -- a call of a session finds the earlier ones replied to
+  pub one_by_one : AreAlone log → AreOneByOne log calls
+  one_by_one are_alone n call there m earlier lt found same =
+      let a = are.each m earlier found in let b = are.each n call there in
+      let p = a.number_is in let q = b.number_is in let number = b.event_is in
+      let before = earlier_place log.events a.place b.place earlier.session earlier.line call.session call.line a.there b.there (omega (arith, p, q, lt)) in
+      let is_by : b.place ≡ call.event - 1 = omega (arith, number) in
+      let here : slice_get log.events b.place ≡ Some (logged.Submit earlier.session call.line) =
+      subst (λ (s : ℕ). slice_get log.events b.place ≡ Some (logged.Submit s call.line)) (sym same) b.there in
+      subst (λ (k : ℕ). IsRepliedBy log (m + 1) k) is_by
+      (subst (λ (k : ℕ). IsRepliedBy log (k + 1) b.place) p (are_alone a.place b.place earlier.session earlier.line call.line before a.there here))
+
 -- ---- the places of replies
+
+-- the place of each of the first n replies is at the place of its call
+abbrev pub ArePlacesTo : ℕ → List ReplyLine → List ℕ → Type 0
+ArePlacesTo n replies places = (m k : ℕ) (reply : ReplyLine) → m < length places → k < n → slice_get replies k ≡ Some reply → reply.call ≡ m + 1 → slice_get places m ≡ Some k
 
 module _ (replies : List ReplyLine) (k : ℕ) (reply : ReplyLine) (old : List ℕ) (there : slice_get replies k ≡ Some reply) (single : AreSingle replies) (before : ArePlacesTo k replies old) where
   -- the reply is to a call of those

@@ -31,6 +31,7 @@ use Rattle.run_audit.specs.declared.run_notes.ControlAt.{ControlAt}
 use Rattle.log_audit.specs.declared.calls_made.CallMade.{CallMade}
 use Rattle.run_audit.specs.declared.run_notes.RunNotes.{RunNotes}
 use Rattle.log_audit.proofs.Calling.{IsCallBy, by_number, counted, event_is, same_place}
+use Rattle.run_audit.proofs.Called.{same_phase}
 use Rattle.run_audit.proofs.Controlling.{carried_in}
 use Rattle.run_audit.proofs.Settling.{nothing_else}
 use Rattle.run_audit.proofs.Phased.{rises_to, begun_next}
@@ -45,22 +46,6 @@ has_item : {X : Type 0} → (xs : List X) (n : ℕ) → n < length xs → HasIte
 has_item [] n lt = absurd (omega (arith, lt))
 has_item (x ∷ xs) zero lt = record { item = x; there = refl }
 has_item (x ∷ xs) (suc n) lt = let rest = has_item xs n (omega (arith, lt)) in record { item = rest.item; there = rest.there }
-
-module _ (script : Script) (log : Log) where
-  session_is : (a b c d : ℕ) → logged.Submit a b ≡ logged.Submit c d → a ≡ c
-  session_is a b c d e = cc
-
-  -- the line of a submission is that of its call
-  same_phase : (n : ℕ) (call : CallMade) (own : IsCallAt script log n call) (k session line : ℕ) (at : LineAt) → own.place ≡ k → slice_get log.events k ≡ Some (logged.Submit session line)
-      → place_of_line script session (submits_of session (take k log.events)) ≡ Some at → call.phase ≡ at.phase
-  same_phase n call own k session line at same there place =
-      let e : logged.Submit call.session call.line ≡ logged.Submit session line = some_is (logged.Submit call.session call.line) (logged.Submit session line) (sym own.there ∙ ap (slice_get log.events) same ∙ there) in
-      let s : call.session ≡ session = session_is call.session call.line session line e in
-      let moved : place_of_line script session (submits_of session (take k log.events)) ≡ Some own.at =
-      subst (λ (m : ℕ). place_of_line script session (submits_of session (take m log.events)) ≡ Some own.at) same
-      (subst (λ (t : ℕ). place_of_line script t (submits_of t (take own.place log.events)) ≡ Some own.at) s own.line_at) in
-      let ats : own.at ≡ at = some_is own.at at (sym moved ∙ place) in
-      sym own.phase_is ∙ ap (λ (x : LineAt). x.phase) ats
 
 reply_bound : (replies : List ReplyLine) (number bound : ℕ) → ((k : ℕ) (r : ReplyLine) → slice_get replies k ≡ Some r → r.call ≡ number → r.event ≤ bound) → event_of_reply replies number ≤ bound
 reply_bound [] number bound each = omega arith

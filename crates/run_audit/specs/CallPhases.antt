@@ -19,20 +19,16 @@ pub record IsAnsweredIn (calls : List CallMade) (ended : List ℕ) (last : ℕ) 
 abbrev pub AreAnsweredIn : List CallMade → List ℕ → ℕ → List ReplyLine → Type 0
 AreAnsweredIn calls ended last replies = (k : ℕ) (reply : ReplyLine) → slice_get replies k ≡ Some reply → IsAnsweredIn calls ended last reply
 
--- each reply is to a call, and no call has two
+-- replies are to calls that are numbered from 1, no two to the same
 pub record AreSingle (replies : List ReplyLine) : Type 0 where
   pub from_one : (k : ℕ) (reply : ReplyLine) → slice_get replies k ≡ Some reply → 1 ≤ reply.call
   pub once : (j k : ℕ) (a b : ReplyLine) → slice_get replies j ≡ Some a → slice_get replies k ≡ Some b → a.call ≡ b.call → j ≡ k
 
--- of the first n replies, each that is to a call has its place at that of the call
-abbrev pub ArePlacesTo : ℕ → List ReplyLine → List ℕ → Type 0
-ArePlacesTo n replies places = (m k : ℕ) (reply : ReplyLine) → m < length places → k < n → slice_get replies k ≡ Some reply → reply.call ≡ m + 1 → slice_get places m ≡ Some k
-
--- and so of all
+-- the place of each reply to one of so many calls is at the place of its call
 abbrev pub ArePlaces : List ReplyLine → List ℕ → Type 0
 ArePlaces replies places = (m k : ℕ) (reply : ReplyLine) → m < length places → slice_get replies k ≡ Some reply → reply.call ≡ m + 1 → slice_get places m ≡ Some k
 
--- of the first n calls, those of a session have a reply by an event
+-- among the first n calls, those of a session have a reply by an event
 abbrev pub AreReplied : Log → List CallMade → ℕ → ℕ → ℕ → Type 0
 AreReplied log calls session n number = (m : ℕ) (call : CallMade) → m < n → slice_get calls m ≡ Some call → call.session ≡ session → IsRepliedBy log (m + 1) number
 

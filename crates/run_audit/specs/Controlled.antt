@@ -19,7 +19,7 @@ use Rattle.mount_log.specs.declared.logs.HubEvent.{HubEvent}
 use Rattle.mount_log.specs.declared.logs.HubEvent.TheVariants as logged
 use Rattle.mount_log.specs.declared.logs.Log.{Log}
 use Rattle.mount_log.specs.declared.logs.SentLine.{SentLine}
-use Rattle.log_audit.specs.Armed.{AreAllArmed}
+use Rattle.log_audit.specs.Armed.{AreAllArmed, AreAllAmong}
 use Rattle.run_audit.specs.InLine.{AreInLine}
 use Rattle.run_audit.specs.Noted.{event_in, among, how_at, noted_for, course_of, begun, IsWithin}
 use Rattle.run_audit.specs.Numbered.{AreNth}
@@ -73,7 +73,7 @@ pub record GoesBefore (sent : List SentLine) (tables : SentTables) (at number br
   pub nth : slice_get tables.nth.items lines.stop ≡ Some count
   pub request : IsRequestAt sent lines.stop number brick p
 
--- and the line at the place sends the action's input
+-- the line at the place sends the action's input, and goes before the request
 pub record IsSentFor (sent : List SentLine) (tables : SentTables) (at number brick : ℕ) (p : Proc) (count : ℕ) (action : Action) : Type 0 where
   pub before : GoesBefore sent tables at number brick p count
   pub own : IsSentAt sent at number brick action
@@ -115,7 +115,7 @@ pub record IsNoted (notes : RunNotes) (phase at : ℕ) (c : ControlLine) (how : 
   pub arm : IsArmNoted notes phase at how.armed c
   pub by_event : (brick count : ℕ) (p : Proc) → c.when ≡ moment.After brick p count → how.sent ≡ None
 
--- each control is noted so
+-- the controls of a script are noted
 abbrev pub AreNoted : Script → RunNotes → Type 0
 AreNoted script notes = (phase at : ℕ) (c : ControlLine) (how : Carried) → control_at script phase at ≡ Some c → how_at notes.carried phase at ≡ Some how → IsNoted notes phase at c how
 
@@ -142,22 +142,6 @@ AreInTurn controls carried =
     (i j : ℕ) (a b : ControlLine) → slice_get controls i ≡ Some a → slice_get controls j ≡ Some b → a.when ≡ moment.Now → b.when ≡ moment.Now → i < j
     → event_in (slice_get carried i) < event_in (slice_get carried j)
 
--- one of the first n controls has no condition, and was carried out in the event
-pub record IsOneBefore (controls : List ControlLine) (carried : List Carried) (n number : ℕ) : Type 0 where
-  pub index : ℕ
-  pub control : ControlLine
-  pub early : index < n
-  pub there : slice_get controls index ≡ Some control
-  pub now : control.when ≡ moment.Now
-  pub is : event_in (slice_get carried index) ≡ number
-
--- the first n controls are carried out in turn, those without a condition by the event `last`
-pub record AreSoFar (controls : List ControlLine) (carried : List Carried) (n last : ℕ) : Type 0 where
-  pub low : (i : ℕ) (a : ControlLine) → i < n → slice_get controls i ≡ Some a → a.when ≡ moment.Now → event_in (slice_get carried i) ≤ last
-  pub turns : (i j : ℕ) (a b : ControlLine) → slice_get controls i ≡ Some a → slice_get controls j ≡ Some b → a.when ≡ moment.Now → b.when ≡ moment.Now → i < j → j < n
-      → event_in (slice_get carried i) < event_in (slice_get carried j)
-  pub own : (last ≡ 0) ⊎ IsOneBefore controls carried n last
-
 pub record IsPhaseCarried (log : Log) (tables : SentTables) (notes : RunNotes) (phase : ℕ) (controls : List ControlLine) : Type 0 where
   pub each : AreControlsCarried log tables notes phase controls (among (slice_get notes.carried phase))
   pub turns : AreInTurn controls (among (slice_get notes.carried phase))
@@ -178,7 +162,7 @@ IsOfControl script notes last number (logged.Run graph task) = Unit {0}
 abbrev pub AreOfControls : Script → RunNotes → Log → Type 0
 AreOfControls script notes log = (k : ℕ) (e : HubEvent) → slice_get log.events k ≡ Some e → IsOfControl script notes (length log.events) (k + 1) e
 
--- what is looked up of what was sent is so
+-- the tables of what was sent: the armed lines of each line, and which one each request is
 pub record AreTables (ended : List ℕ) (log : Log) (tables : SentTables) : Type 0 where
   pub armed : AreAllArmed log.sent tables.armed.items
   pub nth : AreNth ended (length log.events) log.sent tables.nth.items
@@ -192,3 +176,8 @@ pub record AreCarriedOut (script : Script) (log : Log) (notes : RunNotes) : Type
   pub timely : AreAllTimely script log notes
   pub sent : AreSentFor script log (course_of notes (length log.events))
   pub answered : AreAnswered log
+
+-- the tables of what was sent, with each line that can be armed among its armed lines
+pub record AreWholeTables (ended : List ℕ) (log : Log) (tables : SentTables) : Type 0 where
+  pub are : AreTables ended log tables
+  pub among : AreAllAmong log.sent tables.armed.items

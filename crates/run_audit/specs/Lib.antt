@@ -1,5 +1,5 @@
 -- In reading order: notes of a run; numbers of events; requests by their numbers; controls before one request; controls, their
--- moments, and what was sent for them; the phases of calls.
+-- moments, and what was sent for them; the phases of calls; what shows a run.
 pub mod Noted
 pub mod Counting
 pub mod Numbered
@@ -8,3 +8,4 @@ pub mod Timed
 pub mod SentFor
 pub mod Controlled
 pub mod CallPhases
+pub mod Shown

@@ -31,8 +31,8 @@ abbrev pub IsFirst : List SentLine → ℕ → ℕ → Type 0
 IsFirst sent k number = (before : SentLine) → 1 ≤ k → slice_get sent (k - 1) ≡ Some before → before.event < number
 
 -- where a line is the input of an action, it was sent for that
-abbrev pub IsLineFor : Script → Log → Course → ℕ → SentLine → Type 0
-IsLineFor script log course k line = (sent : Input) (a : Action) → input_in line.bytes ≡ Whole sent → action_for line.brick sent ≡ Some a → IsSentFor script log course k line a
+abbrev pub IsLineSentFor : Script → Log → Course → ℕ → SentLine → Type 0
+IsLineSentFor script log course k line = (sent : Input) (a : Action) → input_in line.bytes ≡ Whole sent → action_for line.brick sent ≡ Some a → IsSentFor script log course k line a
 
 abbrev pub AreSentFor : Script → Log → Course → Type 0
-AreSentFor script log course = (k : ℕ) (line : SentLine) → slice_get log.sent k ≡ Some line → IsLineFor script log course k line
+AreSentFor script log course = (k : ℕ) (line : SentLine) → slice_get log.sent k ≡ Some line → IsLineSentFor script log course k line

@@ -25,17 +25,17 @@ pub record IsAfter (c : ControlLine) : Type 0 where
   pub count : ℕ
   pub when_is : c.when ≡ moment.After brick proc count
 
--- of the first n controls of a phase, those before a place and those without a condition were carried out before an event
+-- among the first n controls of a phase, those before a place and those without a condition were carried out before an event
 abbrev pub AreEarlier : List ControlLine → List Carried → ℕ → ℕ → ℕ → Type 0
 AreEarlier controls carried at number n =
     (j : ℕ) (c : ControlLine) → j < n → slice_get controls j ≡ Some c → (j < at) ⊎ (c.when ≡ moment.Now) → event_in (slice_get carried j) < number
 
--- Where a control that follows a request was carried out: with a place, the request has come as the line there; without one, it
--- has not come.
+-- the request has come, as the line at this place
 pub record HasComeAt (script : Script) (log : Log) (course : Course) (phase number brick : ℕ) (p : Proc) (count place : ℕ) : Type 0 where
   pub come : HasCome script log course phase number brick p count
   pub at : come.place ≡ place
 
+-- the place of a request that a control follows: with one, the request has come as the line there; without one, it has not come
 abbrev pub IsRequestPlace : Script → Log → Course → ℕ → ℕ → ℕ → Proc → ℕ → Option ℕ → Type 0
 IsRequestPlace script log course phase number brick p count None = HasCome script log course phase number brick p count → ⊥
 IsRequestPlace script log course phase number brick p count (Some place) = HasComeAt script log course phase number brick p count place
@@ -54,7 +54,7 @@ abbrev pub IsHowTimely : Script → Log → RunNotes → ℕ → ℕ → Control
 IsHowTimely script log notes phase at c None = Unit {0}
 IsHowTimely script log notes phase at c (Some how) = how.sent ≡ None → IsTimely script log (course_of notes (length log.events)) phase at how.event c
 
--- and so were those of a phase, and of all
+-- each control of a phase that was carried out by an event was so in its moment
 abbrev pub ArePhaseTimely : Script → Log → RunNotes → ℕ → List ControlLine → Type 0
 ArePhaseTimely script log notes phase controls =
     (at : ℕ) (c : ControlLine) → slice_get controls at ≡ Some c → IsHowTimely script log notes phase at c (slice_get (among (slice_get notes.carried phase)) at)

@@ -8,10 +8,11 @@
 //!
 //! `noting` notes how the log carried out its script, without a contract: of which control an event or a line is, and where
 //! phases end. What was noted is then checked against script and log, and an audit's `true` rests on that alone. As each
-//! audit of `log_audit`, it knows nothing of how the log came about: true says that its definition holds of the log. Each
-//! check of the notes is also true where what it checks holds of them: a clause that is called `complete` says what else that
-//! takes. That a run is noted, and its calls are found, is not proved, so false alone says nothing of the log. Of what arrived it takes the heads. It goes through the log a fixed number of times, and
-//! once more through what was sent for each control whose request has not come.
+//! audit of `log_audit`, it knows nothing of how the log came about: true says that its definition holds of the log. The
+//! checks of phases, calls and controls are also true where what they check holds of the notes, and the log has what their
+//! clause `complete` names. That the notes of a run are right is not proved, so false says nothing of the log. Of what arrived
+//! it takes the heads. It goes through the log a fixed number of times, and once more through what was sent for each control
+//! whose request has not come.
 #![tactic(auto)]
 
 mod acts;

@@ -78,7 +78,7 @@ fn count_line(
     count_one(counts, cell(line.brick, rank), phase)
 }
 
-// Counts all lines, and gives of each which one it is. `None` where lines do not stand in the order of their events.
+// Counts all lines, and gives of each which one it is. `None` where lines are not in the order of their events.
 fn count_lines(
     alloc: Global,
     counts: &mut Vec<PhaseCount>,
@@ -117,7 +117,7 @@ fn count_lines(
 }
 
 /// For each line that was sent, if it is a request, which one it is of its procedure to its brick in its phase. `None` where
-/// lines do not stand in the order of their events.
+/// lines are not in the order of their events.
 ///
 /// # Errors
 /// Out of memory.

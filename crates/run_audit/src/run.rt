@@ -2,14 +2,15 @@
 ghost use Rattle.std.specs.Prelude.{◌≡◌, ◌≤◌, ◌↔◌, IsTrue, true, IfOk, IfSome, IsSome, length};
 ghost use Rattle.script_lang.specs.Accepted.{IsAccepted};
 ghost use Rattle.mount_log.specs.Controls.{AreAnswered};
-ghost use Rattle.mount_log.specs.Follows.{RunOf, FollowsScript};
-ghost use Rattle.log_audit.specs.Armed.{AreAllArmed};
+ghost use Rattle.mount_log.specs.Follows.{AreInOrder, RunOf, FollowsScript};
+ghost use Rattle.log_audit.specs.Armed.{AreAllArmed, AreAllAmong};
 ghost use Rattle.mount_log.specs.Heads.{heads_of};
 ghost use Rattle.run_audit.specs.CallPhases.{AreSingle, AreOneByOne, AreInPhases, AreAnsweredIn, HaveCalls};
-ghost use Rattle.run_audit.specs.Controlled.{AreNoted, AreOfControls, ArePhasesCarried, AreCarriedOut, AreTables};
+ghost use Rattle.run_audit.specs.Controlled.{AreNoted, AreOfControls, ArePhasesCarried, AreCarriedOut, AreTables, AreWholeTables};
 ghost use Rattle.run_audit.specs.Counting.{AreNumbers, DoAllRise, AreSettled};
 ghost use Rattle.run_audit.specs.Noted.{AreRising};
 ghost use Rattle.run_audit.specs.Numbered.{AreNth, AreInEvents};
+ghost use Rattle.run_audit.specs.Shown.{AreCarriedByTables, CanBeCarried, IsShownBy};
 ghost use Rattle.run_audit.specs.Timed.{AreRequestsNoted, AreAllTimely};
 
 use crate::acts::acts_are_of_controls;
@@ -72,7 +73,8 @@ fn calls_are_in_phases(
     notes: &RunNotes,
 ) -> Result<bool, AllocError>
     requires { IsAccepted script.now }
-    ensures { IfOk result (λ yes. yes ≡ true → HaveCalls script.now log.now notes.now.ended (length log.now.events)) }
+    ensures sound { IfOk result (λ yes. yes ≡ true → HaveCalls script.now log.now notes.now.ended (length log.now.events)) }
+    ensures complete { IfOk result (λ yes. AreInOrder script.now log.now → AreSingle log.now.replies → HaveCalls script.now log.now notes.now.ended (length log.now.events) → yes ≡ true) }
 {
     let Some(calls) = calls_made(alloc, script, log)? else {
         return Ok(false);
@@ -102,7 +104,8 @@ fn nth_of(alloc: Global, log: &Log, notes: &RunNotes) -> Result<Option<Vec<u64>>
 }
 
 fn armed_of(alloc: Global, log: &Log) -> Result<Vec<ArmedLines>, AllocError>
-    ensures { IfOk result (λ armed. AreAllArmed log.now.sent armed.items) }
+    ensures sound { IfOk result (λ armed. AreAllArmed log.now.sent armed.items) }
+    ensures complete { IfOk result (λ armed. AreAllAmong log.now.sent armed.items) }
 {
     let armed = all_armed(alloc, log.sent.as_slice())?;
     Ok(armed)
@@ -112,6 +115,7 @@ fn armed_of(alloc: Global, log: &Log) -> Result<Vec<ArmedLines>, AllocError>
 fn sent_tables(alloc: Global, log: &Log, notes: &RunNotes) -> Result<Option<SentTables>, AllocError>
     requires { AreRising notes.now.ended (length log.now.events) }
     ensures sound { IfOk result (λ found. IfSome found (λ tables. AreTables notes.now.ended log.now tables)) }
+    ensures whole { IfOk result (λ found. IfSome found (λ tables. AreWholeTables notes.now.ended log.now tables)) }
     ensures complete { IfOk result (λ found. AreInEvents (length log.now.events) log.now.sent → IsSome found) }
 {
     let Some(nth) = nth_of(alloc, log, notes)? else {
@@ -168,7 +172,8 @@ fn controls_are_carried(
     requires rising { AreRising notes.now.ended (length log.now.events) }
     requires numbers { AreNumbers log.now numbers.now }
     requires rise { DoAllRise numbers.now }
-    ensures { IfOk result (λ yes. yes ≡ true → AreCarriedOut script.now log.now notes.now) }
+    ensures sound { IfOk result (λ yes. yes ≡ true → AreCarriedOut script.now log.now notes.now) }
+    ensures complete { IfOk result (λ yes. CanBeCarried script.now log.now notes.now → AreCarriedByTables script.now log.now notes.now → yes ≡ true) }
 {
     if !acts_are_right(script, log, numbers, notes) {
         return Ok(false);
@@ -205,7 +210,8 @@ fn is_shown_by(
     requires accepted { IsAccepted script.now }
     requires numbers { AreNumbers log.now numbers.now }
     requires rise { DoAllRise numbers.now }
-    ensures { IfOk result (λ yes. yes ≡ true → RunOf script.now log.now) }
+    ensures sound { IfOk result (λ yes. yes ≡ true → RunOf script.now log.now) }
+    ensures complete { IfOk result (λ yes. AreInOrder script.now log.now → AreSingle log.now.replies → CanBeCarried script.now log.now notes.now → IsShownBy script.now log.now numbers.now notes.now → yes ≡ true) }
 {
     if !phases_rise(log, notes) {
         return Ok(false);

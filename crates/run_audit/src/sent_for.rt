@@ -8,7 +8,7 @@ ghost use Rattle.mount_log.specs.Controls.{control_at, IsSentFor};
 ghost use Rattle.run_audit.specs.Noted.{sent_at, course_of};
 ghost use Rattle.run_audit.specs.Controlled.{AreNoted};
 ghost use Rattle.run_audit.specs.declared.run_notes.ControlAt.{ControlAt as Place};
-ghost use Rattle.run_audit.specs.SentFor.{HasControl, HasAction, IsActionOf, IsFirst, IsLineFor, AreSentFor};
+ghost use Rattle.run_audit.specs.SentFor.{HasControl, HasAction, IsActionOf, IsFirst, IsLineSentFor, AreSentFor};
 
 use crate::acts::sent_of;
 use crate::carried::is_act;
@@ -124,8 +124,8 @@ fn is_sent_for(
     k: usize,
     line: &SentLine,
 ) -> Result<bool, AllocError>
-    ensures sound { IfOk result (λ yes. yes ≡ true → IsLineFor script.now log.now (course_of notes.now (length log.now.events)) k line.now) }
-    ensures complete { IfOk result (λ yes. AreNoted script.now notes.now → k < length log.now.sent → IsLineFor script.now log.now (course_of notes.now (length log.now.events)) k line.now → yes ≡ true) }
+    ensures sound { IfOk result (λ yes. yes ≡ true → IsLineSentFor script.now log.now (course_of notes.now (length log.now.events)) k line.now) }
+    ensures complete { IfOk result (λ yes. AreNoted script.now notes.now → k < length log.now.sent → IsLineSentFor script.now log.now (course_of notes.now (length log.now.events)) k line.now → yes ≡ true) }
 {
     let found = action_in(alloc, line.brick, line.bytes.as_slice())?;
     match found {

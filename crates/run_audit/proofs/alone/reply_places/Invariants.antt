@@ -1,5 +1,6 @@
 use Rattle.std.specs.Prelude.{◌≡◌, length}
-use Rattle.run_audit.specs.CallPhases.{AreSingle, ArePlacesTo}
+use Rattle.run_audit.specs.CallPhases.{AreSingle}
+use Rattle.run_audit.proofs.OneByOne.{ArePlacesTo}
 use Rattle.run_audit.proofs.alone.reply_places.Given as goal
 
 abbrev pub invariant-loop : goal.invariant-loop

@@ -1,4 +1,4 @@
-use Rattle.run_audit.specs.Controlled.{AreSoFar}
+use Rattle.run_audit.proofs.Controlling.{AreSoFar}
 use Rattle.run_audit.proofs.carried.are_in_turn.Given as goal
 
 abbrev pub invariant-loop-at : goal.invariant-loop-at

@@ -3,8 +3,8 @@ use Rattle.std.specs.Prelude.{IfSome}
 use Rattle.run_audit.specs.Controlled.{AreTables}
 use Rattle.run_audit.proofs.run.controls_are_carried.Goals as goal
 
-pub returns : goal.returns
-returns c = λ yes. record {
+pub returns-clause-sound : goal.returns-clause-sound
+returns-clause-sound c = λ yes. record {
   acts = c.acts_are_right.ensures.acts c.if-not-acts_are_right.false;
   tables = c.in-Some.tables;
   are = subst (λ o. IfSome o (λ tables. AreTables c.args.notes.now.ended c.args.log.now tables)) c.in-Some.is c.in_ok-tables.ensures.sound;
