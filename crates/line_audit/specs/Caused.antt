@@ -96,7 +96,7 @@ abbrev pub SaysFor : Action → Message Input → Type 0
 SaysFor a (Whole x) = IsFor a x
 SaysFor a (Wrong place) = ⊥
 
--- in this event the line sends the brick what is read as the input of the action
+-- the line sends the brick, in this event, what is read as the input of the action
 pub record IsLineFor (number brick : ℕ) (a : Action) (line : SentLine) : Type 0 where
   pub event : line.event ≡ number
   pub brick_is : line.brick ≡ brick
@@ -107,7 +107,7 @@ pub record IsLineAt (sent : List SentLine) (at number brick : ℕ) (a : Action) 
   pub there : slice_get sent at ≡ Some line
   pub is : IsLineFor number brick a line
 
--- in this event the brick was sent the input of the action
+-- the line sent the brick, in this event, the input of the action
 pub record IsSentFor (number brick : ℕ) (a : Action) (line : SentLine) : Type 0 where
   pub event : line.event ≡ number
   pub brick_is : line.brick ≡ brick
@@ -145,7 +145,7 @@ pub record AreCarried (log : Log) : Type 0 where
 abbrev pub AreBefore : List SentLine → ℕ → ℕ → Type 0
 AreBefore sent at number = (k : ℕ) (line : SentLine) → k < at → slice_get sent k ≡ Some line → line.event < number
 
--- the first line of the event, or of a later one, sends the brick the input of the action
+-- the first line of the event sends the brick the input of the action
 pub record IsSentFirst (log : Log) (number brick : ℕ) (a : Action) : Type 0 where
   pub place : ℕ
   pub first : AreBefore log.sent place number

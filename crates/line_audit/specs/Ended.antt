@@ -88,17 +88,17 @@ pub record IsPlaceOfEnding (log : Log) (brick number graph : ℕ) (ended : Ended
   pub end : (h : HasEnd log brick number graph) → h.place ≡ ended.end
   pub disconnect : (ending : WindLine) → slice_get log.winds ended.end ≡ Some ending → IsPlaceOfDisconnect log brick ending ended.disconnect
 
-abbrev pub IsInputEndedAt : Log → ℕ → EndedAt → Input → Type 0
-IsInputEndedAt log brick ended (input.Request number graph request) = IsPlaceOfEnding log brick number graph ended
-IsInputEndedAt log brick ended (input.Connect graph version) = Unit {0}
-IsInputEndedAt log brick ended (input.Disconnect graph) = Unit {0}
-IsInputEndedAt log brick ended (input.Down serve) = Unit {0}
-IsInputEndedAt log brick ended input.Up = Unit {0}
-IsInputEndedAt log brick ended (input.FaultAt p number) = Unit {0}
+abbrev pub IsPlaceOfInputEnd : Log → ℕ → EndedAt → Input → Type 0
+IsPlaceOfInputEnd log brick ended (input.Request number graph request) = IsPlaceOfEnding log brick number graph ended
+IsPlaceOfInputEnd log brick ended (input.Connect graph version) = Unit {0}
+IsPlaceOfInputEnd log brick ended (input.Disconnect graph) = Unit {0}
+IsPlaceOfInputEnd log brick ended (input.Down serve) = Unit {0}
+IsPlaceOfInputEnd log brick ended input.Up = Unit {0}
+IsPlaceOfInputEnd log brick ended (input.FaultAt p number) = Unit {0}
 
-abbrev pub IsEndedAt : Log → ℕ → EndedAt → Message Input → Type 0
-IsEndedAt log brick ended (Whole found) = IsInputEndedAt log brick ended found
-IsEndedAt log brick ended (Wrong place) = Unit {0}
+abbrev pub IsPlaceOfMessageEnd : Log → ℕ → EndedAt → Message Input → Type 0
+IsPlaceOfMessageEnd log brick ended (Whole found) = IsPlaceOfInputEnd log brick ended found
+IsPlaceOfMessageEnd log brick ended (Wrong place) = Unit {0}
 
 abbrev pub IsEnded : Log → ℕ → Message Input → Type 0
 IsEnded log brick (Whole found) = IsInputEnded log brick found

@@ -61,7 +61,7 @@ abbrev pub items_of : List SentLine → List Item
 items_of [] = []
 items_of (line ∷ lines) = item_of line ∷ items_of lines
 
--- those of an event
+-- the items of an event
 abbrev pub in_event : ℕ → List Item → List Item
 in_event number [] = []
 in_event number (i ∷ is) = if i.event == number then i ∷ in_event number is else in_event number is
@@ -105,7 +105,7 @@ count_connects graph brick (i ∷ is) = (if (i.brick == brick) && connects graph
 
 -- ---- what an event does
 
--- as an output of the brick says this
+-- the effect of an output of the brick, by what it says
 abbrev pub arrives : ℕ → Said → Effect
 arrives brick said.Opened = effect.Opened brick
 arrives brick said.Closed = effect.Closed brick
@@ -199,7 +199,7 @@ abbrev pub added : List Item → List Link → List Link
 added [] links = links
 added (i ∷ is) links = added is (added_by i links)
 
--- behind an event that sends this
+-- the links behind an event that sends these items
 abbrev pub links_after : Effect → List Item → List Link → List Link
 links_after e items links = added items (dropped items (closed_by e links))
 
@@ -377,8 +377,9 @@ pub record AreUsesBelow (log : Log) (count : ℕ) : Type 0 where
   pub winds : (k : ℕ) (line : WindLine) → slice_get log.winds k ≡ Some line → line.graph < count
   pub replies : (k : ℕ) (reply : ReplyLine) → slice_get log.replies k ≡ Some reply → IsCallBelow log count reply.call
 
--- What the audit asks for besides, which each log of a run has: lines are of events that there are, and winds stand in their order;
--- winds, and calls that have a reply, are of graphs that there are; and slots, graphs and events are not too many.
+-- What the audit asks for besides: lines are of events that there are, and winds are in the order of their events; winds, and calls
+-- that have a reply, are of graphs that there are; and slots, graphs and events are not too many. The log of a run has these, which
+-- is not proved.
 pub record CanBeLinked (script : Script) (log : Log) : Type 0 where
   pub sent : AreOfEvents log.sent (length log.events)
   pub bricks : (k : ℕ) (line : SentLine) → slice_get log.sent k ≡ Some line → line.brick < 256

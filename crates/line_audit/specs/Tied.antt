@@ -16,7 +16,7 @@ use Rattle.mount_log.specs.declared.logs.ReplyLine.{ReplyLine}
 use Rattle.mount_log.specs.declared.logs.SentLine.{SentLine}
 use Rattle.mount_log.specs.declared.logs.WindLine.{WindLine}
 use Rattle.log_audit.specs.Called.{call_by}
-use Rattle.line_audit.specs.Ended.{IsEndedAt, AreEnded}
+use Rattle.line_audit.specs.Ended.{IsPlaceOfMessageEnd, AreEnded}
 use Rattle.line_audit.specs.declared.tied_ends.EndedAt.{EndedAt}
 use Rattle.log_audit.specs.declared.calls_made.CallMade.{CallMade}
 use Rattle.line_audit.specs.declared.tied_requests.SentFor.{SentFor}
@@ -42,7 +42,7 @@ pub record IsAtOnce (log : Log) (reply : ReplyLine) : Type 0 where
 abbrev pub IsPlaceOfEnd : List WindLine → ℕ → ReplyLine → Type 0
 IsPlaceOfEnd winds at reply = EndsIn winds reply.call reply.event → IsEndAt winds at reply.call reply.event
 
--- that holds of the places that are noted for the replies
+-- the noted places of the ends by which calls are answered, one for each reply
 abbrev pub ArePlacesOfEnds : Log → List ℕ → Type 0
 ArePlacesOfEnds log ends = (k : ℕ) (reply : ReplyLine) → slice_get log.replies k ≡ Some reply → IsPlaceOfEnd log.winds (slice_index_or ends k 0) reply
 
@@ -69,7 +69,7 @@ pub record IsReplyBehind (replies : List ReplyLine) (at : ℕ) (line : WindLine)
   pub same_call : reply.call ≡ line.call
   pub earlier : line.event ≤ reply.event
 
--- such a reply is at this place, if there is one
+-- the reply of the line's call, not before the line, is at this place, if there is one
 abbrev pub IsPlaceOfReply : Log → ℕ → WindLine → Type 0
 IsPlaceOfReply log at line = IsBeforeReply log line → IsReplyBehind log.replies at line
 
@@ -77,7 +77,7 @@ IsPlaceOfReply log at line = IsBeforeReply log line → IsReplyBehind log.replie
 abbrev pub place_of_reply : List ℕ → ℕ → ℕ
 place_of_reply replied call = if call == 0 then 0 else slice_index_or replied (call - 1) 0
 
--- that holds of the places that are noted for the replies of winds' calls
+-- the noted places of the replies of winds' calls
 abbrev pub ArePlacesOfReplies : Log → List ℕ → Type 0
 ArePlacesOfReplies log replied = (k : ℕ) (line : WindLine) → slice_get log.winds k ≡ Some line → 1 ≤ line.call → IsPlaceOfReply log (place_of_reply replied line.call) line
 
@@ -123,17 +123,17 @@ IsInputTied log all k event (input.Down serve) = Unit {0}
 IsInputTied log all k event input.Up = Unit {0}
 IsInputTied log all k event (input.FaultAt p number) = Unit {0}
 
--- if a wind was opened for the input, that is at this place
-abbrev pub IsOpenedAt : Log → List SentFor → ℕ → ℕ → ℕ → Input → Type 0
-IsOpenedAt log all place k event (input.Request number graph request) = (w : HasWind log (request_at all) (open_at all) k number graph event request) → w.place ≡ place
-IsOpenedAt log all place k event (input.Connect graph version) = Unit {0}
-IsOpenedAt log all place k event (input.Disconnect graph) = Unit {0}
-IsOpenedAt log all place k event (input.Down serve) = Unit {0}
-IsOpenedAt log all place k event input.Up = Unit {0}
-IsOpenedAt log all place k event (input.FaultAt p number) = Unit {0}
+-- the opening of the input's wind is at this place, if there is one
+abbrev pub IsPlaceOfOpening : Log → List SentFor → ℕ → ℕ → ℕ → Input → Type 0
+IsPlaceOfOpening log all place k event (input.Request number graph request) = (w : HasWind log (request_at all) (open_at all) k number graph event request) → w.place ≡ place
+IsPlaceOfOpening log all place k event (input.Connect graph version) = Unit {0}
+IsPlaceOfOpening log all place k event (input.Disconnect graph) = Unit {0}
+IsPlaceOfOpening log all place k event (input.Down serve) = Unit {0}
+IsPlaceOfOpening log all place k event input.Up = Unit {0}
+IsPlaceOfOpening log all place k event (input.FaultAt p number) = Unit {0}
 
 abbrev pub IsOpeningOf : Log → List SentFor → ℕ → ℕ → ℕ → Message Input → Type 0
-IsOpeningOf log all place k event (Whole x) = IsOpenedAt log all place k event x
+IsOpeningOf log all place k event (Whole x) = IsPlaceOfOpening log all place k event x
 IsOpeningOf log all place k event (Wrong at) = Unit {0}
 
 abbrev pub IsTied : Log → List SentFor → ℕ → ℕ → Message Input → Type 0
@@ -154,7 +154,7 @@ end_of ended k = end_in (slice_get ended k)
 -- what is noted for a line that was sent: where its wind was opened, if one was, and where that ends
 pub record ArePlacesOfRequests (log : Log) (openings : List ℕ) (ended : List EndedAt) (all : List SentFor) : Type 0 where
   pub opened_at : (k : ℕ) (line : SentLine) → slice_get log.sent k ≡ Some line → IsOpeningOf log all (slice_index_or openings k 0) k line.event (input_in line.bytes)
-  pub ended_at : (k : ℕ) (line : SentLine) → slice_get log.sent k ≡ Some line → IsEndedAt log line.brick (end_of ended k) (input_in line.bytes)
+  pub ended_at : (k : ℕ) (line : SentLine) → slice_get log.sent k ≡ Some line → IsPlaceOfMessageEnd log line.brick (end_of ended k) (input_in line.bytes)
 
 -- what is noted of lines that belong together is right, where a definition says that they do
 pub record AreNotesRight (log : Log) (notes : TieNotes) : Type 0 where

@@ -16,9 +16,11 @@ use std::alloc::{AllocError, Global};
 use wire_messages::messages_read_back;
 
 /// Whether each Connect, Disconnect, Down and Up was sent for a cause, each Connect and each input of an action that has a
-/// cause was sent, each cut disconnects, and requests went to connected bricks. It is false, too, where the first line of the
-/// event of an action that has an input is not that input, a line is of no event, a wind of no graph, or a reply of no call
-/// that there is, or where there are 4,294,967,295 graphs. `heads` are those of the log's events.
+/// cause was sent, each cut disconnects, and requests went to connected bricks. It may be false, too, where the first line of
+/// the event of an action that has an input is not that input; a Down is armed for its request only by another line with the
+/// same content; a line is of no event, a wind of no graph, or a reply of no call that there is; wind lines are not in the
+/// order of their events, or their slots not below 2^31; or there are more than 4,294,967,295 graphs. `heads` are those of the
+/// log's events.
 ///
 /// # Errors
 /// Out of memory.

@@ -3,7 +3,7 @@ ghost use Rattle.std.specs.Prelude.{◌≡◌, ◌-◌, ◌||◌, ◌<◌, true,
 ghost use Rattle.std.specs.List.{list_any};
 ghost use Rattle.mount_log.specs.Connects.{has_brick, IsEndIn};
 ghost use Rattle.mount_log.specs.Ties.{IsNumberOf};
-ghost use Rattle.line_audit.specs.Slots.{AreSlotsLow};
+ghost use Rattle.line_audit.specs.Slots.{AreSlotsLow, slot_limit};
 ghost use Rattle.line_audit.specs.Linked.{WindsInOrder, IsFirstOf, until_at, live_as, uses_as, started_as, made_as, opened_for_as, due_as, end_as, IsGoneAs, IsLostAs};
 
 use crate::effects::{Effect, cut_as, is_started, is_switched, opened_as};
@@ -142,7 +142,7 @@ pub fn is_due(
 
 // ---- a Disconnect
 
-// The first place of a line of this event or a later one, where lines stand in the order of their events.
+// The first place of a line of this event or a later one, where lines are in the order of their events.
 fn first_of(winds: &[WindLine], number: u64) -> usize
     ensures { WindsInOrder winds.now → IsFirstOf winds.now number result }
 {
@@ -164,7 +164,7 @@ fn is_end(line: &WindLine, wind: u64, graph: u32, number: u64) -> bool
     ensures wind { result ≡ true → IsNumberOf line.now.wind wind }
     ensures graph { result ≡ true → line.now.graph ≡ graph }
     ensures event { result ≡ true → line.now.event ≡ number }
-    ensures complete { line.now.wind.slot < 2147483648 → line.now.opened ≡ false → IsNumberOf line.now.wind wind → line.now.graph ≡ graph → line.now.event ≡ number → result ≡ true }
+    ensures complete { line.now.wind.slot < slot_limit → line.now.opened ≡ false → IsNumberOf line.now.wind wind → line.now.graph ≡ graph → line.now.event ≡ number → result ≡ true }
 {
     if line.opened || line.graph != graph || line.event != number {
         return false;

@@ -10,8 +10,8 @@
 //!
 //! Each goes through the log a fixed number of times. As each audit of `log_audit`, it knows nothing of how the log came
 //! about: true says that its definition holds of the log. Where `connects_are_caused` answers false, its definition does not
-//! hold, or the log lacks what the clause `complete` names besides: each log of a run has that, if no Down of the run is armed
-//! for a request. Where `lines_are_tied` answers false, nothing is known yet.
+//! hold, or the log lacks what the clause `complete` names besides. The log of a run has that, which is not proved. Where
+//! `lines_are_tied` answers false, nothing is known.
 #![tactic(auto)]
 
 mod causes;

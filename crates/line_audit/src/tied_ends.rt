@@ -4,8 +4,8 @@ ghost use Rattle.fop_types.specs.declared.messages.Input.TheVariants as input;
 ghost use Rattle.wire_messages.specs.Messages.{input_in};
 ghost use Rattle.mount_log.specs.Ties.{IsNumberOf, IsEndedBy, HasEnd};
 ghost use Rattle.mount_log.specs.Heads.{head_of, heads_of};
-ghost use Rattle.line_audit.specs.Slots.{AreSlotsLow};
-ghost use Rattle.line_audit.specs.Ended.{head_by, SaysEnd, IsEndEvent, IsEndedByOutput, SaysDisconnect, IsDisconnect, IsDisconnectAt, IsPlaceOfDisconnect, IsEndingOf, IsPlaceOfEnding, IsInputEnded, IsInputEndedAt, IsEnded, IsEndedAt};
+ghost use Rattle.line_audit.specs.Slots.{AreSlotsLow, slot_limit};
+ghost use Rattle.line_audit.specs.Ended.{head_by, SaysEnd, IsEndEvent, IsEndedByOutput, SaysDisconnect, IsDisconnect, IsDisconnectAt, IsPlaceOfDisconnect, IsEndingOf, IsPlaceOfEnding, IsInputEnded, IsPlaceOfInputEnd, IsEnded, IsPlaceOfMessageEnd};
 
 use crate::tied_replies::wind_at;
 use crate::tied_requests::is_number_of_open;
@@ -28,7 +28,7 @@ pub struct EndedAt {
 /// Whether a number on the wire is that of a wind, or of the open before its request.
 pub fn is_number_of(wind: WindNo, number: u64) -> bool
     ensures sound { result ≡ true → IsNumberOf wind number }
-    ensures complete { wind.slot < 2147483648 → IsNumberOf wind number → result ≡ true }
+    ensures complete { wind.slot < slot_limit → IsNumberOf wind number → result ≡ true }
 {
     if wind.number() == number {
         return true;
@@ -40,7 +40,7 @@ pub fn is_number_of(wind: WindNo, number: u64) -> bool
 
 fn says_end(said: Said, wind: WindNo) -> bool
     ensures sound { result ≡ true → SaysEnd wind said }
-    ensures complete { wind.slot < 2147483648 → SaysEnd wind said → result ≡ true }
+    ensures complete { wind.slot < slot_limit → SaysEnd wind said → result ≡ true }
 {
     match said {
         Said::Reply(number) => is_number_of(wind, number),
@@ -53,7 +53,7 @@ fn says_end(said: Said, wind: WindNo) -> bool
 fn is_end_event(event: &HubEvent, head: Head, brick: u8, wind: WindNo) -> bool
     requires { head ≡ head_of event.now }
     ensures sound { result ≡ true → IsEndEvent brick wind event.now }
-    ensures complete { wind.slot < 2147483648 → IsEndEvent brick wind event.now → result ≡ true }
+    ensures complete { wind.slot < slot_limit → IsEndEvent brick wind event.now → result ≡ true }
 {
     match event {
         HubEvent::Arrive { brick: from, .. } => *from == brick && says_end(head.said, wind),
@@ -74,7 +74,7 @@ fn head_by(heads: &[Head], number: u64) -> Option<Head>
 fn is_ended_by_output(log: &Log, heads: &[Head], brick: u8, line: &WindLine) -> bool
     requires { heads.now ≡ heads_of log.now.events }
     ensures sound { result ≡ true → IsEndedBy log.now brick line.now }
-    ensures complete { line.now.wind.slot < 2147483648 → IsEndedByOutput log.now brick line.now → result ≡ true }
+    ensures complete { line.now.wind.slot < slot_limit → IsEndedByOutput log.now brick line.now → result ≡ true }
 {
     let Some(head) = head_by(heads, line.event) else {
         return false;
@@ -154,7 +154,7 @@ fn is_ended_by(
 ) -> Result<bool, AllocError>
     requires { heads.now ≡ heads_of log.now.events }
     ensures sound { IfOk result (λ yes. yes ≡ true → IsEndedBy log.now brick line.now) }
-    ensures complete { IfOk result (λ yes. line.now.wind.slot < 2147483648 → IsPlaceOfDisconnect log.now brick line.now disconnect → IsEndedBy log.now brick line.now → yes ≡ true) }
+    ensures complete { IfOk result (λ yes. line.now.wind.slot < slot_limit → IsPlaceOfDisconnect log.now brick line.now disconnect → IsEndedBy log.now brick line.now → yes ≡ true) }
 {
     if is_ended_by_output(log, heads, brick, line) {
         return Ok(true);
@@ -165,7 +165,7 @@ fn is_ended_by(
 
 fn is_ending_of(line: &WindLine, number: u64, graph: u32) -> bool
     ensures sound { result ≡ true → IsEndingOf number graph line.now }
-    ensures complete { line.now.wind.slot < 2147483648 → IsEndingOf number graph line.now → result ≡ true }
+    ensures complete { line.now.wind.slot < slot_limit → IsEndingOf number graph line.now → result ≡ true }
 {
     !line.opened && line.graph == graph && is_number_of(line.wind, number)
 }
@@ -204,7 +204,7 @@ fn is_input_ended(
 ) -> Result<bool, AllocError>
     requires { heads.now ≡ heads_of log.now.events }
     ensures sound { IfOk result (λ yes. yes ≡ true → IsInputEnded log.now brick found.now) }
-    ensures complete { IfOk result (λ yes. AreSlotsLow log.now.winds → IsInputEndedAt log.now brick ended found.now → IsInputEnded log.now brick found.now → yes ≡ true) }
+    ensures complete { IfOk result (λ yes. AreSlotsLow log.now.winds → IsPlaceOfInputEnd log.now brick ended found.now → IsInputEnded log.now brick found.now → yes ≡ true) }
 {
     match found {
         Input::Request { wind, graph, .. } => has_end(
@@ -229,7 +229,7 @@ pub fn is_message_ended(
 ) -> Result<bool, AllocError>
     requires { heads.now ≡ heads_of log.now.events }
     ensures sound { IfOk result (λ yes. yes ≡ true → IsEnded log.now brick message.now) }
-    ensures complete { IfOk result (λ yes. AreSlotsLow log.now.winds → IsEndedAt log.now brick ended message.now → IsEnded log.now brick message.now → yes ≡ true) }
+    ensures complete { IfOk result (λ yes. AreSlotsLow log.now.winds → IsPlaceOfMessageEnd log.now brick ended message.now → IsEnded log.now brick message.now → yes ≡ true) }
 {
     match message {
         Message::Whole(found) => is_input_ended(alloc, log, heads, ended, brick, found),

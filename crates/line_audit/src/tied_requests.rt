@@ -3,8 +3,8 @@ ghost use Rattle.std.specs.Prelude.{◌≡◌, ◌<◌, ◌↔◌, IsTrue, true}
 ghost use Rattle.fop_types.specs.declared.messages.Input.TheVariants as input;
 ghost use Rattle.xlator_law.specs.Numbers.{wind_number, open_before};
 ghost use Rattle.mount_log.specs.Ties.{IsOfCall, IsOpen, HasNumberOf, HasWind};
-ghost use Rattle.line_audit.specs.Slots.{AreSlotsLow};
-ghost use Rattle.line_audit.specs.Tied.{request_at, open_at, IsInputTied, IsOpenedAt, IsOpeningOf, IsTied};
+ghost use Rattle.line_audit.specs.Slots.{AreSlotsLow, slot_limit};
+ghost use Rattle.line_audit.specs.Tied.{request_at, open_at, IsInputTied, IsPlaceOfOpening, IsOpeningOf, IsTied};
 
 use crate::tied_replies::wind_at;
 use fop_types::{BrickReq, Input};
@@ -41,7 +41,7 @@ fn is_open(req: &BrickReq) -> bool
 /// Whether a number is that of the open before a wind's request.
 pub fn is_number_of_open(wind: WindNo, number: u64) -> bool
     ensures sound { result ≡ true → wind_number (open_before wind) ≡ number }
-    ensures complete { wind.slot < 2147483648 → wind_number (open_before wind) ≡ number → result ≡ true }
+    ensures complete { wind.slot < slot_limit → wind_number (open_before wind) ≡ number → result ≡ true }
 {
     if wind.slot >= 2147483648 {
         return false;
@@ -52,7 +52,7 @@ pub fn is_number_of_open(wind: WindNo, number: u64) -> bool
 // Whether the line at a place has the number of an opened wind, as the notes say.
 fn has_number_of(line: &WindLine, sent_for: SentFor, k: usize, number: u64, req: &BrickReq) -> bool
     ensures sound { result ≡ true → HasNumberOf line.now sent_for.request sent_for.open k number req.now }
-    ensures complete { line.now.wind.slot < 2147483648 → HasNumberOf line.now sent_for.request sent_for.open k number req.now → result ≡ true }
+    ensures complete { line.now.wind.slot < slot_limit → HasNumberOf line.now sent_for.request sent_for.open k number req.now → result ≡ true }
 {
     if line.wind.number() == number {
         return sent_for.request == k;
@@ -116,7 +116,7 @@ fn is_input_tied(
     found: &Input,
 ) -> bool
     ensures sound { result ≡ true → IsInputTied log.now all.now k event found.now }
-    ensures complete { AreSlotsLow log.now.winds → IsOpenedAt log.now all.now place k event found.now → IsInputTied log.now all.now k event found.now → result ≡ true }
+    ensures complete { AreSlotsLow log.now.winds → IsPlaceOfOpening log.now all.now place k event found.now → IsInputTied log.now all.now k event found.now → result ≡ true }
 {
     match found {
         Input::Request { wind, graph, req } => {

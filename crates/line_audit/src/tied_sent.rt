@@ -2,7 +2,7 @@
 ghost use Rattle.std.specs.Prelude.{◌≡◌, true, slice_index_or, IfOk};
 ghost use Rattle.wire_messages.specs.Messages.{input_in};
 ghost use Rattle.mount_log.specs.Heads.{heads_of};
-ghost use Rattle.line_audit.specs.Ended.{IsEnded, IsEndedAt, AreEnded};
+ghost use Rattle.line_audit.specs.Ended.{IsEnded, IsPlaceOfMessageEnd, AreEnded};
 ghost use Rattle.line_audit.specs.Slots.{AreSlotsLow};
 ghost use Rattle.line_audit.specs.Tied.{IsOpeningOf, IsTied, AreRequestsTied, end_of, ArePlacesOfRequests};
 
@@ -51,7 +51,7 @@ fn is_read_tied(
     requires { heads.now ≡ heads_of log.now.events }
     ensures tied { IfOk result (λ yes. yes ≡ true → IsTied log.now all.now k line.now.event message.now) }
     ensures ended { IfOk result (λ yes. yes ≡ true → IsEnded log.now line.now.brick message.now) }
-    ensures complete { IfOk result (λ yes. AreSlotsLow log.now.winds → IsOpeningOf log.now all.now place k line.now.event message.now → IsEndedAt log.now line.now.brick ended message.now → IsTied log.now all.now k line.now.event message.now → IsEnded log.now line.now.brick message.now → yes ≡ true) }
+    ensures complete { IfOk result (λ yes. AreSlotsLow log.now.winds → IsOpeningOf log.now all.now place k line.now.event message.now → IsPlaceOfMessageEnd log.now line.now.brick ended message.now → IsTied log.now all.now k line.now.event message.now → IsEnded log.now line.now.brick message.now → yes ≡ true) }
 {
     if !is_message_tied(log, all, place, k, line.event, message) {
         return Ok(false);
@@ -73,7 +73,7 @@ fn is_line_tied(
     requires { heads.now ≡ heads_of log.now.events }
     ensures tied { IfOk result (λ yes. yes ≡ true → IsTied log.now all.now k line.now.event (input_in line.now.bytes)) }
     ensures ended { IfOk result (λ yes. yes ≡ true → IsEnded log.now line.now.brick (input_in line.now.bytes)) }
-    ensures complete { IfOk result (λ yes. AreSlotsLow log.now.winds → IsOpeningOf log.now all.now place k line.now.event (input_in line.now.bytes) → IsEndedAt log.now line.now.brick ended (input_in line.now.bytes) → IsTied log.now all.now k line.now.event (input_in line.now.bytes) → IsEnded log.now line.now.brick (input_in line.now.bytes) → yes ≡ true) }
+    ensures complete { IfOk result (λ yes. AreSlotsLow log.now.winds → IsOpeningOf log.now all.now place k line.now.event (input_in line.now.bytes) → IsPlaceOfMessageEnd log.now line.now.brick ended (input_in line.now.bytes) → IsTied log.now all.now k line.now.event (input_in line.now.bytes) → IsEnded log.now line.now.brick (input_in line.now.bytes) → yes ≡ true) }
 {
     let message = input_of(alloc, line.bytes.as_slice())?;
     let found = is_read_tied(alloc, log, heads, all, place, ended, k, line, &message);

@@ -32,7 +32,7 @@ pub record AreTimely (brick : ℕ) (events : List HubEvent) (sent : List SentLin
 abbrev pub SentInOrder : List HubEvent → List SentLine → Type 0
 SentInOrder events sent = do_rise 0 (length events) (map (λ l. l.event) sent) ≡ true
 
--- so many of the lines that were passed were sent to the brick, and at least so many before the event
+-- how many of the lines that were passed were sent to the brick, and at least how many of them before the event
 pub record IsLow (brick number : ℕ) (sent : List SentLine) (p : Passed) : Type 0 where
   pub low : p.count ≤ sent_before number brick (take p.next sent)
   pub few : p.count ≤ p.next

@@ -40,7 +40,7 @@ call_by calls number = if number == 0 then None else slice_get calls (number - 1
 
 -- ---- the calls of the first events
 
--- so many events were passed: each session has left what it did not submit, and these are the calls so far
+-- the calls of the first events; each session has left what it did not submit in them
 pub record AreGathered (script : Script) (log : Log) (passed : ℕ) (queues : List (List LineAt)) (calls : List CallMade) : Type 0 where
   pub left : HaveLeft script (take passed log.events) queues
   pub each : (n : ℕ) (call : CallMade) → slice_get calls n ≡ Some call → IsCallAt script log n call

@@ -38,6 +38,7 @@ fn is_of_brick(log: &Log, brick: u8, at: &Brick) -> bool
     ensures few { length at.now.journal < 2 ^ 64 }
 {
     let journal = at.journal();
+    // Its clause `few` is what is called for: a journal's length fits 64 bits.
     count_of(journal);
     if !was_sent(brick, log.sent.as_slice(), journal) {
         return false;
@@ -74,7 +75,7 @@ fn is_timely(log: &Log, heads: &[Head], brick: u8) -> bool
 }
 
 /// Whether arrivals that are outputs of these bricks are honest, by the heads of what arrived: whether each came after the
-/// inputs that it counts. It is false, too, where there are more than 255 bricks, or what was sent does not stand in the order of
+/// inputs that it counts. It is false, too, where there are more than 255 bricks, or what was sent is not in the order of
 /// its events.
 pub fn arrivals_are_honest(log: &Log, heads: &[Head], bricks: &[Brick]) -> bool
     requires heads { heads.now ≡ heads_of log.now.events }

@@ -16,7 +16,7 @@
 //! Each audit goes through the log a fixed number of times, those of arrivals once more for each brick. It knows nothing of
 //! how the log came about. True says that its definition holds of the log, and where that holds it says true: of winds where
 //! those of a slot follow one another (`WindsFollow`), and of arrivals where there are at most 255 bricks and what was sent is
-//! in the order of its events. Every log of a run has these. A program calls them before it writes a report.
+//! in the order of its events. The log of a run has these, which is not proved. A program calls them before it writes a report.
 //!
 //! `run_audit`, `line_audit`, `error_audit`, `change_audit` and `read_audit` have the other audits. What `run_audit` and
 //! `line_audit` look up in a log is here, in the modules that are public: the calls that were submitted, with their lines, and

@@ -24,8 +24,8 @@ fn slots_after(alloc: Global, lines: &[WindLine]) -> Result<Option<Slots>, Alloc
 }
 
 /// Whether the winds of a log are balanced: each was opened once and ended once, after its opening and in its graph and call.
-/// It is false, too, where a slot's winds do not follow one another with rising turns, as a frame stack's do; where they do, it
-/// says which.
+/// It is false, too, where a slot's winds do not follow one another with rising turns, as a frame stack's do; where they do, true
+/// and false say whether they are balanced.
 ///
 /// # Errors
 /// Out of memory.

@@ -3,7 +3,7 @@ use Rattle.std.specs.Prelude.{ℕ, ◌+◌, length, slice_get}
 use Rattle.std.proofs.lemmas.Option.{slice_get_within}
 use Rattle.wire_messages.specs.Messages.{input_in}
 use Rattle.mount_log.specs.declared.logs.SentLine.{SentLine}
-use Rattle.line_audit.specs.Ended.{IsEnded, IsEndedAt}
+use Rattle.line_audit.specs.Ended.{IsEnded, IsPlaceOfMessageEnd}
 use Rattle.line_audit.specs.Tied.{IsTied, IsOpeningOf}
 use Rattle.line_audit.specs.declared.tied_ends.EndedAt.{EndedAt}
 use Rattle.mount_log.proofs.Lists.{each_next}
@@ -29,5 +29,5 @@ returns-then-not-branch-clause-complete c = λ slots places tied ended.
     sym c.if-not-branch.true
     ∙ c.in_ok-is_line_tied.ensures.complete slots
     (subst (λ (p : ℕ). IsOpeningOf c.args.log.now c.args.all.now p c.loop-k.k line.event (input_in line.bytes)) (sym c.place_of-place.ensures) (places.opened_at c.loop-k.k line there))
-    (subst (λ (e : EndedAt). IsEndedAt c.args.log.now line.brick e (input_in line.bytes)) (sym c.ended_at.ensures) (places.ended_at c.loop-k.k line there))
+    (subst (λ (e : EndedAt). IsPlaceOfMessageEnd c.args.log.now line.brick e (input_in line.bytes)) (sym c.ended_at.ensures) (places.ended_at c.loop-k.k line there))
     (tied c.loop-k.k line there) (ended c.loop-k.k line there)

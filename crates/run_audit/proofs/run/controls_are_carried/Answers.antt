@@ -1,6 +1,6 @@
-use Rattle.std.proofs.Common.{◌≡◌, subst}
-use Rattle.std.specs.Prelude.{IfSome}
-use Rattle.run_audit.specs.Controlled.{AreTables}
+use Rattle.std.proofs.Common.{◌≡◌, sym, subst, ◌∙◌}
+use Rattle.std.specs.Prelude.{IfSome, IsSome}
+use Rattle.run_audit.specs.Controlled.{AreTables, AreWholeTables}
 use Rattle.run_audit.proofs.run.controls_are_carried.Goals as goal
 
 pub returns-clause-sound : goal.returns-clause-sound
@@ -13,3 +13,17 @@ returns-clause-sound c = λ yes. record {
   sent = c.in_ok-lines_are_sent_for.ensures.sound c.if-not-branch.false;
   answered = c.acts_are_right.ensures.answered c.if-not-acts_are_right.false;
 }
+
+pub returns-clause-complete : goal.returns-clause-complete
+returns-clause-complete c = λ can is.
+    c.in_ok-yes.ensures.complete can.requests is.timely
+    (is.phases c.in-Some.tables (subst (λ o. IfSome o (λ tables. AreWholeTables c.args.notes.now.ended c.args.log.now tables)) c.in-Some.is c.in_ok-tables.ensures.whole))
+
+pub returns-then-not-branch-clause-complete : goal.returns-then-not-branch-clause-complete
+returns-then-not-branch-clause-complete c = λ can is. sym c.if-not-branch.true ∙ c.in_ok-lines_are_sent_for.ensures.complete can.noted is.sent
+
+pub returns-then-not-acts_are_right-clause-complete : goal.returns-then-not-acts_are_right-clause-complete
+returns-then-not-acts_are_right-clause-complete c = λ can is. sym c.if-not-acts_are_right.true ∙ c.acts_are_right.ensures.complete can.noted can.many is.acts is.answered
+
+pub returns-in_default-tables-clause-complete : goal.returns-in_default-tables-clause-complete
+returns-in_default-tables-clause-complete c = λ can is. absurd (subst (λ o. IsSome o) c.in_default-tables.is (c.in_ok-tables.ensures.complete can.order))
