@@ -1,6 +1,6 @@
 -- The calls of a log: there is one list of them, and where sessions submit their lines in order, none submits too many.
 use Rattle.std.proofs.Common.{◌≡◌, refl, sym, ap, subst, ◌∙◌, arith}
-use Rattle.std.specs.Prelude.{ℕ, zero, suc, ◌+◌, List, [], ◌∷◌, Option, None, Some, length, slice_get, take}
+use Rattle.std.specs.Prelude.{ℕ, zero, suc, ◌+◌, List, [], ◌∷◌, Option, None, Some, IfNone, length, slice_get, take}
 use Rattle.script_lang.specs.declared.scripts.CallLine.{CallLine}
 use Rattle.script_lang.specs.declared.scripts.Script.{Script}
 use Rattle.mount_log.proofs.Items.{some_is}
@@ -21,6 +21,11 @@ same_items [] (y ∷ ys) many each = absurd (omega (arith, many))
 same_items (x ∷ xs) [] many each = absurd (omega (arith, many))
 same_items (x ∷ xs) (y ∷ ys) many each =
     let head : x ≡ y = each 0 x y refl refl in let rest : xs ≡ ys = same_items xs ys (omega (arith, many)) (λ n a b p q. each (suc n) a b p q) in cc
+
+-- what holds of none holds where there is none
+pub none_is : {X : Type 0} {P : Type 0} → (o : Option X) → ((x : X) → o ≡ Some x → ⊥) → IfNone o P → P
+none_is None not_some is = is
+none_is (Some x) not_some is = absurd (not_some x refl)
 
 abbrev made : ℕ → ℕ → ℕ → ℕ → ℕ → CallMade
 made event session line phase switches = record { event = event; session = session; line = line; phase = phase; switches = switches }

@@ -1,9 +1,9 @@
 use Rattle.std.proofs.Common.{◌≡◌, sym, subst, ◌∙◌}
-use Rattle.std.specs.Prelude.{List, IfSome, IfNone, length}
-use Rattle.log_audit.specs.Called.{AreCalls, SubmitsTooMany}
+use Rattle.std.specs.Prelude.{List, IfSome, length}
+use Rattle.log_audit.specs.Called.{AreCalls}
 use Rattle.run_audit.specs.CallPhases.{AreOneByOne, AreInPhases, AreAnsweredIn}
 use Rattle.log_audit.specs.declared.calls_made.CallMade.{CallMade}
-use Rattle.run_audit.proofs.Called.{same_calls, none_too_many}
+use Rattle.run_audit.proofs.Called.{same_calls, none_too_many, none_is}
 use Rattle.run_audit.proofs.OneByOne.{alone, one_by_one}
 use Rattle.run_audit.proofs.run.calls_are_in_phases.Goals as goal
 
@@ -37,5 +37,6 @@ returns-then-not-branch-clause-complete c = λ order single have.
     (subst (λ (l : List CallMade). AreOneByOne c.args.log.now l) (sym c.as_slice.ensures.value)
     (one_by_one c.args.script.now c.args.log.now c.in-Some.calls.items (subst (λ o. IfSome o (λ calls. AreCalls c.args.script.now c.args.log.now calls.items)) c.in-Some.is c.in_ok-calls.ensures.calls) have.alone))
 
-pub returns-in_default-calls-clause-complete : goal.returns-in_default-calls-clause-complete
-returns-in_default-calls-clause-complete c = λ order single have. absurd (none_too_many c.args.script.now c.args.log.now order (subst (λ o. IfNone o (SubmitsTooMany c.args.script.now c.args.log.now)) c.in_default-calls.is c.in_ok-calls.ensures.none))
+pub returns-in_default-clause-complete : goal.returns-in_default-clause-complete
+returns-in_default-clause-complete c = λ order single have.
+    absurd (none_too_many c.args.script.now c.args.log.now order (none_is _ (λ x is. c.in_default.not-Some x is) c.in_ok-calls.ensures.none))

@@ -1,5 +1,5 @@
 use Rattle.std.proofs.Common.{◌≡◌, sym, subst, ◌∙◌}
-use Rattle.std.specs.Prelude.{IfSome, IsSome}
+use Rattle.std.specs.Prelude.{IfSome}
 use Rattle.run_audit.specs.Controlled.{AreTables, AreWholeTables}
 use Rattle.run_audit.proofs.run.controls_are_carried.Goals as goal
 
@@ -24,6 +24,3 @@ returns-then-not-branch-clause-complete c = λ can is. sym c.if-not-branch.true 
 
 pub returns-then-not-acts_are_right-clause-complete : goal.returns-then-not-acts_are_right-clause-complete
 returns-then-not-acts_are_right-clause-complete c = λ can is. sym c.if-not-acts_are_right.true ∙ c.acts_are_right.ensures.complete can.noted can.many is.acts is.answered
-
-pub returns-in_default-tables-clause-complete : goal.returns-in_default-tables-clause-complete
-returns-in_default-tables-clause-complete c = λ can is. absurd (subst (λ o. IsSome o) c.in_default-tables.is (c.in_ok-tables.ensures.complete can.order))
