@@ -140,14 +140,12 @@ module _ {X : Type 0} (f : X → ℕ) where
       not_twice (start ++ map f (take i xs)) (map f (drop (suc i) xs)) (f (get_or xs i d)) (subst (λ (l : List ℕ). Contains l (f (get_or xs i d))) was among) (subst (IsDistinct ◌==◌) whole different)
 
 -- a number that is not below the next
-pub not_rising : {N : Type 0} (pairs : List (ℕ × N)) (k : ℕ) (one next : ℕ × N) → 1 ≤ k → k < length pairs → one ≡ get_or pairs (k - 1) one → next ≡ get_or pairs k next → next.0 ≤ one.0
-    → IsStrictlyIncreasing (map (λ (pair : ℕ × N). pair.0) pairs) → ⊥
-not_rising {N} pairs k one next from lt one_is next_is le rise =
+pub not_rising : {N : Type 0} (pairs : List (ℕ × N)) (k : ℕ) (one next : ℕ × N) → 1 ≤ k → k < length pairs → (get_or pairs k next).0 ≤ (get_or pairs (k - 1) one).0 → IsStrictlyIncreasing (map (λ (pair : ℕ × N). pair.0) pairs) → ⊥
+not_rising {N} pairs k one next from lt le rise =
     let numbers : List ℕ = map (λ (pair : ℕ × N). pair.0) pairs in
     let step : k - 1 + 1 ≡ k = omega (arith, from) in
     let long : length numbers ≡ length pairs = length-map pairs (λ (pair : ℕ × N). pair.0) in
     let up : get_or numbers (k - 1) 0 < get_or numbers (k - 1 + 1) 0 = rise (k - 1) (omega (arith, from, lt, long)) in
-    let here : get_or numbers (k - 1) 0 ≡ one.0 = get_or-map (λ (pair : ℕ × N). pair.0) pairs (k - 1) one 0 (omega (arith, from, lt)) ∙ ap (λ (pair : ℕ × N). pair.0) (sym one_is) in
-    let there : get_or numbers (k - 1 + 1) 0 ≡ next.0 =
-    ap (λ (n : ℕ). get_or numbers n 0) step ∙ get_or-map (λ (pair : ℕ × N). pair.0) pairs k next 0 lt ∙ ap (λ (pair : ℕ × N). pair.0) (sym next_is) in
+    let here : get_or numbers (k - 1) 0 ≡ (get_or pairs (k - 1) one).0 = get_or-map (λ (pair : ℕ × N). pair.0) pairs (k - 1) one 0 (omega (arith, from, lt)) in
+    let there : get_or numbers (k - 1 + 1) 0 ≡ (get_or pairs k next).0 = ap (λ (n : ℕ). get_or numbers n 0) step ∙ get_or-map (λ (pair : ℕ × N). pair.0) pairs k next 0 lt in
     absurd (omega (arith, up, here, there, le))

@@ -14,10 +14,11 @@ use Rattle.fop_types.specs.declared.messages.Input.TheVariants as input
 use Rattle.wire_messages.specs.Messages.{input_in}
 use Rattle.wire_messages.specs.declared.messages.Message.{Message}
 use Rattle.wire_messages.specs.declared.messages.Message.TheVariants.{Whole, Wrong}
+use Rattle.mount_log.proofs.Items.{some_is}
 use Rattle.mount_log.specs.Locks.{IsLock, IsAsked, IsLastPhase}
 use Rattle.mount_log.specs.declared.logs.Log.{Log}
 use Rattle.mount_log.specs.declared.logs.SentLine.{SentLine}
-use Rattle.error_audit.specs.LockTable.{locks_at, lock_in, HasLock, IsAdded, IsLockIn, AreFrom, AreKept, IsRequestNoted, IsInputNoted, IsNoted, IsLineNoted, HaveLocks, IsOfCall, AreOfCalls, IsBehind, IsFollowed, IsLockOn}
+use Rattle.error_audit.specs.LockTable.{locks_at, lock_in, HasLock, IsAdded, IsLockIn, AreFrom, AreKept, IsRequestNoted, IsInputNoted, IsNoted, IsLineNoted, HaveLocks, IsOfCall, AreOfCalls, IsBehind, IsFollowed, IsLockOf, IsLockOn}
 use Rattle.error_audit.specs.declared.locks.LockAt.{LockAt}
 use Rattle.error_audit.proofs.Different.{behind}
 
@@ -28,6 +29,19 @@ lock_there log call at brick wind cells line there brick_is on = by (input_in li
   by : (m : Message Input) → input_in line.bytes ≡ m → IsLockOn call wind cells m → IsLock log call at brick wind cells
   by (Whole x) e l = record { line = line; there = there; brick_is = brick_is; graph = l.graph; shared = l.shared; read = e ∙ ap Whole l.is }
   by (Wrong place) e l = absurd l
+
+-- and the other way
+request_of : (v w g h : ℕ) (r s : BrickReq) → input.Request v g r ≡ input.Request w h s → r ≡ s
+request_of v w g h r s e = cc
+
+pub lock_is : (call wind number graph : ℕ) (cells : List Cell) (r : BrickReq) (x : Input) → x ≡ input.Request number graph r → IsLockOf call wind cells x → IsLockOf call number cells (input.Request number graph r)
+lock_is call wind number graph cells r x is l =
+    record { graph = graph; shared = l.shared; is = ap (input.Request number graph) (request_of number wind graph l.graph r (req.Lock call l.shared cells) (sym is ∙ l.is)) }
+
+pub lock_read : (log : Log) (call at brick wind : ℕ) (cells : List Cell) (line : SentLine) → slice_get log.sent at ≡ Some line → IsLock log call at brick wind cells → (line.brick ≡ brick) × IsLockOn call wind cells (input_in line.bytes)
+lock_read log call at brick wind cells line there l =
+    subst (λ (x : SentLine). (x.brick ≡ brick) × IsLockOn call wind cells (input_in x.bytes)) (some_is l.line line (sym l.there ∙ there))
+    (l.brick_is, subst (IsLockOn call wind cells) (sym l.read) (record { graph = l.graph; shared = l.shared; is = refl }))
 
 -- ---- one more
 
@@ -79,16 +93,16 @@ empty_more f (x ∷ qs) q none are (suc call) = empty_more f qs q none (λ n. ar
 
 -- ---- what is in the lists
 
-pub from_request : (old new : List (List LockAt)) (lock : LockAt) (r : BrickReq) (call : ℕ) (shared : Bool) (cells : List Cell) → r ≡ req.Lock call shared cells → IsAdded old call lock new
-    → (wind graph : ℕ) → AreFrom old new lock (Whole (input.Request wind graph r))
-from_request old new lock r call shared cells is added wind graph c noted there = by (added c noted there) where
+pub from_request : (old more : List (List LockAt)) (lock : LockAt) (r : BrickReq) (call : ℕ) (shared : Bool) (cells : List Cell) → r ≡ req.Lock call shared cells → IsAdded old call lock more
+    → (wind graph : ℕ) → AreFrom old more lock (Whole (input.Request wind graph r))
+from_request old more lock r call shared cells is added wind graph c noted there = by (added c noted there) where
   by : Contains (locks_at old c) noted ⊎ ((c ≡ call) × (noted ≡ lock)) → Contains (locks_at old c) noted ⊎ IsLockIn c lock noted (Whole (input.Request wind graph r))
   by (inl was) = inl was
   by (inr (own, same)) =
       inr (record { same = same; wind = wind; cells = cells; on = record { graph = graph; shared = shared; is = ap (input.Request wind graph) (is ∙ ap (λ (n : ℕ). req.Lock n shared cells) (sym own)) } })
 
-pub of_calls : (log : Log) (old new : List (List LockAt)) (at : ℕ) (line : SentLine) → slice_get log.sent at ≡ Some line → AreOfCalls log old → AreFrom old new (lock_in at line) (input_in line.bytes) → AreOfCalls log new
-of_calls log old new at line there are from call noted among = by (from call noted among) where
+pub of_calls : (log : Log) (old more : List (List LockAt)) (at : ℕ) (line : SentLine) → slice_get log.sent at ≡ Some line → AreOfCalls log old → AreFrom old more (lock_in at line) (input_in line.bytes) → AreOfCalls log more
+of_calls log old more at line there are from call noted among = by (from call noted among) where
   by : Contains (locks_at old call) noted ⊎ IsLockIn call (lock_in at line) noted (input_in line.bytes) → IsOfCall log call noted
   by (inl was) = are call noted was
   by (inr l) = subst (IsOfCall log call) (sym l.same) (record { wind = l.wind; cells = l.cells; sent = lock_there log call at line.brick l.wind l.cells line there refl l.on })

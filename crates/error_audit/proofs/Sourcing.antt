@@ -1,6 +1,7 @@
 -- No source, from what the tests find.
-use Rattle.std.proofs.Common.{◌≡◌, sym, ap, subst, ◌∙◌, arith, get_or, inl, inr}
-use Rattle.std.specs.Prelude.{ℕ, ◌+◌, ◌<◌, ◌⊎◌, Bool, true, false, List, [], ◌∷◌, ◌++◌, Option, Some, Contains, length, slice_get, take}
+use Rattle.std.proofs.Common.{◌≡◌, refl, sym, ap, subst, ◌∙◌, arith, get_or, inl, inr}
+use Rattle.std.specs.Prelude.{ℕ, ◌+◌, ◌<◌, ◌==◌, ◌⊎◌, Bool, true, false, List, [], ◌∷◌, ◌++◌, Option, Some, Contains, length, slice_get, take}
+use Rattle.std.proofs.lemmas.Bool.{eqb-true}
 use Rattle.std.proofs.lemmas.List.{take_more}
 use Rattle.std.proofs.lemmas.List.Elements.{All-contains, All-push, All-from_recursion, Contains-append_left, Contains-get_or, Contains-push, Contains-push_cases}
 use Rattle.afr_changelog.specs.Masks.{Names, IsCommon}
@@ -39,6 +40,11 @@ next_common masks mask k all own = All-push (λ (m : Mask). Names m k) masks mas
 pub no_common : (k : ℕ) → IsCommon [] k
 no_common k = All-from_recursion (λ (m : Mask). Names m k) [] (record {})
 
+-- masks of which there is none have all in common
+pub are_masks : (masks : List Mask) (empty : Bool) → empty ≡ (length masks == 0) → empty ≡ true → ((k : ℕ) → IsCommon masks k → ⊥) → ⊥
+are_masks [] empty is so none = none 0 (no_common 0)
+are_masks (mask ∷ masks) empty is so none = absurd (let e = eqb-true (length (mask ∷ masks)) 0 (sym is ∙ so) in omega (arith, e))
+
 -- the masks so far, and that of one place more
 pub next_mask : (plan : SetPlan) (shown : List (Option (List Row))) (places : List ℕ) (i d : ℕ) (masks more : List Mask) (mask : Mask) → i < length places → more ≡ masks ++ mask ∷ []
     → ((k : ℕ) → ((place : ℕ) → Contains places place → IsSoundAt plan shown k place) → IsCommon masks k) → ((k : ℕ) → IsSoundAt plan shown k (get_or places i d) → Names mask k)
@@ -70,5 +76,5 @@ has_mark log plan before cells places i d lt own = record { at = get_or places i
 -- where each cell has a sound replica
 pub of_change : (log : Log) (plan : SetPlan) (from : ℕ) (cells : List Cell) (shown : List (Option (List Row))) (places : List ℕ) (has : Bool) → (HasUnsoundCell plan shown places → has ≡ true) → has ≡ false
     → HasNoSource log plan from cells shown places → IsMarked log plan from cells × ((replica : ℕ) → ((place : ℕ) → Contains places place → IsSoundAt plan shown replica place) → ⊥)
-of_change log plan from cells shown places has found no (OfCell place among none) = absurd (let yes = found (record { place = place; among = among; none = none }) in cc)
-of_change log plan from cells shown places has found no (OfChange marked none) = (marked, none)
+of_change log plan from cells shown places has found was (OfCell place among none) = absurd (let yes = found (record { place = place; among = among; none = none }) in cc)
+of_change log plan from cells shown places has found was (OfChange marked none) = (marked, none)

@@ -8,5 +8,5 @@ returns g c = (λ _. rising_of c.args.pairs.now (λ j d lt. c.loop-k.invariant j
 pub returns-then-pairs-k : goal.returns-then-pairs-k
 returns-then-pairs-k g c = (
   λ no. absurd cc,
-  λ rise. absurd (not_rising c.args.pairs.now c.loop-k.k c.index-pairs-k.result c.index-pairs-k-in-loop-k.result (omega arith) c.loop-k-test.true c.index-pairs-k.is c.index-pairs-k-in-loop-k.is c.if-pairs-k.true rise),
+  λ rise. absurd (not_rising c.args.pairs.now c.loop-k.k c.index-pairs-k.result c.index-pairs-k-in-loop-k.result (omega arith) c.loop-k-test.true c.if-pairs-k.true rise),
 )

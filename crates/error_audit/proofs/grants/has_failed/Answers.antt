@@ -19,3 +19,6 @@ returns-clause-exact c = (
   λ has. absurd (none_all (λ (one : Found). (one.brick ≡ c.args.brick) × IsFaultedAt c.args.log.now c.args.plan.now c.args.reply.now.call c.args.reply.now.event (c.args.brick, one.taken) one.at) c.args.found.now c.loop-one.one-index
       c.loop-one-test.false c.loop-one.invariant has.one has.among (has.brick_is, has.faulted)),
 )
+
+pub loop-one-preserved-then-one-brick : goal.loop-one-preserved-then-one-brick
+loop-one-preserved-then-one-brick c = none_next (λ (one : Found). (one.brick ≡ c.args.brick) × IsFaultedAt c.args.log.now c.args.plan.now c.args.reply.now.call c.args.reply.now.event (c.args.brick, one.taken) one.at) c.args.found.now c.loop-one.one-index _ c.loop-one-test.true c.loop-one.invariant (λ own. c.if-one-brick.true own.0)
