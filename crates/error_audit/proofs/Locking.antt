@@ -178,7 +178,7 @@ pub in_last_phase : (log : Log) (plan : SetPlan) (lists : List (List LockAt)) (c
 in_last_phase log plan lists call from own are is last =
     let asked : (l : LockAt) → Contains own l → (replica : ℕ) → slice_get plan.bricks replica ≡ Some l.brick → IsAsked log plan call l.at replica =
     λ l among replica there.
-        let o = are call l (subst (λ (q : List LockAt). Contains q l) is among) in record { brick = l.brick; brick_is = there; wind = o.wind; cells = o.cells; lock = o.sent } in
+    let o = are call l (subst (λ (q : List LockAt). Contains q l) is among) in record { brick = l.brick; brick_is = there; wind = o.wind; cells = o.cells; lock = o.sent } in
     all_from (IsFollowed plan from own) own
     (λ one one_in le. all_from (IsBehind plan one) own (λ other other_in lt low high at_low at_high. last one.at other.at low high le lt (asked one one_in low at_low) (asked other other_in high at_high)))
 

@@ -409,8 +409,7 @@ pub fn io_errors_are_caused(
     plans: &[Plan],
     log: &Log,
 ) -> Result<bool, AllocError>
-    ensures sound { IfOk result (λ yes. yes ≡ true → AreCaused script.now plans.now log.now) }
-    ensures plain { IfOk result (λ yes. AllByRecursion (λ reply. IsPlain reply.answer) log.now.replies → yes ≡ true) }
+    ensures { IfOk result (λ yes. yes ≡ true → AreCaused script.now plans.now log.now) }
 {
     if have_none(script, plans, log) {
         return Ok(true);

@@ -19,6 +19,6 @@ returns-clause-exact c = (
 
 pub loop-one-preserved-then-one-pair : goal.loop-one-preserved-then-one-pair
 loop-one-preserved-then-one-pair c = elim c.then-one-pair.branch [
-  then-one-pair-via-then-one-pair w ↦ none_next (λ (one : Found). (one.brick ≡ c.args.pair.now.0) × (one.taken ≡ c.args.pair.now.1) × IsFaultedAt c.args.log.now c.args.plan.now c.args.reply.now.call c.args.reply.now.event c.args.pair.now one.at) c.args.found.now c.loop-one.one-index _ c.loop-one-test.true c.loop-one.invariant (λ own. w.if-one-pair.true own.0)
+  | then-one-pair-via-then-one-pair w ↦ none_next (λ (one : Found). (one.brick ≡ c.args.pair.now.0) × (one.taken ≡ c.args.pair.now.1) × IsFaultedAt c.args.log.now c.args.plan.now c.args.reply.now.call c.args.reply.now.event c.args.pair.now one.at) c.args.found.now c.loop-one.one-index _ c.loop-one-test.true c.loop-one.invariant (λ own. w.if-one-pair.true own.0)
   | then-one-pair-via-else-one-pair+then-one-pair-2 w ↦ none_next (λ (one : Found). (one.brick ≡ c.args.pair.now.0) × (one.taken ≡ c.args.pair.now.1) × IsFaultedAt c.args.log.now c.args.plan.now c.args.reply.now.call c.args.reply.now.event c.args.pair.now one.at) c.args.found.now c.loop-one.one-index _ c.loop-one-test.true c.loop-one.invariant (λ own. w.if-one-pair-2.true own.1)
 ]
