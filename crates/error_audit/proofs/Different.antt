@@ -1,10 +1,11 @@
 -- Bricks that differ, with one more; and items of mapped lists.
-use Rattle.std.proofs.Common.{◌≡◌, refl, sym, ap, subst, ◌∙◌, arith, get_or}
-use Rattle.std.specs.Prelude.{ℕ, zero, suc, ◌≢◌, ◌+◌, ◌-◌, ◌<◌, ◌≤◌, ◌==◌, ◌||◌, Bool, true, false, List, [], ◌∷◌, ◌++◌, Option, None, Some, Contains, length, map, take, slice_get}
+use Rattle.std.proofs.Common.{◌≡◌, refl, sym, ap, subst, ◌∙◌, arith, get_or, inl, inr, drop}
+use Rattle.std.specs.Prelude.{ℕ, zero, suc, ◌≢◌, ◌+◌, ◌-◌, ◌<◌, ◌≤◌, ◌==◌, ◌||◌, ◌⊎◌, Bool, true, false, List, [], ◌∷◌, ◌++◌, Option, None, Some, Contains, length, map, take, slice_get}
 use Rattle.std.specs.List.{AllAdjacentBelow, AllByRecursion, IsDistinct, list_any}
 use Rattle.std.specs.List.Sorted.{IsStrictlyIncreasing}
-use Rattle.std.proofs.lemmas.Bool.{or_parts}
-use Rattle.std.proofs.lemmas.List.{append_assoc, get_or-map, length-map, map-append, take_more}
+use Rattle.std.proofs.lemmas.Bool.{eq-eqb, or_parts}
+use Rattle.std.proofs.lemmas.List.{append_assoc, get_or-map, length-map, map-append, take_all, take_more}
+use Rattle.std.proofs.lemmas.List.Elements.{Contains-push_cases}
 use Rattle.fop_types.specs.declared.jobs.SetPlan.{SetPlan}
 use Rattle.mount_log.proofs.Items.{some_is}
 use Rattle.mount_log.specs.Causes.{AreEnough}
@@ -79,3 +80,72 @@ module _ {X : Type 0} where
   all_at P [] k x all is = absurd cc
   all_at P (y ∷ xs) zero x all is = subst P (some_is y x is) all.0
   all_at P (y ∷ xs) (suc k) x all is = all_at P xs k x all.1 is
+
+-- ---- searches
+
+module _ {X : Type 0} (P : X → Type 0) where
+  -- none of the items so far has it, nor has the next
+  pub none_next : (xs : List X) (i : ℕ) (d : X) → i < length xs → ((x : X) → Contains (take i xs) x → P x → ⊥) → (P (get_or xs i d) → ⊥) → (x : X) → Contains (take (i + 1) xs) x → P x → ⊥
+  none_next xs i d lt none not x among own = by (Contains-push_cases (take i xs) (get_or xs i d) x (subst (λ (l : List X). Contains l x) (take_more xs i d lt) among)) where
+    by : Contains (take i xs) x ⊎ (get_or xs i d ≡ x) → ⊥
+    by (inl there) = none x there own
+    by (inr is) = not (subst P (sym is) own)
+
+  pub none_all : (xs : List X) (i : ℕ) → length xs ≤ i → ((x : X) → Contains (take i xs) x → P x → ⊥) → (x : X) → Contains xs x → P x → ⊥
+  none_all xs i le none x among own = none x (subst (λ (l : List X). Contains l x) (sym (take_all i xs le)) among) own
+
+  -- an item that is read has what all have
+  pub all_read : (xs : List X) (i : ℕ) (d : X) → i < length xs → AllByRecursion P xs → P (get_or xs i d)
+  all_read [] i d lt all = absurd (omega (arith, lt))
+  all_read (y ∷ xs) zero d lt all = all.0
+  all_read (y ∷ xs) (suc i) d lt all = all_read xs i d (omega (arith, lt)) all.1
+
+  pub all_taken : (xs : List X) (i : ℕ) → length xs ≤ i → AllByRecursion P (take i xs) → AllByRecursion P xs
+  all_taken xs i le all = subst (AllByRecursion P) (take_all i xs le) all
+
+-- ---- bricks that do not differ
+
+all_mid : {X : Type 0} (P : X → Type 0) (xs ys : List X) (x : X) → AllByRecursion P (xs ++ x ∷ ys) → P x
+all_mid P [] ys x all = all.0
+all_mid P (z ∷ xs) ys x all = all_mid P xs ys x all.1
+
+all_front : {X : Type 0} (P : X → Type 0) (xs ys : List X) → AllByRecursion P (xs ++ ys) → AllByRecursion P xs
+all_front P [] ys all = record {}
+all_front P (z ∷ xs) ys all = (all.0, all_front P xs ys all.1)
+
+-- an item that is in a list twice
+not_twice : (xs ys : List ℕ) (x : ℕ) → Contains xs x → IsDistinct ◌==◌ (xs ++ x ∷ ys) → ⊥
+unfolding IsDistinct
+not_twice [] ys x (k, lt, is) d = absurd (omega (arith, lt))
+not_twice (y ∷ xs) ys x (zero, lt, is) d =
+    let no : (y == x) ≡ false = all_mid (λ z. (y == z) ≡ false) xs ys x d.0 in let yes : (y == x) ≡ true = eq-eqb y x is in absurd cc
+not_twice (y ∷ xs) ys x (suc k, lt, is) d = not_twice xs ys x (k, omega (arith, lt), is) d.1
+
+pub distinct_front : (xs ys : List ℕ) → IsDistinct ◌==◌ (xs ++ ys) → IsDistinct ◌==◌ xs
+unfolding IsDistinct
+distinct_front [] ys d = record {}
+distinct_front (y ∷ xs) ys d = (all_front (λ z. (y == z) ≡ false) xs ys d.0, distinct_front xs ys d.1)
+
+module _ {X : Type 0} (f : X → ℕ) where
+  split_at : (xs : List X) (i : ℕ) (d : X) → i < length xs → map f xs ≡ map f (take i xs) ++ f (get_or xs i d) ∷ map f (drop (suc i) xs)
+  split_at [] i d lt = absurd (omega (arith, lt))
+  split_at (y ∷ xs) zero d lt = refl
+  split_at (y ∷ xs) (suc i) d lt = ap (λ (l : List ℕ). f y ∷ l) (split_at xs i d (omega (arith, lt)))
+
+  -- the next item is one of those before it
+  pub not_distinct : (xs : List X) (i : ℕ) (d : X) (start now : List ℕ) → i < length xs → now ≡ start ++ map f (take i xs) → Contains now (f (get_or xs i d)) → IsDistinct ◌==◌ (start ++ map f xs) → ⊥
+  not_distinct xs i d start now lt was among different =
+      let whole : start ++ map f xs ≡ (start ++ map f (take i xs)) ++ f (get_or xs i d) ∷ map f (drop (suc i) xs) =
+      ap (λ (l : List ℕ). start ++ l) (split_at xs i d lt) ∙ sym (append_assoc start (map f (take i xs)) (f (get_or xs i d) ∷ map f (drop (suc i) xs))) in
+      not_twice (start ++ map f (take i xs)) (map f (drop (suc i) xs)) (f (get_or xs i d)) (subst (λ (l : List ℕ). Contains l (f (get_or xs i d))) was among) (subst (IsDistinct ◌==◌) whole different)
+
+-- a number that is not below the next
+pub not_rising : {N : Type 0} (pairs : List (ℕ × N)) (k : ℕ) (one next : ℕ × N) → 1 ≤ k → k < length pairs → (get_or pairs k next).0 ≤ (get_or pairs (k - 1) one).0 → IsStrictlyIncreasing (map (λ (pair : ℕ × N). pair.0) pairs) → ⊥
+not_rising {N} pairs k one next from lt le rise =
+    let numbers : List ℕ = map (λ (pair : ℕ × N). pair.0) pairs in
+    let step : k - 1 + 1 ≡ k = omega (arith, from) in
+    let long : length numbers ≡ length pairs = length-map pairs (λ (pair : ℕ × N). pair.0) in
+    let up : get_or numbers (k - 1) 0 < get_or numbers (k - 1 + 1) 0 = rise (k - 1) (omega (arith, from, lt, long)) in
+    let here : get_or numbers (k - 1) 0 ≡ (get_or pairs (k - 1) one).0 = get_or-map (λ (pair : ℕ × N). pair.0) pairs (k - 1) one 0 (omega (arith, from, lt)) in
+    let there : get_or numbers (k - 1 + 1) 0 ≡ (get_or pairs k next).0 = ap (λ (n : ℕ). get_or numbers n 0) step ∙ get_or-map (λ (pair : ℕ × N). pair.0) pairs k next 0 lt in
+    absurd (omega (arith, up, here, there, le))

@@ -1,5 +1,5 @@
 -- Evidence from what the tests find.
-use Rattle.std.proofs.Common.{◌≡◌, refl, sym, ap, subst, ◌∙◌, arith}
+use Rattle.std.proofs.Common.{◌≡◌, refl, sym, ap, subst, ◌∙◌, arith, get_or}
 use Rattle.std.specs.Prelude.{ℕ, zero, suc, ◌+◌, ◌-◌, ◌<◌, ◌≤◌, ◌==◌, ◌||◌, Bool, true, false, List, [], ◌∷◌, Some, Contains, length, slice_get, slice_index_or}
 use Rattle.std.specs.List.{list_any}
 use Rattle.std.specs.Cmp.Derive.{both_true}
@@ -51,6 +51,10 @@ member (y ∷ xs) x any = by (y == x) refl any (member xs x) where
   by : (b : Bool) → (y == x) ≡ b → (b || list_any (λ y. y == x) xs) ≡ true → (list_any (λ y. y == x) xs ≡ true → Contains xs x) → Contains (y ∷ xs) x
   by true is rest later = (0, omega arith, eqb-true y x is)
   by false is rest later = behind y xs x (later rest)
+
+-- and the other way
+pub is_member : (xs : List ℕ) (x : ℕ) → Contains xs x → list_any (λ y. y == x) xs ≡ true
+is_member xs x (k, lt, is) = list_any_at (λ y. y == x) xs k x lt (eq-eqb (get_or xs k x) x is)
 
 pub faulted : (log : Log) (plan : SetPlan) (call until : ℕ) (pair : ℕ × ℕ) (output : Output) → Contains plan.bricks pair.0 → IsArrived log until pair.0 output → output.taken ≡ pair.1 → IsFaultOf log call output.kind
     → IsFaulted log plan call until pair

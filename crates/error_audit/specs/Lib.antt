@@ -1,6 +1,8 @@
--- In reading order: connections; the evidence of I/O errors; locks, and what was shown with them; what is looked up.
+-- In reading order: connections; the evidence of I/O errors, and what is found of it at places; locks, and what was shown with
+-- them; what is looked up.
 pub mod Opened
 pub mod Evidence
+pub mod AtPlaces
 pub mod LockTable
 pub mod Showing
 pub mod IoCauses

@@ -1,5 +1,5 @@
 -- The lock requests of each call, by where they are among what was sent.
-use Rattle.std.specs.Prelude.{◌≡◌, ℕ, ◌<◌, ◌≤◌, Bool, List, [], Some, Contains, length, slice_get, slice_index_or}
+use Rattle.std.specs.Prelude.{◌≡◌, ℕ, ◌<◌, ◌≤◌, ◌⊎◌, Bool, List, [], Some, Contains, length, slice_get, slice_index_or}
 use Rattle.std.specs.List.{AllByRecursion}
 use Rattle.fop_types.specs.declared.cells.Cell.{Cell}
 use Rattle.fop_types.specs.declared.jobs.SetPlan.{SetPlan}
@@ -55,12 +55,51 @@ abbrev pub IsNoted : List (List LockAt) → LockAt → Message Input → Type 0
 IsNoted lists lock (Whole x) = IsInputNoted lists lock x
 IsNoted lists lock (Wrong place) = Unit {0}
 
+-- the lock that a line at a place may be
+abbrev pub lock_in : ℕ → SentLine → LockAt
+lock_in at line = record { at = at; brick = line.brick }
+
 abbrev pub IsLineNoted : List (List LockAt) → ℕ → SentLine → Type 0
-IsLineNoted lists at line = IsNoted lists (record { at = at; brick = line.brick }) (input_in line.bytes)
+IsLineNoted lists at line = IsNoted lists (lock_in at line) (input_in line.bytes)
 
 -- each lock that was sent is in the list of its call, if the call has one
 abbrev pub HaveLocks : Log → List (List LockAt) → Type 0
 HaveLocks log lists = (call at brick wind : ℕ) (cells : List Cell) → IsLock log call at brick wind cells → HasLock lists call (record { at = at; brick = brick })
+
+-- an input is a call's lock of these cells
+pub record IsLockOf (call wind : ℕ) (cells : List Cell) (x : Input) : Type 0 where
+  pub graph : ℕ
+  pub shared : Bool
+  pub is : x ≡ input.Request wind graph (req.Lock call shared cells)
+
+abbrev pub IsLockOn : ℕ → ℕ → List Cell → Message Input → Type 0
+IsLockOn call wind cells (Whole x) = IsLockOf call wind cells x
+IsLockOn call wind cells (Wrong place) = ⊥
+
+-- one lock more is in the list of a call
+abbrev pub IsAdded : List (List LockAt) → ℕ → LockAt → List (List LockAt) → Type 0
+IsAdded old call lock new = (c : ℕ) (l : LockAt) → Contains (locks_at new c) l → Contains (locks_at old c) l ⊎ ((c ≡ call) × (l ≡ lock))
+
+-- what was sent is a call's lock, which is noted as this
+pub record IsLockIn (call : ℕ) (lock noted : LockAt) (m : Message Input) : Type 0 where
+  pub same : noted ≡ lock
+  pub wind : ℕ
+  pub cells : List Cell
+  pub on : IsLockOn call wind cells m
+
+-- what is in a list was there before, or is the lock that was sent
+abbrev pub AreFrom : List (List LockAt) → List (List LockAt) → LockAt → Message Input → Type 0
+AreFrom old new lock m = (call : ℕ) (noted : LockAt) → Contains (locks_at new call) noted → Contains (locks_at old call) noted ⊎ IsLockIn call lock noted m
+
+-- a lock in a list was sent to its brick at its place for the call of the list
+pub record IsOfCall (log : Log) (call : ℕ) (lock : LockAt) : Type 0 where
+  pub wind : ℕ
+  pub cells : List Cell
+  pub sent : IsLock log call lock.at lock.brick wind cells
+
+-- there is nothing else in the lists
+abbrev pub AreOfCalls : Log → List (List LockAt) → Type 0
+AreOfCalls log lists = (call : ℕ) (lock : LockAt) → Contains (locks_at lists call) lock → IsOfCall log call lock
 
 -- ---- their order
 
@@ -74,13 +113,3 @@ IsBehind plan one other = one.at < other.at → AreBehind plan.bricks one.brick 
 -- if one is at this place or behind it, those behind it are so in the set, too
 abbrev pub IsFollowed : SetPlan → ℕ → List LockAt → LockAt → Type 0
 IsFollowed plan from locks one = from ≤ one.at → AllByRecursion (IsBehind plan one) locks
-
--- an input is a call's lock of these cells
-pub record IsLockOf (call wind : ℕ) (cells : List Cell) (x : Input) : Type 0 where
-  pub graph : ℕ
-  pub shared : Bool
-  pub is : x ≡ input.Request wind graph (req.Lock call shared cells)
-
-abbrev pub IsLockOn : ℕ → ℕ → List Cell → Message Input → Type 0
-IsLockOn call wind cells (Whole x) = IsLockOf call wind cells x
-IsLockOn call wind cells (Wrong place) = ⊥

@@ -1,10 +1,12 @@
 //! What arrived from a brick, and whether it answered a request of a call by a fault.
-ghost use Rattle.std.specs.Prelude.{◌≡◌, ◌<◌, ◌⊎◌, true, Some, option_copied, slice_get, IfOk, IfSome};
+ghost use Rattle.std.specs.Prelude.{◌≡◌, ◌≢◌, ◌⊎◌, ◌↔◌, ℕ, List, IsTrue, true, Some, option_copied, slice_get, IfOk, IfSome, IfNone};
 ghost use Rattle.fop_types.specs.declared.messages.BrickRep.TheVariants as rep;
+ghost use Rattle.fop_types.specs.declared.messages.Output.{Output as Arrival};
 ghost use Rattle.xlator_law.specs.Numbers.{wind_number, open_before};
 ghost use Rattle.mount_log.specs.Causes.{IsWindOf, IsFaulted};
 ghost use Rattle.mount_log.specs.declared.logs.HubEvent.TheVariants as logged;
 ghost use Rattle.error_audit.specs.Evidence.{IsArrived, IsFaultOf};
+ghost use Rattle.error_audit.specs.AtPlaces.{IsNumberOfOpen, IsLineOf, IsWindAt, IsArrivedAt, IsFaultAt, IsFaultedAt};
 
 use crate::losses::has_brick;
 use fop_types::{BrickRep, OutKind, Output, SetPlan};
@@ -24,7 +26,8 @@ pub struct ReplyAt {
 // ---- what arrived
 
 fn bytes_from(event: &HubEvent, brick: u8) -> Option<&[u8]>
-    ensures { IfSome result (λ bytes. event.now ≡ logged.Arrive brick bytes.now) }
+    ensures some { IfSome result (λ bytes. event.now ≡ logged.Arrive brick bytes.now) }
+    ensures none { IfNone result ((bytes : List ℕ) → event.now ≢ logged.Arrive brick bytes) }
 {
     match event {
         HubEvent::Arrive { brick: from, bytes } => {
@@ -49,7 +52,9 @@ pub fn arrived(
     brick: u8,
     until: u64,
 ) -> Result<Option<Output>, AllocError>
-    ensures { IfOk result (λ found. IfSome found (λ output. IsArrived log.now until brick output)) }
+    ensures sound { IfOk result (λ found. IfSome found (λ output. IsArrived log.now until brick output)) }
+    ensures at { IfOk result (λ found. IfSome found (λ output. IsArrivedAt log.now place until brick output)) }
+    ensures complete { IfOk result (λ found. (output : Arrival) → IsArrivedAt log.now place until brick output → found ≡ Some output) }
 {
     if place as u64 >= until {
         return Ok(None);
@@ -69,7 +74,8 @@ pub fn arrived(
 // ---- its wind
 
 fn is_number(wind: WindNo, number: u64) -> bool
-    ensures { result ≡ true → (wind_number wind ≡ number) ⊎ (wind_number (open_before wind) ≡ number) }
+    ensures sound { result ≡ true → (wind_number wind ≡ number) ⊎ (wind_number (open_before wind) ≡ number) }
+    ensures exact { IsTrue result ↔ ((wind_number wind ≡ number) ⊎ IsNumberOfOpen wind number) }
 {
     if wind.number() == number {
         return true;
@@ -89,6 +95,7 @@ fn wind_at(log: &Log, place: usize) -> Option<&WindLine>
 fn is_line_of(line: &WindLine, call: u32, number: u64) -> bool
     ensures call { result ≡ true → line.now.call ≡ call }
     ensures wind { result ≡ true → (wind_number line.now.wind ≡ number) ⊎ (wind_number (open_before line.now.wind) ≡ number) }
+    ensures exact { IsTrue result ↔ IsLineOf call number line.now }
 {
     if line.call != call {
         return false;
@@ -98,7 +105,8 @@ fn is_line_of(line: &WindLine, call: u32, number: u64) -> bool
 
 /// Whether the wind line at a place is of the call, and of the wind with this number or of the request behind it.
 pub fn is_wind_of(log: &Log, place: usize, call: u32, number: u64) -> bool
-    ensures { result ≡ true → IsWindOf log.now call number }
+    ensures sound { result ≡ true → IsWindOf log.now call number }
+    ensures exact { IsTrue result ↔ IsWindAt log.now place call number }
 {
     match wind_at(log, place) {
         Some(line) => is_line_of(line, call, number),
@@ -109,7 +117,7 @@ pub fn is_wind_of(log: &Log, place: usize, call: u32, number: u64) -> bool
 // ---- a fault
 
 fn is_fault(answer: &BrickRep) -> bool
-    ensures { result ≡ true → answer.now ≡ rep.Fault }
+    ensures { IsTrue result ↔ (answer.now ≡ rep.Fault) }
 {
     match answer {
         BrickRep::Fault => true,
@@ -120,6 +128,7 @@ fn is_fault(answer: &BrickRep) -> bool
 fn is_faulty(log: &Log, answer: &BrickRep, call: u32, place: usize, wind: u64) -> bool
     ensures fault { result ≡ true → answer.now ≡ rep.Fault }
     ensures wind { result ≡ true → IsWindOf log.now call wind }
+    ensures exact { IsTrue result ↔ ((answer.now ≡ rep.Fault) × IsWindAt log.now place call wind) }
 {
     if !is_fault(answer) {
         return false;
@@ -128,7 +137,8 @@ fn is_faulty(log: &Log, answer: &BrickRep, call: u32, place: usize, wind: u64) -
 }
 
 fn is_fault_of(log: &Log, kind: &OutKind, call: u32, place: usize) -> bool
-    ensures { result ≡ true → IsFaultOf log.now call kind.now }
+    ensures sound { result ≡ true → IsFaultOf log.now call kind.now }
+    ensures exact { IsTrue result ↔ IsFaultAt log.now place call kind.now }
 {
     match kind {
         OutKind::Reply { wind, rep } => is_faulty(log, rep, call, place, *wind),
@@ -140,6 +150,7 @@ fn is_fault_of(log: &Log, kind: &OutKind, call: u32, place: usize) -> bool
 fn is_fault_at(log: &Log, output: &Output, place: u64, call: u32, wind: usize) -> bool
     ensures taken { result ≡ true → output.now.taken ≡ place }
     ensures fault { result ≡ true → IsFaultOf log.now call output.now.kind }
+    ensures exact { IsTrue result ↔ ((output.now.taken ≡ place) × IsFaultAt log.now wind call output.now.kind) }
 {
     output.taken == place && is_fault_of(log, &output.kind, call, wind)
 }
@@ -156,7 +167,8 @@ pub fn is_faulted(
     pair: &(u8, u64),
     at: ReplyAt,
 ) -> Result<bool, AllocError>
-    ensures { IfOk result (λ yes. yes ≡ true → IsFaulted log.now plan.now reply.now.call reply.now.event pair.now) }
+    ensures sound { IfOk result (λ yes. yes ≡ true → IsFaulted log.now plan.now reply.now.call reply.now.event pair.now) }
+    ensures exact { IfOk result (λ yes. IsTrue yes ↔ IsFaultedAt log.now plan.now reply.now.call reply.now.event pair.now at) }
 {
     if !has_brick(plan, pair.0) {
         return Ok(false);

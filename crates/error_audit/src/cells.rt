@@ -1,17 +1,17 @@
 //! Lists of cells.
-ghost use Rattle.std.specs.Prelude.{◌≡◌, true};
+ghost use Rattle.std.specs.Prelude.{◌≡◌, ◌↔◌, IsTrue};
 
 use fop_types::Cell;
 
 fn is_cell(cell: &Cell, other: &Cell) -> bool
-    ensures { result ≡ true → cell.now ≡ other.now }
+    ensures { IsTrue result ↔ (cell.now ≡ other.now) }
 {
     *cell == *other
 }
 
 /// Whether two lists of cells are the same.
 pub fn are_cells(cells: &[Cell], others: &[Cell]) -> bool
-    ensures { result ≡ true → cells.now ≡ others.now }
+    ensures { IsTrue result ↔ (cells.now ≡ others.now) }
 {
     if cells.len() != others.len() {
         return false;

@@ -1,13 +1,15 @@
 //! What the bricks of a set showed in the last lock phase of a call, and which of them were out.
-ghost use Rattle.std.specs.Prelude.{◌≡◌, true, Some, None, map, IfOk, IfSome};
+ghost use Rattle.std.specs.Prelude.{◌≡◌, ◌↔◌, List, IsTrue, true, Some, None, map, IfOk, IfSome, IsSome};
 ghost use Rattle.std.specs.List.{AllZip};
+ghost use Rattle.fop_types.specs.declared.contents.Row.{Row as Shown};
 ghost use Rattle.fop_types.specs.declared.messages.BrickRep.TheVariants as rep;
 ghost use Rattle.fop_types.specs.declared.messages.DoneArm.TheVariants as done;
 ghost use Rattle.mount_log.specs.Causes.{IsGranted, IsOut, HasShown};
 ghost use Rattle.mount_log.specs.Connections.{graph_of_call};
 ghost use Rattle.mount_log.specs.Submissions.{submitted_at};
 ghost use Rattle.error_audit.specs.Evidence.{HaveNumbers};
-ghost use Rattle.error_audit.specs.Showing.{AreRowsOf, HaveRows, IsOneMore};
+ghost use Rattle.error_audit.specs.AtPlaces.{HasFaultAmong};
+ghost use Rattle.error_audit.specs.Showing.{AreRowsOf, HaveRows, IsOneMore, AreRowsAt, HaveRowsAt, IsGrantedAt, IsGrantAmong};
 
 use crate::brick_replies::{ReplyAt, arrived, is_faulted, is_wind_of};
 use crate::connections::{count_openings, openings_at};
@@ -30,7 +32,8 @@ pub struct LockPhase {
 // ---- a brick that was reached
 
 fn rows_in(arm: DoneArm) -> Option<Seq<Row>>
-    ensures { IfSome result (λ rows. arm ≡ done.Rows rows) }
+    ensures sound { IfSome result (λ rows. arm ≡ done.Rows rows) }
+    ensures complete { (rows : List Shown) → arm ≡ done.Rows rows → result ≡ Some rows }
 {
     match arm {
         DoneArm::Rows(rows) => Some(rows),
@@ -42,7 +45,8 @@ fn rows_in(arm: DoneArm) -> Option<Seq<Row>>
 }
 
 fn rows_of(answer: BrickRep) -> Option<Seq<Row>>
-    ensures { IfSome result (λ rows. answer ≡ rep.Done (done.Rows rows)) }
+    ensures sound { IfSome result (λ rows. answer ≡ rep.Done (done.Rows rows)) }
+    ensures complete { (rows : List Shown) → answer ≡ rep.Done (done.Rows rows) → result ≡ Some rows }
 {
     match answer {
         BrickRep::Done(arm) => rows_in(arm),
@@ -55,7 +59,8 @@ fn rows_of(answer: BrickRep) -> Option<Seq<Row>>
 
 // The rows of an answer to the call's request under this wind, which the wind line at a place has.
 fn rows_under(log: &Log, kind: OutKind, call: u32, place: usize, wind: u64) -> Option<Seq<Row>>
-    ensures { IfSome result (λ rows. AreRowsOf log.now call wind rows kind) }
+    ensures sound { IfSome result (λ rows. AreRowsOf log.now call wind rows kind) }
+    ensures complete { (rows : List Shown) → AreRowsAt log.now place call wind rows kind → result ≡ Some rows }
 {
     match kind {
         OutKind::Reply { wind: number, rep } => {
@@ -78,7 +83,8 @@ fn rows_arrived(
     at: ReplyAt,
     wind: u64,
 ) -> Result<Option<Seq<Row>>, AllocError>
-    ensures { IfOk result (λ found. IfSome found (λ rows. HaveRows log.now reply.now.call reply.now.event brick wind rows)) }
+    ensures sound { IfOk result (λ found. IfSome found (λ rows. HaveRows log.now reply.now.call reply.now.event brick wind rows)) }
+    ensures complete { IfOk result (λ found. (rows : List Shown) → HaveRowsAt log.now reply.now.call reply.now.event brick wind at rows → found ≡ Some rows) }
 {
     let came = arrived(alloc, log, at.event, brick, reply.event)?;
     match came {
@@ -97,7 +103,8 @@ fn granted(
     lock: usize,
     at: ReplyAt,
 ) -> Result<Option<Seq<Row>>, AllocError>
-    ensures { IfOk result (λ found. IfSome found (λ rows. IsGranted log.now reply.now.call reply.now.event phase.now.from phase.now.cells brick rows)) }
+    ensures sound { IfOk result (λ found. IfSome found (λ rows. IsGranted log.now reply.now.call reply.now.event phase.now.from phase.now.cells brick rows)) }
+    ensures complete { IfOk result (λ found. (rows : List Shown) → IsGrantedAt log.now reply.now.call reply.now.event phase.now.from phase.now.cells brick lock at rows → found ≡ Some rows) }
 {
     if lock < phase.from {
         return Ok(None);
@@ -119,7 +126,8 @@ fn find_granted(
     lock: usize,
     found: &[Found],
 ) -> Result<Option<Seq<Row>>, AllocError>
-    ensures { IfOk result (λ found. IfSome found (λ rows. IsGranted log.now reply.now.call reply.now.event phase.now.from phase.now.cells brick rows)) }
+    ensures sound { IfOk result (λ granted. IfSome granted (λ rows. IsGranted log.now reply.now.call reply.now.event phase.now.from phase.now.cells brick rows)) }
+    ensures complete { IfOk result (λ granted. IsGrantAmong log.now reply.now.call reply.now.event phase.now.from phase.now.cells brick lock found.now → IsSome granted) }
 {
     for one in found {
         if one.brick != brick {
@@ -142,7 +150,8 @@ fn has_failed(
     brick: u8,
     found: &[Found],
 ) -> Result<bool, AllocError>
-    ensures { IfOk result (λ yes. yes ≡ true → IsOut log.now plan.now reply.now.call reply.now.event brick) }
+    ensures sound { IfOk result (λ yes. yes ≡ true → IsOut log.now plan.now reply.now.call reply.now.event brick) }
+    ensures exact { IfOk result (λ yes. IsTrue yes ↔ HasFaultAmong log.now plan.now reply.now.call reply.now.event found.now brick) }
 {
     for one in found {
         if one.brick != brick {

@@ -1,9 +1,10 @@
 //! Whether each I/O error has its cause.
-ghost use Rattle.std.specs.Prelude.{◌≡◌, ◌≢◌, ◌<◌, ◌≤◌, ◌^◌, [], true, map, option_copied, IfOk, IfSome};
+ghost use Rattle.std.specs.Prelude.{◌≡◌, ◌≢◌, ◌<◌, ◌≤◌, ◌^◌, ◌↔◌, [], IsTrue, true, map, option_copied, IfOk, IfSome};
 ghost use Rattle.std.specs.List.{AllByRecursion};
 ghost use Rattle.mount_log.specs.Causes.{IsLost, IsFaulted, IsQuorumLost, IsFault, set_of_call, set_named, HasEvidence, HasCause, IsCaused, AreCaused};
 ghost use Rattle.mount_log.specs.Connections.{graph_of_call};
 ghost use Rattle.mount_log.specs.Submissions.{submitted_at};
+ghost use Rattle.error_audit.specs.AtPlaces.{IsFaultAmong};
 ghost use Rattle.error_audit.specs.Evidence.{HaveNumbers};
 ghost use Rattle.error_audit.specs.IoCauses.{AreTables, IsPlain};
 ghost use Rattle.error_audit.specs.LockTable.{HaveLocks};
@@ -98,7 +99,8 @@ fn is_fault_found(
     pair: &(u8, u64),
     found: &[Found],
 ) -> Result<bool, AllocError>
-    ensures { IfOk result (λ yes. yes ≡ true → IsFaulted log.now plan.now reply.now.call reply.now.event pair.now) }
+    ensures sound { IfOk result (λ yes. yes ≡ true → IsFaulted log.now plan.now reply.now.call reply.now.event pair.now) }
+    ensures exact { IfOk result (λ yes. IsTrue yes ↔ IsFaultAmong log.now plan.now reply.now.call reply.now.event found.now pair.now) }
 {
     for one in found {
         if one.brick != pair.0 || one.taken != pair.1 {
@@ -119,7 +121,8 @@ fn are_faulted(
     found: &[Found],
     faults: &[(u8, u64)],
 ) -> Result<bool, AllocError>
-    ensures { IfOk result (λ yes. yes ≡ true → AllByRecursion (IsFaulted log.now plan.now reply.now.call reply.now.event) faults.now) }
+    ensures sound { IfOk result (λ yes. yes ≡ true → AllByRecursion (IsFaulted log.now plan.now reply.now.call reply.now.event) faults.now) }
+    ensures exact { IfOk result (λ yes. IsTrue yes ↔ AllByRecursion (IsFaultAmong log.now plan.now reply.now.call reply.now.event found.now) faults.now) }
 {
     for pair in faults {
         if !is_fault_found(alloc, log, plan, reply, pair, found)? {
@@ -130,7 +133,7 @@ fn are_faulted(
 }
 
 fn is_some(faults: &[(u8, u64)]) -> bool
-    ensures { result ≡ true → faults.now ≢ [] }
+    ensures { IsTrue result ↔ (faults.now ≢ []) }
 {
     !faults.is_empty()
 }
@@ -210,7 +213,7 @@ fn has_evidence(
 }
 
 fn fits(graph: u64) -> bool
-    ensures { result ≡ true → graph < 2 ^ 32 }
+    ensures { IsTrue result ↔ (graph < 2 ^ 32) }
 {
     graph <= 4294967295
 }
@@ -350,7 +353,7 @@ fn are_caused(
 
 // Whether a reply is no I/O error.
 fn is_plain(reply: &ReplyLine) -> bool
-    ensures { result ≡ true → IsPlain reply.now.answer }
+    ensures { IsTrue result ↔ IsPlain reply.now.answer }
 {
     match &reply.answer {
         Answer::Io(_) => false,
@@ -359,7 +362,7 @@ fn is_plain(reply: &ReplyLine) -> bool
 }
 
 fn are_plain(replies: &[ReplyLine]) -> bool
-    ensures { result ≡ true → AllByRecursion (λ reply. IsPlain reply.answer) replies.now }
+    ensures { IsTrue result ↔ AllByRecursion (λ reply. IsPlain reply.answer) replies.now }
 {
     for reply in replies {
         if !is_plain(reply) {
@@ -371,7 +374,8 @@ fn are_plain(replies: &[ReplyLine]) -> bool
 
 // Whether no reply is an I/O error.
 fn have_none(script: &Script, plans: &[Plan], log: &Log) -> bool
-    ensures { result ≡ true → AreCaused script.now plans.now log.now }
+    ensures sound { result ≡ true → AreCaused script.now plans.now log.now }
+    ensures exact { IsTrue result ↔ AllByRecursion (λ reply. IsPlain reply.answer) log.now.replies }
 {
     let _ = script;
     let _ = plans;

@@ -1,10 +1,10 @@
 //! The last lock phase of a call.
-ghost use Rattle.std.specs.Prelude.{◌≡◌, ◌<◌, ℕ, true, Some, map, slice_get, IfOk, IfSome};
+ghost use Rattle.std.specs.Prelude.{◌≡◌, ◌<◌, ◌↔◌, ℕ, IsTrue, true, Some, map, length, slice_get, IfOk, IfSome};
 ghost use Rattle.std.specs.List.{AllByRecursion};
 ghost use Rattle.fop_types.specs.declared.messages.Input.TheVariants as input;
 ghost use Rattle.wire_messages.specs.Messages.{input_in};
 ghost use Rattle.mount_log.specs.Locks.{IsLock, IsLastPhase};
-ghost use Rattle.error_audit.specs.LockTable.{HaveLocks, AreBehind, IsBehind, IsLockOf, IsLockOn, IsFollowed};
+ghost use Rattle.error_audit.specs.LockTable.{HaveLocks, AreBehind, IsBehind, IsLockOf, IsLockOn, IsFollowed, AreOfCalls};
 
 use crate::cells::are_cells;
 use crate::locks::{LockAt, locks_at};
@@ -17,7 +17,7 @@ use wire_messages::{Message, input_of};
 // ---- a lock
 
 fn is_lock(req: &BrickReq, call: u32, of: &[Cell]) -> bool
-    ensures { (wind graph : ℕ) → result ≡ true → IsLockOf call wind of.now (input.Request wind graph req.now) }
+    ensures { (wind graph : ℕ) → IsTrue result ↔ IsLockOf call wind of.now (input.Request wind graph req.now) }
 {
     match req {
         BrickReq::Lock {
@@ -30,7 +30,8 @@ fn is_lock(req: &BrickReq, call: u32, of: &[Cell]) -> bool
 }
 
 fn lock_of(sent: &Input, call: u32, of: &[Cell]) -> Option<u64>
-    ensures { IfSome result (λ wind. IsLockOf call wind of.now sent.now) }
+    ensures sound { IfSome result (λ wind. IsLockOf call wind of.now sent.now) }
+    ensures complete { (wind : ℕ) → IsLockOf call wind of.now sent.now → result ≡ Some wind }
 {
     match sent {
         Input::Request {
@@ -57,6 +58,7 @@ fn lock_on(
 ) -> Result<Option<u64>, AllocError>
     ensures brick { IfOk result (λ found. IfSome found (λ wind. line.now.brick ≡ brick)) }
     ensures lock { IfOk result (λ found. IfSome found (λ wind. IsLockOn call wind of.now (input_in line.now.bytes))) }
+    ensures complete { IfOk result (λ found. (wind : ℕ) → line.now.brick ≡ brick → IsLockOn call wind of.now (input_in line.now.bytes) → found ≡ Some wind) }
 {
     if line.brick != brick {
         return Ok(None);
@@ -83,7 +85,8 @@ pub fn lock_at(
     brick: u8,
     of: &[Cell],
 ) -> Result<Option<u64>, AllocError>
-    ensures { IfOk result (λ found. IfSome found (λ wind. IsLock log.now call at brick wind of.now)) }
+    ensures sound { IfOk result (λ found. IfSome found (λ wind. IsLock log.now call at brick wind of.now)) }
+    ensures complete { IfOk result (λ found. (wind : ℕ) → IsLock log.now call at brick wind of.now → found ≡ Some wind) }
 {
     match line_at(log, at) {
         Some(line) => {
@@ -97,7 +100,7 @@ pub fn lock_at(
 // ---- the order of locks
 
 fn is_behind_all(bricks: &[u8], low: usize, other: u8) -> bool
-    ensures { result ≡ true → (high : ℕ) → slice_get bricks.now high ≡ Some other → low < high }
+    ensures { IsTrue result ↔ ((high : ℕ) → slice_get bricks.now high ≡ Some other → low < high) }
 {
     for high in 0..bricks.len() {
         if bricks[high] == other && high <= low {
@@ -108,7 +111,7 @@ fn is_behind_all(bricks: &[u8], low: usize, other: u8) -> bool
 }
 
 fn are_behind(bricks: &[u8], one: u8, other: u8) -> bool
-    ensures { result ≡ true → AreBehind bricks.now one other }
+    ensures { IsTrue result ↔ AreBehind bricks.now one other }
 {
     for low in 0..bricks.len() {
         if bricks[low] == one && !is_behind_all(bricks, low, other) {
@@ -119,7 +122,7 @@ fn are_behind(bricks: &[u8], one: u8, other: u8) -> bool
 }
 
 fn is_behind(plan: &SetPlan, one: LockAt, other: LockAt) -> bool
-    ensures { result ≡ true → IsBehind plan.now one other }
+    ensures { IsTrue result ↔ IsBehind plan.now one other }
 {
     if other.at <= one.at {
         return true;
@@ -128,7 +131,7 @@ fn is_behind(plan: &SetPlan, one: LockAt, other: LockAt) -> bool
 }
 
 fn all_behind(plan: &SetPlan, one: LockAt, locks: &[LockAt]) -> bool
-    ensures { result ≡ true → AllByRecursion (IsBehind plan.now one) locks.now }
+    ensures { IsTrue result ↔ AllByRecursion (IsBehind plan.now one) locks.now }
 {
     for other in locks {
         if !is_behind(plan, one, *other) {
@@ -139,7 +142,7 @@ fn all_behind(plan: &SetPlan, one: LockAt, locks: &[LockAt]) -> bool
 }
 
 fn is_followed(plan: &SetPlan, one: LockAt, locks: &[LockAt], from: usize) -> bool
-    ensures { result ≡ true → IsFollowed plan.now from locks.now one }
+    ensures { IsTrue result ↔ IsFollowed plan.now from locks.now one }
 {
     if one.at < from {
         return true;
@@ -148,7 +151,7 @@ fn is_followed(plan: &SetPlan, one: LockAt, locks: &[LockAt], from: usize) -> bo
 }
 
 fn are_in_order(plan: &SetPlan, locks: &[LockAt], from: usize) -> bool
-    ensures { result ≡ true → AllByRecursion (IsFollowed plan.now from locks.now) locks.now }
+    ensures { IsTrue result ↔ AllByRecursion (IsFollowed plan.now from locks.now) locks.now }
 {
     for one in locks {
         if !is_followed(plan, *one, locks, from) {
@@ -167,7 +170,8 @@ pub fn is_last_phase(
     from: usize,
 ) -> bool
     requires { HaveLocks log.now (map (λ l. l.items) locks.now) }
-    ensures { result ≡ true → IsLastPhase log.now plan.now call from }
+    ensures sound { result ≡ true → IsLastPhase log.now plan.now call from }
+    ensures complete { AreOfCalls log.now (map (λ l. l.items) locks.now) → call < length locks.now → IsLastPhase log.now plan.now call from → result ≡ true }
 {
     let _ = log;
     match locks_at(locks, call) {

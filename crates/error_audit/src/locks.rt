@@ -1,6 +1,9 @@
 //! The lock requests of each call.
-ghost use Rattle.std.specs.Prelude.{◌≡◌, ◌<◌, Contains, map, length, IfOk, IfSome, OnOk};
-ghost use Rattle.error_audit.specs.LockTable.{locks_at, AreKept, IsRequestNoted, IsInputNoted, IsLineNoted, HaveLocks};
+ghost use Rattle.std.specs.Prelude.{◌≡◌, ◌<◌, ◌≤◌, ℕ, [], Contains, map, length, IfOk, IfSome, IfNone, OnOk};
+ghost use Rattle.fop_types.specs.declared.messages.Input.TheVariants as input;
+ghost use Rattle.wire_messages.specs.Messages.{input_in};
+ghost use Rattle.wire_messages.specs.declared.messages.Message.TheVariants.{Whole};
+ghost use Rattle.error_audit.specs.LockTable.{locks_at, lock_in, AreKept, IsRequestNoted, IsInputNoted, IsLineNoted, HaveLocks, IsAdded, AreFrom, AreOfCalls};
 
 use fop_types::{BrickReq, Input};
 use mount_log::by_place::line_at;
@@ -16,7 +19,10 @@ pub struct LockAt {
 }
 
 // An empty list for each of so many calls.
-fn empty_lists(alloc: Global, many: usize) -> Result<Vec<Vec<LockAt>>, AllocError> {
+fn empty_lists(alloc: Global, many: usize) -> Result<Vec<Vec<LockAt>>, AllocError>
+    ensures many { IfOk result (λ lists. length lists.items ≡ many) }
+    ensures empty { IfOk result (λ lists. (call : ℕ) → locks_at (map (λ l. l.items) lists.items) call ≡ []) }
+{
     let mut lists = Vec::new(alloc);
     for _ in 0..many {
         lists.push(Vec::new(alloc))?;
@@ -29,6 +35,7 @@ fn put_at(lists: &mut Vec<Vec<LockAt>>, call: u32, lock: LockAt) -> Result<(), A
     requires { call < length lists.old.items }
     ensures kept { OnOk result (AreKept (map (λ l. l.items) lists.old.items) (map (λ l. l.items) lists.new.items)) }
     ensures put { OnOk result (Contains (locks_at (map (λ l. l.items) lists.new.items) call) lock) }
+    ensures added { OnOk result (IsAdded (map (λ l. l.items) lists.old.items) call lock (map (λ l. l.items) lists.new.items)) }
 {
     lists[call as usize].push(lock)?;
     Ok(())
@@ -41,6 +48,7 @@ fn note_request(
 ) -> Result<(), AllocError>
     ensures kept { OnOk result (AreKept (map (λ l. l.items) lists.old.items) (map (λ l. l.items) lists.new.items)) }
     ensures noted { OnOk result (IsRequestNoted (map (λ l. l.items) lists.new.items) lock req.now) }
+    ensures from { OnOk result ((wind graph : ℕ) → AreFrom (map (λ l. l.items) lists.old.items) (map (λ l. l.items) lists.new.items) lock (Whole (input.Request wind graph req.now))) }
 {
     match req {
         BrickReq::Lock { call, .. } => {
@@ -57,6 +65,7 @@ fn note_request(
 fn note_input(lists: &mut Vec<Vec<LockAt>>, lock: LockAt, sent: &Input) -> Result<(), AllocError>
     ensures kept { OnOk result (AreKept (map (λ l. l.items) lists.old.items) (map (λ l. l.items) lists.new.items)) }
     ensures noted { OnOk result (IsInputNoted (map (λ l. l.items) lists.new.items) lock sent.now) }
+    ensures from { OnOk result (AreFrom (map (λ l. l.items) lists.old.items) (map (λ l. l.items) lists.new.items) lock (Whole sent.now)) }
 {
     match sent {
         Input::Request { req, .. } => {
@@ -75,6 +84,7 @@ fn note_line(
 ) -> Result<(), AllocError>
     ensures kept { OnOk result (AreKept (map (λ l. l.items) lists.old.items) (map (λ l. l.items) lists.new.items)) }
     ensures noted { OnOk result (IsLineNoted (map (λ l. l.items) lists.new.items) at line.now) }
+    ensures from { OnOk result (AreFrom (map (λ l. l.items) lists.old.items) (map (λ l. l.items) lists.new.items) (lock_in at line.now) (input_in line.now.bytes)) }
 {
     let lock = LockAt {
         at,
@@ -96,7 +106,9 @@ fn note_line(
 /// # Errors
 /// Out of memory.
 pub fn locks_of(alloc: Global, log: &Log, many: usize) -> Result<Vec<Vec<LockAt>>, AllocError>
-    ensures { IfOk result (λ lists. HaveLocks log.now (map (λ l. l.items) lists.items)) }
+    ensures all { IfOk result (λ lists. HaveLocks log.now (map (λ l. l.items) lists.items)) }
+    ensures only { IfOk result (λ lists. AreOfCalls log.now (map (λ l. l.items) lists.items)) }
+    ensures many { IfOk result (λ lists. length lists.items ≡ many) }
 {
     let mut lists = empty_lists(alloc, many)?;
     for at in 0..log.sent.len() {
@@ -112,6 +124,7 @@ pub fn locks_of(alloc: Global, log: &Log, many: usize) -> Result<Vec<Vec<LockAt>
 pub fn locks_at(lists: &[Vec<LockAt>], call: u32) -> Option<&[LockAt]>
     ensures there { IfSome result (λ locks. locks.now ≡ locks_at (map (λ l. l.items) lists.now) call) }
     ensures within { IfSome result (λ locks. call < length (map (λ l. l.items) lists.now)) }
+    ensures none { IfNone result (length lists.now ≤ call) }
 {
     match lists.get(call as usize) {
         Some(list) => Some(list.as_slice()),

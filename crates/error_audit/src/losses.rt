@@ -1,12 +1,14 @@
 //! Whether a brick was lost to a call's graph.
-ghost use Rattle.std.specs.Prelude.{◌≡◌, ◌≤◌, ◌+◌, ◌-◌, ℕ, true, false, Some, Contains, slice_get, IfOk};
+ghost use Rattle.std.specs.Prelude.{◌≡◌, ◌≤◌, ◌+◌, ◌-◌, ◌↔◌, ℕ, IsTrue, true, false, Some, Contains, slice_get, IfOk};
 ghost use Rattle.fop_types.specs.declared.messages.Input.TheVariants as input;
-ghost use Rattle.wire_messages.specs.Messages.{output_in};
+ghost use Rattle.wire_messages.specs.Messages.{input_in, output_in};
+ghost use Rattle.wire_messages.specs.declared.messages.Message.TheVariants.{Whole};
 ghost use Rattle.wire_xdr.specs.WireText.{input_text};
 ghost use Rattle.mount_log.specs.Causes.{IsLost};
 ghost use Rattle.mount_log.specs.Connections.{is_closed, says_closed, closes_by, was_sent, ends_in, is_open_after, last_connection, graph_of_call};
 ghost use Rattle.mount_log.specs.Submissions.{submitted_at};
 ghost use Rattle.error_audit.specs.Evidence.{IsSentTo, HasNumbers};
+ghost use Rattle.error_audit.specs.AtPlaces.{IsDisconnectOf, IsDisconnectAt, IsClosing, EndsBy, IsLastEnd, IsClosedSince, IsClosedAt, IsWithin, IsLostBy};
 ghost use Rattle.error_audit.specs.Opened.{openings_to};
 
 use crate::connections::{Opening, count_openings};
@@ -71,7 +73,7 @@ fn says_closed(alloc: Global, bytes: &[u8]) -> Result<bool, AllocError>
 }
 
 fn closes(alloc: Global, event: &HubEvent, brick: u8) -> Result<bool, AllocError>
-    ensures { IfOk result (λ yes. yes ≡ true → closes_by brick (Some event.now) ≡ true) }
+    ensures { IfOk result (λ yes. IsTrue yes ↔ (closes_by brick (Some event.now) ≡ true)) }
 {
     match event {
         HubEvent::Arrive { brick: from, bytes } => {
@@ -87,7 +89,8 @@ fn closes(alloc: Global, event: &HubEvent, brick: u8) -> Result<bool, AllocError
 
 // Whether the event of a number, from 1, is the arrival of a Closed of the brick.
 fn is_closing(alloc: Global, log: &Log, number: u64, brick: u8) -> Result<bool, AllocError>
-    ensures { IfOk result (λ yes. yes ≡ true → closes_by brick (slice_get log.now.events (number - 1)) ≡ true) }
+    ensures sound { IfOk result (λ yes. yes ≡ true → closes_by brick (slice_get log.now.events (number - 1)) ≡ true) }
+    ensures exact { IfOk result (λ yes. IsTrue yes ↔ IsClosing log.now number brick) }
 {
     if number == 0 {
         return Ok(false);
@@ -102,7 +105,7 @@ fn is_closing(alloc: Global, log: &Log, number: u64, brick: u8) -> Result<bool, 
 }
 
 fn is_disconnect(sent: &Input, graph: u32) -> bool
-    ensures { result ≡ true → sent.now ≡ input.Disconnect graph }
+    ensures { IsTrue result ↔ (sent.now ≡ input.Disconnect graph) }
 {
     match sent {
         Input::Disconnect { graph: of } => *of == graph,
@@ -111,7 +114,8 @@ fn is_disconnect(sent: &Input, graph: u32) -> bool
 }
 
 fn is_disconnect_text(alloc: Global, bytes: &[u8], graph: u32) -> Result<bool, AllocError>
-    ensures { IfOk result (λ yes. yes ≡ true → bytes.now ≡ input_text (input.Disconnect graph)) }
+    ensures sound { IfOk result (λ yes. yes ≡ true → bytes.now ≡ input_text (input.Disconnect graph)) }
+    ensures exact { IfOk result (λ yes. IsTrue yes ↔ (input_in bytes.now ≡ Whole (input.Disconnect graph))) }
 {
     match input_of(alloc, bytes)? {
         Message::Whole(sent) => {
@@ -130,7 +134,8 @@ fn disconnects(
     brick: u8,
     graph: u32,
 ) -> Result<bool, AllocError>
-    ensures { IfOk result (λ yes. yes ≡ true → IsSentTo number brick (input.Disconnect graph) line.now) }
+    ensures sound { IfOk result (λ yes. yes ≡ true → IsSentTo number brick (input.Disconnect graph) line.now) }
+    ensures exact { IfOk result (λ yes. IsTrue yes ↔ IsDisconnectOf number brick graph line.now) }
 {
     if line.event != number || line.brick != brick {
         return Ok(false);
@@ -148,7 +153,8 @@ fn was_disconnected(
     brick: u8,
     graph: u32,
 ) -> Result<bool, AllocError>
-    ensures { IfOk result (λ yes. yes ≡ true → was_sent log.now number brick (input.Disconnect graph) ≡ true) }
+    ensures sound { IfOk result (λ yes. yes ≡ true → was_sent log.now number brick (input.Disconnect graph) ≡ true) }
+    ensures exact { IfOk result (λ yes. IsTrue yes ↔ IsDisconnectAt log.now place number brick graph) }
 {
     let Some(line) = line_at(log, place) else {
         return Ok(false);
@@ -166,7 +172,8 @@ fn ends_by_line(
     brick: u8,
     graph: u32,
 ) -> Result<bool, AllocError>
-    ensures { IfOk result (λ yes. yes ≡ true → ends_in log.now graph brick number ≡ true) }
+    ensures sound { IfOk result (λ yes. yes ≡ true → ends_in log.now graph brick number ≡ true) }
+    ensures exact { IfOk result (λ yes. IsTrue yes ↔ IsDisconnectAt log.now place number brick graph) }
 {
     let yes = was_disconnected(alloc, log, place, number, brick, graph)?;
     Ok(yes)
@@ -180,7 +187,8 @@ fn ends_by_closed(
     brick: u8,
     graph: u32,
 ) -> Result<bool, AllocError>
-    ensures { IfOk result (λ yes. yes ≡ true → ends_in log.now graph brick number ≡ true) }
+    ensures sound { IfOk result (λ yes. yes ≡ true → ends_in log.now graph brick number ≡ true) }
+    ensures exact { IfOk result (λ yes. IsTrue yes ↔ IsClosing log.now number brick) }
 {
     let _ = graph;
     let yes = is_closing(alloc, log, number, brick)?;
@@ -189,7 +197,8 @@ fn ends_by_closed(
 
 // Whether the graph's connection to the brick ends as is said.
 fn is_end(alloc: Global, log: &Log, graph: u32, brick: u8, end: End) -> Result<bool, AllocError>
-    ensures { IfOk result (λ yes. yes ≡ true → ends_in log.now graph brick end.event ≡ true) }
+    ensures sound { IfOk result (λ yes. yes ≡ true → ends_in log.now graph brick end.event ≡ true) }
+    ensures exact { IfOk result (λ yes. IsTrue yes ↔ EndsBy log.now graph brick end.event end.by) }
 {
     match end.by {
         Some(sent) => {
@@ -210,6 +219,7 @@ fn is_last(openings: &[Opening], graph: u32, brick: u8, moment: u64, end: u64) -
     ensures from_one { result ≡ true → 1 ≤ end }
     ensures later { result ≡ true → end ≤ moment }
     ensures same { result ≡ true → openings_to moment graph brick openings.now ≡ openings_to (end - 1) graph brick openings.now }
+    ensures exact { IsTrue result ↔ IsLastEnd openings.now graph brick moment end }
 {
     if end == 0 || end > moment {
         return false;
@@ -228,7 +238,8 @@ fn is_closed_since(
     end: End,
 ) -> Result<bool, AllocError>
     requires { HasNumbers log.now graph brick openings.now }
-    ensures { IfOk result (λ yes. yes ≡ true → is_open_after log.now graph brick moment ≡ false) }
+    ensures sound { IfOk result (λ yes. yes ≡ true → is_open_after log.now graph brick moment ≡ false) }
+    ensures exact { IfOk result (λ yes. IsTrue yes ↔ IsClosedSince log.now openings.now graph brick moment end) }
 {
     if !is_last(openings, graph, brick, moment, end.event) {
         return Ok(false);
@@ -238,7 +249,7 @@ fn is_closed_since(
 }
 
 fn has_none(openings: &[Opening], graph: u32, brick: u8, moment: u64) -> bool
-    ensures { result ≡ true → openings_to moment graph brick openings.now ≡ 0 }
+    ensures { IsTrue result ↔ (openings_to moment graph brick openings.now ≡ 0) }
 {
     count_openings(openings, moment, graph, brick) == 0
 }
@@ -246,7 +257,8 @@ fn has_none(openings: &[Opening], graph: u32, brick: u8, moment: u64) -> bool
 // Whether no connection was opened yet.
 fn is_never_open(log: &Log, openings: &[Opening], graph: u32, brick: u8, moment: u64) -> bool
     requires { HasNumbers log.now graph brick openings.now }
-    ensures { result ≡ true → is_open_after log.now graph brick moment ≡ false }
+    ensures sound { result ≡ true → is_open_after log.now graph brick moment ≡ false }
+    ensures exact { IsTrue result ↔ (openings_to moment graph brick openings.now ≡ 0) }
 {
     let _ = log;
     has_none(openings, graph, brick, moment)
@@ -263,7 +275,8 @@ fn is_closed_at(
     end: Option<End>,
 ) -> Result<bool, AllocError>
     requires { HasNumbers log.now graph brick openings.now }
-    ensures { IfOk result (λ yes. yes ≡ true → is_open_after log.now graph brick moment ≡ false) }
+    ensures sound { IfOk result (λ yes. yes ≡ true → is_open_after log.now graph brick moment ≡ false) }
+    ensures exact { IfOk result (λ yes. IsTrue yes ↔ IsClosedAt log.now openings.now graph brick moment end) }
 {
     if is_never_open(log, openings, graph, brick, moment) {
         return Ok(true);
@@ -284,6 +297,7 @@ fn is_within(since: u64, until: u64, loss: Loss) -> bool
     ensures since { result ≡ true → since ≤ loss.moment + 1 }
     ensures later { result ≡ true → loss.moment ≤ loss.found }
     ensures until { result ≡ true → loss.found ≤ until }
+    ensures exact { IsTrue result ↔ IsWithin since until loss }
 {
     if since > loss.moment && since - 1 != loss.moment {
         return false;
@@ -293,13 +307,13 @@ fn is_within(since: u64, until: u64, loss: Loss) -> bool
 
 /// Whether a brick is one of a set.
 pub fn has_brick(plan: &SetPlan, brick: u8) -> bool
-    ensures { result ≡ true → Contains plan.now.bricks brick }
+    ensures { IsTrue result ↔ Contains plan.now.bricks brick }
 {
     plan.bricks.as_slice().contains(&brick)
 }
 
 fn has_number(openings: &[Opening], graph: u32, brick: u8, found: u64, number: u32) -> bool
-    ensures { result ≡ true → number ≡ openings_to found graph brick openings.now }
+    ensures { IsTrue result ↔ (number ≡ openings_to found graph brick openings.now) }
 {
     count_openings(openings, found, graph, brick) == number as usize
 }
@@ -322,7 +336,8 @@ pub fn is_lost(
     requires numbers { HasNumbers log.now span.graph pair.now.0 openings.now }
     requires graph { span.graph ≡ graph_of_call log.now reply.now.call }
     requires since { span.since ≡ submitted_at log.now reply.now.call }
-    ensures { IfOk result (λ yes. yes ≡ true → IsLost log.now plan.now reply.now.call reply.now.event pair.now) }
+    ensures sound { IfOk result (λ yes. yes ≡ true → IsLost log.now plan.now reply.now.call reply.now.event pair.now) }
+    ensures exact { IfOk result (λ yes. IsTrue yes ↔ IsLostBy log.now openings.now plan.now span.graph span.since reply.now.event pair.now loss) }
 {
     if !has_brick(plan, pair.0) || !is_within(span.since, reply.event, loss) {
         return Ok(false);

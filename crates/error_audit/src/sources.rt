@@ -1,11 +1,11 @@
 //! Whether the rows of a lock phase leave no source.
-ghost use Rattle.std.specs.Prelude.{◌≡◌, ◌+◌, ◌/◌, ◌%◌, ◌<◌, ◌↔◌, ℕ, true, Contains, length, IfOk};
+ghost use Rattle.std.specs.Prelude.{◌≡◌, ◌+◌, ◌/◌, ◌%◌, ◌<◌, ◌↔◌, ℕ, IsTrue, true, Contains, length, IfOk};
 ghost use Rattle.afr_changelog.specs.Masks.{Names, IsCommon};
 ghost use Rattle.afr_changelog.specs.Soundness.{IsSound};
 ghost use Rattle.fop_types.specs.declared.messages.Input.TheVariants as input;
 ghost use Rattle.mount_log.specs.Causes.{IsMarked, IsSoundAt, HasNoSource};
 ghost use Rattle.wire_messages.specs.Messages.{input_in};
-ghost use Rattle.error_audit.specs.Showing.{IsMarkOf, IsMarkOn, IsSized, HasUnsoundCell};
+ghost use Rattle.error_audit.specs.Showing.{IsMarkOf, IsMarkOn, IsSized, IsMarkedAt, HasMark, AreMarks, HasUnsoundCell};
 
 use crate::cells::are_cells;
 use crate::grants::LockPhase;
@@ -20,7 +20,7 @@ use wire_messages::{Message, input_of};
 
 /// Whether a set has an odd number of replicas, at most five, and its quorum is the majority.
 pub fn is_sized(plan: &SetPlan) -> bool
-    ensures { result ≡ true → IsSized (length plan.now.bricks) plan.now.q }
+    ensures { IsTrue result ↔ IsSized (length plan.now.bricks) plan.now.q }
 {
     let n = plan.bricks.len();
     n % 2 == 1 && n <= 5 && plan.q as usize == (n + 1) / 2
@@ -52,7 +52,7 @@ fn sound_at(
 ) -> Result<Mask, AllocError>
     requires sized { IsSized (length plan.now.bricks) plan.now.q }
     requires places { length shown.now ≡ length plan.now.bricks }
-    ensures { IfOk result (λ mask. (k : ℕ) → IsSoundAt plan.now shown.now k place → Names mask k) }
+    ensures { IfOk result (λ mask. (k : ℕ) → IsSoundAt plan.now shown.now k place ↔ Names mask k) }
 {
     let rows = rows_of(alloc, shown, place)?;
     Ok(sound_by(plan, rows.as_slice()))
@@ -61,7 +61,7 @@ fn sound_at(
 // ---- one cell
 
 fn have_none(masks: &[Mask]) -> bool
-    ensures { result ≡ true → (k : ℕ) → IsCommon masks.now k → ⊥ }
+    ensures { IsTrue result ↔ ((k : ℕ) → IsCommon masks.now k → ⊥) }
 {
     if masks.is_empty() {
         return false;
@@ -70,7 +70,7 @@ fn have_none(masks: &[Mask]) -> bool
 }
 
 fn is_none(mask: Mask) -> bool
-    ensures { result ≡ true → (k : ℕ) → Names mask k → ⊥ }
+    ensures { IsTrue result ↔ ((k : ℕ) → Names mask k → ⊥) }
 {
     have_none(&[mask])
 }
@@ -83,7 +83,7 @@ fn has_unsound_cell(
 ) -> Result<bool, AllocError>
     requires sized { IsSized (length plan.now.bricks) plan.now.q }
     requires places { length shown.now ≡ length plan.now.bricks }
-    ensures { IfOk result (λ yes. yes ≡ true → HasUnsoundCell plan.now shown.now places.now) }
+    ensures { IfOk result (λ yes. IsTrue yes ↔ HasUnsoundCell plan.now shown.now places.now) }
 {
     for place in places {
         let mask = sound_at(alloc, plan, shown, *place)?;
@@ -104,7 +104,7 @@ fn masks_at(
 ) -> Result<Vec<Mask>, AllocError>
     requires sized { IsSized (length plan.now.bricks) plan.now.q }
     requires places { length shown.now ≡ length plan.now.bricks }
-    ensures { IfOk result (λ masks. (k : ℕ) → ((place : ℕ) → Contains places.now place → IsSoundAt plan.now shown.now k place) → IsCommon masks.items k) }
+    ensures { IfOk result (λ masks. (k : ℕ) → ((place : ℕ) → Contains places.now place → IsSoundAt plan.now shown.now k place) ↔ IsCommon masks.items k) }
 {
     let mut masks = Vec::new(alloc);
     for place in places {
@@ -122,7 +122,7 @@ fn have_no_common(
 ) -> Result<bool, AllocError>
     requires sized { IsSized (length plan.now.bricks) plan.now.q }
     requires places { length shown.now ≡ length plan.now.bricks }
-    ensures { IfOk result (λ yes. yes ≡ true → (k : ℕ) → ((place : ℕ) → Contains places.now place → IsSoundAt plan.now shown.now k place) → ⊥) }
+    ensures { IfOk result (λ yes. IsTrue yes ↔ ((k : ℕ) → ((place : ℕ) → Contains places.now place → IsSoundAt plan.now shown.now k place) → ⊥)) }
 {
     let masks = masks_at(alloc, plan, shown, places)?;
     Ok(have_none(masks.as_slice()))
@@ -131,7 +131,7 @@ fn have_no_common(
 // ---- a change that was to be settled
 
 fn is_mark(req: &BrickReq, cells: &[Cell]) -> bool
-    ensures { (wind graph : ℕ) → result ≡ true → IsMarkOf cells.now (input.Request wind graph req.now) }
+    ensures { (wind graph : ℕ) → IsTrue result ↔ IsMarkOf cells.now (input.Request wind graph req.now) }
 {
     match req {
         BrickReq::Mark { cells: own, .. } => are_cells(own.as_slice(), cells),
@@ -140,7 +140,7 @@ fn is_mark(req: &BrickReq, cells: &[Cell]) -> bool
 }
 
 fn is_mark_input(sent: &Input, cells: &[Cell]) -> bool
-    ensures { result ≡ true → IsMarkOf cells.now sent.now }
+    ensures { IsTrue result ↔ IsMarkOf cells.now sent.now }
 {
     match sent {
         Input::Request { req, .. } => is_mark(req, cells),
@@ -149,7 +149,7 @@ fn is_mark_input(sent: &Input, cells: &[Cell]) -> bool
 }
 
 fn is_mark_line(alloc: Global, line: &SentLine, cells: &[Cell]) -> Result<bool, AllocError>
-    ensures { IfOk result (λ yes. yes ≡ true → IsMarkOn cells.now (input_in line.now.bytes)) }
+    ensures { IfOk result (λ yes. IsTrue yes ↔ IsMarkOn cells.now (input_in line.now.bytes)) }
 {
     match input_of(alloc, line.bytes.as_slice())? {
         Message::Whole(sent) => {
@@ -168,7 +168,8 @@ fn is_marked(
     phase: &LockPhase,
     at: usize,
 ) -> Result<bool, AllocError>
-    ensures { IfOk result (λ yes. yes ≡ true → IsMarked log.now plan.now phase.now.from phase.now.cells) }
+    ensures sound { IfOk result (λ yes. yes ≡ true → IsMarked log.now plan.now phase.now.from phase.now.cells) }
+    ensures exact { IfOk result (λ yes. IsTrue yes ↔ IsMarkedAt log.now plan.now phase.now.from phase.now.cells at) }
 {
     if at >= phase.from {
         return Ok(false);
@@ -192,7 +193,8 @@ fn was_marked(
     phase: &LockPhase,
     marks: &[usize],
 ) -> Result<bool, AllocError>
-    ensures { IfOk result (λ yes. yes ≡ true → IsMarked log.now plan.now phase.now.from phase.now.cells) }
+    ensures sound { IfOk result (λ yes. yes ≡ true → IsMarked log.now plan.now phase.now.from phase.now.cells) }
+    ensures exact { IfOk result (λ yes. IsTrue yes ↔ HasMark log.now plan.now phase.now.from phase.now.cells marks.now) }
 {
     for at in marks {
         if is_marked(alloc, log, plan, phase, *at)? {
@@ -218,7 +220,8 @@ pub fn has_no_source(
 ) -> Result<bool, AllocError>
     requires sized { IsSized (length plan.now.bricks) plan.now.q }
     requires places { length shown.now ≡ length plan.now.bricks }
-    ensures { IfOk result (λ yes. yes ≡ true → HasNoSource log.now plan.now phase.now.from phase.now.cells shown.now places.now) }
+    ensures sound { IfOk result (λ yes. yes ≡ true → HasNoSource log.now plan.now phase.now.from phase.now.cells shown.now places.now) }
+    ensures complete { IfOk result (λ yes. AreMarks log.now plan.now phase.now.from phase.now.cells marks.now → HasNoSource log.now plan.now phase.now.from phase.now.cells shown.now places.now → yes ≡ true) }
 {
     if has_unsound_cell(alloc, plan, shown, places)? {
         return Ok(true);

@@ -1,5 +1,5 @@
 //! The rows of a split as they are answered, by what the replicas showed.
-ghost use Rattle.std.specs.Prelude.{◌≡◌, ◌++◌, true, None, slice_get, slice_index_or, IfOk, OnOk};
+ghost use Rattle.std.specs.Prelude.{◌≡◌, ◌++◌, ◌↔◌, IsTrue, None, slice_get, slice_index_or, IfOk, OnOk};
 ghost use Rattle.mount_log.specs.Causes.{row_at, rows_of, with_names, rows_from, answered_rows, all_rows};
 
 use fop_types::{Cell, Row, Seq, SplitRow};
@@ -129,13 +129,13 @@ fn all_rows(
 }
 
 fn is_same(row: &SplitRow, other: &SplitRow) -> bool
-    ensures { result ≡ true → row.now ≡ other.now }
+    ensures { IsTrue result ↔ (row.now ≡ other.now) }
 {
     *row == *other
 }
 
 fn are_same(rows: &[SplitRow], others: &[SplitRow]) -> bool
-    ensures { result ≡ true → rows.now ≡ others.now }
+    ensures { IsTrue result ↔ (rows.now ≡ others.now) }
 {
     if rows.len() != others.len() {
         return false;
@@ -160,7 +160,7 @@ pub fn are_rows(
     cells: &[Cell],
     places: &[usize],
 ) -> Result<bool, AllocError>
-    ensures { IfOk result (λ yes. yes ≡ true → rows.now ≡ all_rows bricks.now shown.now cells.now places.now) }
+    ensures { IfOk result (λ yes. IsTrue yes ↔ (rows.now ≡ all_rows bricks.now shown.now cells.now places.now)) }
 {
     let all = all_rows(alloc, bricks, shown, cells, places)?;
     Ok(are_same(rows, all.as_slice()))

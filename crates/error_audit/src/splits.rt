@@ -1,5 +1,5 @@
 //! Whether a call was answered by the rows of its last lock phase, where they leave no source.
-ghost use Rattle.std.specs.Prelude.{◌≡◌, ◌≤◌, true, is_some, length, map, IfOk};
+ghost use Rattle.std.specs.Prelude.{◌≡◌, ◌≤◌, ◌↔◌, IsTrue, true, is_some, length, map, IfOk};
 ghost use Rattle.std.specs.List.{AllZip, count_by};
 ghost use Rattle.mount_log.specs.Causes.{HasShown, IsSplit};
 ghost use Rattle.mount_log.specs.Connections.{graph_of_call};
@@ -21,7 +21,7 @@ use mount_log::{Log, ReplyLine};
 use std::alloc::{AllocError, Global};
 
 fn are_quorum(plan: &SetPlan, shown: &[Option<Seq<Row>>]) -> bool
-    ensures { result ≡ true → plan.now.q ≤ count_by is_some shown.now }
+    ensures { IsTrue result ↔ (plan.now.q ≤ count_by is_some shown.now) }
 {
     plan.q as usize <= shown.iter().filter(|one| one.is_some()).count()
 }

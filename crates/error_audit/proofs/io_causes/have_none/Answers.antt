@@ -6,6 +6,6 @@ use Rattle.error_audit.specs.IoCauses.{IsPlain}
 use Rattle.error_audit.proofs.Evidenced.{all_plain}
 use Rattle.error_audit.proofs.io_causes.have_none.Goals as goal
 
-pub returns : goal.returns
-returns c = λ yes.
-    all_plain c.args.script.now c.args.plans.now c.args.log.now (subst (λ (l : List ReplyLine). AllByRecursion (λ (r : ReplyLine). IsPlain r.answer) l) c.as_slice.ensures (c.are_plain.ensures yes))
+pub returns-clause-sound : goal.returns-clause-sound
+returns-clause-sound c = λ yes.
+    all_plain c.args.script.now c.args.plans.now c.args.log.now (subst (λ (l : List ReplyLine). AllByRecursion (λ (r : ReplyLine). IsPlain r.answer) l) c.as_slice.ensures (c.are_plain.ensures.0 yes))

@@ -3,10 +3,10 @@ use Rattle.error_audit.proofs.io_causes.is_fault.Goals as goal
 
 pub returns : goal.returns
 returns c = λ yes. record {
-  some = c.is_some.ensures c.if-not-is_some.false;
-  each_fault = c.in_ok-are_faulted.ensures c.if-not-branch-2.false;
+  some = c.is_some.ensures.0 c.if-not-is_some.false;
+  each_fault = c.in_ok-are_faulted.ensures.sound c.if-not-branch-2.false;
   each_lost = c.in_ok-yes.ensures yes;
-  rising_faults = c.are_rising.ensures c.if-not-are_rising.false;
-  rising_lost = c.are_rising-else-not-are_rising.ensures c.if-not-are_rising-2.false;
-  enough = c.in_ok-has_enough.ensures c.if-not-branch.false;
+  rising_faults = c.are_rising.ensures.0 c.if-not-are_rising.false;
+  rising_lost = c.are_rising-else-not-are_rising.ensures.0 c.if-not-are_rising-2.false;
+  enough = c.in_ok-has_enough.ensures.0 c.if-not-branch.false;
 }

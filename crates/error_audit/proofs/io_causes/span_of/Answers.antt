@@ -18,4 +18,4 @@ returns-clause-from_one c =
 pub returns-clause-numbers : goal.returns-clause-numbers
 returns-clause-numbers c =
     subst (λ (n : ℕ). HaveNumbers c.args.log.now n (map (λ l. l.items) c.args.tables.now.openings.items)) (sym c.unit_of.ensures)
-    (numbers_of c.args.script.now c.args.log.now c.args.tables.now c.requires c.messages_read_back.ensures c.in-Some.at.graph (c.fits.ensures c.if-not-fits.false))
+    (numbers_of c.args.script.now c.args.log.now c.args.tables.now c.requires c.messages_read_back.ensures c.in-Some.at.graph (c.fits.ensures.0 c.if-not-fits.false))
