@@ -5,5 +5,5 @@ use Rattle.change_audit.proofs.skips.are_due.Goals as goal
 pub loop-k-preserved : goal.loop-k-preserved
 loop-k-preserved c = skips_next c.args.log.now c.args.bricks.now c.loop-k.k (c.is_due.ensures c.if-not-is_due.false) c.loop-k.invariant
 
-pub returns : goal.returns
-returns c = λ _. all_listed c.args.log.now c.args.bricks.now c.loop-k.k (omega (arith, c.loop-k-test.false, c.len-k-end.ensures)) c.loop-k.invariant
+pub returns-clause-sound : goal.returns-clause-sound
+returns-clause-sound c = λ _. all_listed c.args.log.now c.args.bricks.now c.loop-k.k (omega (arith, c.loop-k-test.false, c.len-k-end.ensures)) c.loop-k.invariant
