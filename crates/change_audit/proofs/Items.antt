@@ -28,6 +28,9 @@ module _ {X : Type 0} where
   none_there (x ∷ xs) zero is = absurd cc
   none_there (x ∷ xs) (suc k) is = let le = none_there xs k is in omega (arith, le)
 
+  pub none_within : (xs : List X) (k : ℕ) → None ≡ slice_get xs k → k < length xs → ⊥
+  none_within xs k is lt = let le = none_there xs k is in absurd (omega (arith, le, lt))
+
   drop_long : (xs ys : List X) → drop (length xs) (xs ++ ys) ≡ ys
   drop_long [] ys = refl
   drop_long (x ∷ xs) ys = drop_long xs ys

@@ -45,6 +45,10 @@ one_message a b e = cc
 pub one_input : (x y : Input) → IsInput x → IsInput y → input_text x ≡ input_text y → x ≡ y
 one_input x y legal other same = one_message x y (sym (input_read_back x legal) ∙ ap input_in same ∙ input_read_back y other)
 
+-- the input that bytes are is each one that they encode
+pub that_input : (input x : Input) (bytes : List ℕ) → bytes ≡ input_text input → IsInput input → IsInput x → bytes ≡ input_text x → input ≡ x
+that_input input x bytes text legal other is = one_input input x legal other (sym text ∙ is)
+
 pub one_output : (x y : Output) → IsOutput x → IsOutput y → output_text x ≡ output_text y → x ≡ y
 one_output x y legal other same = one_message x y (sym (output_read_back x legal) ∙ ap output_in same ∙ output_read_back y other)
 
