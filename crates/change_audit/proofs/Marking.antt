@@ -108,7 +108,7 @@ pub of_replies_next : (replies : List ReplyLine) (i : ℕ) (reply : ReplyLine) (
 of_replies_next replies i reply before after lt is only so_far call number there = by (only call number there) where
   by : (mark_of before call ≡ Some number) ⊎ ((call ≡ reply.call) × (number ≡ reply.event) × (is_ok reply.answer ≡ true)) → IsAnsweredWell replies call number
   by (inl old) = so_far call number old
-  by (inr new) = record { place = i; reply = reply; there = there_is replies i reply lt is; call_is = sym new.0; well = new.1.1; event_is = sym new.1.0 }
+  by (inr new) = record { place = i; reply = reply; there = there_is replies i reply lt is; call_is = sym new.0; well = new.2; event_is = sym new.1 }
 
 pub call_beyond : (replies : List ReplyLine) (i bound : ℕ) (reply : ReplyLine) (marks : List (Option ℕ)) → i < length replies → reply ≡ get_or replies i reply → length marks ≡ bound → length marks ≤ reply.call → HasCallFrom replies bound
 call_beyond replies i bound reply marks lt is long le = record { place = i; reply = reply; there = there_is replies i reply lt is; beyond = omega (arith, long, le) }

@@ -82,7 +82,7 @@ module _ (winds : List WindLine) where
   openings_same n line table here closed so_far = record {
     each = so_far.each;
     all = each_more (λ (k : ℕ) (l : WindLine). l.opened ≡ true → is_some (opening_of table (wind_number l.wind)) ≡ true) winds n
-        (λ l there opened. let same = some_is l line (sym there ∙ here) in let open : line.opened ≡ true = ap (λ (x : WindLine). x.opened) (sym same) ∙ opened in absurd cc) so_far.all;
+        (λ l there opened. let same = some_is l line (sym there ∙ here) in let opens_it : line.opened ≡ true = ap (λ (x : WindLine). x.opened) (sym same) ∙ opened in absurd cc) so_far.all;
   }
 
   module _ (n : ℕ) (line : WindLine) (before after : List (ℕ × Opening)) (here : slice_get winds n ≡ Some line) (opened : line.opened ≡ true)
@@ -108,8 +108,8 @@ module _ (winds : List WindLine) where
     openings_next so_far = record {
       each = λ wind o there. each wind o there (cases_eq wind (wind_number line.wind));
       all = each_more (λ (k : ℕ) (l : WindLine). l.opened ≡ true → is_some (opening_of after (wind_number l.wind)) ≡ true) winds n
-          (λ l there open. ap (λ (x : WindLine). is_some (opening_of after (wind_number x.wind))) (some_is l line (sym there ∙ here)) ∙ ap is_some own)
-          (λ k l lt there open. stays (wind_number l.wind) (so_far.all k l lt there open));
+          (λ l there opens_it. ap (λ (x : WindLine). is_some (opening_of after (wind_number x.wind))) (some_is l line (sym there ∙ here)) ∙ ap is_some own)
+          (λ k l lt there opens_it. stays (wind_number l.wind) (so_far.all k l lt there opens_it));
     } where
       each : (wind : ℕ) (o : Opening) → opening_of after wind ≡ Some o → (wind ≡ wind_number line.wind) ⊎ (wind ≡ wind_number line.wind → ⊥) → IsOpeningAt winds o.place o.call wind
       each wind o there (inl same) =

@@ -54,8 +54,8 @@ one_output x y legal other same = one_message x y (sym (output_read_back x legal
 
 -- ---- what a brick answers Done
 
-legal_done : (taken wind : ℕ) → IsHyper taken → IsHyper wind → IsOutput (record { taken = taken; kind = Reply wind (Done Nothing) })
-legal_done taken wind low low_wind = (low, low_wind, tt)
+pub legal_done : (taken wind : ℕ) → IsHyper taken → IsHyper wind → IsOutput (record { taken = taken; kind = Reply wind (Done Nothing) })
+legal_done taken wind low low_wind = (low, (low_wind, tt))
 
 -- the output that bytes are is the Done that they encode
 is_that : (output : Output) (bytes : List ℕ) (taken wind : ℕ) → bytes ≡ output_text output → IsOutput output → IsHyper taken → IsHyper wind → bytes ≡ done_text taken wind → IsDoneOf taken wind output
@@ -65,7 +65,7 @@ is_that output bytes taken wind text legal low low_wind done =
 
 pub no_done : (output : Output) (bytes : List ℕ) (found : Option Answering) → bytes ≡ output_text output → IsOutput output → IfNone found ((taken wind : ℕ) → IsDoneOf taken wind output → ⊥)
     → IfNone found ((taken wind : ℕ) → IsHyper taken → IsHyper wind → bytes ≢ done_text taken wind)
-no_done output bytes None text legal none taken wind low low_wind done = none taken wind (is_that output bytes taken wind text legal low low_wind done)
+no_done output bytes None text legal none = λ taken wind low low_wind done. none taken wind (is_that output bytes taken wind text legal low low_wind done)
 no_done output bytes (Some done) text legal none = tt
 
 -- two Dones of the same encoding

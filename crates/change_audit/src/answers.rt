@@ -105,7 +105,6 @@ pub(crate) fn done_in(alloc: Global, bytes: &[u8]) -> Result<Option<Answering>, 
 }
 
 // Whether the bytes are the Done of a wind that answers the input of this count.
-#[tactic(auto, using(crate::proofs::Reading::one_done))]
 fn is_done_text(alloc: Global, bytes: &[u8], taken: u64, wind: u64) -> Result<bool, AllocError>
     ensures sound { IfOk result (λ yes. yes ≡ true → bytes.now ≡ done_text taken wind) }
     ensures complete { IfOk result (λ yes. IsHyper taken → IsHyper wind → bytes.now ≡ done_text taken wind → yes ≡ true) }

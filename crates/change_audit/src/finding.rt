@@ -44,6 +44,7 @@ pub fn openings_of(
     done.and(Ok(openings))
 }
 
+#[tactic(auto, using(crate::proofs::Opening::no_openings, crate::proofs::Opening::openings_same, crate::proofs::Opening::openings_next, crate::proofs::Opening::all_openings))]
 fn note_openings(
     openings: &mut BTreeMap<u64, Opening>,
     winds: &[WindLine],

@@ -31,4 +31,4 @@ returns-then-not-is_sent_since-clause-complete c = λ s.
 pub returns-clause-complete : goal.returns-clause-complete
 returns-clause-complete c = λ s.
     let on = posted_on c.args.log.now c.args.bricks.now c.args.bearer.brick c.args.bearer.post c.args.call c.args.graph c.args.change c.args.bearer.op.event s _ c.in-Some-2.wind c.in-Some-2.is (c.in_ok-wind.ensures.complete s.posted.wind (post_on c.args.log.now c.args.bricks.now c.args.bearer.brick c.args.bearer.post c.args.call c.args.graph c.args.change c.args.bearer.op.event s c.in-Some.bytes.now c.in-Some.ensures.found) s.legal) in
-    c.in_ok-yes.ensures.complete s.counted on.1.0 on.1.1
+    c.in_ok-yes.ensures.complete s.counted on.1 on.2

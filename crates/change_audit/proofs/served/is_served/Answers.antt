@@ -33,4 +33,4 @@ pub returns-clause-complete : goal.returns-clause-complete
 returns-clause-complete c = λ graph req has s.
     let is = one_counted c.args.bricks.now c.args.bearer.brick c.args.bearer.op.taken c.in-Some.bytes.now (input_text (Request s.served.wind graph req)) c.in-Some.ensures.found (served_input c.args.log.now c.args.bricks.now c.args.bearer.brick c.args.bearer.op c.args.call graph req s) in
     let on = served_on c.args.log.now c.args.bricks.now c.args.bearer.brick c.args.bearer.op c.args.call graph req s _ c.in-Some-2.wind c.in-Some-2.is (c.in_ok-wind.ensures.complete s.served.wind graph req s.legal has is) in
-    c.in_ok-yes.ensures.complete s.counted on.1.0 on.1.1
+    c.in_ok-yes.ensures.complete s.counted on.1 on.2
