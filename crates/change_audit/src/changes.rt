@@ -1,11 +1,10 @@
 //! The audit.
-ghost use Rattle.std.specs.Prelude.{◌≡◌, ◌<◌, ◌≤◌, true, length, None, Some, get_or, slice_get, IfOk, IfSome};
+ghost use Rattle.std.specs.Prelude.{◌≡◌, true, None, Some, get_or, slice_get, IfOk, IfSome};
 ghost use Rattle.fop_types.specs.declared.history.Entry.{Entry as Made};
-ghost use Rattle.change_audit.specs.Acknowledged.{mark_of as marked_as};
 ghost use Rattle.change_audit.specs.Borne.{IsBorne, AreBorne};
 ghost use Rattle.change_audit.specs.CallGraphs.{AreGraphsOf};
 ghost use Rattle.change_audit.specs.Claims.{KeepClaims};
-ghost use Rattle.change_audit.specs.Entries.{AreNotesOf, IsClaimed, IsClaimedInTime, IsEntryClaimed, AreNotMarked, NoneIsDue};
+ghost use Rattle.change_audit.specs.Entries.{AreNotesOf, IsClaimed, IsClaimedInTime, IsEntryClaimed};
 
 use crate::acknowledged::mark_of;
 use crate::bearers::has_bearers;
@@ -165,7 +164,6 @@ fn take_due(
 ) -> Result<bool, AllocError>
     requires { AreNotesOf script.now log.now notes.now }
     ensures claimed { IfOk result (λ yes. yes ≡ true → IsClaimedInTime script.now plans.now log.now bricks.now ops.now claims.new k call operation.now from) }
-    ensures not_due { IfOk result (λ yes. marked_as notes.now.marks call ≡ None → yes ≡ true) }
     ensures keeps { IfOk result (λ yes. KeepClaims claims.old claims.new) }
 {
     let Some(number) = mark_of(notes.marks.as_slice(), call) else {
@@ -202,7 +200,6 @@ fn take_entry(
 ) -> Result<bool, AllocError>
     requires { AreNotesOf script.now log.now notes.now }
     ensures claimed { IfOk result (λ yes. yes ≡ true → (entry : Made) → slice_get log.now.history k ≡ Some entry → IsEntryClaimed script.now plans.now log.now bricks.now ops.now from.now claims.new k entry) }
-    ensures not_due { IfOk result (λ yes. AreNotMarked log.now.history notes.now.marks → k < length log.now.history → k < length ops.now → yes ≡ true) }
     ensures keeps { IfOk result (λ yes. KeepClaims claims.old claims.new) }
 {
     let Some(entry) = entry_at(log, k) else {
@@ -231,8 +228,7 @@ fn are_borne(
     notes: &Notes,
 ) -> Result<bool, AllocError>
     requires { AreNotesOf script.now log.now notes.now }
-    ensures sound { IfOk result (λ yes. yes ≡ true → AreBorne script.now plans.now log.now bricks.now ops.now from.now) }
-    ensures not_due { IfOk result (λ yes. AreNotMarked log.now.history notes.now.marks → length log.now.history ≤ length ops.now → yes ≡ true) }
+    ensures { IfOk result (λ yes. yes ≡ true → AreBorne script.now plans.now log.now bricks.now ops.now from.now) }
 {
     let mut claims = Claims::new(alloc);
     for k in 0..log.history.len() {
@@ -271,8 +267,7 @@ pub fn changes_are_borne(
     ops: &[FlatOp],
     from: &[Option<u8>],
 ) -> Result<bool, AllocError>
-    ensures sound { IfOk result (λ yes. yes ≡ true → AreBorne script.now plans.now log.now bricks.now ops.now from.now) }
-    ensures not_due { IfOk result (λ yes. NoneIsDue log.now → length log.now.history ≤ length ops.now → yes ≡ true) }
+    ensures { IfOk result (λ yes. yes ≡ true → AreBorne script.now plans.now log.now bricks.now ops.now from.now) }
 {
     match notes_of(alloc, script, log, bricks, ops)? {
         Some(notes) => {
