@@ -1,6 +1,6 @@
 -- Items of lists: what holds of those before a place, or of a mapped list; what is behind a prefix.
 use Rattle.std.proofs.Common.{◌≡◌, refl, sym, ap, subst, ◌∙◌, arith, get_or}
-use Rattle.std.specs.Prelude.{ℕ, zero, suc, ◌<◌, ◌+◌, nat_lt, Bool, true, false, List, [], ◌∷◌, ◌++◌, Some, length, map, take, drop, slice_get}
+use Rattle.std.specs.Prelude.{ℕ, zero, suc, ◌<◌, ◌≤◌, ◌+◌, ◌↔◌, nat_lt, Bool, true, false, IsTrue, List, [], ◌∷◌, ◌++◌, Option, None, Some, length, map, take, drop, slice_get, MatchOption}
 use Rattle.std.specs.List.{AllByRecursion}
 use Rattle.std.proofs.lemmas.Bool.{ltb-true, ltb-false}
 use Rattle.std.proofs.lemmas.List.{take_more}
@@ -22,6 +22,15 @@ module _ {X : Type 0} where
   pub item_is : (xs : List X) (i : ℕ) (x y : X) → i < length xs → x ≡ get_or xs i x → slice_get xs i ≡ Some y → x ≡ y
   item_is xs i x y lt read is = some_is x y (ap Some read ∙ sym (slice_get-get_or xs i x lt) ∙ is)
 
+  -- nothing is found behind the end
+  pub none_there : (xs : List X) (k : ℕ) → None ≡ slice_get xs k → length xs ≤ k
+  none_there [] k is = omega arith
+  none_there (x ∷ xs) zero is = absurd cc
+  none_there (x ∷ xs) (suc k) is = let le = none_there xs k is in omega (arith, le)
+
+  pub none_within : (xs : List X) (k : ℕ) → None ≡ slice_get xs k → k < length xs → ⊥
+  none_within xs k is lt = let le = none_there xs k is in absurd (omega (arith, le, lt))
+
   drop_long : (xs ys : List X) → drop (length xs) (xs ++ ys) ≡ ys
   drop_long [] ys = refl
   drop_long (x ∷ xs) ys = drop_long xs ys
@@ -39,3 +48,22 @@ module _ {X : Type 0} where
 pub all_mapped : {X Y : Type 0} (f : X → Y) (Q : X → Type 0) (P : Y → Type 0) → ((x : X) → Q x → P (f x)) → (xs : List X) → AllByRecursion Q xs → AllByRecursion P (map f xs)
 all_mapped f Q P gives [] all = tt
 all_mapped f Q P gives (x ∷ xs) all = (gives x all.0, all_mapped f Q P gives xs all.1)
+
+-- what holds of the item that is found, if one is
+pub record IsFound {X : Type 0} (o : Option X) (P : X → Type 0) : Type 0 where
+  pub item : X
+  pub is : o ≡ Some item
+  pub holds : P item
+
+module _ {X : Type 0} (P : X → Type 0) where
+  pub found : (o : Option X) → MatchOption o ⊥ P → IsFound o P
+  found None e = absurd e
+  found (Some x) p = record { item = x; is = refl; holds = p }
+
+  -- a test of the item that was read
+  pub reads_some : (o : Option X) (x : X) (b : Bool) → Some x ≡ o → (IsTrue b ↔ P x) → (IsTrue b ↔ MatchOption o ⊥ P)
+  reads_some o x b is same = subst (λ (m : Option X). IsTrue b ↔ MatchOption m ⊥ P) is same
+
+  pub reads_none : (o : Option X) → None ≡ o → (IsTrue false ↔ MatchOption o ⊥ P)
+  reads_none None is = (λ e. absurd cc, λ e. absurd e)
+  reads_none (Some x) is = absurd cc

@@ -1,8 +1,11 @@
 pub mod Items
+pub mod Opening
+pub mod Reading
 pub mod Texts
 pub mod Bearing
 pub mod Splits
 pub mod Graphs
+pub mod SetSearch
 pub mod Marking
 pub mod Claiming
 pub mod Entries

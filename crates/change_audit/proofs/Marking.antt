@@ -1,12 +1,14 @@
 -- Marks with one more, and marks of the replies so far, with the next.
-use Rattle.std.proofs.Common.{◌≡◌, ◌≢◌, sym, ap, subst, ◌∙◌, arith, get_or, inl, inr}
-use Rattle.std.specs.Prelude.{ℕ, ◌<◌, ◌≤◌, ◌+◌, ◌⊎◌, List, Option, None, Some, length, slice_get, slice_set}
+use Rattle.std.proofs.Common.{◌≡◌, ◌≢◌, refl, sym, ap, subst, ◌∙◌, arith, get_or, inl, inr}
+use Rattle.std.specs.Prelude.{ℕ, ◌<◌, ◌≤◌, ◌+◌, ◌⊎◌, true, List, [], ◌∷◌, ◌++◌, Option, None, Some, length, slice_get, slice_set}
 use Rattle.std.proofs.lemmas.Bool.{cases_eq}
-use Rattle.std.proofs.lemmas.Option.{slice_get_within}
+use Rattle.std.proofs.lemmas.Option.{slice_get_within, slice_get-get_or}
+use Rattle.fop_types.specs.Replies.{is_ok}
 use Rattle.mount_log.proofs.Items.{some_is, at_set, beside_set}
+use Rattle.mount_log.proofs.Lists.{each_push}
 use Rattle.mount_log.specs.declared.logs.Log.{Log}
 use Rattle.mount_log.specs.declared.logs.ReplyLine.{ReplyLine}
-use Rattle.change_audit.specs.Acknowledged.{mark_or_none, mark_of, IsMarkBy, IsMarkedBy, IsMarked, AreMarked, AreMarkedTo, KeepMarks, IsNoEarlier}
+use Rattle.change_audit.specs.Acknowledged.{mark_or_none, mark_of, IsMarkBy, IsMarkedBy, IsMarked, AreMarked, AreMarkedTo, KeepMarks, IsNoEarlier, AreUnmarked, IsAnsweredWell, AreOfReplies, MarksOnly, MarksReply, HasCallFrom}
 use Rattle.change_audit.specs.Borne.{IsAcknowledged}
 use Rattle.change_audit.proofs.Items.{each_more, item_is}
 
@@ -26,6 +28,30 @@ module _ (marks : List (Option ℕ)) (call number : ℕ) (within : call < length
         let le = old.by in
         subst (λ (n : ℕ). IsMarkedBy (slice_set marks call (Some number)) n bound) (sym same) (record { number = number; is = ap mark_or_none (at_set marks call (Some number) within); by = omega (arith, first, le) })
     by (inr apart) = record { number = marked.number; is = ap mark_or_none (beside_set marks call other (Some number) apart) ∙ marked.is; by = marked.by }
+
+  -- and no other call is marked
+  pub set_only : MarksOnly marks (slice_set marks call (Some number)) call number
+  set_only c n there = by (cases_eq c call) where
+    by : (c ≡ call) ⊎ (c ≡ call → ⊥) → (mark_of marks c ≡ Some n) ⊎ ((c ≡ call) × (n ≡ number))
+    by (inl same) =
+        let own : mark_of (slice_set marks call (Some number)) call ≡ Some n = subst (λ (m : ℕ). mark_of (slice_set marks call (Some number)) m ≡ Some n) same there in
+        inr (same, some_is n number (sym own ∙ ap mark_or_none (at_set marks call (Some number) within)))
+    by (inr apart) = inl (sym (ap mark_or_none (beside_set marks call c (Some number) apart)) ∙ there)
+
+pub marks_same : (marks : List (Option ℕ)) (call number : ℕ) → MarksOnly marks marks call number
+marks_same marks call number c n there = inl there
+
+pub reply_same : (marks : List (Option ℕ)) (reply : ReplyLine) → MarksReply marks marks reply
+reply_same marks reply c n there = inl there
+
+pub reply_only : (before after : List (Option ℕ)) (reply : ReplyLine) → is_ok reply.answer ≡ true → MarksOnly before after reply.call reply.event → MarksReply before after reply
+reply_only before after reply well only c n there = by (only c n there) where
+  by : (mark_of before c ≡ Some n) ⊎ ((c ≡ reply.call) × (n ≡ reply.event)) → (mark_of before c ≡ Some n) ⊎ ((c ≡ reply.call) × (n ≡ reply.event) × (is_ok reply.answer ≡ true))
+  by (inl old) = inl old
+  by (inr new) = inr (new.0, new.1, well)
+
+pub none_more : (marks : List (Option ℕ)) → AreUnmarked marks → AreUnmarked (marks ++ None ∷ [])
+none_more marks none = each_push (λ (k : ℕ) (m : Option ℕ). m ≡ None) marks None refl none
 
 pub marks_kept : (marks : List (Option ℕ)) → KeepMarks marks marks
 marks_kept marks call bound marked = marked
@@ -62,3 +88,26 @@ mark_first log marks call mark number are there well =
     let le = marked.by in
     let same = some_is mark marked.number (sym there ∙ marked.is) in
     omega (arith, le, same)
+
+-- ---- the replies that the marks are of
+
+unmarked : (o : Option (Option ℕ)) (n : ℕ) → ((mark : Option ℕ) → o ≡ Some mark → mark ≡ None) → mark_or_none o ≡ Some n → ⊥
+unmarked None n none is = absurd cc
+unmarked (Some mark) n none is = let no = none mark refl in absurd cc
+
+pub none_of_replies : (replies : List ReplyLine) (marks : List (Option ℕ)) → AreUnmarked marks → AreOfReplies replies marks
+none_of_replies replies marks none call number there = absurd (unmarked (slice_get marks call) number (none call) there)
+
+-- a reply that was read is at its place
+there_is : (replies : List ReplyLine) (i : ℕ) (reply : ReplyLine) → i < length replies → reply ≡ get_or replies i reply → slice_get replies i ≡ Some reply
+there_is replies i reply lt is = slice_get-get_or replies i reply lt ∙ sym (ap Some is)
+
+pub of_replies_next : (replies : List ReplyLine) (i : ℕ) (reply : ReplyLine) (before after : List (Option ℕ)) → i < length replies → reply ≡ get_or replies i reply → MarksReply before after reply
+    → AreOfReplies replies before → AreOfReplies replies after
+of_replies_next replies i reply before after lt is only so_far call number there = by (only call number there) where
+  by : (mark_of before call ≡ Some number) ⊎ ((call ≡ reply.call) × (number ≡ reply.event) × (is_ok reply.answer ≡ true)) → IsAnsweredWell replies call number
+  by (inl old) = so_far call number old
+  by (inr new) = record { place = i; reply = reply; there = there_is replies i reply lt is; call_is = sym new.0; well = new.2; event_is = sym new.1 }
+
+pub call_beyond : (replies : List ReplyLine) (i bound : ℕ) (reply : ReplyLine) (marks : List (Option ℕ)) → i < length replies → reply ≡ get_or replies i reply → length marks ≡ bound → length marks ≤ reply.call → HasCallFrom replies bound
+call_beyond replies i bound reply marks lt is long le = record { place = i; reply = reply; there = there_is replies i reply lt is; beyond = omega (arith, long, le) }

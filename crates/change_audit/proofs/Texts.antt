@@ -1,6 +1,6 @@
 -- The texts of requests, and requests that were answered.
-use Rattle.std.proofs.Common.{◌≡◌, refl, sym, ap, ◌∙◌, append_assoc, length-append}
-use Rattle.std.specs.Prelude.{ℕ, ◌<◌, ◌+◌, List, ◌++◌, Some, length, drop, slice_get}
+use Rattle.std.proofs.Common.{◌≡◌, refl, sym, ap, subst, ◌∙◌, append_assoc, length-append}
+use Rattle.std.specs.Prelude.{ℕ, ◌<◌, ◌+◌, true, List, ◌++◌, Some, length, drop, slice_get}
 use Rattle.fop_types.specs.declared.flat.FlatOp.{FlatOp}
 use Rattle.fop_types.specs.declared.messages.BrickRep.TheVariants.{Done}
 use Rattle.fop_types.specs.declared.messages.BrickReq.{BrickReq}
@@ -13,7 +13,8 @@ use Rattle.fop_types.specs.declared.messages.OutKind.TheVariants.{Reply}
 use Rattle.fop_types.specs.declared.messages.Output.{Output}
 use Rattle.fop_types.specs.declared.store_ops.StoreOp.{StoreOp}
 use Rattle.wire_xdr.specs.Xdr.{unit, hyper}
-use Rattle.wire_xdr.specs.WireText.{input_text, output_text}
+use Rattle.fop_types.specs.Bounds.{IsHyper}
+use Rattle.wire_xdr.specs.WireText.{input_text, output_text, IsOutput, IsOutKind}
 use Rattle.wire_xdr.proofs.QuadLaws.{unit_size}
 use Rattle.brick_machine.specs.Journal.{Journal}
 use Rattle.mount_log.specs.declared.logs.HubEvent.TheVariants.{Arrive}
@@ -57,6 +58,12 @@ post_text wind graph change x bytes is post = record { cells = post.cells; mask 
 pub done_said : (output : Output) (bytes : List ℕ) (taken wind : ℕ) → bytes ≡ output_text output → IsDoneOf taken wind output → bytes ≡ done_text taken wind
 done_said output bytes taken wind text done =
     text ∙ ap (λ (n : ℕ). output_text (record output { taken = n })) done.taken_is ∙ ap (λ (k : OutKind). output_text (record { taken = taken; kind = k })) done.kind_is
+
+pub done_hypers : (output : Output) (taken wind : ℕ) → IsOutput output → IsDoneOf taken wind output → IsHyper taken × IsHyper wind
+done_hypers output taken wind legal done = (
+  subst IsHyper done.taken_is legal.0,
+  let kind : IsOutKind true (Reply wind (Done Nothing)) = subst (IsOutKind true) done.kind_is legal.1 in kind.0,
+)
 
 pub answered_there : (log : Log) (brick : ℕ) (at : Served) (wind : ℕ) (bytes : List ℕ) → slice_get log.events at.event ≡ Some (Arrive brick bytes) → bytes ≡ done_text at.taken wind → IsAnswered log brick at wind
 answered_there log brick at wind bytes there text = there ∙ ap (λ (b : List ℕ). Some (Arrive brick b)) text

@@ -1,6 +1,6 @@
 -- The calls that were answered well, marked in a table by their numbers, each with the number of the event of its first such
 -- reply.
-use Rattle.std.specs.Prelude.{◌≡◌, ℕ, ◌<◌, ◌≤◌, true, List, Option, None, Some, slice_get}
+use Rattle.std.specs.Prelude.{◌≡◌, ℕ, ◌<◌, ◌≤◌, ◌⊎◌, true, List, Option, None, Some, slice_get}
 use Rattle.fop_types.specs.Replies.{is_ok}
 use Rattle.mount_log.specs.declared.logs.ReplyLine.{ReplyLine}
 
@@ -38,3 +38,35 @@ AreMarkedTo n replies marks = (k : ℕ) (reply : ReplyLine) → k < n → slice_
 -- no mark is of an event before this one
 abbrev pub IsNoEarlier : Option ℕ → ℕ → Type 0
 IsNoEarlier mark number = (earlier : ℕ) → mark ≡ Some earlier → number ≤ earlier
+
+-- no call is marked
+abbrev pub AreUnmarked : List (Option ℕ) → Type 0
+AreUnmarked marks = (call : ℕ) (mark : Option ℕ) → slice_get marks call ≡ Some mark → mark ≡ None
+
+-- one of the replies answers the call well, in the event of this number
+pub record IsAnsweredWell (replies : List ReplyLine) (call number : ℕ) : Type 0 where
+  pub place : ℕ
+  pub reply : ReplyLine
+  pub there : slice_get replies place ≡ Some reply
+  pub call_is : reply.call ≡ call
+  pub well : is_ok reply.answer ≡ true
+  pub event_is : reply.event ≡ number
+
+-- each mark is that of such a reply
+abbrev pub AreOfReplies : List ReplyLine → List (Option ℕ) → Type 0
+AreOfReplies replies marks = (call number : ℕ) → mark_of marks call ≡ Some number → IsAnsweredWell replies call number
+
+-- at most this call was marked, with this number
+abbrev pub MarksOnly : List (Option ℕ) → List (Option ℕ) → ℕ → ℕ → Type 0
+MarksOnly before after call number = (c n : ℕ) → mark_of after c ≡ Some n → (mark_of before c ≡ Some n) ⊎ ((c ≡ call) × (n ≡ number))
+
+-- at most the call of this reply was marked, with the number of its event, and that if it was answered well
+abbrev pub MarksReply : List (Option ℕ) → List (Option ℕ) → ReplyLine → Type 0
+MarksReply before after reply = (c n : ℕ) → mark_of after c ≡ Some n → (mark_of before c ≡ Some n) ⊎ ((c ≡ reply.call) × (n ≡ reply.event) × (is_ok reply.answer ≡ true))
+
+-- one of the replies is to a call that is not below the bound
+pub record HasCallFrom (replies : List ReplyLine) (bound : ℕ) : Type 0 where
+  pub place : ℕ
+  pub reply : ReplyLine
+  pub there : slice_get replies place ≡ Some reply
+  pub beyond : bound ≤ reply.call

@@ -1,5 +1,8 @@
 -- The graph of each call, and the volfile of each graph, as tables.
-use Rattle.std.specs.Prelude.{◌≡◌, ℕ, ◌+◌, ◌-◌, ◌≤◌, List, [], ◌∷◌, Some, length, slice_get}
+use Rattle.std.specs.Prelude.{◌≡◌, ℕ, ◌+◌, ◌-◌, ◌≤◌, ◌==◌, List, [], ◌∷◌, Option, None, Some, length, slice_get, if◌then◌else◌}
+use Rattle.std.specs.List.{list_any}
+use Rattle.fop_types.specs.declared.jobs.SetPlan.{SetPlan}
+use Rattle.graph_build.specs.declared.plans.Plan.{Plan}
 use Rattle.script_lang.specs.declared.scripts.Script.{Script}
 use Rattle.mount_log.specs.Graphs.{switched_by, volfiles_of}
 use Rattle.mount_log.specs.declared.logs.HubEvent.{HubEvent}
@@ -28,3 +31,13 @@ pub record AreGraphsOf (script : Script) (log : Log) (tables : CallGraphs) : Typ
 pub record HasGraph (tables : CallGraphs) (call graph : ℕ) : Type 0 where
   pub from_one : 1 ≤ call
   pub there : slice_get tables.calls (call - 1) ≡ Some graph
+
+-- the number of the first of these sets that has the brick
+abbrev pub set_for : List SetPlan → ℕ → Option ℕ
+set_for [] brick = None
+set_for (s ∷ sets) brick = if list_any (λ b. b == brick) s.bricks then Some s.number else set_for sets brick
+
+-- so for the sets of a plan, if there is one
+abbrev pub set_in_plan : Option Plan → ℕ → Option ℕ
+set_in_plan None brick = None
+set_in_plan (Some plan) brick = set_for plan.sets brick

@@ -1,6 +1,9 @@
 -- An op or a post that a brick has answered Done by what arrived, by the count of its inputs up to the request and the place of
 -- the event. A request's text is what its bytes are behind the number of its wind: its graph, and what is asked.
-use Rattle.std.specs.Prelude.{◌≡◌, ℕ, ◌+◌, ◌<◌, true, List, ◌++◌, Some, slice_get}
+use Rattle.std.specs.Prelude.{◌≡◌, ℕ, ◌+◌, ◌<◌, true, List, ◌++◌, Option, None, Some, slice_get, is_some, MatchOption}
+use Rattle.std.specs.BTreeMap.{is_at}
+use Rattle.std.specs.Map.{lookup}
+use Rattle.std.specs.Ordering.{nat_cmp}
 use Rattle.fop_types.specs.declared.cells.Cell.{Cell}
 use Rattle.fop_types.specs.declared.contents.Mask.{Mask}
 use Rattle.fop_types.specs.declared.messages.BrickRep.TheVariants.{Done}
@@ -9,6 +12,7 @@ use Rattle.fop_types.specs.declared.messages.BrickReq.TheVariants.{Op, Post}
 use Rattle.fop_types.specs.declared.messages.DoneArm.TheVariants.{Nothing}
 use Rattle.fop_types.specs.declared.messages.Input.{Input}
 use Rattle.fop_types.specs.declared.messages.Input.TheVariants.{Request}
+use Rattle.fop_types.specs.declared.messages.OutKind.{OutKind}
 use Rattle.fop_types.specs.declared.messages.OutKind.TheVariants.{Reply}
 use Rattle.fop_types.specs.declared.messages.Output.{Output}
 use Rattle.fop_types.specs.declared.store_ops.StoreOp.{StoreOp}
@@ -22,10 +26,16 @@ use Rattle.mount_log.specs.declared.logs.WindLine.{WindLine}
 use Rattle.xlator_law.specs.Numbers.{wind_number}
 use Rattle.change_audit.specs.Answered.{IsDoneIn, IsWindFor, IsOpenedSince}
 use Rattle.change_audit.specs.declared.answers.Served.{Served}
+use Rattle.change_audit.specs.declared.finding.Opening.{Opening}
 
 -- the Done of a wind, which answers the input of this count, from 1
 abbrev pub done_text : ℕ → ℕ → List ℕ
 done_text taken wind = output_text (record { taken = taken; kind = Reply wind (Done Nothing) })
+
+-- the wind that an output answers, if it is a reply
+abbrev pub wind_answered : OutKind → Option ℕ
+wind_answered (Reply wind rep) = Some wind
+wind_answered other = None
 
 -- the output is the Done of a wind, which answers the input of this count
 pub record IsDoneOf (taken wind : ℕ) (x : Output) : Type 0 where
@@ -95,6 +105,27 @@ pub record IsOpeningFor (call wind : ℕ) (line : WindLine) : Type 0 where
   pub opened : line.opened ≡ true
   pub call_is : line.call ≡ call
   pub number_is : wind_number line.wind ≡ wind
+
+-- so does the line at this place
+abbrev pub IsOpeningAt : List WindLine → ℕ → ℕ → ℕ → Type 0
+IsOpeningAt winds place call wind = MatchOption (slice_get winds place) ⊥ (IsOpeningFor call wind)
+
+-- so does the line at this place, in the event of this number
+abbrev pub IsOpeningIn : List WindLine → ℕ → ℕ → ℕ → ℕ → Type 0
+IsOpeningIn winds place call wind number = MatchOption (slice_get winds place) ⊥ (λ line. IsOpeningFor call wind line × (line.event ≡ number))
+
+-- so does the line at this place, in the event at the other place, from 0, or behind it
+abbrev pub IsOpeningSince : List WindLine → ℕ → ℕ → ℕ → ℕ → Type 0
+IsOpeningSince winds place call wind event = MatchOption (slice_get winds place) ⊥ (λ line. IsOpeningFor call wind line × (event < line.event))
+
+-- the opening of a wind in a table of openings
+abbrev pub opening_of : List (ℕ × Opening) → ℕ → Option Opening
+opening_of table wind = lookup (is_at (nat_cmp wind)) table
+
+-- the table has an opening of each wind that was opened, and no other
+pub record AreOpenings (winds : List WindLine) (table : List (ℕ × Opening)) : Type 0 where
+  pub each : (wind : ℕ) (o : Opening) → opening_of table wind ≡ Some o → IsOpeningAt winds o.place o.call wind
+  pub all : (k : ℕ) (line : WindLine) → slice_get winds k ≡ Some line → line.opened ≡ true → is_some (opening_of table (wind_number line.wind)) ≡ true
 
 -- a brick has answered Done, where this says, to the request of a graph, which was sent for a wind of the call
 pub record IsServedAs (log : Log) (bricks : List Journal) (brick : ℕ) (at : Served) (call graph : ℕ) (req : BrickReq) : Type 0 where

@@ -1,7 +1,8 @@
 //! Which calls were answered well, and by which event.
-ghost use Rattle.std.specs.Prelude.{◌≡◌, true, false, IfOk, IfSome};
+ghost use Rattle.std.specs.Prelude.{◌≡◌, ◌<◌, ◌≤◌, ◌↔◌, IsTrue, true, false, length, IfOk, IfSome, IfNone};
 ghost use Rattle.fop_types.specs.Replies.{is_ok as is_well};
 ghost use Rattle.change_audit.specs.Acknowledged.{mark_of as marked_as, IsMarkBy, IsMarkedBy, IsMarked, AreMarked, KeepMarks, IsNoEarlier};
+ghost use Rattle.change_audit.specs.Acknowledged.{AreUnmarked, AreOfReplies, MarksOnly, MarksReply, HasCallFrom};
 
 use fop_types::{Answer, Seq};
 use mount_log::ReplyLine;
@@ -19,7 +20,11 @@ fn is_ok(answer: &Answer) -> bool
 }
 
 // No call of so many is marked.
-fn no_marks(alloc: Global, calls: usize) -> Result<Vec<Option<u64>>, AllocError> {
+#[tactic(auto, using(crate::proofs::Marking::none_more))]
+fn no_marks(alloc: Global, calls: usize) -> Result<Vec<Option<u64>>, AllocError>
+    ensures many { IfOk result (λ marks. length marks.items ≡ calls) }
+    ensures none { IfOk result (λ marks. AreUnmarked marks.items) }
+{
     let mut marks = Vec::with_capacity(alloc, calls)?;
     for _ in 0..calls {
         marks.push(None)?;
@@ -29,7 +34,7 @@ fn no_marks(alloc: Global, calls: usize) -> Result<Vec<Option<u64>>, AllocError>
 
 // Whether a mark is of the event of this number, or of an earlier one.
 fn is_by(mark: Option<u64>, number: u64) -> bool
-    ensures by { result ≡ true → IsMarkBy mark number }
+    ensures by { IsTrue result ↔ IsMarkBy mark number }
     ensures no_earlier { result ≡ false → IsNoEarlier mark number }
 {
     match mark {
@@ -39,9 +44,13 @@ fn is_by(mark: Option<u64>, number: u64) -> bool
 }
 
 // Marks a call with the number of an event, unless its mark is of an earlier one. It is false where there is no room for the call.
+#[tactic(auto, using(crate::proofs::Marking::set_only, crate::proofs::Marking::marks_same))]
 fn set_mark(marks: &mut Vec<Option<u64>>, call: u32, number: u64) -> bool
     ensures set { result ≡ true → IsMarkedBy marks.new.items call number }
     ensures keeps { KeepMarks marks.old.items marks.new.items }
+    ensures room { IsTrue result ↔ (call < length marks.old.items) }
+    ensures long { length marks.new.items ≡ length marks.old.items }
+    ensures only { MarksOnly marks.old.items marks.new.items call number }
 {
     if call as usize >= marks.len() {
         return false;
@@ -54,9 +63,13 @@ fn set_mark(marks: &mut Vec<Option<u64>>, call: u32, number: u64) -> bool
 }
 
 // Marks the call of a reply, if it was answered well. It is false where there is no room for the call.
+#[tactic(auto, using(crate::proofs::Marking::reply_only, crate::proofs::Marking::reply_same))]
 fn mark(marks: &mut Vec<Option<u64>>, reply: &ReplyLine) -> bool
     ensures marked { result ≡ true → IsMarked marks.new.items reply.now }
     ensures keeps { KeepMarks marks.old.items marks.new.items }
+    ensures room { result ≡ false → length marks.old.items ≤ reply.now.call }
+    ensures long { length marks.new.items ≡ length marks.old.items }
+    ensures only { MarksReply marks.old.items marks.new.items reply.now }
 {
     if !is_ok(&reply.answer) {
         return true;
@@ -69,12 +82,15 @@ fn mark(marks: &mut Vec<Option<u64>>, reply: &ReplyLine) -> bool
 ///
 /// # Errors
 /// Out of memory.
+#[tactic(auto, using(crate::proofs::Marking::none_of_replies))]
 pub fn answered_well(
     alloc: Global,
     replies: &[ReplyLine],
     bound: usize,
 ) -> Result<Option<Seq<Option<u64>>>, AllocError>
-    ensures { IfOk result (λ found. IfSome found (λ marks. AreMarked replies.now marks)) }
+    ensures marked { IfOk result (λ found. IfSome found (λ marks. AreMarked replies.now marks)) }
+    ensures own { IfOk result (λ found. IfSome found (λ marks. AreOfReplies replies.now marks)) }
+    ensures none { IfOk result (λ found. IfNone found (HasCallFrom replies.now bound)) }
 {
     let mut marks = no_marks(alloc, bound)?;
     for reply in replies {

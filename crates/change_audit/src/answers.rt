@@ -1,9 +1,10 @@
 //! What a brick has answered Done, by what arrived.
-ghost use Rattle.std.specs.Prelude.{◌≡◌, true, IfOk, IfSome};
+ghost use Rattle.std.specs.Prelude.{◌≡◌, ◌≢◌, ◌↔◌, IsTrue, ℕ, true, IfOk, IfSome, IfNone};
 ghost use Rattle.fop_types.specs.declared.messages.BrickRep.TheVariants.{Done};
 ghost use Rattle.fop_types.specs.declared.messages.DoneArm.TheVariants.{Nothing};
 ghost use Rattle.fop_types.specs.declared.messages.OutKind.TheVariants.{Reply};
-ghost use Rattle.change_audit.specs.Served.{done_text, IsDoneOf, IsAnswered};
+ghost use Rattle.fop_types.specs.Bounds.{IsHyper};
+ghost use Rattle.change_audit.specs.Served.{done_text, wind_answered, IsDoneOf, IsAnswered};
 
 use crate::arrivals::{arrived, written_output};
 use fop_types::{BrickRep, DoneArm, OutKind, Output};
@@ -35,7 +36,7 @@ pub struct Bearer {
 }
 
 fn is_nothing(arm: &DoneArm) -> bool
-    ensures { result ≡ true → arm.now ≡ Nothing }
+    ensures { IsTrue result ↔ (arm.now ≡ Nothing) }
 {
     match arm {
         DoneArm::Nothing => true,
@@ -44,7 +45,7 @@ fn is_nothing(arm: &DoneArm) -> bool
 }
 
 fn is_done(rep: &BrickRep) -> bool
-    ensures { result ≡ true → rep.now ≡ Done Nothing }
+    ensures { IsTrue result ↔ (rep.now ≡ Done Nothing) }
 {
     match rep {
         BrickRep::Done(arm) => is_nothing(arm),
@@ -53,7 +54,9 @@ fn is_done(rep: &BrickRep) -> bool
 }
 
 /// The wind of an output that is a reply.
-pub(crate) fn reply_wind(kind: &OutKind) -> Option<u64> {
+pub(crate) fn reply_wind(kind: &OutKind) -> Option<u64>
+    ensures { result ≡ wind_answered kind.now }
+{
     match kind {
         OutKind::Reply { wind, rep: _ } => Some(*wind),
         _ => None,
@@ -62,7 +65,8 @@ pub(crate) fn reply_wind(kind: &OutKind) -> Option<u64> {
 
 // The wind of an output that is a Done with nothing.
 fn done_wind(kind: &OutKind) -> Option<u64>
-    ensures { IfSome result (λ wind. kind.now ≡ Reply wind (Done Nothing)) }
+    ensures found { IfSome result (λ wind. kind.now ≡ Reply wind (Done Nothing)) }
+    ensures none { IfNone result ((wind : ℕ) → kind.now ≢ Reply wind (Done Nothing)) }
 {
     match kind {
         OutKind::Reply { wind, rep } => { if is_done(rep) { Some(*wind) } else { None } }
@@ -71,7 +75,8 @@ fn done_wind(kind: &OutKind) -> Option<u64>
 }
 
 fn done_of(output: &Output) -> Option<Answering>
-    ensures { IfSome result (λ done. IsDoneOf done.taken done.wind output.now) }
+    ensures found { IfSome result (λ done. IsDoneOf done.taken done.wind output.now) }
+    ensures none { IfNone result ((taken wind : ℕ) → IsDoneOf taken wind output.now → ⊥) }
 {
     let wind = done_wind(&output.kind)?;
     Some(Answering {
@@ -85,7 +90,9 @@ fn done_of(output: &Output) -> Option<Answering>
 /// # Errors
 /// Out of memory.
 pub(crate) fn done_in(alloc: Global, bytes: &[u8]) -> Result<Option<Answering>, AllocError>
-    ensures { IfOk result (λ found. IfSome found (λ done. bytes.now ≡ done_text done.taken done.wind)) }
+    ensures found { IfOk result (λ found. IfSome found (λ done. bytes.now ≡ done_text done.taken done.wind)) }
+    ensures hypers { IfOk result (λ found. IfSome found (λ done. IsHyper done.taken × IsHyper done.wind)) }
+    ensures none { IfOk result (λ found. IfNone found ((taken wind : ℕ) → IsHyper taken → IsHyper wind → bytes.now ≢ done_text taken wind)) }
 {
     match written_output(alloc, bytes)? {
         Some(output) => {
@@ -99,7 +106,8 @@ pub(crate) fn done_in(alloc: Global, bytes: &[u8]) -> Result<Option<Answering>, 
 
 // Whether the bytes are the Done of a wind that answers the input of this count.
 fn is_done_text(alloc: Global, bytes: &[u8], taken: u64, wind: u64) -> Result<bool, AllocError>
-    ensures { IfOk result (λ yes. yes ≡ true → bytes.now ≡ done_text taken wind) }
+    ensures sound { IfOk result (λ yes. yes ≡ true → bytes.now ≡ done_text taken wind) }
+    ensures complete { IfOk result (λ yes. IsHyper taken → IsHyper wind → bytes.now ≡ done_text taken wind → yes ≡ true) }
 {
     match done_in(alloc, bytes)? {
         Some(done) => Ok(done.taken == taken && done.wind == wind),
@@ -118,7 +126,8 @@ pub(crate) fn is_answered(
     at: Served,
     wind: u64,
 ) -> Result<bool, AllocError>
-    ensures { IfOk result (λ yes. yes ≡ true → IsAnswered log.now brick at wind) }
+    ensures sound { IfOk result (λ yes. yes ≡ true → IsAnswered log.now brick at wind) }
+    ensures complete { IfOk result (λ yes. IsHyper at.taken → IsHyper wind → IsAnswered log.now brick at wind → yes ≡ true) }
 {
     let Some(bytes) = arrived(log, at.event, brick) else {
         return Ok(false);

@@ -1,6 +1,7 @@
 //! What arrived from bricks.
-ghost use Rattle.std.specs.Prelude.{◌≡◌, Some, slice_get, IfOk, IfSome};
-ghost use Rattle.wire_xdr.specs.WireText.{output_text};
+ghost use Rattle.std.specs.Prelude.{◌≡◌, ◌≢◌, ℕ, List, Some, slice_get, IfOk, IfSome, IfNone};
+ghost use Rattle.fop_types.specs.declared.messages.Output.{Output as Made};
+ghost use Rattle.wire_xdr.specs.WireText.{output_text, IsOutput};
 ghost use Rattle.mount_log.specs.declared.logs.HubEvent.TheVariants.{Arrive};
 
 use fop_types::Output;
@@ -10,7 +11,8 @@ use std::alloc::{AllocError, Global};
 use wire_messages::{Message, output_of};
 
 fn bytes_from(event: &HubEvent, brick: u8) -> Option<&[u8]>
-    ensures { IfSome result (λ bytes. event.now ≡ Arrive brick bytes.now) }
+    ensures found { IfSome result (λ bytes. event.now ≡ Arrive brick bytes.now) }
+    ensures none { IfNone result ((bytes : List ℕ) → event.now ≢ Arrive brick bytes) }
 {
     match event {
         HubEvent::Arrive { brick: from, bytes } => {
@@ -26,7 +28,8 @@ fn bytes_from(event: &HubEvent, brick: u8) -> Option<&[u8]>
 
 /// What arrived from a brick in the event at a place.
 pub fn arrived(log: &Log, event: usize, brick: u8) -> Option<&[u8]>
-    ensures { IfSome result (λ bytes. slice_get log.now.events event ≡ Some (Arrive brick bytes.now)) }
+    ensures found { IfSome result (λ bytes. slice_get log.now.events event ≡ Some (Arrive brick bytes.now)) }
+    ensures none { IfNone result ((bytes : List ℕ) → slice_get log.now.events event ≢ Some (Arrive brick bytes)) }
 {
     match event_at(log, event) {
         Some(event) => bytes_from(event, brick),
@@ -48,7 +51,9 @@ pub(crate) fn hyper_at(bytes: &[u8], at: usize) -> Option<u64> {
 /// # Errors
 /// Out of memory.
 pub fn written_output(alloc: Global, bytes: &[u8]) -> Result<Option<Output>, AllocError>
-    ensures { IfOk result (λ found. IfSome found (λ x. bytes.now ≡ output_text x)) }
+    ensures found { IfOk result (λ found. IfSome found (λ x. bytes.now ≡ output_text x)) }
+    ensures legal { IfOk result (λ found. IfSome found (λ x. IsOutput x)) }
+    ensures none { IfOk result (λ found. IfNone found ((x : Made) → IsOutput x → bytes.now ≢ output_text x)) }
 {
     match output_of(alloc, bytes)? {
         Message::Whole(output) => Ok(Some(output)),

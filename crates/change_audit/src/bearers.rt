@@ -1,5 +1,5 @@
 //! Whether the bricks of a set bear a change, where they are said to.
-ghost use Rattle.std.specs.Prelude.{◌≡◌, ◌==◌, ◌≤◌, true, length, map, drop, Contains, IfOk};
+ghost use Rattle.std.specs.Prelude.{◌≡◌, ◌==◌, ◌≤◌, ◌↔◌, IsTrue, true, length, map, drop, Contains, IfOk};
 ghost use Rattle.std.specs.List.{AllByRecursion, IsDistinct};
 ghost use Rattle.change_audit.specs.Bearing.{brick_of, RisesFrom, IsMaking, IsMakingIn, IsInOrder, IsSaidBorne, IsSaidBearer, HasBearers};
 
@@ -14,14 +14,14 @@ use std::alloc::{AllocError, Global};
 
 /// Whether a brick is one of the set.
 pub fn has_member(plan: &SetPlan, brick: u8) -> bool
-    ensures { result ≡ true → Contains plan.now.bricks brick }
+    ensures { IsTrue result ↔ Contains plan.now.bricks brick }
 {
     plan.bricks.as_slice().contains(&brick)
 }
 
 // Whether the op was served before the post, and answered before it, and the post by the event of this number.
 fn is_in_order(bearer: &Bearer, number: u64) -> bool
-    ensures { result ≡ true → IsInOrder bearer.now number }
+    ensures { IsTrue result ↔ IsInOrder bearer.now number }
 {
     bearer.op.taken < bearer.post.taken
         && bearer.op.event < bearer.post.event
@@ -101,7 +101,7 @@ fn are_bearers(
 
 // Whether the numbers of the bricks rise.
 fn are_rising(bearers: &[Bearer]) -> bool
-    ensures { result ≡ true → RisesFrom 0 (map brick_of bearers.now) }
+    ensures { IsTrue result ↔ RisesFrom 0 (map brick_of bearers.now) }
 {
     let mut least = 0u32;
     for bearer in bearers {
@@ -114,13 +114,14 @@ fn are_rising(bearers: &[Bearer]) -> bool
 }
 
 fn are_apart(bearers: &[Bearer]) -> bool
-    ensures { result ≡ true → IsDistinct ◌==◌ (map brick_of bearers.now) }
+    ensures sound { result ≡ true → IsDistinct ◌==◌ (map brick_of bearers.now) }
+    ensures complete { RisesFrom 0 (map brick_of bearers.now) → result ≡ true }
 {
     are_rising(bearers)
 }
 
 fn are_enough(plan: &SetPlan, bearers: &[Bearer]) -> bool
-    ensures { result ≡ true → plan.now.q ≤ length (map brick_of bearers.now) }
+    ensures { IsTrue result ↔ (plan.now.q ≤ length (map brick_of bearers.now)) }
 {
     plan.q as usize <= bearers.len()
 }

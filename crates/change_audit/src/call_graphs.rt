@@ -1,7 +1,7 @@
 //! The graph of each call, and the set that a number means there.
-ghost use Rattle.std.specs.Prelude.{◌≡◌, ◌-◌, ◌++◌, ℕ, List, Some, slice_get, IfOk, IfSome, OnOk};
+ghost use Rattle.std.specs.Prelude.{◌≡◌, ◌≤◌, ◌-◌, ◌++◌, ℕ, List, Some, option_copied, slice_get, IfOk, IfSome, IfNone, OnOk};
 ghost use Rattle.mount_log.specs.Causes.{plan_of_volfile, set_of_plan};
-ghost use Rattle.change_audit.specs.CallGraphs.{submitted_in, graphs_from, AreGraphsOf, HasGraph};
+ghost use Rattle.change_audit.specs.CallGraphs.{submitted_in, graphs_from, AreGraphsOf, HasGraph, set_for, set_in_plan};
 
 use fop_types::{Seq, SetPlan};
 use graph_build::Plan;
@@ -77,7 +77,8 @@ fn byte_at(bytes: &[u8], k: usize) -> Option<u8>
 
 /// The graph of a call.
 pub fn graph_of(tables: &CallGraphs, call: u32) -> Option<usize>
-    ensures { IfSome result (λ graph. HasGraph tables.now call graph) }
+    ensures found { IfSome result (λ graph. HasGraph tables.now call graph) }
+    ensures none { IfNone result ((graph : ℕ) → HasGraph tables.now call graph → ⊥) }
 {
     if call == 0 {
         return None;
@@ -88,7 +89,8 @@ pub fn graph_of(tables: &CallGraphs, call: u32) -> Option<usize>
 
 /// The volfile of a graph.
 fn volfile_of(tables: &CallGraphs, graph: usize) -> Option<u8>
-    ensures { IfSome result (λ volfile. slice_get tables.now.volfiles (graph - 1) ≡ Some volfile) }
+    ensures found { IfSome result (λ volfile. slice_get tables.now.volfiles (graph - 1) ≡ Some volfile) }
+    ensures exact { 1 ≤ graph → result ≡ slice_get tables.now.volfiles (graph - 1) }
 {
     if graph == 0 {
         return None;
@@ -99,7 +101,8 @@ fn volfile_of(tables: &CallGraphs, graph: usize) -> Option<u8>
 
 /// The plan of a graph.
 pub fn plan_in<'a>(plans: &'a [Plan], tables: &CallGraphs, graph: usize) -> Option<&'a Plan>
-    ensures { IfSome result (λ plan. plan_of_volfile plans.now (slice_get tables.now.volfiles (graph - 1)) ≡ Some plan.now) }
+    ensures found { IfSome result (λ plan. plan_of_volfile plans.now (slice_get tables.now.volfiles (graph - 1)) ≡ Some plan.now) }
+    ensures exact { 1 ≤ graph → option_copied result ≡ plan_of_volfile plans.now (slice_get tables.now.volfiles (graph - 1)) }
 {
     let volfile = volfile_of(tables, graph)?;
     let plan = plan_of(plans, Some(volfile))?;
@@ -113,7 +116,8 @@ pub fn set_in<'a>(
     graph: usize,
     set: u8,
 ) -> Option<&'a SetPlan>
-    ensures { IfSome result (λ plan. set_of_plan (plan_of_volfile plans.now (slice_get tables.now.volfiles (graph - 1))) set ≡ Some plan.now) }
+    ensures found { IfSome result (λ plan. set_of_plan (plan_of_volfile plans.now (slice_get tables.now.volfiles (graph - 1))) set ≡ Some plan.now) }
+    ensures exact { 1 ≤ graph → option_copied result ≡ set_of_plan (plan_of_volfile plans.now (slice_get tables.now.volfiles (graph - 1))) set }
 {
     if graph == 0 {
         return None;
@@ -122,8 +126,10 @@ pub fn set_in<'a>(
     Some(plan)
 }
 
-// The number of the set that has the brick.
-fn set_among(plan: &Plan, brick: u8) -> Option<u8> {
+// The number of the first set that has the brick.
+fn set_among(plan: &Plan, brick: u8) -> Option<u8>
+    ensures { result ≡ set_for plan.now.sets brick }
+{
     for set in plan.sets.as_slice() {
         if set.bricks.as_slice().contains(&brick) {
             return Some(set.number);
@@ -132,8 +138,10 @@ fn set_among(plan: &Plan, brick: u8) -> Option<u8> {
     None
 }
 
-/// The number of the set that has the brick in a graph.
-pub fn set_with(plans: &[Plan], tables: &CallGraphs, graph: usize, brick: u8) -> Option<u8> {
+/// The number of the first set that has the brick in a graph.
+pub fn set_with(plans: &[Plan], tables: &CallGraphs, graph: usize, brick: u8) -> Option<u8>
+    ensures { 1 ≤ graph → result ≡ set_in_plan (plan_of_volfile plans.now (slice_get tables.now.volfiles (graph - 1))) brick }
+{
     let plan = plan_in(plans, tables, graph)?;
     set_among(plan, brick)
 }

@@ -1,5 +1,5 @@
 //! The changes that were taken for entries, and the winds that were taken for copies, each for one.
-ghost use Rattle.std.specs.Prelude.{◌≡◌, [], true, Some, is_some, IfOk};
+ghost use Rattle.std.specs.Prelude.{◌≡◌, ◌↔◌, IsTrue, [], true, None, Some, is_some, IfOk};
 ghost use Rattle.change_audit.specs.Claims.{claim_of, KeepClaims};
 
 use std::alloc::{AllocError, Global};
@@ -45,6 +45,7 @@ impl Claims {
     /// Out of memory.
     pub fn take(&mut self, change: u64, place: usize) -> Result<bool, AllocError>
         ensures taken { IfOk result (λ did. did ≡ true → claim_of self.new change ≡ Some place) }
+        ensures free { IfOk result (λ did. IsTrue did ↔ (claim_of self.old change ≡ None)) }
         ensures keeps { IfOk result (λ did. KeepClaims self.old self.new) }
     {
         if self.has(change) {

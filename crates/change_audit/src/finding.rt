@@ -1,4 +1,6 @@
-//! Which bricks bear which changes, found in what arrived. Nothing is said of what is found.
+//! Which bricks bear which changes, found in what arrived. Nothing is said of what is found, but of the openings of winds.
+ghost use Rattle.std.specs.Prelude.{◌≡◌, [], IfOk, OnOk};
+ghost use Rattle.change_audit.specs.Served.{AreOpenings};
 
 use crate::acknowledged::mark_of;
 use crate::answers::{Bearer, Served, done_in};
@@ -27,23 +29,28 @@ pub struct Opening {
     pub place: usize,
 }
 
-/// The opening of each wind.
+/// The opening of each wind that was opened.
 ///
 /// # Errors
 /// Out of memory.
 pub fn openings_of(
     alloc: Global,
     winds: &[WindLine],
-) -> Result<BTreeMap<u64, Opening>, AllocError> {
+) -> Result<BTreeMap<u64, Opening>, AllocError>
+    ensures { IfOk result (λ table. AreOpenings winds.now table.entries) }
+{
     let mut openings = BTreeMap::new(alloc);
     let done = note_openings(&mut openings, winds);
     done.and(Ok(openings))
 }
 
+#[tactic(auto, using(crate::proofs::Opening::no_openings, crate::proofs::Opening::openings_same, crate::proofs::Opening::openings_next, crate::proofs::Opening::all_openings))]
 fn note_openings(
     openings: &mut BTreeMap<u64, Opening>,
     winds: &[WindLine],
-) -> Result<(), AllocError> {
+) -> Result<(), AllocError>
+    ensures { OnOk result (openings.old.entries ≡ [] → AreOpenings winds.now openings.new.entries) }
+{
     for place in 0..winds.len() {
         let line = &winds[place];
         if line.opened {

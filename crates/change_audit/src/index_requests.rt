@@ -1,5 +1,5 @@
 //! The requests of the index, in journals.
-ghost use Rattle.std.specs.Prelude.{◌≡◌, true, IfOk, IfSome};
+ghost use Rattle.std.specs.Prelude.{◌≡◌, ◌≢◌, ◌↔◌, ℕ, IsTrue, true, IfOk, IfSome, IfNone};
 ghost use Rattle.fop_types.specs.declared.messages.BrickReq.TheVariants.{Index};
 ghost use Rattle.fop_types.specs.declared.messages.Input.TheVariants.{Request};
 ghost use Rattle.wire_xdr.specs.WireText.{input_text};
@@ -16,7 +16,7 @@ use std::alloc::{AllocError, Global};
 use std::collections::BTreeMap;
 
 fn is_index(req: &BrickReq) -> bool
-    ensures { result ≡ true → req.now ≡ Index }
+    ensures { IsTrue result ↔ (req.now ≡ Index) }
 {
     match req {
         BrickReq::Index => true,
@@ -26,7 +26,8 @@ fn is_index(req: &BrickReq) -> bool
 
 // The graph of an input that is an index on this wind.
 fn graph_of(input: &Input, on: u64) -> Option<u32>
-    ensures { IfSome result (λ graph. input.now ≡ Request on graph Index) }
+    ensures found { IfSome result (λ graph. input.now ≡ Request on graph Index) }
+    ensures none { IfNone result ((graph : ℕ) → input.now ≢ Request on graph Index) }
 {
     match input {
         Input::Request { wind, graph, req } => {

@@ -1,5 +1,6 @@
 //! The cells that bricks have listed to internal calls.
-ghost use Rattle.std.specs.Prelude.{◌≡◌, [], true, Some, slice_get, IfOk, IfSome, OnOk};
+ghost use Rattle.std.specs.Prelude.{◌≡◌, ◌≢◌, List, [], true, Some, slice_get, IfOk, IfSome, IfNone, OnOk};
+ghost use Rattle.fop_types.specs.declared.cells.Cell.{Cell as Part};
 ghost use Rattle.fop_types.specs.declared.messages.BrickRep.TheVariants.{Done};
 ghost use Rattle.fop_types.specs.declared.messages.DoneArm.TheVariants.{Cells};
 ghost use Rattle.fop_types.specs.declared.messages.OutKind.TheVariants.{Reply};
@@ -37,7 +38,8 @@ impl Model for Listings {
 // ---- lists that arrived
 
 fn cells_in(arm: &DoneArm) -> Option<&[Cell]>
-    ensures { IfSome result (λ cells. arm.now ≡ Cells cells.now) }
+    ensures found { IfSome result (λ cells. arm.now ≡ Cells cells.now) }
+    ensures none { IfNone result ((cells : List Part) → arm.now ≢ Cells cells) }
 {
     match arm {
         DoneArm::Cells(cells) => Some(cells.as_slice()),
@@ -46,7 +48,8 @@ fn cells_in(arm: &DoneArm) -> Option<&[Cell]>
 }
 
 fn cells_of(rep: &BrickRep) -> Option<&[Cell]>
-    ensures { IfSome result (λ cells. rep.now ≡ Done (Cells cells.now)) }
+    ensures found { IfSome result (λ cells. rep.now ≡ Done (Cells cells.now)) }
+    ensures none { IfNone result ((cells : List Part) → rep.now ≢ Done (Cells cells)) }
 {
     match rep {
         BrickRep::Done(arm) => cells_in(arm),
@@ -56,7 +59,8 @@ fn cells_of(rep: &BrickRep) -> Option<&[Cell]>
 
 // The list of a reply on this wind.
 fn list_on(kind: &OutKind, on: u64) -> Option<&[Cell]>
-    ensures { IfSome result (λ cells. kind.now ≡ Reply on (Done (Cells cells.now))) }
+    ensures found { IfSome result (λ cells. kind.now ≡ Reply on (Done (Cells cells.now))) }
+    ensures none { IfNone result ((cells : List Part) → kind.now ≢ Reply on (Done (Cells cells))) }
 {
     match kind {
         OutKind::Reply { wind, rep } => { if *wind == on { cells_of(rep) } else { None } }

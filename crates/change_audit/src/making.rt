@@ -1,37 +1,37 @@
 //! Which operation of the flat file system a store op makes.
-ghost use Rattle.std.specs.Prelude.{◌≡◌, true, Some};
+ghost use Rattle.std.specs.Prelude.{◌≡◌, ◌↔◌, IsTrue, Some};
 ghost use Rattle.dht_fops.specs.Answers.{added, change_of};
 ghost use Rattle.fop_types.specs.declared.flat.FlatOp.TheVariants as op;
 
 use fop_types::{Attr, Data, FlatOp, Gfid, Item, Kind, Seq, StoreOp};
 
 fn are_same(a: &Seq<u8>, b: &Seq<u8>) -> bool
-    ensures { result ≡ true → a.now ≡ b.now }
+    ensures { IsTrue result ↔ (a.now ≡ b.now) }
 {
     a == b
 }
 
 fn are_data(a: &Data, b: &Data) -> bool
-    ensures { result ≡ true → a.now ≡ b.now }
+    ensures { IsTrue result ↔ (a.now ≡ b.now) }
 {
     a == b
 }
 
 /// Whether two gfids are the same.
 pub(crate) fn is_gfid(a: Gfid, b: Gfid) -> bool
-    ensures { result ≡ true → a ≡ b }
+    ensures { IsTrue result ↔ (a ≡ b) }
 {
     a.hi == b.hi && a.lo == b.lo
 }
 
 fn is_attr(a: &Attr, b: &Attr) -> bool
-    ensures { result ≡ true → a.now ≡ b.now }
+    ensures { IsTrue result ↔ (a.now ≡ b.now) }
 {
     are_same(&a.name, &b.name) && are_same(&a.value, &b.value)
 }
 
 fn is_write(flat: &FlatOp, gfid: Gfid, offset: u32, bytes: &Data) -> bool
-    ensures { result ≡ true → flat.now ≡ op.Write gfid offset bytes.now }
+    ensures { IsTrue result ↔ (flat.now ≡ op.Write gfid offset bytes.now) }
 {
     match flat {
         FlatOp::Write {
@@ -44,7 +44,7 @@ fn is_write(flat: &FlatOp, gfid: Gfid, offset: u32, bytes: &Data) -> bool
 }
 
 fn is_truncate(flat: &FlatOp, gfid: Gfid, size: u32) -> bool
-    ensures { result ≡ true → flat.now ≡ op.Truncate gfid size }
+    ensures { IsTrue result ↔ (flat.now ≡ op.Truncate gfid size) }
 {
     match flat {
         FlatOp::Truncate { gfid: g, size: s } => is_gfid(*g, gfid) && *s == size,
@@ -53,7 +53,7 @@ fn is_truncate(flat: &FlatOp, gfid: Gfid, size: u32) -> bool
 }
 
 fn is_chmod(flat: &FlatOp, gfid: Gfid, mode: u16) -> bool
-    ensures { result ≡ true → flat.now ≡ op.Chmod gfid mode }
+    ensures { IsTrue result ↔ (flat.now ≡ op.Chmod gfid mode) }
 {
     match flat {
         FlatOp::Chmod { gfid: g, mode: m } => is_gfid(*g, gfid) && *m == mode,
@@ -62,7 +62,7 @@ fn is_chmod(flat: &FlatOp, gfid: Gfid, mode: u16) -> bool
 }
 
 fn is_set_attr(flat: &FlatOp, gfid: Gfid, attr: &Attr) -> bool
-    ensures { result ≡ true → flat.now ≡ op.SetAttr gfid attr.now }
+    ensures { IsTrue result ↔ (flat.now ≡ op.SetAttr gfid attr.now) }
 {
     match flat {
         FlatOp::SetAttr { gfid: g, attr: a } => is_gfid(*g, gfid) && is_attr(a, attr),
@@ -71,7 +71,7 @@ fn is_set_attr(flat: &FlatOp, gfid: Gfid, attr: &Attr) -> bool
 }
 
 fn is_del_attr(flat: &FlatOp, gfid: Gfid, name: &Seq<u8>) -> bool
-    ensures { result ≡ true → flat.now ≡ op.DelAttr gfid name.now }
+    ensures { IsTrue result ↔ (flat.now ≡ op.DelAttr gfid name.now) }
 {
     match flat {
         FlatOp::DelAttr { gfid: g, name: n } => is_gfid(*g, gfid) && are_same(n, name),
@@ -80,7 +80,7 @@ fn is_del_attr(flat: &FlatOp, gfid: Gfid, name: &Seq<u8>) -> bool
 }
 
 fn is_create(flat: &FlatOp, parent: Gfid, item: &Item, mode: u16) -> bool
-    ensures { result ≡ true → flat.now ≡ op.Create parent item.now.name mode item.now.gfid }
+    ensures { IsTrue result ↔ (flat.now ≡ op.Create parent item.now.name mode item.now.gfid) }
 {
     match flat {
         FlatOp::Create {
@@ -99,7 +99,7 @@ fn is_create(flat: &FlatOp, parent: Gfid, item: &Item, mode: u16) -> bool
 }
 
 fn is_mkdir(flat: &FlatOp, parent: Gfid, item: &Item, mode: u16) -> bool
-    ensures { result ≡ true → flat.now ≡ op.Mkdir parent item.now.name mode item.now.gfid }
+    ensures { IsTrue result ↔ (flat.now ≡ op.Mkdir parent item.now.name mode item.now.gfid) }
 {
     match flat {
         FlatOp::Mkdir {
@@ -118,7 +118,7 @@ fn is_mkdir(flat: &FlatOp, parent: Gfid, item: &Item, mode: u16) -> bool
 }
 
 fn is_added(flat: &FlatOp, parent: Gfid, item: &Item, mode: u16) -> bool
-    ensures { result ≡ true → added parent item.now mode item.now.kind ≡ Some flat.now }
+    ensures { IsTrue result ↔ (added parent item.now mode item.now.kind ≡ Some flat.now) }
 {
     match item.kind {
         Kind::File => is_create(flat, parent, item, mode),
@@ -129,7 +129,7 @@ fn is_added(flat: &FlatOp, parent: Gfid, item: &Item, mode: u16) -> bool
 
 /// Whether an operation unlinks the name of a directory.
 pub fn is_unlink(flat: &FlatOp, parent: Gfid, name: &Seq<u8>) -> bool
-    ensures { result ≡ true → flat.now ≡ op.Unlink parent name.now }
+    ensures { IsTrue result ↔ (flat.now ≡ op.Unlink parent name.now) }
 {
     match flat {
         FlatOp::Unlink { parent: p, name: n } => is_gfid(*p, parent) && are_same(n, name),
@@ -138,7 +138,7 @@ pub fn is_unlink(flat: &FlatOp, parent: Gfid, name: &Seq<u8>) -> bool
 }
 
 fn is_rmdir(flat: &FlatOp, parent: Gfid, name: &Seq<u8>) -> bool
-    ensures { result ≡ true → flat.now ≡ op.Rmdir parent name.now }
+    ensures { IsTrue result ↔ (flat.now ≡ op.Rmdir parent name.now) }
 {
     match flat {
         FlatOp::Rmdir { parent: p, name: n } => is_gfid(*p, parent) && are_same(n, name),
@@ -147,7 +147,7 @@ fn is_rmdir(flat: &FlatOp, parent: Gfid, name: &Seq<u8>) -> bool
 }
 
 fn is_rename(flat: &FlatOp, parent: Gfid, name: &Seq<u8>, target: Gfid, new_name: &Seq<u8>) -> bool
-    ensures { result ≡ true → flat.now ≡ op.Rename parent name.now target new_name.now }
+    ensures { IsTrue result ↔ (flat.now ≡ op.Rename parent name.now target new_name.now) }
 {
     match flat {
         FlatOp::Rename {
@@ -164,7 +164,7 @@ fn is_rename(flat: &FlatOp, parent: Gfid, name: &Seq<u8>, target: Gfid, new_name
 
 /// Whether a change of the store makes this operation of the flat file system.
 pub(crate) fn makes(change: &StoreOp, flat: &FlatOp) -> bool
-    ensures { result ≡ true → change_of change.now ≡ Some flat.now }
+    ensures { IsTrue result ↔ (change_of change.now ≡ Some flat.now) }
 {
     match change {
         StoreOp::Write {

@@ -1,6 +1,6 @@
 //! What is known of a run before its history is gone through.
-ghost use Rattle.std.specs.Prelude.{IfOk, IfSome};
-ghost use Rattle.change_audit.specs.Acknowledged.{AreMarked};
+ghost use Rattle.std.specs.Prelude.{◌≡◌, IfOk, IfSome};
+ghost use Rattle.change_audit.specs.Acknowledged.{AreMarked, AreOfReplies};
 ghost use Rattle.change_audit.specs.Entries.{AreNotesOf};
 
 use crate::acknowledged::answered_well;
@@ -54,7 +54,8 @@ fn with_graphs(
     leads: Leads,
 ) -> Result<Notes, AllocError>
     requires { AreMarked log.now.replies marks }
-    ensures { IfOk result (λ notes. AreNotesOf script.now log.now notes) }
+    ensures notes { IfOk result (λ notes. AreNotesOf script.now log.now notes) }
+    ensures marks { IfOk result (λ notes. notes.marks ≡ marks) }
 {
     match call_graphs(alloc, script, log) {
         Ok(graphs) => Ok(Notes {
@@ -80,7 +81,8 @@ fn notes_by(
     marks: Seq<Option<u64>>,
 ) -> Result<Notes, AllocError>
     requires { AreMarked log.now.replies marks }
-    ensures { IfOk result (λ notes. AreNotesOf script.now log.now notes) }
+    ensures notes { IfOk result (λ notes. AreNotesOf script.now log.now notes) }
+    ensures marks { IfOk result (λ notes. notes.marks ≡ marks) }
 {
     match leads_of(alloc, log, bricks, ops, marks.as_slice()) {
         Ok(leads) => with_graphs(alloc, script, log, marks, leads),
@@ -103,7 +105,8 @@ pub(crate) fn notes_of(
     bricks: &[Brick],
     ops: &[FlatOp],
 ) -> Result<Option<Notes>, AllocError>
-    ensures { IfOk result (λ found. IfSome found (λ notes. AreNotesOf script.now log.now notes)) }
+    ensures notes { IfOk result (λ found. IfSome found (λ notes. AreNotesOf script.now log.now notes)) }
+    ensures own { IfOk result (λ found. IfSome found (λ notes. AreOfReplies log.now.replies notes.marks)) }
 {
     let bound = log.events.len().saturating_add(1);
     match answered_well(alloc, log.replies.as_slice(), bound)? {

@@ -1,7 +1,7 @@
 //! Winds that were opened for a call, by the places of their lines.
-ghost use Rattle.std.specs.Prelude.{◌≡◌, ◌<◌, true, option_copied, slice_get};
+ghost use Rattle.std.specs.Prelude.{◌≡◌, ◌<◌, ◌↔◌, IsTrue, true, option_copied, slice_get};
 ghost use Rattle.change_audit.specs.Answered.{IsWindFor, IsOpenedIn, IsOpenedSince};
-ghost use Rattle.change_audit.specs.Served.{IsOpeningFor};
+ghost use Rattle.change_audit.specs.Served.{IsOpeningFor, IsOpeningAt, IsOpeningIn, IsOpeningSince};
 
 use mount_log::WindLine;
 
@@ -12,14 +12,16 @@ fn line_at(winds: &[WindLine], place: usize) -> Option<&WindLine>
 }
 
 fn is_opening_for(line: &WindLine, call: u32, wind: u64) -> bool
-    ensures { result ≡ true → IsOpeningFor call wind line.now }
+    ensures { IsTrue result ↔ IsOpeningFor call wind line.now }
 {
     line.opened && line.call == call && line.wind.number() == wind
 }
 
 /// Whether the line at a place opens the wind of this number for the call.
+#[tactic(auto, using(crate::proofs::Opening::opened_at, crate::proofs::Opening::line_opens, crate::proofs::Opening::none_opens))]
 pub fn is_wind_for(winds: &[WindLine], place: usize, call: u32, wind: u64) -> bool
-    ensures { result ≡ true → IsWindFor winds.now call wind }
+    ensures sound { result ≡ true → IsWindFor winds.now call wind }
+    ensures exact { IsTrue result ↔ IsOpeningAt winds.now place call wind }
 {
     match line_at(winds, place) {
         Some(line) => is_opening_for(line, call, wind),
@@ -28,12 +30,13 @@ pub fn is_wind_for(winds: &[WindLine], place: usize, call: u32, wind: u64) -> bo
 }
 
 fn is_in_event(line: &WindLine, number: u64) -> bool
-    ensures { result ≡ true → line.now.event ≡ number }
+    ensures { IsTrue result ↔ (line.now.event ≡ number) }
 {
     line.event == number
 }
 
 /// Whether the line at a place opens the wind of this number for the call, in the event of the other number.
+#[tactic(auto, using(crate::proofs::Opening::opened_in, crate::proofs::Opening::line_opens_in, crate::proofs::Opening::none_opens_in))]
 pub(crate) fn is_opened_in(
     winds: &[WindLine],
     place: usize,
@@ -41,7 +44,8 @@ pub(crate) fn is_opened_in(
     wind: u64,
     number: u64,
 ) -> bool
-    ensures { result ≡ true → IsOpenedIn winds.now call wind number }
+    ensures sound { result ≡ true → IsOpenedIn winds.now call wind number }
+    ensures exact { IsTrue result ↔ IsOpeningIn winds.now place call wind number }
 {
     match line_at(winds, place) {
         Some(line) => is_opening_for(line, call, wind) && is_in_event(line, number),
@@ -50,13 +54,13 @@ pub(crate) fn is_opened_in(
 }
 
 fn is_since(line: &WindLine, event: usize) -> bool
-    ensures { result ≡ true → event < line.now.event }
+    ensures { IsTrue result ↔ (event < line.now.event) }
 {
     (event as u64) < line.event
 }
 
 /// Whether the line at a place opens the wind of this number for the call, in the event at the other place, from 0, or behind it.
-#[tactic(auto, using(crate::proofs::Texts::opened_since))]
+#[tactic(auto, using(crate::proofs::Opening::opened_since, crate::proofs::Opening::line_opens_since, crate::proofs::Opening::none_opens_since, crate::proofs::Opening::own_event))]
 pub(crate) fn is_opened_since(
     winds: &[WindLine],
     place: usize,
@@ -64,7 +68,8 @@ pub(crate) fn is_opened_since(
     wind: u64,
     event: usize,
 ) -> bool
-    ensures { result ≡ true → IsOpenedSince winds.now call wind event }
+    ensures sound { result ≡ true → IsOpenedSince winds.now call wind event }
+    ensures exact { IsTrue result ↔ IsOpeningSince winds.now place call wind event }
 {
     match line_at(winds, place) {
         Some(line) => is_opened_in(winds, place, call, wind, line.event) && is_since(line, event),

@@ -1,5 +1,5 @@
 //! The sets on which the names of new objects are.
-ghost use Rattle.std.specs.Prelude.{◌≡◌, true, length, IfOk, IfSome};
+ghost use Rattle.std.specs.Prelude.{◌≡◌, ◌<◌, ◌≤◌, ◌↔◌, IsTrue, true, length, IfOk, IfSome, IfNone};
 ghost use Rattle.dht_layout.specs.Layouts.{even_layout};
 ghost use Rattle.dht_linkto.specs.Search.{hashed_set as hashed_set_of};
 ghost use Rattle.fop_types.specs.Cells.{root};
@@ -48,7 +48,7 @@ pub(crate) fn makers_of(alloc: Global, ops: &[FlatOp]) -> Result<Makers, AllocEr
 }
 
 fn makes_dir(op: &FlatOp, dir: Gfid) -> bool
-    ensures { result ≡ true → MakesDir op.now dir }
+    ensures { IsTrue result ↔ MakesDir op.now dir }
 {
     match op {
         FlatOp::Mkdir { drawn, .. } => is_gfid(*drawn, dir),
@@ -89,7 +89,7 @@ fn made_in(
 }
 
 fn is_root(dir: Gfid) -> bool
-    ensures { result ≡ true → dir ≡ root }
+    ensures { IsTrue result ↔ (dir ≡ root) }
 {
     is_gfid(dir, ROOT)
 }
@@ -114,7 +114,8 @@ fn split_in(
 // ---- the set of a name
 
 fn count_of(plan: &Plan) -> Option<u8>
-    ensures { IfSome result (λ many. many ≡ length plan.now.sets) }
+    ensures found { IfSome result (λ many. many ≡ length plan.now.sets) }
+    ensures none { IfNone result (255 < length plan.now.sets) }
 {
     let many = plan.sets.len();
     if many > 255 {
@@ -143,7 +144,8 @@ fn hashed_among(layout: &[Option<Span>], many: u8, name: &[u8]) -> u8
 // Whether the set is that of a name's hash in the even split over so many.
 #[tactic(auto, using(crate::proofs::Splits::even_count))]
 fn is_hashed_over(alloc: Global, many: u8, name: &[u8], set: u8) -> Result<bool, AllocError>
-    ensures { IfOk result (λ yes. yes ≡ true → set ≡ hashed_set_of (even_layout many) name.now) }
+    ensures sound { IfOk result (λ yes. yes ≡ true → set ≡ hashed_set_of (even_layout many) name.now) }
+    ensures complete { IfOk result (λ yes. 1 ≤ many → set ≡ hashed_set_of (even_layout many) name.now → yes ≡ true) }
 {
     if many == 0 {
         return Ok(false);

@@ -1,7 +1,8 @@
 //! Ops and posts that a brick has answered Done.
-ghost use Rattle.std.specs.Prelude.{◌≡◌, true, drop, IfOk, IfSome};
+ghost use Rattle.std.specs.Prelude.{◌≡◌, ◌↔◌, ◌<◌, ◌≤◌, ℕ, IsTrue, true, length, drop, IfOk, IfSome, IfNone};
+ghost use Rattle.fop_types.specs.declared.store_ops.StoreOp.{StoreOp as Op};
 ghost use Rattle.change_audit.specs.Answered.{IsWindFor, IsOpenedSince};
-ghost use Rattle.change_audit.specs.Served.{IsRequestOn, IsOnWind, IsOpOf, IsOpIn, IsPostOf, IsPostIn, IsPostOn, HasText, IsServed, IsPosted};
+ghost use Rattle.change_audit.specs.Served.{IsRequestOn, IsOnWind, IsOpeningAt, IsOpeningSince, IsOpOf, IsOpIn, IsPostOf, IsPostIn, IsPostOn, HasText, IsServed, IsPosted};
 
 use crate::answers::{Bearer, Served, is_answered};
 use crate::journals::{input_at, whole_input};
@@ -16,7 +17,8 @@ const BEFORE_TEXT: usize = 12;
 
 /// What bytes are behind the number of a wind.
 pub(crate) fn text_in(bytes: &[u8]) -> Option<&[u8]>
-    ensures { IfSome result (λ text. text.now ≡ drop 12 bytes.now) }
+    ensures found { IfSome result (λ text. text.now ≡ drop 12 bytes.now) }
+    ensures none { IfNone result (length bytes.now < 12) }
 {
     if bytes.len() < BEFORE_TEXT {
         return None;
@@ -27,7 +29,8 @@ pub(crate) fn text_in(bytes: &[u8]) -> Option<&[u8]>
 
 // The wind of an input that is a request.
 fn wind_of(input: &Input) -> Option<u64>
-    ensures { IfSome result (λ wind. IsRequestOn wind input.now) }
+    ensures found { IfSome result (λ wind. IsRequestOn wind input.now) }
+    ensures none { IfNone result ((wind : ℕ) → IsRequestOn wind input.now → ⊥) }
 {
     match input {
         Input::Request { wind, .. } => Some(*wind),
@@ -50,7 +53,8 @@ fn wind_in(alloc: Global, bytes: &[u8]) -> Result<Option<u64>, AllocError>
 }
 
 fn has_text(bytes: &[u8], text: &[u8]) -> bool
-    ensures { result ≡ true → drop 12 bytes.now ≡ text.now }
+    ensures sound { result ≡ true → drop 12 bytes.now ≡ text.now }
+    ensures complete { 12 ≤ length bytes.now → drop 12 bytes.now ≡ text.now → result ≡ true }
 {
     match text_in(bytes) {
         Some(found) => found == text,
@@ -71,7 +75,8 @@ fn wind_before(alloc: Global, bytes: &[u8], text: &[u8]) -> Result<Option<u64>, 
 
 // Whether a request was sent for a wind of the call, where this says.
 fn is_of_call(log: &Log, at: Served, call: u32, wind: u64) -> bool
-    ensures { result ≡ true → IsWindFor log.now.winds call wind }
+    ensures sound { result ≡ true → IsWindFor log.now.winds call wind }
+    ensures exact { IsTrue result ↔ IsOpeningAt log.now.winds at.opening call wind }
 {
     is_wind_for(log.winds.as_slice(), at.opening, call, wind)
 }
@@ -106,7 +111,8 @@ pub(crate) fn is_served(
 // ---- ops
 
 fn op_of(req: &BrickReq, change: u64) -> Option<&StoreOp>
-    ensures { IfSome result (λ o. IsOpOf change o.now req.now) }
+    ensures found { IfSome result (λ o. IsOpOf change o.now req.now) }
+    ensures none { IfNone result ((o : Op) → IsOpOf change o req.now → ⊥) }
 {
     match req {
         BrickReq::Op { change: of, op, .. } => { if *of == change { Some(op) } else { None } }
@@ -133,7 +139,7 @@ pub(crate) fn op_asked(input: &Input, graph: usize, change: u64) -> Option<&Stor
 // ---- posts
 
 fn is_post(req: &BrickReq, change: u64) -> bool
-    ensures { result ≡ true → IsPostOf change req.now }
+    ensures { IsTrue result ↔ IsPostOf change req.now }
 {
     match req {
         BrickReq::Post { change: of, .. } => *of == change,
@@ -143,7 +149,8 @@ fn is_post(req: &BrickReq, change: u64) -> bool
 
 // The wind of an input that is the post of a change in a graph.
 fn post_asked(input: &Input, graph: usize, change: u64) -> Option<u64>
-    ensures { IfSome result (λ wind. IsPostIn wind graph change input.now) }
+    ensures found { IfSome result (λ wind. IsPostIn wind graph change input.now) }
+    ensures none { IfNone result ((wind : ℕ) → IsPostIn wind graph change input.now → ⊥) }
 {
     match input {
         Input::Request {
@@ -181,7 +188,8 @@ fn post_in(
 
 // Whether a post was sent for a wind of the call, where this says, and since the event at a place.
 fn is_sent_since(log: &Log, at: Served, call: u32, wind: u64, event: usize) -> bool
-    ensures { result ≡ true → IsOpenedSince log.now.winds call wind event }
+    ensures sound { result ≡ true → IsOpenedSince log.now.winds call wind event }
+    ensures exact { IsTrue result ↔ IsOpeningSince log.now.winds at.opening call wind event }
 {
     is_opened_since(log.winds.as_slice(), at.opening, call, wind, event)
 }

@@ -1,5 +1,5 @@
 //! The audit of skips.
-ghost use Rattle.std.specs.Prelude.{◌≡◌, true, option_copied, slice_get, Some, IfOk};
+ghost use Rattle.std.specs.Prelude.{◌≡◌, [], true, option_copied, slice_get, Some, IfOk};
 ghost use Rattle.fop_types.specs.declared.causes.SkipCause.{SkipCause as Cause};
 ghost use Rattle.fop_types.specs.declared.cells.Cell.{Cell as Part};
 ghost use Rattle.change_audit.specs.Listed.{IsListed, SkipsAreListed};
@@ -49,7 +49,8 @@ fn is_due(log: &Log, bricks: &[Brick], listings: &Listings, k: usize) -> bool
 
 fn are_due(log: &Log, bricks: &[Brick], listings: &Listings) -> bool
     requires { AreListings log.now bricks.now listings.now }
-    ensures { result ≡ true → SkipsAreListed log.now bricks.now }
+    ensures sound { result ≡ true → SkipsAreListed log.now bricks.now }
+    ensures none { log.now.skips ≡ [] → result ≡ true }
 {
     for k in 0..log.skips.len() {
         if !is_due(log, bricks, listings, k) {
@@ -64,7 +65,8 @@ fn are_due(log: &Log, bricks: &[Brick], listings: &Listings) -> bool
 /// # Errors
 /// Out of memory.
 pub fn skips_are_listed(alloc: Global, log: &Log, bricks: &[Brick]) -> Result<bool, AllocError>
-    ensures { IfOk result (λ yes. yes ≡ true → SkipsAreListed log.now bricks.now) }
+    ensures sound { IfOk result (λ yes. yes ≡ true → SkipsAreListed log.now bricks.now) }
+    ensures none { IfOk result (λ yes. log.now.skips ≡ [] → yes ≡ true) }
 {
     let listings = listings_of(alloc, log, bricks)?;
     let yes = are_due(log, bricks, &listings);

@@ -1,5 +1,5 @@
 //! Whether a brick of a set, such as the source of a copy, is sound by rows of a cell.
-ghost use Rattle.std.specs.Prelude.{◌≡◌, ◌+◌, ◌/◌, ◌%◌, ◌<◌, ◌≤◌, ◌↔◌, ℕ, true, Some, length, map, slice_get, IfOk};
+ghost use Rattle.std.specs.Prelude.{◌≡◌, ◌+◌, ◌/◌, ◌%◌, ◌<◌, ◌≤◌, ◌↔◌, ℕ, IsTrue, true, Some, length, map, slice_get, IfOk};
 ghost use Rattle.afr_changelog.specs.Masks.{Names};
 ghost use Rattle.afr_changelog.specs.Soundness.{IsSound};
 ghost use Rattle.change_audit.specs.Copied.{row_for as row_of, IsSoundBy, HasSoundSource};
@@ -34,7 +34,7 @@ fn rows_for(alloc: Global, rows: &[SplitRow], bricks: &[u8]) -> Result<Vec<Optio
 
 // Whether a set has an odd number of replicas, at most five, and its quorum is the majority.
 fn is_sized(plan: &SetPlan) -> bool
-    ensures { result ≡ true → IsSized (length plan.now.bricks) plan.now.q }
+    ensures { IsTrue result ↔ IsSized (length plan.now.bricks) plan.now.q }
 {
     let n = plan.bricks.len();
     n % 2 == 1 && n <= 5 && plan.q as usize == (n + 1) / 2
@@ -51,13 +51,13 @@ fn sound_by(plan: &SetPlan, rows: &[Option<Row>]) -> Mask
 
 fn names(mask: Mask, replica: u8) -> bool
     requires { replica < 8 }
-    ensures { result ≡ true → Names mask replica }
+    ensures { IsTrue result ↔ Names mask replica }
 {
     mask.0 & (1 << replica) != 0
 }
 
 fn is_brick(plan: &SetPlan, replica: usize, brick: u8) -> bool
-    ensures { result ≡ true → slice_get plan.now.bricks replica ≡ Some brick }
+    ensures { IsTrue result ↔ (slice_get plan.now.bricks replica ≡ Some brick) }
 {
     match plan.bricks.as_slice().get(replica) {
         Some(found) => *found == brick,
@@ -75,7 +75,8 @@ fn has_brick(
 ) -> bool
     requires sound { (k : ℕ) → Names mask k ↔ IsSound found.now (length plan.now.bricks) plan.now.q k }
     requires rows { found.now ≡ map (row_of rows.now) plan.now.bricks }
-    ensures { result ≡ true → IsSoundBy plan.now rows.now brick }
+    ensures sound { result ≡ true → IsSoundBy plan.now rows.now brick }
+    ensures complete { length plan.now.bricks ≤ 5 → IsSoundBy plan.now rows.now brick → result ≡ true }
 {
     let _ = found;
     let _ = rows;
@@ -97,7 +98,8 @@ pub fn is_sound_by(
     rows: &[SplitRow],
     brick: u8,
 ) -> Result<bool, AllocError>
-    ensures { IfOk result (λ yes. yes ≡ true → IsSoundBy plan.now rows.now brick) }
+    ensures sound { IfOk result (λ yes. yes ≡ true → IsSoundBy plan.now rows.now brick) }
+    ensures complete { IfOk result (λ yes. IsSized (length plan.now.bricks) plan.now.q → IsSoundBy plan.now rows.now brick → yes ≡ true) }
 {
     if !is_sized(plan) {
         return Ok(false);
@@ -116,7 +118,8 @@ pub(crate) fn has_sound_source(
     plan: &SetPlan,
     copy: &CopyRecord,
 ) -> Result<bool, AllocError>
-    ensures { IfOk result (λ yes. yes ≡ true → HasSoundSource plan.now copy.now) }
+    ensures sound { IfOk result (λ yes. yes ≡ true → HasSoundSource plan.now copy.now) }
+    ensures complete { IfOk result (λ yes. IsSized (length plan.now.bricks) plan.now.q → HasSoundSource plan.now copy.now → yes ≡ true) }
 {
     let yes = is_sound_by(alloc, plan, copy.rows.as_slice(), copy.source)?;
     Ok(yes)

@@ -8,5 +8,5 @@ use Rattle.change_audit.proofs.served.post_in.Goals as goal
 
 pub returns-in-Some : goal.returns-in-Some
 returns-in-Some c =
-    let is : c.args.bytes.now ≡ input_text c.in-Some.input = subst (λ (f : Option Input). IfSome f (λ x. c.args.bytes.now ≡ input_text x)) c.in-Some.is c.in_ok-input.ensures in
-    IfSome_then c.post_asked-found.result c.post_asked-found.ensures (λ wind post. post_text wind c.args.graph c.args.change c.in-Some.input c.args.bytes.now is post)
+    let is : c.args.bytes.now ≡ input_text c.in-Some.input = subst (λ (f : Option Input). IfSome f (λ x. c.args.bytes.now ≡ input_text x)) c.in-Some.is c.in_ok-input.ensures.found in
+    IfSome_then c.post_asked-found.result c.post_asked-found.ensures.found (λ wind post. post_text wind c.args.graph c.args.change c.in-Some.input c.args.bytes.now is post)

@@ -8,5 +8,5 @@ use Rattle.change_audit.proofs.served.wind_in.Goals as goal
 
 pub returns-in-Some : goal.returns-in-Some
 returns-in-Some c =
-    let is : c.args.bytes.now ≡ input_text c.in-Some.input = subst (λ (f : Option Input). IfSome f (λ x. c.args.bytes.now ≡ input_text x)) c.in-Some.is c.in_ok-input.ensures in
-    IfSome_then c.wind_of-found.result c.wind_of-found.ensures (λ wind on. on_wind wind c.in-Some.input c.args.bytes.now is on)
+    let is : c.args.bytes.now ≡ input_text c.in-Some.input = subst (λ (f : Option Input). IfSome f (λ x. c.args.bytes.now ≡ input_text x)) c.in-Some.is c.in_ok-input.ensures.found in
+    IfSome_then c.wind_of-found.result c.wind_of-found.ensures.found (λ wind on. on_wind wind c.in-Some.input c.args.bytes.now is on)
