@@ -73,5 +73,5 @@ pub one_done : (taken wind other other_wind : ℕ) → IsHyper taken → IsHyper
 one_done taken wind other other_wind low low_wind other_low other_low_wind same =
     let is = is_that (record { taken = taken; kind = Reply wind (Done Nothing) }) (done_text other other_wind) other other_wind (sym same) (legal_done taken wind low low_wind) other_low other_low_wind refl in
     (is.taken_is, wind_of is.kind_is) where
-  wind_of : ◌≡◌ {A = OutKind} (Reply wind (Done Nothing)) (Reply other_wind (Done Nothing)) → wind ≡ other_wind
-  wind_of e = cc
+      wind_of : ◌≡◌ {A = OutKind} (Reply wind (Done Nothing)) (Reply other_wind (Done Nothing)) → wind ≡ other_wind
+      wind_of e = cc

@@ -33,10 +33,7 @@ pub struct Opening {
 ///
 /// # Errors
 /// Out of memory.
-pub fn openings_of(
-    alloc: Global,
-    winds: &[WindLine],
-) -> Result<BTreeMap<u64, Opening>, AllocError>
+pub fn openings_of(alloc: Global, winds: &[WindLine]) -> Result<BTreeMap<u64, Opening>, AllocError>
     ensures { IfOk result (λ table. AreOpenings winds.now table.entries) }
 {
     let mut openings = BTreeMap::new(alloc);
