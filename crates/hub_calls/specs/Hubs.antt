@@ -1,6 +1,7 @@
--- What is seen of a hub: the script that it runs, with its plans, the log of the whole events, the agenda and the ready tasks, which
--- decide what is due, and why it stopped; what a stop does to later calls; which actions may be carried out; which event a call adds
--- to the log, and what the event makes of the agenda. Ours.
+-- What is seen of a hub: the script that it runs, with its plans, the log of the whole events, the lines so far of an event under way,
+-- the agenda and the ready tasks, which decide what is due, the live graphs, each with its volfile, whether a failure has spent the
+-- graphs, and why the hub stopped; what a stop does to later calls; which actions may be carried out; which event a call adds to the log,
+-- and what the event makes of the agenda. Ours.
 use Rattle.std.specs.Prelude.{◌≡◌, ℕ, ◌+◌, ◌==◌, nat_lt, Bool, true, false, ◌&&◌, not, List, [], ◌∷◌, length, drop, slice_get, Option, None, Some, Result, Err}
 use Rattle.graph_build.specs.declared.plans.Plan.{Plan}
 use Rattle.script_lang.specs.declared.scripts.CallLine.{CallLine}
@@ -32,8 +33,11 @@ pub record HubState : Type 0 where
   pub script : Script
   pub plans : List Plan
   pub log : Log
+  pub lines : Log
   pub agenda : AgendaState
+  pub graphs : List (ℕ × ℕ)
   pub tasks : List (ℕ × ℕ)
+  pub spent : Bool
   pub stop : Option Stop
 
 -- a call of what had stopped before it answers the same stop, and changes nothing; so a call that succeeds found no stop

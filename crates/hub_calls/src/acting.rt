@@ -1,6 +1,7 @@
 //! Moves of actions.
-ghost use Rattle.std.specs.Prelude.{◌≡◌, length};
+ghost use Rattle.std.specs.Prelude.{◌≡◌, ◌∷◌, [], IsSome, OnOk, length, slice_get};
 ghost use Rattle.hub_calls.specs.Hubs.{is_of_brick as of_brick};
+ghost use Rattle.hub_calls.specs.Live.{HasNoGraphs, volfiles_in};
 
 use crate::parts::Parts;
 use crate::planned::Planned;
@@ -87,7 +88,9 @@ impl Parts {
         alloc: Global,
         on: &Planned,
         volfile: u8,
-    ) -> Result<(), AllocError> {
+    ) -> Result<(), AllocError>
+        ensures first { OnOk result (HasNoGraphs self.old.graphs.live → IsSome (slice_get on.now.plans volfile) → volfiles_in self.new.graphs.live.graphs.entries ≡ (1, volfile) ∷ []) }
+    {
         if let Some(plan) = on.plan(volfile) {
             self.graphs.make(alloc, plan, volfile)?;
         }

@@ -1,4 +1,6 @@
 //! Moves of sending: requests and controls. What is armed for the requests goes out as the event is closed.
+ghost use Rattle.std.specs.Prelude.{◌≡◌, ◌++◌, ◌∷◌, [], true, false, is_some, OnOk};
+ghost use Rattle.mount_log.specs.Procedures.{rank_in};
 ghost use Rattle.wire_xdr.specs.WireText.{IsInput};
 
 use crate::numbering::UNNUMBERED;
@@ -13,7 +15,9 @@ use std::alloc::{AllocError, Global};
 use wire_xdr::encode_req;
 
 impl Turn {
-    fn send(&mut self, brick: u8, bytes: Bytes) -> Result<(), AllocError> {
+    fn send(&mut self, brick: u8, bytes: Bytes) -> Result<(), AllocError>
+        ensures { OnOk result (self.new.lines.sent ≡ self.old.lines.sent ++ record { event = 0; brick = brick; bytes = bytes } ∷ []) }
+    {
         self.lines.sent.push(SentLine {
             event: UNNUMBERED,
             brick,
@@ -96,7 +100,10 @@ impl Turn {
     }
 
     // A request goes out. Bytes that are none do not.
-    fn send_request(&mut self, brick: u8, bytes: Bytes) -> Result<(), AllocError> {
+    fn send_request(&mut self, brick: u8, bytes: Bytes) -> Result<(), AllocError>
+        ensures request { is_some (rank_in bytes) ≡ true → OnOk result (self.new.lines.sent ≡ self.old.lines.sent ++ record { event = 0; brick = brick; bytes = bytes } ∷ []) }
+        ensures other { is_some (rank_in bytes) ≡ false → OnOk result (self.new.lines.sent ≡ self.old.lines.sent) }
+    {
         if rank_of(bytes.as_slice()).is_none() {
             drop(bytes);
             return Ok(());

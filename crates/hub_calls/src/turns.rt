@@ -1,6 +1,6 @@
 //! The turn of an event: what is to be done until nothing is left.
+ghost use Rattle.std.specs.Prelude.{◌≡◌, ◌++◌, drop, OnOk};
 
-use crate::numbering::UNNUMBERED;
 use crate::parts::Parts;
 use crate::planned::Planned;
 use crate::turn::{Given, Todo};
@@ -133,11 +133,12 @@ impl Parts {
     }
 
     // The entries that the ledger has made in this event.
-    fn note_entries(&mut self) -> Result<(), AllocError> {
+    fn note_entries(&mut self) -> Result<(), AllocError>
+        ensures { OnOk result (self.new.turn.lines.history ≡ self.old.turn.lines.history ++ drop self.old.turn.entries self.old.graphs.nodes.history) }
+    {
         let history = self.graphs.nodes.history();
         for at in self.turn.entries..history.len() {
             self.turn.lines.history.push(history[at])?;
-            self.turn.lines.entered.push(UNNUMBERED)?;
         }
         Ok(())
     }
