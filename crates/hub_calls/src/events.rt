@@ -1,13 +1,14 @@
 //! The events of a hub.
-ghost use Rattle.std.specs.Prelude.{◌≡◌, ◌&&◌, true, false, None, Some, length, OnOk, IfOk, IfErr};
+ghost use Rattle.std.specs.Prelude.{◌≡◌, ◌+◌, ◌&&◌, true, false, None, Some, length, OnOk, IfOk, IfErr};
 ghost use Rattle.hub_tables.specs.Agendas.{with_submission, with_output, with_action, with_arm};
 ghost use Rattle.hub_tables.specs.Arming.{is_armable};
 ghost use Rattle.hub_calls.specs.Dues.{is_idle, may_run, may_submit};
-ghost use Rattle.hub_calls.specs.Hubs.{StaysStopped, is_of_brick as of_brick, ActsWhere, AddsEvent, AddsSubmission, ClosesWith, IsAfterStop, IsTurn, is_due_output};
+ghost use Rattle.hub_calls.specs.Hubs.{StaysStopped, is_of_brick as of_brick, ActsWhere, AddsEvent, AddsInput, AddsSubmission, ClosesWith, IsAfterStop, IsTurn, is_due_output};
+ghost use Rattle.mount_log.specs.Connects.{control_input};
 ghost use Rattle.mount_log.specs.Logs.{with_event};
 ghost use Rattle.mount_log.specs.declared.logs.HubEvent.TheVariants as logged;
 
-use crate::acting::is_of_brick;
+use crate::acting::{has_input, is_of_brick};
 use crate::hub::Hub;
 use bytes::Bytes;
 use fop_types::Proc;
@@ -215,15 +216,16 @@ impl Hub {
     /// has the same action. It is false, with nothing changed, exactly where the action is not possible: its brick or
     /// volfile is not in the script, a fault is one of unlock or has the number 0, a heal or a switch finds an internal
     /// call without an answer, or a switch finds a plan that does not follow, or 4,294,967,294 graphs that were made. Of a
-    /// switch the contract says only that no internal call is under way.
+    /// switch the contract says only that no internal call is under way. For a Down, an Up and a fault just their input is sent.
     ///
     /// # Errors
     /// As for [`Hub::submit`].
-    #[tactic(auto, using(crate::proofs::Additions::after_same))]
+    #[tactic(auto, using(crate::proofs::Additions::after_same, crate::proofs::ActionInputs::act_sends, crate::proofs::ActionInputs::no_input))]
     pub fn act(&mut self, alloc: Global, action: Action) -> Result<bool, Stop>
         ensures same { (self.new.script ≡ self.old.script) × (self.new.plans ≡ self.old.plans) }
         ensures unchanged { IfOk result (λ did. did ≡ false → self.new ≡ self.old) }
         ensures event { IfOk result (λ did. did ≡ true → AddsEvent self.old.log self.new.log (logged.Act action)) }
+        ensures input { IfOk result (λ did. did ≡ true → AddsInput (length self.old.log.events + 1) (control_input action) (with_event self.old.log (logged.Act action)) self.new.log) }
         ensures agenda { IfOk result (λ did. did ≡ true → ClosesWith self.old.script self.old.log self.new.log self.new.tasks (with_action self.old.agenda action (is_idle self.old.tasks)) self.new.agenda) }
         ensures cut { IfErr result (λ stop. IsAfterStop stop self.old.log self.new.log) }
         ensures did { IfOk result (λ did. ActsWhere action (length self.old.script.bricks) self.old.agenda.internal did) }
@@ -239,6 +241,10 @@ impl Hub {
         self.engine.agenda.act(action, idle);
         self.engine.parts.turn.open(alloc, &self.log);
         let done = self.engine.parts.carry_out(alloc, &self.planned, action);
+        if has_input(action) {
+            self.close_finished(alloc, done, HubEvent::Act(action))?;
+            return Ok(true);
+        }
         self.close(alloc, done, HubEvent::Act(action))?;
         Ok(true)
     }
