@@ -11,12 +11,7 @@ impl Parts {
     ///
     /// # Errors
     /// Out of memory.
-    pub(crate) fn connect(
-        &mut self,
-        alloc: Global,
-        graph: u32,
-        brick: u8,
-    ) -> Result<(), AllocError>
+    pub(crate) fn connect(&mut self, alloc: Global, graph: u32, brick: u8) -> Result<(), AllocError>
         ensures { self.new.graphs.live ≡ self.old.graphs.live }
     {
         if self.graphs.nodes.connect(graph, brick).is_some() {
