@@ -52,15 +52,15 @@ line_alone old new before lines c e brick bytes none empty are is =
 pub act_sends : (old new before lines : Log) (c : ControlsState) (a : Action) (many : ℕ) (internal did : Bool) → ActsWhere a many internal did → did ≡ true → before ≡ empty_log
     → ((m : ℕ) → is_of_brick m a ≡ true → AddsInput 0 (control_input a) before lines) → new ≡ with_lines old (written_lines c old lines (logged.Act a))
     → AddsInput (length old.events + 1) (control_input a) (with_event old (logged.Act a)) new
-act_sends old new before lines c (action.Down brick serve) many internal did acts yes empty adds is =
-    line_alone old new before lines c (logged.Act (action.Down brick serve)) brick (input_text (input.Down serve)) (down_rank serve) empty (adds many (sym (acts.0 refl) ∙ yes)) is
-act_sends old new before lines c (action.Up brick) many internal did acts yes empty adds is =
-    line_alone old new before lines c (logged.Act (action.Up brick)) brick (input_text input.Up) up_rank empty (adds many (sym (acts.0 refl) ∙ yes)) is
-act_sends old new before lines c (action.Fault brick p number) many internal did acts yes empty adds is =
-    line_alone old new before lines c (logged.Act (action.Fault brick p number)) brick (input_text (input.FaultAt p number)) (fault_rank p number) empty (adds many (sym (acts.0 refl) ∙ yes)) is
-act_sends old new before lines c (action.Cut brick) many internal did acts yes empty adds is = tt
-act_sends old new before lines c action.Heal many internal did acts yes empty adds is = tt
-act_sends old new before lines c (action.Switch volfile) many internal did acts yes empty adds is = tt
+act_sends old new before lines c (action.Down brick serve) many internal did acts happened empty adds is =
+    line_alone old new before lines c (logged.Act (action.Down brick serve)) brick (input_text (input.Down serve)) (down_rank serve) empty (adds many (sym (acts.0 refl) ∙ happened)) is
+act_sends old new before lines c (action.Up brick) many internal did acts happened empty adds is =
+    line_alone old new before lines c (logged.Act (action.Up brick)) brick (input_text input.Up) up_rank empty (adds many (sym (acts.0 refl) ∙ happened)) is
+act_sends old new before lines c (action.Fault brick p number) many internal did acts happened empty adds is =
+    line_alone old new before lines c (logged.Act (action.Fault brick p number)) brick (input_text (input.FaultAt p number)) (fault_rank p number) empty (adds many (sym (acts.0 refl) ∙ happened)) is
+act_sends old new before lines c (action.Cut brick) many internal did acts happened empty adds is = tt
+act_sends old new before lines c action.Heal many internal did acts happened empty adds is = tt
+act_sends old new before lines c (action.Switch volfile) many internal did acts happened empty adds is = tt
 
 pub no_input : (number : ℕ) (control : Option (ℕ × Input)) (old new : Log) → is_some control ≡ false → AddsInput number control old new
 no_input number None old new none = tt

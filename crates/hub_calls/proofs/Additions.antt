@@ -58,6 +58,10 @@ pub event_alone : (old new lines : Log) (c : ControlsState) (e : HubEvent) → l
 unfolding numbered going_out
 event_alone old new lines c e none is = is ∙ ap (λ (l : Log). with_lines old (written_lines c old l e)) none ∙ nothing_more old e
 
+-- the same where the log, and the lines, are those of a moment before
+pub event_behind : (old now new before lines : Log) (c : ControlsState) (e : HubEvent) → now ≡ old → lines ≡ before → before ≡ empty_log → new ≡ with_lines now (written_lines c now lines e) → new ≡ with_event old e
+event_behind old now new before lines c e same kept none is = event_alone now new lines c e (kept ∙ none) is ∙ ap (λ (l : Log). with_event l e) same
+
 -- ---- an event that was cut
 
 nothing_cut : (log : Log) → HasCut log log

@@ -1,11 +1,11 @@
 -- The lines of an event get its number, and what goes out in it has that too.
-use Rattle.std.proofs.Common.{◌≡◌, ℕ, zero, suc, ◌++◌, Bool, true, false, List, [], ◌∷◌, Option, Some, None, length, Result, Ok, Err, OnOk, refl, sym, ap, ◌∙◌, subst, if◌then◌else◌, arith, length-append}
+use Rattle.std.proofs.Common.{◌≡◌, ℕ, zero, suc, ◌+◌, ◌<◌, ◌++◌, drop, append_assoc, Bool, true, false, List, [], ◌∷◌, Option, Some, None, length, Result, Ok, Err, OnOk, refl, sym, ap, ◌∙◌, subst, if◌then◌else◌, arith, length-append}
 use Rattle.std.proofs.lemmas.List.{length-map}
 use Rattle.std.proofs.lemmas.List.Elements.{recursion_from_All, All-from_recursion, All-map, All-append, All-nil}
 use Rattle.std.specs.List.{All, AllByRecursion}
 use Rattle.fop_types.specs.declared.messages.Input.TheVariants as input
 use Rattle.wire_xdr.specs.WireText.{input_text}
-use Rattle.mount_log.specs.Logs.{empty_log, with_lines}
+use Rattle.mount_log.specs.Logs.{empty_log, same_number, with_lines}
 use Rattle.mount_log.specs.Procedures.{rank_in}
 use Rattle.mount_log.specs.declared.logs.Log.{Log}
 use Rattle.mount_log.specs.declared.logs.ReplyLine.{ReplyLine}
@@ -21,6 +21,18 @@ use Rattle.hub_tables.specs.declared.requests.Nth.{Nth}
 use Rattle.hub_calls.specs.EventNumbers.{AreOfEvent, HaveEvents, sent_in, reply_in, wind_in, numbered, going_out}
 
 -- ---- the lines get their number
+
+rest_numbered : {T : Type 0} (n : ℕ) (items : List T) (k : ℕ) → k < length items → same_number n (drop k items) ≡ n ∷ same_number n (drop (k + 1) items)
+rest_numbered n [] k below = let no : ⊥ = omega arith in absurd no
+rest_numbered n (x ∷ xs) zero below = refl
+rest_numbered n (x ∷ xs) (suc k) below = let one : suc k + 1 ≡ suc (k + 1) = omega arith in rw one (rest_numbered n xs k (omega arith))
+
+-- one number more of those of all items
+pub one_number_more : {T : Type 0} (n : ℕ) (numbers : List ℕ) (items : List T) (k : ℕ) → k < length items → numbers ++ same_number n (drop k items) ≡ same_number n items → (numbers ++ n ∷ []) ++ same_number n (drop (k + 1) items) ≡ same_number n items
+one_number_more n numbers items k below so_far =
+    append_assoc numbers (n ∷ []) (same_number n (drop (k + 1) items))
+    ∙ ap (λ (ns : List ℕ). numbers ++ ns) (sym (rest_numbered n items k below))
+    ∙ so_far
 
 -- lines that were numbered have their number
 pub numbered_are : (number : ℕ) (lines : Log) → AreOfEvent number (numbered number lines)
@@ -70,7 +82,7 @@ both_of_event number old new lines are added before = subst (λ (l : Log). AreOf
   winds = All-append (λ (line : WindLine). line.event ≡ number) old.winds lines.winds before.winds are.winds;
   copied = All-append (λ (n : ℕ). n ≡ number) old.copied lines.copied before.copied are.copied;
   skipped = All-append (λ (n : ℕ). n ≡ number) old.skipped lines.skipped before.skipped are.skipped;
-  each = both_have old lines before.each are.each;
+  each = both_have old (record lines { events = [] }) before.each (record { entries = are.each.entries; copies = are.each.copies; skips = are.each.skips });
 })
 
 -- ---- what goes out

@@ -255,7 +255,7 @@ impl Hub {
     ///
     /// # Errors
     /// As for [`Hub::submit`].
-    #[tactic(auto, using(crate::proofs::Additions::after_same, crate::proofs::Additions::event_alone))]
+    #[tactic(auto, using(crate::proofs::Additions::after_same))]
     pub fn arm(
         &mut self,
         alloc: Global,
