@@ -8,12 +8,13 @@ use Rattle.mount_log.specs.declared.logs.HubEvent.{HubEvent}
 use Rattle.mount_log.specs.declared.logs.HubEvent.TheVariants as logged
 use Rattle.mount_log.specs.declared.logs.Log.{Log}
 use Rattle.mount_log.specs.declared.logs.WindLine.{WindLine}
-use Rattle.mount_log.specs.Logs.{empty_log, with_lines}
+use Rattle.mount_log.specs.Logs.{empty_log, with_event, with_lines}
 use Rattle.script_lang.specs.declared.scripts.Script.{Script}
 use Rattle.hub_tables.specs.Agendas.{with_output}
+use Rattle.hub_tables.specs.PhaseControls.{ControlsState}
 use Rattle.hub_tables.specs.declared.actions.Turned.TheVariants as turn
-use Rattle.hub_calls.specs.EventNumbers.{AreOfEvent, numbered, IsCutOff}
-use Rattle.hub_calls.proofs.EventNumbers.{numbered_are, none_of_event}
+use Rattle.hub_calls.specs.EventNumbers.{AreOfEvent, HaveEvents, numbered, going_out, written_lines, IsCutOff}
+use Rattle.hub_calls.proofs.EventNumbers.{numbered_are, none_of_event, both_have}
 use Rattle.hub_calls.specs.Hubs.{HubState, AddsEvent, ClosesWith, IsTurn, is_due_output, HasCut, IsAfterStop}
 
 pub adds_event : (old new lines : Log) (e : HubEvent) → AreOfEvent (length old.events + 1) lines → new ≡ with_lines old (record lines { events = e ∷ [] }) → AddsEvent old new e
@@ -30,6 +31,7 @@ adds_event old new lines e are added =
         winds = are.winds;
         copied = are.copied;
         skipped = are.skipped;
+        each = record { entries = are.each.entries; copies = are.each.copies; skips = are.each.skips };
       });
       added = added;
     }
@@ -40,6 +42,25 @@ adds_no_event old new lines none added = ap (λ (l : Log). l.events) added ∙ a
 -- the events are those before, and this one
 pub one_event_more : (old new : Log) (e : HubEvent) → AddsEvent old new e → new.events ≡ old.events ++ e ∷ []
 one_event_more old new e adds = ap (λ (l : Log). l.events) adds.added ∙ ap (λ (es : List HubEvent). old.events ++ es) adds.event
+
+-- each entry, copy and skip has its event also after an event
+pub events_after : (old new : Log) (e : HubEvent) → AddsEvent old new e → HaveEvents old → HaveEvents new
+events_after old new e adds have = subst HaveEvents (sym adds.added) (both_have old adds.lines have adds.numbered.each)
+
+-- ---- an event alone
+
+nothing_more : (old : Log) (e : HubEvent) → with_lines old (record empty_log { events = e ∷ [] }) ≡ with_event old e
+nothing_more old e =
+    rw (append-nil old.sent, append-nil old.replies, append-nil old.history, append-nil old.entered, append-nil old.answered, append-nil old.winds, append-nil old.copies, append-nil old.copied, append-nil old.skips, append-nil old.skipped) refl
+
+-- an event that has made no lines is added alone
+pub event_alone : (old new lines : Log) (c : ControlsState) (e : HubEvent) → lines ≡ empty_log → new ≡ with_lines old (written_lines c old lines e) → new ≡ with_event old e
+unfolding numbered going_out
+event_alone old new lines c e none is = is ∙ ap (λ (l : Log). with_lines old (written_lines c old l e)) none ∙ nothing_more old e
+
+-- the same where the log, and the lines, are those of a moment before
+pub event_behind : (old now new before lines : Log) (c : ControlsState) (e : HubEvent) → now ≡ old → lines ≡ before → before ≡ empty_log → new ≡ with_lines now (written_lines c now lines e) → new ≡ with_event old e
+event_behind old now new before lines c e same kept none is = event_alone now new lines c e (kept ∙ none) is ∙ ap (λ (l : Log). with_event l e) same
 
 -- ---- an event that was cut
 
@@ -57,6 +78,10 @@ after_cut stopped.Winds lines old new cut = record { lines = numbered (length ol
 pub after_same : (s : Stop) (log : Log) → IsAfterStop s log log
 after_same stopped.Mem log = refl
 after_same stopped.Winds log = nothing_cut log
+
+pub events_cut : (s : Stop) (old new : Log) → IsAfterStop s old new → HaveEvents old → HaveEvents new
+events_cut stopped.Mem old new same have = subst HaveEvents (sym same) have
+events_cut stopped.Winds old new cut have = subst HaveEvents (sym cut.cut) (record { entries = have.entries; copies = have.copies; skips = have.skips })
 
 -- ---- a turn
 

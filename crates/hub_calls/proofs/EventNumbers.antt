@@ -1,10 +1,11 @@
 -- The lines of an event get its number, and what goes out in it has that too.
-use Rattle.std.proofs.Common.{◌≡◌, ℕ, zero, suc, ◌++◌, Bool, true, false, List, [], ◌∷◌, Option, Some, None, length, Result, Ok, Err, OnOk, refl, sym, ap, ◌∙◌, subst, if◌then◌else◌}
+use Rattle.std.proofs.Common.{◌≡◌, ℕ, zero, suc, ◌+◌, ◌<◌, ◌++◌, drop, append_assoc, Bool, true, false, List, [], ◌∷◌, Option, Some, None, length, Result, Ok, Err, OnOk, refl, sym, ap, ◌∙◌, subst, if◌then◌else◌, arith, length-append}
+use Rattle.std.proofs.lemmas.List.{length-map}
 use Rattle.std.proofs.lemmas.List.Elements.{recursion_from_All, All-from_recursion, All-map, All-append, All-nil}
 use Rattle.std.specs.List.{All, AllByRecursion}
 use Rattle.fop_types.specs.declared.messages.Input.TheVariants as input
 use Rattle.wire_xdr.specs.WireText.{input_text}
-use Rattle.mount_log.specs.Logs.{empty_log, with_lines}
+use Rattle.mount_log.specs.Logs.{empty_log, same_number, with_lines}
 use Rattle.mount_log.specs.Procedures.{rank_in}
 use Rattle.mount_log.specs.declared.logs.Log.{Log}
 use Rattle.mount_log.specs.declared.logs.ReplyLine.{ReplyLine}
@@ -17,9 +18,21 @@ use Rattle.hub_tables.specs.Arming.{is_armable}
 use Rattle.hub_tables.specs.PhaseControls.{ControlsState, next_count, with_count, next_armed, without_armed}
 use Rattle.hub_tables.specs.declared.controls.Armed.{Armed}
 use Rattle.hub_tables.specs.declared.requests.Nth.{Nth}
-use Rattle.hub_calls.specs.EventNumbers.{AreOfEvent, sent_in, reply_in, wind_in, numbered, going_out}
+use Rattle.hub_calls.specs.EventNumbers.{AreOfEvent, HaveEvents, sent_in, reply_in, wind_in, numbered, going_out}
 
 -- ---- the lines get their number
+
+rest_numbered : {T : Type 0} (n : ℕ) (items : List T) (k : ℕ) → k < length items → same_number n (drop k items) ≡ n ∷ same_number n (drop (k + 1) items)
+rest_numbered n [] k below = let no : ⊥ = omega arith in absurd no
+rest_numbered n (x ∷ xs) zero below = refl
+rest_numbered n (x ∷ xs) (suc k) below = let one : suc k + 1 ≡ suc (k + 1) = omega arith in rw one (rest_numbered n xs k (omega arith))
+
+-- one number more of those of all items
+pub one_number_more : {T : Type 0} (n : ℕ) (numbers : List ℕ) (items : List T) (k : ℕ) → k < length items → numbers ++ same_number n (drop k items) ≡ same_number n items → (numbers ++ n ∷ []) ++ same_number n (drop (k + 1) items) ≡ same_number n items
+one_number_more n numbers items k below so_far =
+    append_assoc numbers (n ∷ []) (same_number n (drop (k + 1) items))
+    ∙ ap (λ (ns : List ℕ). numbers ++ ns) (sym (rest_numbered n items k below))
+    ∙ so_far
 
 -- lines that were numbered have their number
 pub numbered_are : (number : ℕ) (lines : Log) → AreOfEvent number (numbered number lines)
@@ -27,11 +40,12 @@ unfolding numbered
 numbered_are number lines = record {
   sent = All-map (λ (line : SentLine). line.event ≡ number) (sent_in number) lines.sent (λ k d lt. refl);
   replies = All-map (λ (line : ReplyLine). line.event ≡ number) (reply_in number) lines.replies (λ k d lt. refl);
-  entered = All-map (λ (n : ℕ). n ≡ number) (λ _. number) lines.entered (λ k d lt. refl);
+  entered = All-map (λ (n : ℕ). n ≡ number) (λ _. number) lines.history (λ k d lt. refl);
   answered = All-map (λ (n : ℕ). n ≡ number) (λ _. number) lines.answered (λ k d lt. refl);
   winds = All-map (λ (line : WindLine). line.event ≡ number) (wind_in number) lines.winds (λ k d lt. refl);
-  copied = All-map (λ (n : ℕ). n ≡ number) (λ _. number) lines.copied (λ k d lt. refl);
-  skipped = All-map (λ (n : ℕ). n ≡ number) (λ _. number) lines.skipped (λ k d lt. refl);
+  copied = All-map (λ (n : ℕ). n ≡ number) (λ _. number) lines.copies (λ k d lt. refl);
+  skipped = All-map (λ (n : ℕ). n ≡ number) (λ _. number) lines.skips (λ k d lt. refl);
+  each = record { entries = length-map lines.history (λ _. number); copies = length-map lines.copies (λ _. number); skips = length-map lines.skips (λ _. number) };
 }
 
 -- no lines have any number
@@ -44,6 +58,18 @@ none_of_event number = record {
   winds = All-nil (λ (line : WindLine). line.event ≡ number);
   copied = All-nil (λ (n : ℕ). n ≡ number);
   skipped = All-nil (λ (n : ℕ). n ≡ number);
+  each = record { entries = refl; copies = refl; skips = refl };
+}
+
+-- lines with their events behind others
+as_long : {X Y : Type 0} (ms ns : List X) (xs ys : List Y) → length ms ≡ length xs → length ns ≡ length ys → length (ms ++ ns) ≡ length (xs ++ ys)
+as_long ms ns xs ys first more = length-append ms ns ∙ omega (arith, length-append xs ys)
+
+pub both_have : (old lines : Log) → HaveEvents old → HaveEvents lines → HaveEvents (with_lines old lines)
+both_have old lines before are = record {
+  entries = as_long old.entered lines.entered old.history lines.history before.entries are.entries;
+  copies = as_long old.copied lines.copied old.copies lines.copies before.copies are.copies;
+  skips = as_long old.skipped lines.skipped old.skips lines.skips before.skips are.skips;
 }
 
 -- lines of an event behind others of the same
@@ -56,6 +82,7 @@ both_of_event number old new lines are added before = subst (λ (l : Log). AreOf
   winds = All-append (λ (line : WindLine). line.event ≡ number) old.winds lines.winds before.winds are.winds;
   copied = All-append (λ (n : ℕ). n ≡ number) old.copied lines.copied before.copied are.copied;
   skipped = All-append (λ (n : ℕ). n ≡ number) old.skipped lines.skipped before.skipped are.skipped;
+  each = both_have old (record lines { events = [] }) before.each (record { entries = are.each.entries; copies = are.each.copies; skips = are.each.skips });
 })
 
 -- ---- what goes out
@@ -117,6 +144,7 @@ sent_of_event c lines sent is n are = record {
   winds = are.winds;
   copied = are.copied;
   skipped = are.skipped;
+  each = record { entries = are.each.entries; copies = are.each.copies; skips = are.each.skips };
 }
 
 -- what goes out stands for what was sent among the lines, which have their number

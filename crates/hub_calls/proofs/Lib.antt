@@ -1,4 +1,5 @@
 pub mod Additions
+pub mod ActionInputs
 pub mod Dues
 pub mod Finding
 pub mod Planning

@@ -1,5 +1,5 @@
 -- The plans of a script are plans that graphs can be made from; and the lines that its sessions have left.
-use Rattle.std.proofs.Common.{◌≡◌, ℕ, zero, suc, ◌+◌, ◌==◌, inl, inr, ◌⊎◌, Bool, true, false, ◌&&◌, if◌then◌else◌, is_some, MatchOption, List, [], ◌∷◌, ◌++◌, length, drop, slice_get, Option, None, Some, refl, sym, ap, subst, ◌∙◌, arith, eq-eqb, ne_eqb}
+use Rattle.std.proofs.Common.{◌≡◌, ℕ, zero, suc, ◌+◌, ◌==◌, ◌<◌, inl, inr, ◌⊎◌, Bool, true, false, ◌&&◌, if◌then◌else◌, is_some, IsSome, MatchOption, List, [], ◌∷◌, ◌++◌, length, drop, slice_get, Option, None, Some, refl, sym, ap, subst, ◌∙◌, arith, eq-eqb, ne_eqb}
 use Rattle.std.proofs.lemmas.Bool.{cases_eq}
 use Rattle.std.specs.List.{AllByRecursion}
 use Rattle.graph_build.specs.declared.plans.Plan.{Plan}
@@ -38,6 +38,15 @@ pub is_plan : (plans : List Plan) (at : ℕ) (plan : Plan) → AllByRecursion Is
 is_plan [] at plan all is = let no : ◌≡◌ {A = Option Plan} None (Some plan) = is in absurd cc
 is_plan (p ∷ ps) zero plan all is = let first : p ≡ plan = cc in subst IsPlan first all.0
 is_plan (p ∷ ps) (suc at) plan all is = is_plan ps at plan all.1 is
+
+-- the script begins with one of them
+there : {T : Type 0} (xs : List T) (k : ℕ) → k < length xs → IsSome (slice_get xs k)
+there [] k below = let no : ⊥ = omega arith in absurd no
+there (x ∷ xs) zero below = refl
+there (x ∷ xs) (suc k) below = there xs k (omega arith)
+
+pub start_planned : (script : Script) (on : PlannedScript) → IsScript script on.plans → on.script ≡ script → IsSome (slice_get on.plans on.script.start)
+start_planned script on is same = subst (λ (s : Script). IsSome (slice_get on.plans s.start)) (sym same) (there on.plans script.start (omega (arith, is.accepted.start, is.many)))
 
 -- ---- the lines that sessions have left
 

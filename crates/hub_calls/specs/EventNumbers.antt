@@ -22,19 +22,25 @@ reply_in number line = record line { event = number }
 abbrev pub wind_in : ℕ → WindLine → WindLine
 wind_in number line = record line { event = number }
 
--- these lines, as many as they are, as lines of the event with this number
+-- these lines, as many as they are, as lines of the event with this number; each entry, copy and skip gets it too
 unfoldable pub numbered : ℕ → Log → Log
 numbered number lines = record lines {
   sent = map (sent_in number) lines.sent;
   replies = map (reply_in number) lines.replies;
-  entered = same_number number lines.entered;
+  entered = same_number number lines.history;
   answered = same_number number lines.answered;
   winds = map (wind_in number) lines.winds;
-  copied = same_number number lines.copied;
-  skipped = same_number number lines.skipped;
+  copied = same_number number lines.copies;
+  skipped = same_number number lines.skips;
 }
 
--- whether each of these lines has the number of one event
+-- whether each of these entries, copies and skips has the number of its event
+pub record HaveEvents (lines : Log) : Type 0 where
+  pub entries : length lines.entered ≡ length lines.history
+  pub copies : length lines.copied ≡ length lines.copies
+  pub skips : length lines.skipped ≡ length lines.skips
+
+-- whether each of these lines has the number of one event, and so each entry, copy and skip
 pub record AreOfEvent (number : ℕ) (lines : Log) : Type 0 where
   pub sent : All (λ (line : SentLine). line.event ≡ number) lines.sent
   pub replies : All (λ (line : ReplyLine). line.event ≡ number) lines.replies
@@ -43,6 +49,7 @@ pub record AreOfEvent (number : ℕ) (lines : Log) : Type 0 where
   pub winds : All (λ (line : WindLine). line.event ≡ number) lines.winds
   pub copied : All (λ (n : ℕ). n ≡ number) lines.copied
   pub skipped : All (λ (n : ℕ). n ≡ number) lines.skipped
+  pub each : HaveEvents lines
 
 -- these lines, where what goes out for what was sent is sent; these are the controls with which their event has begun
 unfoldable pub going_out : ControlsState → Log → Log

@@ -1,7 +1,9 @@
--- What is seen of a hub: the script that it runs, with its plans, the log of the whole events, the agenda and the ready tasks, which
--- decide what is due, and why it stopped; what a stop does to later calls; which actions may be carried out; which event a call adds
--- to the log, and what the event makes of the agenda. Ours.
+-- What is seen of a hub: the script that it runs, with its plans, the log of the whole events, the lines so far of an event under way,
+-- the agenda and the ready tasks, which decide what is due, the live graphs, each with its volfile, whether a failure has spent the
+-- graphs, and why the hub stopped; what a stop does to later calls; which actions may be carried out; which event a call adds to the log,
+-- and what the event makes of the agenda. Ours.
 use Rattle.std.specs.Prelude.{◌≡◌, ℕ, ◌+◌, ◌==◌, nat_lt, Bool, true, false, ◌&&◌, not, List, [], ◌∷◌, length, drop, slice_get, Option, None, Some, Result, Err}
+use Rattle.fop_types.specs.declared.messages.Input.{Input}
 use Rattle.graph_build.specs.declared.plans.Plan.{Plan}
 use Rattle.script_lang.specs.declared.scripts.CallLine.{CallLine}
 use Rattle.script_lang.specs.declared.scripts.Script.{Script}
@@ -10,13 +12,14 @@ use Rattle.xlator_law.specs.declared.winds.Stop.TheVariants as stopped
 use Rattle.mount_log.specs.declared.logs.HubEvent.{HubEvent}
 use Rattle.mount_log.specs.declared.logs.HubEvent.TheVariants as logged
 use Rattle.mount_log.specs.declared.logs.Log.{Log}
-use Rattle.mount_log.specs.Logs.{with_lines, with_cut}
+use Rattle.mount_log.specs.Logs.{sends, with_lines, with_cut}
 use Rattle.mount_log.specs.Phases.{says_due}
 use Rattle.mount_log.specs.Submissions.{place_of_line, session_line, submits_of}
 use Rattle.mount_log.specs.declared.logs.ReplyLine.{ReplyLine}
 use Rattle.mount_log.specs.declared.logs.SentLine.{SentLine}
 use Rattle.mount_log.specs.declared.places.LineAt.{LineAt}
 use Rattle.wire_messages.specs.Messages.{output_in}
+use Rattle.wire_xdr.specs.WireText.{input_text}
 use Rattle.script_lang.specs.StatementText.{is_great_action}
 use Rattle.script_lang.specs.declared.scripts.Action.{Action}
 use Rattle.script_lang.specs.declared.scripts.Action.TheVariants as action
@@ -32,8 +35,11 @@ pub record HubState : Type 0 where
   pub script : Script
   pub plans : List Plan
   pub log : Log
+  pub lines : Log
   pub agenda : AgendaState
+  pub graphs : List (ℕ × ℕ)
   pub tasks : List (ℕ × ℕ)
+  pub spent : Bool
   pub stop : Option Stop
 
 -- a call of what had stopped before it answers the same stop, and changes nothing; so a call that succeeds found no stop
@@ -69,6 +75,11 @@ pub record AddsSubmission (script : Script) (old new : Log) (session : ℕ) : Ty
   pub line : CallLine
   pub next : session_line script session (submits_of session old.events) ≡ Some line
   pub event : AddsEvent old new (logged.Submit session line.line)
+
+-- an action that sends its brick an input adds this to the lines, with this number, and nothing else
+abbrev pub AddsInput : ℕ → Option (ℕ × Input) → Log → Log → Type 0
+AddsInput number None old new = Unit {0}
+AddsInput number (Some control) old new = new ≡ sends old number control.0 (input_text control.1)
 
 -- ---- what an event makes of the agenda
 

@@ -1,6 +1,7 @@
--- In reading order: the script that a hub runs; what is due in it; the lines of an event; what is seen of a hub, and what its calls add to the log; a list that grows.
+-- In reading order: the script that a hub runs; what is due in it; its live graphs; the lines of an event; what is seen of a hub, and what its calls add to the log; a list that grows.
 pub mod Plans
 pub mod Dues
+pub mod Live
 pub mod EventNumbers
 pub mod Hubs
 pub mod Growing

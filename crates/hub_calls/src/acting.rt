@@ -1,6 +1,8 @@
 //! Moves of actions.
-ghost use Rattle.std.specs.Prelude.{◌≡◌, length};
-ghost use Rattle.hub_calls.specs.Hubs.{is_of_brick as of_brick};
+ghost use Rattle.std.specs.Prelude.{ℕ, ◌≡◌, ◌∷◌, [], true, is_some, IsSome, OnOk, length, slice_get};
+ghost use Rattle.mount_log.specs.Connects.{control_input};
+ghost use Rattle.hub_calls.specs.Hubs.{AddsInput, is_of_brick as of_brick};
+ghost use Rattle.hub_calls.specs.Live.{HasNoGraphs, volfiles_in};
 
 use crate::parts::Parts;
 use crate::planned::Planned;
@@ -28,6 +30,20 @@ pub(crate) fn is_of_brick(script: &Script, action: Action) -> bool
     }
 }
 
+/// Whether an action is carried out by an input that its brick is sent, so that the hub has nothing else to do.
+pub(crate) fn has_input(action: Action) -> bool
+    ensures { result ≡ is_some (control_input action) }
+{
+    match action {
+        Action::Down(_, _) => true,
+        Action::Up(_) => true,
+        Action::Fault(_, _, _) => true,
+        Action::Cut(_) => false,
+        Action::Heal => false,
+        Action::Switch(_) => false,
+    }
+}
+
 impl Parts {
     /// An action is carried out. A heal and a switch find no internal call under way, and begin one.
     ///
@@ -38,7 +54,9 @@ impl Parts {
         alloc: Global,
         on: &Planned,
         action: Action,
-    ) -> Result<(), Stop> {
+    ) -> Result<(), Stop>
+        ensures { OnOk result ((many : ℕ) → of_brick many action ≡ true → AddsInput 0 (control_input action) self.old.turn.lines self.new.turn.lines) }
+    {
         match action {
             Action::Down(brick, serve) => {
                 self.turn.send_down(alloc, brick, serve)?;
@@ -87,7 +105,9 @@ impl Parts {
         alloc: Global,
         on: &Planned,
         volfile: u8,
-    ) -> Result<(), AllocError> {
+    ) -> Result<(), AllocError>
+        ensures first { OnOk result (HasNoGraphs self.old.graphs.live → IsSome (slice_get on.now.plans volfile) → volfiles_in self.new.graphs.live.graphs.entries ≡ (1, volfile) ∷ []) }
+    {
         if let Some(plan) = on.plan(volfile) {
             self.graphs.make(alloc, plan, volfile)?;
         }

@@ -1,4 +1,5 @@
 //! Moves of connections: they are opened, and they end with their winds.
+ghost use Rattle.std.specs.Prelude.{◌≡◌};
 
 use crate::parts::Parts;
 use crate::planned::Planned;
@@ -10,12 +11,9 @@ impl Parts {
     ///
     /// # Errors
     /// Out of memory.
-    pub(crate) fn connect(
-        &mut self,
-        alloc: Global,
-        graph: u32,
-        brick: u8,
-    ) -> Result<(), AllocError> {
+    pub(crate) fn connect(&mut self, alloc: Global, graph: u32, brick: u8) -> Result<(), AllocError>
+        ensures { self.new.graphs.live ≡ self.old.graphs.live }
+    {
         if self.graphs.nodes.connect(graph, brick).is_some() {
             self.turn.send_connect(alloc, brick, graph)?;
         }
@@ -26,7 +24,9 @@ impl Parts {
     ///
     /// # Errors
     /// Out of memory.
-    pub(crate) fn connect_newest(&mut self, alloc: Global, on: &Planned) -> Result<(), AllocError> {
+    pub(crate) fn connect_newest(&mut self, alloc: Global, on: &Planned) -> Result<(), AllocError>
+        ensures { self.new.graphs.live ≡ self.old.graphs.live }
+    {
         let graph = self.graphs.live.newest;
         for brick in 0..on.bricks() {
             if self.graphs.live.uses(graph, brick) && !self.turn.closed.has(brick) {

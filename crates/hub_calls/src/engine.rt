@@ -1,10 +1,11 @@
 //! What an event moves, with what decides what is due; and how an event is closed.
-ghost use Rattle.std.specs.Prelude.{ℕ, ◌≡◌, ◌==◌, ◌+◌, not, length, IsOk, OnOk, OnErr, IfErr};
+ghost use Rattle.std.specs.Prelude.{ℕ, ◌≡◌, ◌==◌, ◌+◌, ◌∷◌, [], not, length, slice_get, IsSome, IsOk, OnOk, OnErr, IfErr};
 ghost use Rattle.mount_log.specs.Logs.{with_lines};
 ghost use Rattle.hub_tables.specs.Agendas.{new_agenda, with_phase, with_sends, outgoing, moved_on, next_agenda};
 ghost use Rattle.hub_tables.specs.Sessions.{first_line};
 ghost use Rattle.hub_calls.specs.Dues.{is_idle, ready_in};
 ghost use Rattle.hub_calls.specs.EventNumbers.{AreOfEvent, numbered, going_out, written_lines};
+ghost use Rattle.hub_calls.specs.Live.{HasNoGraphs, volfiles_in};
 ghost use Rattle.hub_calls.specs.Hubs.{AddsEvent, GoesOut, IsAfterStop, new_replies, new_sent, is_answered_in};
 
 use crate::numbering::{UNNUMBERED, next_number};
@@ -25,7 +26,8 @@ pub struct Engine {
 impl Engine {
     /// The engine before anything has happened. It takes no memory.
     pub(crate) fn new(alloc: Global, on: &Planned) -> Engine
-        ensures { result.agenda ≡ new_agenda }
+        ensures agenda { result.agenda ≡ new_agenda }
+        ensures graphs { HasNoGraphs result.parts.graphs.live }
     {
         Engine {
             parts: Parts::new(alloc, on),
@@ -76,12 +78,13 @@ impl Engine {
         on: &Planned,
         log: &mut Log,
     ) -> Result<(), AllocError>
+        ensures first { OnOk result (HasNoGraphs self.old.parts.graphs.live → IsSome (slice_get on.now.plans on.now.script.start) → volfiles_in self.new.parts.graphs.live.graphs.entries ≡ (1, on.now.script.start) ∷ []) }
         ensures events { OnOk result (log.new.events ≡ log.old.events) }
         ensures numbered { OnOk result (AreOfEvent 0 log.old → AreOfEvent 0 log.new) }
         ensures agenda { OnOk result (self.new.agenda ≡ moved_on (first_line on.now.left) on.now.script.phases (is_idle (ready_in on.now.plans self.new.parts.graphs.nodes.tasks)) (length on.now.script.phases) (with_phase (first_line on.now.left) on.now.script.phases (with_sends self.old.agenda (new_sent log.old log.new)))) }
     {
         self.parts.make_graph(alloc, on, on.script().start)?;
-        self.parts.turn.number_lines(alloc, UNNUMBERED);
+        self.parts.turn.number_lines(alloc, UNNUMBERED)?;
         self.send_out(alloc)?;
         let idle = self.is_idle(on);
         self.agenda
@@ -101,7 +104,7 @@ impl Engine {
         ensures agenda { OnOk result (self.new.agenda ≡ next_agenda (first_line on.now.left) on.now.script.phases (is_idle (ready_in on.now.plans self.new.parts.graphs.nodes.tasks)) self.new.parts.turn.lines.replies self.new.parts.turn.lines.sent (not (length self.new.parts.turn.lines.answered == 0)) self.old.agenda) }
     {
         let number = next_number(log)?;
-        self.parts.turn.number_lines(alloc, number);
+        self.parts.turn.number_lines(alloc, number)?;
         self.send_out(alloc)?;
         let idle = self.is_idle(on);
         let answered = !self.parts.turn.lines.answered.is_empty();
@@ -144,7 +147,6 @@ impl Engine {
     ///
     /// # Errors
     /// As for `Hub::submit`.
-    #[tactic(auto, using(crate::proofs::Additions::after_cut))]
     pub(crate) fn close(
         &mut self,
         alloc: Global,
@@ -163,7 +165,30 @@ impl Engine {
             Ok(()) => self.parts.finish_event(alloc, on),
             Err(stop) => Err(stop),
         };
-        match finished {
+        self.close_finished(alloc, on, finished, event, log)
+    }
+
+    /// Closes an event of which all is done, with just the lines that it has.
+    ///
+    /// # Errors
+    /// As for `Hub::submit`.
+    #[tactic(auto, using(crate::proofs::Additions::after_cut))]
+    pub(crate) fn close_finished(
+        &mut self,
+        alloc: Global,
+        on: &Planned,
+        done: Result<(), Stop>,
+        event: HubEvent,
+        log: &mut Log,
+    ) -> Result<(), Stop>
+        ensures lines { OnOk result (log.new ≡ with_lines log.old (written_lines self.old.agenda.controls log.old self.old.parts.turn.lines event)) }
+        ensures event { OnOk result (AddsEvent log.old log.new event) }
+        ensures agenda { OnOk result (self.new.agenda ≡ next_agenda (first_line on.now.left) on.now.script.phases (is_idle (ready_in on.now.plans self.new.parts.graphs.nodes.tasks)) (new_replies log.old log.new) (new_sent log.old log.new) (is_answered_in log.old log.new) self.old.agenda) }
+        ensures out { OnOk result (GoesOut self.old.agenda.controls (new_sent log.old log.new)) }
+        ensures stops { IfErr result (λ stop. IsAfterStop stop log.old log.new) }
+        ensures done { OnOk result (IsOk done) }
+    {
+        match done {
             Ok(()) => match self.write_event(alloc, on, event, log) {
                 Ok(()) => Ok(()),
                 Err(_) => Err(Stop::Mem),

@@ -1,12 +1,14 @@
 //! The events of a hub.
-ghost use Rattle.std.specs.Prelude.{◌≡◌, ◌&&◌, true, false, None, Some, length, OnOk, IfOk, IfErr};
+ghost use Rattle.std.specs.Prelude.{◌≡◌, ◌+◌, ◌&&◌, true, false, None, Some, length, OnOk, IfOk, IfErr};
 ghost use Rattle.hub_tables.specs.Agendas.{with_submission, with_output, with_action, with_arm};
 ghost use Rattle.hub_tables.specs.Arming.{is_armable};
 ghost use Rattle.hub_calls.specs.Dues.{is_idle, may_run, may_submit};
-ghost use Rattle.hub_calls.specs.Hubs.{StaysStopped, is_of_brick as of_brick, ActsWhere, AddsEvent, AddsSubmission, ClosesWith, IsAfterStop, IsTurn, is_due_output};
+ghost use Rattle.hub_calls.specs.Hubs.{StaysStopped, is_of_brick as of_brick, ActsWhere, AddsEvent, AddsInput, AddsSubmission, ClosesWith, IsAfterStop, IsTurn, is_due_output};
+ghost use Rattle.mount_log.specs.Connects.{control_input};
+ghost use Rattle.mount_log.specs.Logs.{with_event};
 ghost use Rattle.mount_log.specs.declared.logs.HubEvent.TheVariants as logged;
 
-use crate::acting::is_of_brick;
+use crate::acting::{has_input, is_of_brick};
 use crate::hub::Hub;
 use bytes::Bytes;
 use fop_types::Proc;
@@ -24,7 +26,7 @@ impl Hub {
     /// # Errors
     /// `Winds` where a further wind was needed and 4,294,967,295 were opened, and the winds of the event are in the log; else
     /// out of memory.
-    #[tactic(auto, using(crate::proofs::Planning::left_submitted, crate::proofs::Planning::adds_submission, crate::proofs::Additions::after_same, crate::proofs::Agendas::submitted_agenda))]
+    #[tactic(auto, using(crate::proofs::Planning::left_submitted, crate::proofs::Planning::adds_submission, crate::proofs::Additions::after_same, crate::proofs::Agendas::submitted_agenda, crate::proofs::Additions::events_after, crate::proofs::Additions::events_cut))]
     pub fn submit(&mut self, alloc: Global, session: u8) -> Result<bool, Stop>
         ensures same { (self.new.script ≡ self.old.script) × (self.new.plans ≡ self.old.plans) }
         ensures unchanged { IfOk result (λ did. did ≡ false → self.new ≡ self.old) }
@@ -43,7 +45,7 @@ impl Hub {
         };
         self.planned.take_line(session);
         self.engine.agenda.submit(session);
-        self.engine.parts.turn.open(&self.log);
+        self.engine.parts.turn.open(alloc, &self.log);
         let done = self
             .engine
             .parts
@@ -77,7 +79,7 @@ impl Hub {
     {
         match self.check() {
             Ok(()) => {
-                self.engine.parts.turn.open(&self.log);
+                self.engine.parts.turn.open(alloc, &self.log);
                 let done = self.arrived(alloc, brick, output.as_slice());
                 let event = HubEvent::Arrive {
                     brick,
@@ -120,6 +122,7 @@ impl Hub {
         ensures same { (self.new.script ≡ self.old.script) × (self.new.plans ≡ self.old.plans) }
         ensures unchanged { IfOk result (λ did. did ≡ false → self.new ≡ self.old) }
         ensures event { IfOk result (λ did. did ≡ true → AddsEvent self.old.log self.new.log (logged.Run graph task)) }
+        ensures unspent { IfOk result (λ did. did ≡ true → self.old.spent ≡ false) }
         ensures did { IfOk result (λ did. did ≡ may_run self.old.tasks graph task) }
         ensures agenda { IfOk result (λ did. did ≡ true → ClosesWith self.old.script self.old.log self.new.log self.new.tasks self.old.agenda self.new.agenda) }
         ensures cut { IfErr result (λ stop. IsAfterStop stop self.old.log self.new.log) }
@@ -140,12 +143,13 @@ impl Hub {
         requires { self.old.stop ≡ None }
         ensures same { (self.new.script ≡ self.old.script) × (self.new.plans ≡ self.old.plans) }
         ensures event { OnOk result (AddsEvent self.old.log self.new.log (logged.Run graph task)) }
+        ensures unspent { OnOk result (self.old.spent ≡ false) }
         ensures agenda { OnOk result (ClosesWith self.old.script self.old.log self.new.log self.new.tasks self.old.agenda self.new.agenda) }
         ensures cut { IfErr result (λ stop. IsAfterStop stop self.old.log self.new.log) }
         ensures goes { OnOk result (self.new.stop ≡ None) }
         ensures stops { IfErr result (λ s. self.new.stop ≡ Some s) }
     {
-        self.engine.parts.turn.open(&self.log);
+        self.engine.parts.turn.open(alloc, &self.log);
         let done = self.engine.parts.run_task(alloc, graph, task);
         self.close(alloc, done, HubEvent::Run { graph, task })
     }
@@ -212,15 +216,16 @@ impl Hub {
     /// has the same action. It is false, with nothing changed, exactly where the action is not possible: its brick or
     /// volfile is not in the script, a fault is one of unlock or has the number 0, a heal or a switch finds an internal
     /// call without an answer, or a switch finds a plan that does not follow, or 4,294,967,294 graphs that were made. Of a
-    /// switch the contract says only that no internal call is under way.
+    /// switch the contract says only that no internal call is under way. For a Down, an Up and a fault just their input is sent.
     ///
     /// # Errors
     /// As for [`Hub::submit`].
-    #[tactic(auto, using(crate::proofs::Additions::after_same))]
+    #[tactic(auto, using(crate::proofs::Additions::after_same, crate::proofs::ActionInputs::act_sends, crate::proofs::ActionInputs::no_input))]
     pub fn act(&mut self, alloc: Global, action: Action) -> Result<bool, Stop>
         ensures same { (self.new.script ≡ self.old.script) × (self.new.plans ≡ self.old.plans) }
         ensures unchanged { IfOk result (λ did. did ≡ false → self.new ≡ self.old) }
         ensures event { IfOk result (λ did. did ≡ true → AddsEvent self.old.log self.new.log (logged.Act action)) }
+        ensures input { IfOk result (λ did. did ≡ true → AddsInput (length self.old.log.events + 1) (control_input action) (with_event self.old.log (logged.Act action)) self.new.log) }
         ensures agenda { IfOk result (λ did. did ≡ true → ClosesWith self.old.script self.old.log self.new.log self.new.tasks (with_action self.old.agenda action (is_idle self.old.tasks)) self.new.agenda) }
         ensures cut { IfErr result (λ stop. IsAfterStop stop self.old.log self.new.log) }
         ensures did { IfOk result (λ did. ActsWhere action (length self.old.script.bricks) self.old.agenda.internal did) }
@@ -234,14 +239,18 @@ impl Hub {
         }
         let idle = self.engine.is_idle(&self.planned);
         self.engine.agenda.act(action, idle);
-        self.engine.parts.turn.open(&self.log);
+        self.engine.parts.turn.open(alloc, &self.log);
         let done = self.engine.parts.carry_out(alloc, &self.planned, action);
+        if has_input(action) {
+            self.close_finished(alloc, done, HubEvent::Act(action))?;
+            return Ok(true);
+        }
         self.close(alloc, done, HubEvent::Act(action))?;
         Ok(true)
     }
 
-    /// Arms an action for a request that is sent to a brick in this phase: it is carried out directly before. It is
-    /// false, with nothing changed, exactly where the action is no Down and no fault of that brick, the script has no such
+    /// Arms an action for a request that is sent to a brick in this phase: it is carried out directly before. Nothing is sent for the
+    /// arming itself, which adds its event alone to the log. It is false, with nothing changed, exactly where the action is no Down and no fault of that brick, the script has no such
     /// brick, or the fault is one of unlock or has the number 0.
     ///
     /// # Errors
@@ -258,6 +267,7 @@ impl Hub {
         ensures same { (self.new.script ≡ self.old.script) × (self.new.plans ≡ self.old.plans) }
         ensures unchanged { IfOk result (λ did. did ≡ false → self.new ≡ self.old) }
         ensures event { IfOk result (λ did. did ≡ true → AddsEvent self.old.log self.new.log (logged.Arm brick before count action)) }
+        ensures only { IfOk result (λ did. did ≡ true → self.new.log ≡ with_event self.old.log (logged.Arm brick before count action)) }
         ensures agenda { IfOk result (λ did. did ≡ true → ClosesWith self.old.script self.old.log self.new.log self.new.tasks (with_arm self.old.agenda brick before count action) self.new.agenda) }
         ensures cut { IfErr result (λ stop. IsAfterStop stop self.old.log self.new.log) }
         ensures armable { IfOk result (λ did. did ≡ (is_armable brick action && of_brick (length self.old.script.bricks) action)) }
@@ -269,15 +279,17 @@ impl Hub {
         if !may_be_armed(brick, action) || !is_of_brick(self.script(), action) {
             return Ok(false);
         }
-        self.engine.parts.turn.open(&self.log);
+        self.engine.parts.turn.open(alloc, &self.log);
         let done = self.armed(brick, before, count, action);
-        self.close(alloc, done, HubEvent::Arm(brick, before, count, action))?;
+        let event = HubEvent::Arm(brick, before, count, action);
+        self.close_finished(alloc, done, event)?;
         Ok(true)
     }
 
     // What an arming does before its event is closed.
     fn armed(&mut self, brick: u8, before: Proc, count: u32, action: Action) -> Result<(), Stop>
         ensures same { (self.new.script ≡ self.old.script) × (self.new.plans ≡ self.old.plans) × (self.new.log ≡ self.old.log) × (self.new.stop ≡ self.old.stop) }
+        ensures lines { self.new.lines ≡ self.old.lines }
         ensures agenda { OnOk result (self.new.agenda ≡ with_arm self.old.agenda brick before count action) }
     {
         match self.engine.agenda.arm(brick, before, count, action) {

@@ -1,5 +1,9 @@
 //! The graphs that are live.
+ghost use Rattle.std.specs.Prelude.{◌≡◌, ◌+◌, ◌∷◌, [], OnOk};
+ghost use Rattle.std.specs.BTreeMap.{insert_entry};
+ghost use Rattle.std.specs.Ordering.{nat_cmp};
 ghost use Rattle.graph_nodes.specs.Plans.{IsPlan};
+ghost use Rattle.hub_calls.specs.Live.{HasNoGraphs, volfiles_in};
 
 use crate::planned::Planned;
 use fop_types::Gfid;
@@ -26,7 +30,9 @@ pub struct LiveGraphs {
 
 impl LiveGraphs {
     /// No graphs. It takes no memory.
-    fn new(alloc: Global) -> LiveGraphs {
+    fn new(alloc: Global) -> LiveGraphs
+        ensures { HasNoGraphs result }
+    {
         LiveGraphs {
             graphs: BTreeMap::new(alloc),
             newest: 0,
@@ -34,7 +40,10 @@ impl LiveGraphs {
     }
 
     // Puts the newest graph to the others.
-    fn add(&mut self, number: u32, made: LiveGraph) -> Result<(), AllocError> {
+    fn add(&mut self, number: u32, made: LiveGraph) -> Result<(), AllocError>
+        ensures graphs { OnOk result (self.new.graphs.entries ≡ insert_entry nat_cmp self.old.graphs.entries number made) }
+        ensures newest { OnOk result (self.new.newest ≡ number) }
+    {
         self.graphs.insert(number, made)?;
         self.newest = number;
         Ok(())
@@ -107,7 +116,9 @@ pub struct Graphs {
 
 impl Graphs {
     /// No graphs, of which the first one will have so many sets. It takes no memory.
-    pub(crate) fn new(alloc: Global, root_sets: u8) -> Graphs {
+    pub(crate) fn new(alloc: Global, root_sets: u8) -> Graphs
+        ensures { HasNoGraphs result.live }
+    {
         Graphs {
             live: LiveGraphs::new(alloc),
             nodes: NodeGraphs::new(alloc, root_sets),
@@ -127,6 +138,7 @@ impl Graphs {
     /// Out of memory. A graph after number 4,294,967,295 would be answered so too; `may_follow` lets none come.
     pub(crate) fn make(&mut self, alloc: Global, plan: &Plan, volfile: u8) -> Result<(), AllocError>
         requires { IsPlan plan.now }
+        ensures first { OnOk result (HasNoGraphs self.old.live → volfiles_in self.new.live.graphs.entries ≡ (1, volfile) ∷ []) }
     {
         let Some(number) = self.live.newest.checked_add(1) else {
             return Err(AllocError);

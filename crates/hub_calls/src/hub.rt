@@ -1,7 +1,7 @@
-ghost use Rattle.std.specs.Prelude.{◌≡◌, Some, None, [], IsOk, OnOk, IfOk, IfErr};
-ghost use Rattle.hub_calls.specs.EventNumbers.{AreOfEvent};
+ghost use Rattle.std.specs.Prelude.{◌≡◌, Some, None, [], ◌∷◌, IsOk, OnOk, IfOk, IfErr};
+ghost use Rattle.hub_calls.specs.EventNumbers.{AreOfEvent, HaveEvents, written_lines};
 ghost use Rattle.hub_calls.specs.Hubs.{AddsEvent, ClosesWith, IsAfterStop, agenda_before};
-ghost use Rattle.mount_log.specs.Logs.{is_submit};
+ghost use Rattle.mount_log.specs.Logs.{is_submit, with_lines};
 ghost use Rattle.mount_log.specs.Scripts.{IsScript};
 
 use crate::engine::Engine;
@@ -31,6 +31,8 @@ pub struct Hub {
 impl Model for Hub {
     ghost use Rattle.std.specs.Prelude.{MatchOption};
     ghost use Rattle.hub_calls.specs.Dues.{ready_in};
+    ghost use Rattle.hub_calls.specs.EventNumbers.{HaveEvents};
+    ghost use Rattle.hub_calls.specs.Live.{volfiles_in};
     ghost use Rattle.hub_calls.specs.Hubs.{HubState};
     ghost use Rattle.hub_calls.specs.Plans.{AreLeft};
 
@@ -40,12 +42,18 @@ impl Model for Hub {
       script = h.planned.script;
       plans = h.planned.plans;
       log = h.log;
+      lines = h.engine.parts.turn.lines;
       agenda = h.engine.agenda;
+      graphs = volfiles_in h.engine.parts.graphs.live.graphs.entries;
       tasks = ready_in h.planned.plans h.engine.parts.graphs.nodes.tasks;
+      spent = h.engine.parts.graphs.nodes.spent;
       stop = h.stop;
     } };
 
-    ghost invariant = { λ h. MatchOption h.stop (AreLeft h.planned.script h.log.events h.planned.left) (λ _. Unit {0}) };
+    ghost invariant = { λ h. record {
+      left : MatchOption h.stop (AreLeft h.planned.script h.log.events h.planned.left) (λ _. Unit {0});
+      events : HaveEvents h.log;
+    } };
 }
 
 impl Hub {
@@ -58,7 +66,8 @@ impl Hub {
     #[tactic(auto, using(crate::proofs::Planning::left_before, crate::proofs::Agendas::begun_agenda))]
     pub fn new(alloc: Global, script: Script, plans: Seq<Plan>) -> Result<Hub, AllocError>
         requires { IsScript script plans }
-        ensures start { IfOk result (λ h. h ≡ record { script = script; plans = plans; log = h.log; agenda = h.agenda; tasks = h.tasks; stop = None }) }
+        ensures start { IfOk result (λ h. h ≡ record { script = script; plans = plans; log = h.log; lines = h.lines; agenda = h.agenda; graphs = h.graphs; tasks = h.tasks; spent = h.spent; stop = None }) }
+        ensures first { IfOk result (λ h. h.graphs ≡ (1, script.start) ∷ []) }
         ensures events { IfOk result (λ h. h.log.events ≡ []) }
         ensures numbered { IfOk result (λ h. AreOfEvent 0 h.log) }
         ensures agenda { IfOk result (λ h. h.agenda ≡ agenda_before script h.log h.tasks) }
@@ -93,7 +102,6 @@ impl Hub {
     }
 
     /// Closes an event, which is no submission, of a hub that has not stopped. An event that was not done stops it.
-    #[tactic(auto, using(crate::proofs::Planning::still_left, crate::proofs::Agendas::closed_agenda))]
     pub(crate) fn close(
         &mut self,
         alloc: Global,
@@ -110,9 +118,35 @@ impl Hub {
         ensures stops { IfErr result (λ s. self.new.stop ≡ Some s) }
         ensures done { OnOk result (IsOk done) }
     {
+        let finished = match done {
+            Ok(()) => self.engine.parts.finish_event(alloc, &self.planned),
+            Err(stop) => Err(stop),
+        };
+        self.close_finished(alloc, finished, event)
+    }
+
+    /// Closes an event of which all is done: it is written to the log with just the lines that it has.
+    #[tactic(auto, using(crate::proofs::Planning::still_left, crate::proofs::Agendas::closed_agenda, crate::proofs::Additions::events_after, crate::proofs::Additions::events_cut))]
+    pub(crate) fn close_finished(
+        &mut self,
+        alloc: Global,
+        done: Result<(), Stop>,
+        event: HubEvent,
+    ) -> Result<(), Stop>
+        requires goes { self.old.stop ≡ None }
+        requires other { is_submit event ≡ 0 }
+        ensures same { (self.new.script ≡ self.old.script) × (self.new.plans ≡ self.old.plans) }
+        ensures lines { OnOk result (self.new.log ≡ with_lines self.old.log (written_lines self.old.agenda.controls self.old.log self.old.lines event)) }
+        ensures event { OnOk result (AddsEvent self.old.log self.new.log event) }
+        ensures agenda { OnOk result (ClosesWith self.old.script self.old.log self.new.log self.new.tasks self.old.agenda self.new.agenda) }
+        ensures cut { IfErr result (λ stop. IsAfterStop stop self.old.log self.new.log) }
+        ensures goes { OnOk result (self.new.stop ≡ None) }
+        ensures stops { IfErr result (λ s. self.new.stop ≡ Some s) }
+        ensures done { OnOk result (IsOk done) }
+    {
         match self
             .engine
-            .close(alloc, &self.planned, done, event, &mut self.log)
+            .close_finished(alloc, &self.planned, done, event, &mut self.log)
         {
             Ok(()) => Ok(()),
             Err(stop) => {
@@ -122,9 +156,10 @@ impl Hub {
         }
     }
 
-    /// The log of the events so far.
+    /// The log of the events so far. Each of its entries, copies and skips has its event.
     pub fn log(&self) -> &Log
-        ensures { result.now ≡ self.now.log }
+        ensures log { result.now ≡ self.now.log }
+        ensures events { HaveEvents result.now }
     {
         &self.log
     }

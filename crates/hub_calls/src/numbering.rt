@@ -1,5 +1,5 @@
 //! The number of an event, which its lines get as it is closed.
-ghost use Rattle.std.specs.Prelude.{◌≡◌, ◌+◌, length, map, IfOk};
+ghost use Rattle.std.specs.Prelude.{◌≡◌, ◌+◌, length, map, IfOk, OnOk};
 ghost use Rattle.mount_log.specs.Logs.{same_number};
 ghost use Rattle.hub_calls.specs.EventNumbers.{sent_in, reply_in, wind_in};
 
@@ -63,4 +63,20 @@ pub(crate) fn number_all(alloc: Global, numbers: &mut Seq<u64>, number: u64)
         *at = number;
     }
     drop(mem::replace(numbers, Seq::from_vec(items)));
+}
+
+// The number of one event, once for each of these.
+pub(crate) fn number_each<T>(
+    alloc: Global,
+    numbers: &mut Seq<u64>,
+    items: &[T],
+    number: u64,
+) -> Result<(), AllocError>
+    ensures { OnOk result (numbers.new ≡ same_number number items.now) }
+{
+    drop(mem::replace(numbers, Seq::new(alloc)));
+    for _ in 0..items.len() {
+        numbers.push(number)?;
+    }
+    Ok(())
 }

@@ -1,4 +1,5 @@
 //! What events move.
+ghost use Rattle.hub_calls.specs.Live.{HasNoGraphs};
 
 use crate::graphs::Graphs;
 use crate::planned::Planned;
@@ -25,7 +26,9 @@ pub struct Parts {
 
 impl Parts {
     /// The parts before anything has happened: no graph is made. They take no memory.
-    pub(crate) fn new(alloc: Global, on: &Planned) -> Parts {
+    pub(crate) fn new(alloc: Global, on: &Planned) -> Parts
+        ensures { HasNoGraphs result.graphs.live }
+    {
         Parts {
             creations: on.creations(),
             turn: Turn::new(alloc),

@@ -101,7 +101,8 @@ impl Planned {
     /// The plan of a volfile.
     #[tactic(auto, using(crate::proofs::Planning::is_plan))]
     pub(crate) fn plan(&self, volfile: u8) -> Option<&Plan>
-        ensures { IfSome result (λ plan. IsPlan plan.now) }
+        ensures plan { IfSome result (λ plan. IsPlan plan.now) }
+        ensures none { result ≡ None → slice_get self.now.plans volfile ≡ None }
     {
         self.plans.as_slice().get(volfile as usize)
     }

@@ -1,6 +1,6 @@
 //! Moves of a graph: a fop enters it, a hold is granted, a reply is taken, a connection ends. What the graph gives is
 //! written down and left to be taken.
-ghost use Rattle.std.specs.Prelude.{true};
+ghost use Rattle.std.specs.Prelude.{◌≡◌, true, false, IsErr, IsOk, OnOk};
 ghost use Rattle.fop_types.specs.Bounds.{IsRep};
 
 use crate::parts::Parts;
@@ -12,7 +12,9 @@ use xlator_law::{Settled, Stop, WindNo};
 
 impl Parts {
     // A graph that needed a wind too many has left the lines of the winds before it.
-    fn stopped(&mut self, alloc: Global, graph: u32, stop: Stop) -> Result<(), Stop> {
+    fn stopped(&mut self, alloc: Global, graph: u32, stop: Stop) -> Result<(), Stop>
+        ensures { IsErr result }
+    {
         match stop {
             Stop::Mem => Err(Stop::Mem),
             Stop::Winds => {
@@ -36,7 +38,9 @@ impl Parts {
         alloc: Global,
         graph: u32,
         moved: Result<Option<Moved>, Stop>,
-    ) -> Result<(), Stop> {
+    ) -> Result<(), Stop>
+        ensures { OnOk result (IsOk moved) }
+    {
         match moved {
             Ok(moved) => {
                 self.turn.note_moved(graph, moved)?;
@@ -65,11 +69,13 @@ impl Parts {
         self.ran(alloc, graph, moved)
     }
 
-    /// A task of a graph is run.
+    /// A task of a graph is run, where no failure has spent the graphs.
     ///
     /// # Errors
     /// As for `Hub::submit`.
-    pub(crate) fn run_task(&mut self, alloc: Global, graph: u32, task: u32) -> Result<(), Stop> {
+    pub(crate) fn run_task(&mut self, alloc: Global, graph: u32, task: u32) -> Result<(), Stop>
+        ensures { OnOk result (self.old.graphs.nodes.spent ≡ false) }
+    {
         let moved = self.graphs.nodes.run_task(alloc, graph, task);
         self.ran(alloc, graph, moved)
     }

@@ -1,5 +1,10 @@
 //! Moves of sending: requests and controls. What is armed for the requests goes out as the event is closed.
-ghost use Rattle.wire_xdr.specs.WireText.{IsInput};
+ghost use Rattle.std.specs.Prelude.{◌≡◌, true, false, is_some, OnOk};
+ghost use Rattle.fop_types.specs.declared.messages.Input.TheVariants as sent;
+ghost use Rattle.hub_tables.specs.Arming.{may_fail};
+ghost use Rattle.mount_log.specs.Logs.{sends};
+ghost use Rattle.mount_log.specs.Procedures.{rank_in};
+ghost use Rattle.wire_xdr.specs.WireText.{IsInput, input_text};
 
 use crate::numbering::UNNUMBERED;
 use crate::turn::Turn;
@@ -13,7 +18,9 @@ use std::alloc::{AllocError, Global};
 use wire_xdr::encode_req;
 
 impl Turn {
-    fn send(&mut self, brick: u8, bytes: Bytes) -> Result<(), AllocError> {
+    fn send(&mut self, brick: u8, bytes: Bytes) -> Result<(), AllocError>
+        ensures { OnOk result (self.new.lines ≡ sends self.old.lines 0 brick bytes) }
+    {
         self.lines.sent.push(SentLine {
             event: UNNUMBERED,
             brick,
@@ -24,6 +31,7 @@ impl Turn {
 
     fn send_input(&mut self, alloc: Global, brick: u8, input: Input) -> Result<(), AllocError>
         requires { IsInput input }
+        ensures { OnOk result (self.new.lines ≡ sends self.old.lines 0 brick (input_text input)) }
     {
         let encoded = encode_req(alloc, &input);
         drop(input);
@@ -66,7 +74,9 @@ impl Turn {
         alloc: Global,
         brick: u8,
         serve: u32,
-    ) -> Result<(), AllocError> {
+    ) -> Result<(), AllocError>
+        ensures { OnOk result (self.new.lines ≡ sends self.old.lines 0 brick (input_text (sent.Down serve))) }
+    {
         self.send_input(alloc, brick, Input::Down { serve })
     }
 
@@ -74,7 +84,9 @@ impl Turn {
     ///
     /// # Errors
     /// Out of memory.
-    pub(crate) fn send_up(&mut self, alloc: Global, brick: u8) -> Result<(), AllocError> {
+    pub(crate) fn send_up(&mut self, alloc: Global, brick: u8) -> Result<(), AllocError>
+        ensures { OnOk result (self.new.lines ≡ sends self.old.lines 0 brick (input_text sent.Up)) }
+    {
         self.send_input(alloc, brick, Input::Up)
     }
 
@@ -88,7 +100,9 @@ impl Turn {
         brick: u8,
         proc: Proc,
         number: u32,
-    ) -> Result<(), AllocError> {
+    ) -> Result<(), AllocError>
+        ensures { may_fail proc number ≡ true → OnOk result (self.new.lines ≡ sends self.old.lines 0 brick (input_text (sent.FaultAt proc number))) }
+    {
         if !may_be_armed(brick, Action::Fault(brick, proc, number)) {
             return Ok(());
         }
@@ -96,7 +110,10 @@ impl Turn {
     }
 
     // A request goes out. Bytes that are none do not.
-    fn send_request(&mut self, brick: u8, bytes: Bytes) -> Result<(), AllocError> {
+    fn send_request(&mut self, brick: u8, bytes: Bytes) -> Result<(), AllocError>
+        ensures request { is_some (rank_in bytes) ≡ true → OnOk result (self.new.lines ≡ sends self.old.lines 0 brick bytes) }
+        ensures other { is_some (rank_in bytes) ≡ false → OnOk result (self.new ≡ self.old) }
+    {
         if rank_of(bytes.as_slice()).is_none() {
             drop(bytes);
             return Ok(());

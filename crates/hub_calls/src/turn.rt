@@ -1,10 +1,10 @@
 //! The event under way: its lines, and what is still to be done in it.
 ghost use Rattle.std.specs.Prelude.{◌≡◌, ◌+◌, ◌∷◌, [], length, OnOk, OnErr};
-ghost use Rattle.mount_log.specs.Logs.{with_lines, with_cut};
+ghost use Rattle.mount_log.specs.Logs.{empty_log, with_lines, with_cut};
 ghost use Rattle.hub_calls.specs.EventNumbers.{numbered, IsCutOff};
 
 use crate::numbering::{
-    UNNUMBERED, next_number, number_all, number_replies, number_sent, number_winds,
+    UNNUMBERED, next_number, number_all, number_each, number_replies, number_sent, number_winds,
 };
 use crate::writing::add_lines;
 use fop_types::{Cell, CopyRecord, FopAnswer, Seq, SkipCause};
@@ -57,8 +57,11 @@ impl Turn {
         }
     }
 
-    /// Begins an event behind those of the log.
-    pub(crate) fn open(&mut self, log: &Log) {
+    /// Begins an event behind those of the log. It has no lines.
+    pub(crate) fn open(&mut self, alloc: Global, log: &Log)
+        ensures { self.new.lines ≡ empty_log }
+    {
+        drop(mem::replace(&mut self.lines, Log::new(alloc)));
         self.replies = log.replies.len();
         self.entries = log.history.len();
     }
@@ -83,18 +86,22 @@ impl Turn {
         drop(mem::replace(&mut self.lines.sent, sent));
     }
 
-    /// The lines so far get the number of their event.
+    /// The lines so far get the number of their event, and so do the entries, the copies and the skips.
+    ///
+    /// # Errors
+    /// Out of memory.
     #[tactic(auto, unfolding(crate::specs::EventNumbers::numbered))]
-    pub(crate) fn number_lines(&mut self, alloc: Global, number: u64)
-        ensures { self.new ≡ record self.old { lines = numbered number self.old.lines } }
+    pub(crate) fn number_lines(&mut self, alloc: Global, number: u64) -> Result<(), AllocError>
+        ensures { OnOk result (self.new ≡ record self.old { lines = numbered number self.old.lines }) }
     {
         number_sent(alloc, &mut self.lines.sent, number);
         number_replies(alloc, &mut self.lines.replies, number);
-        number_all(alloc, &mut self.lines.entered, number);
         number_all(alloc, &mut self.lines.answered, number);
         number_winds(alloc, &mut self.lines.winds, number);
-        number_all(alloc, &mut self.lines.copied, number);
-        number_all(alloc, &mut self.lines.skipped, number);
+        let lines = &mut self.lines;
+        number_each(alloc, &mut lines.entered, lines.history.as_slice(), number)?;
+        number_each(alloc, &mut lines.copied, lines.copies.as_slice(), number)?;
+        number_each(alloc, &mut lines.skipped, lines.skips.as_slice(), number)
     }
 
     /// The lines so far, which have no event; none are left.
@@ -186,7 +193,6 @@ impl Turn {
     fn note_copies(&mut self, copies: Seq<CopyRecord>) -> Result<(), AllocError> {
         for copy in copies.into_vec() {
             self.lines.copies.push(copy)?;
-            self.lines.copied.push(UNNUMBERED)?;
         }
         Ok(())
     }
@@ -194,7 +200,6 @@ impl Turn {
     fn note_skips(&mut self, skips: &[(Cell, SkipCause)]) -> Result<(), AllocError> {
         for skip in skips {
             self.lines.skips.push(*skip)?;
-            self.lines.skipped.push(UNNUMBERED)?;
         }
         Ok(())
     }

@@ -1,11 +1,11 @@
 //! The turn of an event: what is to be done until nothing is left.
+ghost use Rattle.std.specs.Prelude.{◌≡◌, ◌++◌, drop, OnOk};
 
-use crate::numbering::UNNUMBERED;
 use crate::parts::Parts;
 use crate::planned::Planned;
 use crate::turn::{Given, Todo};
 use call_fops::{Walk, at_once};
-use fop_types::{FopAnswer, Gfid, Seq};
+use fop_types::{Entry, FopAnswer, Gfid, Seq};
 use graph_nodes::HoldAsk;
 use hub_tables::{CallState, Stage, makes};
 use mount_log::LineAt;
@@ -133,13 +133,14 @@ impl Parts {
     }
 
     // The entries that the ledger has made in this event.
-    fn note_entries(&mut self) -> Result<(), AllocError> {
-        let history = self.graphs.nodes.history();
-        for at in self.turn.entries..history.len() {
-            self.turn.lines.history.push(history[at])?;
-            self.turn.lines.entered.push(UNNUMBERED)?;
-        }
-        Ok(())
+    fn note_entries(&mut self) -> Result<(), AllocError>
+        ensures { OnOk result (self.new.turn.lines.history ≡ self.old.turn.lines.history ++ drop self.old.turn.entries self.old.graphs.nodes.history) }
+    {
+        push_behind(
+            &mut self.turn.lines.history,
+            self.graphs.nodes.history(),
+            self.turn.entries,
+        )
     }
 
     /// Finishes what was begun of an event: all that is left of it is done, and the graphs that are done with are
@@ -153,4 +154,14 @@ impl Parts {
         self.note_entries()?;
         Ok(())
     }
+}
+
+// The entries of a history behind the first ones are put at the end of an event's.
+fn push_behind(entries: &mut Seq<Entry>, history: &[Entry], first: usize) -> Result<(), AllocError>
+    ensures { OnOk result (entries.new ≡ entries.old ++ drop first history.now) }
+{
+    for at in first..history.len() {
+        entries.push(history[at])?;
+    }
+    Ok(())
 }
