@@ -24,12 +24,18 @@ fn main(rt: HostRuntime) -> io::Result<()> {
     }
 }
 
+// Words that serve so many writes.
+const WRITES: [(&[u8], u32); 2] = [(b"writes", 1000), (b"none\0\0", 0)];
+
 // Does what a word says that has zeros behind it up to six bytes.
 fn begin<R: Runtime>(rt: &R, alloc: Global, word: &[u8]) -> io::Result<()> {
-    match word {
-        b"time\0\0" => timing::report(rt, alloc),
-        b"writes" => Ok(rounds::serve_writes(alloc, 1000)?),
-        b"none\0\0" => Ok(rounds::serve_writes(alloc, 0)?),
-        _ => Ok(()),
+    if word == b"time\0\0".as_slice() {
+        return timing::report(rt, alloc);
     }
+    for (name, writes) in &WRITES {
+        if word == *name {
+            rounds::serve_writes(alloc, *writes)?;
+        }
+    }
+    Ok(())
 }

@@ -43,8 +43,9 @@ fn among(number: u32, files: u32) -> u32 {
     number.checked_rem(files).unwrap_or(0)
 }
 
-fn add(messages: &mut Vec<Bytes>, message: Result<Bytes, AllocError>) -> Result<(), AllocError> {
-    messages.push(message?)?;
+/// Adds what could be made.
+pub fn add<T: Drop>(list: &mut Vec<T>, made: Result<T, AllocError>) -> Result<(), AllocError> {
+    list.push(made?)?;
     Ok(())
 }
 

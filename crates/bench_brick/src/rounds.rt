@@ -1,5 +1,5 @@
 //! What a brick serves, and copies of 65,536 bytes beside it. All are kept, as a brick keeps its outputs.
-use crate::messages::{MOST, add_large_writes};
+use crate::messages::{MOST, add, add_large_writes};
 use brick_machine::Brick;
 use bytes::Bytes;
 use std::alloc::{AllocError, Global};
@@ -46,8 +46,19 @@ pub fn serve_writes(alloc: Global, writes: u32) -> Result<(), AllocError> {
 /// Keeps so many copies of a block.
 pub fn keep_copies(alloc: Global, copies: &mut Vec<Vec<u8>>, count: u32) -> Result<(), AllocError> {
     let bytes = vec![in alloc; 7u8; MOST as usize]?;
+    let done = keep_each(alloc, copies, bytes.as_slice(), count);
+    drop(bytes);
+    done
+}
+
+fn keep_each(
+    alloc: Global,
+    copies: &mut Vec<Vec<u8>>,
+    bytes: &[u8],
+    count: u32,
+) -> Result<(), AllocError> {
     for _ in 0..count {
-        copies.push(Vec::from_slice(alloc, bytes.as_slice())?)?;
+        add(copies, Vec::from_slice(alloc, bytes))?;
     }
     Ok(())
 }

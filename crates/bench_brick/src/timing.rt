@@ -2,7 +2,7 @@ use crate::messages::{BLOCKS, WRITES, Work, add_prepared, add_timed};
 use crate::rounds::{is_done, keep_copies, serve, served};
 use brick_machine::Brick;
 use bytes::Bytes;
-use std::alloc::Global;
+use std::alloc::{AllocError, Global};
 use std::io;
 use std::rt::Runtime;
 use std::time::{Duration, Instant};
@@ -32,10 +32,19 @@ fn report_writes<R: Runtime>(rt: &R, alloc: Global, files: u32) -> io::Result<()
 fn report_blocks<R: Runtime>(rt: &R, alloc: Global) -> io::Result<()> {
     let copy = quickest(rt, alloc, Work::Copies)?;
     report_block(rt, "copy", copy, copy)?;
-    let replaced = quickest(rt, alloc, Work::Replaces)?;
-    report_block(rt, "replace", replaced, copy)?;
-    let fetched = quickest(rt, alloc, Work::Fetches)?;
-    report_block(rt, "fetch", fetched, copy)
+    report_work(rt, alloc, "replace", Work::Replaces, copy)?;
+    report_work(rt, alloc, "fetch", Work::Fetches, copy)
+}
+
+fn report_work<R: Runtime>(
+    rt: &R,
+    alloc: Global,
+    name: &str,
+    work: Work,
+    copy: u64,
+) -> io::Result<()> {
+    let time = quickest(rt, alloc, work)?;
+    report_block(rt, name, time, copy)
 }
 
 fn report_drain<R: Runtime>(rt: &R, alloc: Global, calls: u32) -> io::Result<()> {
@@ -70,10 +79,28 @@ fn pass<R: Runtime>(rt: &R, alloc: Global, work: Work) -> io::Result<u64> {
 
 fn time_of_messages<R: Runtime>(rt: &R, alloc: Global, work: Work) -> io::Result<u64> {
     let mut prepared = Vec::new(alloc);
-    add_prepared(alloc, &mut prepared, work)?;
     let mut messages = Vec::new(alloc);
-    add_timed(alloc, &mut messages, work)?;
-    let mut brick = served(alloc, prepared)?;
+    add_both(alloc, &mut prepared, &mut messages, work)?;
+    time_behind(rt, alloc, served(alloc, prepared), messages)
+}
+
+fn add_both(
+    alloc: Global,
+    prepared: &mut Vec<Bytes>,
+    messages: &mut Vec<Bytes>,
+    work: Work,
+) -> Result<(), AllocError> {
+    add_prepared(alloc, prepared, work)?;
+    add_timed(alloc, messages, work)
+}
+
+fn time_behind<R: Runtime>(
+    rt: &R,
+    alloc: Global,
+    brick: Result<Brick, AllocError>,
+    messages: Vec<Bytes>,
+) -> io::Result<u64> {
+    let mut brick = brick?;
     let time = timed(rt, alloc, &mut brick, messages);
     drop(brick);
     time
@@ -85,18 +112,31 @@ fn timed<R: Runtime>(
     brick: &mut Brick,
     messages: Vec<Bytes>,
 ) -> io::Result<u64> {
-    let start = Instant::now(rt)?;
-    serve(alloc, brick, messages)?;
-    let time = nanoseconds_of(start.elapsed(rt)?);
+    let start = Instant::now(rt);
+    let done = serve(alloc, brick, messages);
+    let time = time_since(rt, start, done)?;
     Ok(if is_done(brick) { time } else { u64::MAX })
 }
 
+// The copies are kept until the time is taken.
 fn time_of_copies<R: Runtime>(rt: &R, alloc: Global) -> io::Result<u64> {
     let mut copies = Vec::new(alloc);
-    let start = Instant::now(rt)?;
-    keep_copies(alloc, &mut copies, BLOCKS)?;
-    let time = nanoseconds_of(start.elapsed(rt)?);
-    Ok(if copies.is_empty() { u64::MAX } else { time })
+    let start = Instant::now(rt);
+    let done = keep_copies(alloc, &mut copies, BLOCKS);
+    let time = time_since(rt, start, done);
+    drop(copies);
+    time
+}
+
+// The nanoseconds since the start, where all was done.
+fn time_since<R: Runtime>(
+    rt: &R,
+    start: io::Result<Instant>,
+    done: Result<(), AllocError>,
+) -> io::Result<u64> {
+    let time = nanoseconds_of(start?.elapsed(rt)?);
+    done?;
+    Ok(time)
 }
 
 fn nanoseconds_of(time: Duration) -> u64 {

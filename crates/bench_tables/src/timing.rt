@@ -32,12 +32,23 @@ fn report<R: Runtime>(rt: &R, alloc: Global, entries: u32) -> io::Result<()>
 
 fn report_locks<R: Runtime>(rt: &R, alloc: Global, entries: u32) -> io::Result<()> {
     let mut table = BrickLocks::new(alloc);
-    locks::fill(alloc, &mut table, entries)?;
+    let done = time_locks(rt, alloc, &mut table, entries);
+    drop(table);
+    done
+}
+
+fn time_locks<R: Runtime>(
+    rt: &R,
+    alloc: Global,
+    table: &mut BrickLocks,
+    entries: u32,
+) -> io::Result<()> {
+    locks::fill(alloc, table, entries)?;
     let start = Instant::now(rt);
-    let single = locks::ask_and_release(alloc, &mut table, entries);
+    let single = locks::ask_and_release(alloc, table, entries);
     report_since(rt, "locks of a brick: ask and release", start, single)?;
     let start = Instant::now(rt);
-    let two = locks::hand_over(alloc, &mut table, entries);
+    let two = locks::hand_over(alloc, table, entries);
     report_since(
         rt,
         "the same of two, of which one waits for the other",
@@ -48,17 +59,39 @@ fn report_locks<R: Runtime>(rt: &R, alloc: Global, entries: u32) -> io::Result<(
 
 fn report_holds<R: Runtime>(rt: &R, alloc: Global, entries: u32) -> io::Result<()> {
     let mut table = MountLocks::new(alloc);
-    holds::fill(alloc, &mut table, entries)?;
+    let done = time_holds(rt, alloc, &mut table, entries);
+    drop(table);
+    done
+}
+
+fn time_holds<R: Runtime>(
+    rt: &R,
+    alloc: Global,
+    table: &mut MountLocks,
+    entries: u32,
+) -> io::Result<()> {
+    holds::fill(alloc, table, entries)?;
     let start = Instant::now(rt);
-    let done = holds::ask_and_release(alloc, &mut table, entries);
+    let done = holds::ask_and_release(alloc, table, entries);
     report_since(rt, "holds of the mount: ask and release", start, done)
 }
 
 fn report_tasks<R: Runtime>(rt: &R, alloc: Global, entries: u32) -> io::Result<()> {
     let mut table: Queues<u32> = Queues::new(alloc);
-    tasks::fill(alloc, &mut table, entries)?;
+    let done = time_tasks(rt, alloc, &mut table, entries);
+    drop(table);
+    done
+}
+
+fn time_tasks<R: Runtime>(
+    rt: &R,
+    alloc: Global,
+    table: &mut Queues<u32>,
+    entries: u32,
+) -> io::Result<()> {
+    tasks::fill(alloc, table, entries)?;
     let start = Instant::now(rt);
-    let done = tasks::push_and_pop(alloc, &mut table);
+    let done = tasks::push_and_pop(alloc, table);
     report_since(rt, "tasks: push and pop", start, done)
 }
 
@@ -66,15 +99,28 @@ fn report_pages<R: Runtime>(rt: &R, alloc: Global, entries: u32) -> io::Result<(
     requires { 0 < entries }
 {
     let mut table = PageCache::new(alloc, entries)?;
-    pages::fill(alloc, &mut table, entries)?;
+    let done = time_pages(rt, alloc, &mut table, entries);
+    drop(table);
+    done
+}
+
+fn time_pages<R: Runtime>(
+    rt: &R,
+    alloc: Global,
+    table: &mut PageCache,
+    entries: u32,
+) -> io::Result<()>
+    requires { 0 < entries }
+{
+    pages::fill(alloc, table, entries)?;
     let start = Instant::now(rt);
-    let hits = pages::hit(alloc, &mut table, entries);
+    let hits = pages::hit(alloc, table, entries);
     report_since(rt, "pages: hit", start, hits)?;
     let start = Instant::now(rt);
-    let misses = pages::miss(alloc, &mut table);
+    let misses = pages::miss(alloc, table);
     report_since(rt, "pages: miss", start, misses)?;
     let start = Instant::now(rt);
-    let puts = pages::put_over(alloc, &mut table);
+    let puts = pages::put_over(alloc, table);
     report_since(rt, "pages: put into a full cache", start, puts)
 }
 

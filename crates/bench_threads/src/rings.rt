@@ -10,10 +10,23 @@ pub const ROOM: usize = 64;
 /// often: the sum of their lengths.
 pub fn through_link(alloc: Global, bytes: &[u8], rounds: u32) -> Result<u64, AllocError> {
     let (mut hub, mut brick) = pair(alloc, ROOM)?;
+    let sum = link_rounds(alloc, &mut hub, &mut brick, bytes, rounds);
+    drop(hub);
+    drop(brick);
+    sum
+}
+
+fn link_rounds(
+    alloc: Global,
+    hub: &mut HubEnd,
+    brick: &mut BrickEnd,
+    bytes: &[u8],
+    rounds: u32,
+) -> Result<u64, AllocError> {
     let mut sum = 0u64;
     for _ in 0..rounds {
-        fill_link(alloc, &mut hub, bytes)?;
-        sum = sum.wrapping_add(drain_link(&mut brick));
+        fill_link(alloc, hub, bytes)?;
+        sum = sum.wrapping_add(drain_link(brick));
     }
     Ok(sum)
 }
@@ -39,10 +52,23 @@ fn drain_link(brick: &mut BrickEnd) -> u64 {
 /// The same through a plain ring.
 pub fn through_ring(alloc: Global, bytes: &[u8], rounds: u32) -> Result<u64, AllocError> {
     let (mut producer, mut consumer) = RingBuffer::new(alloc, ROOM)?;
+    let sum = ring_rounds(alloc, &mut producer, &mut consumer, bytes, rounds);
+    drop(producer);
+    drop(consumer);
+    sum
+}
+
+fn ring_rounds(
+    alloc: Global,
+    producer: &mut Producer<Bytes>,
+    consumer: &mut Consumer<Bytes>,
+    bytes: &[u8],
+    rounds: u32,
+) -> Result<u64, AllocError> {
     let mut sum = 0u64;
     for _ in 0..rounds {
-        fill_ring(alloc, &mut producer, bytes)?;
-        sum = sum.wrapping_add(drain_ring(&mut consumer));
+        fill_ring(alloc, producer, bytes)?;
+        sum = sum.wrapping_add(drain_ring(consumer));
     }
     Ok(sum)
 }

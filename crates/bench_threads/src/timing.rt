@@ -20,11 +20,16 @@ const ACTS: [(&str, Act); 3] = [
 /// Writes to standard error how many calls each second there are, in thousands.
 pub fn report<R: Runtime + Threads + Sync>(rt: &R, alloc: Global) -> io::Result<()> {
     eprintln!(rt; "thousands of calls each second, the quickest of {PASSES} passes:")?;
+    report_acts(rt, alloc)?;
+    report_messages(rt, alloc, 100, 4096)?;
+    report_messages(rt, alloc, 65536, 64)
+}
+
+fn report_acts<R: Runtime + Threads + Sync>(rt: &R, alloc: Global) -> io::Result<()> {
     for (name, act) in &ACTS {
         report_winds(rt, alloc, *act, name)?;
     }
-    report_messages(rt, alloc, 100, 4096)?;
-    report_messages(rt, alloc, 65536, 64)
+    Ok(())
 }
 
 fn report_winds<R: Runtime + Threads + Sync>(
@@ -58,9 +63,20 @@ fn time_of_one<R: Runtime>(rt: &R, alloc: Global, act: Act) -> io::Result<u64> {
 
 fn time_of_four<R: Runtime + Threads + Sync>(rt: &R, alloc: Global, act: Act) -> io::Result<u64> {
     let mut desks = Vec::new(alloc);
-    prepare(alloc, &mut desks, act)?;
+    let time = time_of_desks(rt, alloc, &mut desks, act);
+    drop(desks);
+    time
+}
+
+fn time_of_desks<R: Runtime + Threads + Sync>(
+    rt: &R,
+    alloc: Global,
+    desks: &mut Vec<Desk>,
+    act: Act,
+) -> io::Result<u64> {
+    prepare(alloc, desks, act)?;
     let start = Instant::now(rt);
-    act_on_each(rt, &mut desks, act);
+    act_on_each(rt, desks, act);
     time_since(rt, start, Ok(0))
 }
 

@@ -31,6 +31,3 @@ mod port;
 pub use brick::BrickEnd;
 pub use hub::HubEnd;
 pub use link::{beside, pair};
-
-#[cfg(test)]
-mod tests;

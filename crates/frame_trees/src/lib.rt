@@ -12,8 +12,6 @@
 
 mod fitting;
 mod kinds;
-#[cfg(test)]
-mod runs;
 mod tree;
 
 pub use kinds::{Kept, Kind, Node};

@@ -126,22 +126,43 @@ fn is_as_wanted(need: &CopyNeed, wanted: Needs, records: &[(u64, u8, u8, u64)]) 
     }
 }
 
-fn goes_as_wanted(alloc: Global, case: &Case) -> Result<bool, AllocError> {
-    let (mut run, need) = start(alloc, case)?;
-    if !is_as_wanted(&need, case.first, case.records) {
+// The same of a need that ends here.
+fn ends_as_wanted(need: CopyNeed, wanted: Needs, records: &[(u64, u8, u8, u64)]) -> bool {
+    let as_wanted = is_as_wanted(&need, wanted, records);
+    drop(need);
+    as_wanted
+}
+
+// A turn: the replica, what it says, and what is needed next.
+fn turn_goes(
+    alloc: Global,
+    run: &mut CopyRun,
+    turn: (u8, Says, Needs),
+    records: &[(u64, u8, u8, u64)],
+) -> Result<bool, AllocError> {
+    let (replica, says, wanted) = turn;
+    if replica >= 5 {
         return Ok(false);
     }
-    for (replica, says, wanted) in case.turns {
-        if *replica >= 5 {
-            return Ok(false);
-        }
-        let rep = reply(alloc, *says);
-        let need = run.answer(alloc, *replica, rep, 10 + *replica as u64)?;
-        if !is_as_wanted(&need, *wanted, case.records) {
+    let need = run.answer(alloc, replica, reply(alloc, says), 10 + replica as u64)?;
+    Ok(ends_as_wanted(need, wanted, records))
+}
+
+fn turns_go(alloc: Global, run: &mut CopyRun, case: &Case) -> Result<bool, AllocError> {
+    for turn in case.turns {
+        if !turn_goes(alloc, run, *turn, case.records)? {
             return Ok(false);
         }
     }
     Ok(true)
+}
+
+fn goes_as_wanted(alloc: Global, case: &Case) -> Result<bool, AllocError> {
+    let (mut run, need) = start(alloc, case)?;
+    let first = ends_as_wanted(need, case.first, case.records);
+    let turns = turns_go(alloc, &mut run, case);
+    drop(run);
+    Ok(first && turns?)
 }
 
 #[test]

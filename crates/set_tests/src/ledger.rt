@@ -4,6 +4,7 @@ ghost use Rattle.afr_ledger.specs.Changes.{numbered, without};
 use afr_ledger::{Ledger, Unsettled};
 use fop_types::{Aspect, Cell, Entry, Gfid, Seq};
 use std::alloc::{AllocError, Global};
+use std::process::Abort;
 use std::test::*;
 
 const EFFECT: Entry = Entry { call: 4, part: 1 };
@@ -74,8 +75,18 @@ fn changes_by_their_cells(rt: HostRuntime) -> Result<(), Fail> {
 #[test]
 fn decisions(rt: HostRuntime) -> Result<(), Fail> {
     let mut ledger = two_changes(rt.alloc())?;
-    assert!(rt; ledger.decide(rt.alloc(), 1, true)? == Some(1));
-    assert!(rt; ledger.decide(rt.alloc(), 2, false)?.is_none());
+    let done = are_decided(&rt, rt.alloc(), &mut ledger);
+    drop(ledger);
+    done
+}
+
+fn are_decided(rt: &impl Abort, alloc: Global, ledger: &mut Ledger<Cell>) -> Result<(), Fail>
+    requires first { IsSome (numbered 1 ledger.old.unsettled) }
+    requires second { IsSome (numbered 2 (without 1 ledger.old.unsettled)) }
+    requires history { ledger.old.history ≡ [] }
+{
+    assert!(rt; ledger.decide(alloc, 1, true)? == Some(1));
+    assert!(rt; ledger.decide(alloc, 2, false)?.is_none());
     assert!(rt; ledger.unsettled(1).is_none());
     assert!(rt; ledger.touching(1, &[data(5)]).is_none());
     assert!(rt; ledger.history().len() == 1);

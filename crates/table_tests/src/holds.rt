@@ -1,5 +1,7 @@
 use fop_types::Gfid;
 use mount_locks::{Held, MountLocks};
+use std::alloc::Global;
+use std::process::Abort;
 use std::test::*;
 
 const ROOT: Gfid = Gfid { hi: 0, lo: 1 };
@@ -30,14 +32,28 @@ const RELEASES: [(u32, &[u32]); 3] = [(1, &[6, 3]), (6, &[2]), (3, &[4, 5])];
 // that wait. Each release grants in queue order, and once nobody waits `release_done` does.
 #[test]
 fn basic(rt: HostRuntime) -> Result<(), Fail> {
-    let alloc = rt.alloc();
-    let mut locks = MountLocks::new(alloc);
+    let mut locks = MountLocks::new(rt.alloc());
+    let done = are_as_wanted(&rt, rt.alloc(), &mut locks);
+    drop(locks);
+    done
+}
+
+fn are_as_wanted(rt: &impl Abort, alloc: Global, locks: &mut MountLocks) -> Result<(), Fail> {
+    are_held(rt, alloc, locks)?;
+    are_released(rt, alloc, locks)
+}
+
+fn are_held(rt: &impl Abort, alloc: Global, locks: &mut MountLocks) -> Result<(), Fail> {
     for (call, gfids, shared, held) in &ASKS {
         assert!(rt; locks.ask(alloc, *call, gfids, *shared)? == *held);
     }
     for (call, gfid, held) in &EXTENSIONS {
         assert!(rt; locks.extend(alloc, *call, *gfid)? == *held);
     }
+    Ok(())
+}
+
+fn are_released(rt: &impl Abort, alloc: Global, locks: &mut MountLocks) -> Result<(), Fail> {
     assert!(rt; !locks.release_done(2));
     for (call, granted) in &RELEASES {
         assert!(rt; locks.release(alloc, *call)?.as_slice() == *granted);

@@ -1,5 +1,7 @@
 use fop_types::{Gfid, Seq};
 use io_cache::PageCache;
+use std::alloc::Global;
+use std::process::Abort;
 use std::test::*;
 
 const FILE: Gfid = Gfid { hi: 0, lo: 2 };
@@ -26,8 +28,13 @@ fn has_bytes(found: Option<Seq<u8>>, want: Option<&[u8]>) -> bool {
 
 #[test]
 fn basic(rt: HostRuntime) -> Result<(), Fail> {
-    let alloc = rt.alloc();
-    let mut cache = PageCache::new(alloc, 2)?;
+    let mut cache = PageCache::new(rt.alloc(), 2)?;
+    let done = are_read(&rt, rt.alloc(), &mut cache);
+    drop(cache);
+    done
+}
+
+fn are_read(rt: &impl Abort, alloc: Global, cache: &mut PageCache) -> Result<(), Fail> {
     let short = Seq::from_bytes(alloc, b"abc")?;
     assert!(rt; cache.put(alloc, FILE, 1, short).is_ok());
     for (gfid, offset, len, want) in &READS {

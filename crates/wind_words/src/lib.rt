@@ -34,6 +34,3 @@ pub use law::winds_are_won_once;
 pub use pass::WindPass;
 pub use view::{Loss, Role, View};
 pub use words::WindWords;
-
-#[cfg(test)]
-mod tests;

@@ -2,9 +2,9 @@ ghost use Rattle.std.specs.Prelude.{◌≡◌, ◌<◌, true};
 ghost use Rattle.wind_words.specs.declared.view.Role.TheVariants.{Hub};
 ghost use Rattle.wind_words.specs.Calls.{IsOpen, IsSamePass};
 
-use super::*;
 use std::test::*;
 use std::thread;
+use wind_words::{WindPass, WindWords};
 use xlator_law::{Settled, WindNo};
 
 #[derive(Clone, Copy)]

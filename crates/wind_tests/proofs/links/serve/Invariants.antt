@@ -1,5 +1,8 @@
 use Rattle.brick_link.specs.Ends.{IsSameLink}
-use Rattle.brick_link.proofs.tests.next_output.Given as goal
+use Rattle.wind_tests.proofs.links.serve.Given as goal
+
+abbrev pub invariant-loop-number : goal.invariant-loop-number
+invariant-loop-number g l = IsSameLink l.fn.end l.end
 
 abbrev pub invariant-loop : goal.invariant-loop
 invariant-loop g l =

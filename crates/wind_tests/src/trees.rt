@@ -1,12 +1,11 @@
-use crate::kinds::{Kind, Node};
-use crate::tree::Tree;
 use frame_driver::{Bailed, Child, Wiring};
+use frame_trees::{Kind, Node, Tree};
 use std::alloc::Global;
 use std::process::Abort;
 use std::test::*;
 use xlator_law::{Stop, WindNo};
 
-// The kind of each node of the tree in the crate's picture, the most that a fop costs below it, which is also
+// The kind of each node of the tree in the picture of `frame_trees`, the most that a fop costs below it, which is also
 // the most winds that a frame below it has open at once, and its children.
 const NODES: [(Kind, u32, Child, Child); 9] = [
     (Kind::Pair, 6, Child::Node(1), Child::Node(2)),

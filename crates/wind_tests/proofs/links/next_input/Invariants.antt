@@ -1,8 +1,5 @@
 use Rattle.brick_link.specs.Ends.{IsSameLink}
-use Rattle.brick_link.proofs.tests.serve.Given as goal
-
-abbrev pub invariant-loop-number : goal.invariant-loop-number
-invariant-loop-number g l = IsSameLink l.fn.end l.end
+use Rattle.wind_tests.proofs.links.next_input.Given as goal
 
 abbrev pub invariant-loop : goal.invariant-loop
 invariant-loop g l =

@@ -1,7 +1,7 @@
 ghost use Rattle.std.specs.Prelude.{IfOk};
 ghost use Rattle.brick_link.specs.Ends.{IsSameLink};
 
-use super::*;
+use brick_link::{BrickEnd, HubEnd, beside, pair};
 use bytes::Bytes;
 use std::alloc::{AllocError, Global};
 use std::sync::Wait;

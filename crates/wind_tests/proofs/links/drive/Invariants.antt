@@ -1,5 +1,5 @@
 use Rattle.brick_link.specs.Ends.{IsSameLink}
-use Rattle.brick_link.proofs.tests.drive.Given as goal
+use Rattle.wind_tests.proofs.links.drive.Given as goal
 
 abbrev pub invariant-loop-number : goal.invariant-loop-number
 invariant-loop-number g l = IsSameLink l.fn.end l.end

@@ -1,5 +1,5 @@
 use Rattle.brick_link.specs.Ends.{IsSameLink}
-use Rattle.brick_link.proofs.tests.next_input.Given as goal
+use Rattle.wind_tests.proofs.links.next_output.Given as goal
 
 abbrev pub invariant-loop : goal.invariant-loop
 invariant-loop g l =
