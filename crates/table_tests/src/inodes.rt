@@ -1,7 +1,5 @@
 use fop_types::{Gfid, Kind};
 use inode_table::InodeTable;
-use std::alloc::Global;
-use std::process::Abort;
 use std::test::*;
 
 const FILE: Gfid = Gfid { hi: 0, lo: 2 };
@@ -18,18 +16,12 @@ fn has_links(table: &InodeTable, count: u32) -> bool {
 #[test]
 fn basic(rt: HostRuntime) -> Result<(), Fail> {
     let mut table = InodeTable::new(rt.alloc());
-    let done = stays(&rt, rt.alloc(), &mut table);
-    drop(table);
-    done
-}
-
-fn stays(rt: &impl Abort, alloc: Global, table: &mut InodeTable) -> Result<(), Fail> {
-    table.link(alloc, FILE, Kind::File, 0)?;
-    assert!(rt; has_links(table, 1));
-    table.link(alloc, FILE, Kind::File, 1)?;
-    assert!(rt; has_links(table, 2));
+    table.link(rt.alloc(), FILE, Kind::File, 0)?;
+    assert!(rt; has_links(&table, 1));
+    table.link(rt.alloc(), FILE, Kind::File, 1)?;
+    assert!(rt; has_links(&table, 2));
     table.release(FILE);
     table.release(FILE);
-    assert!(rt; has_links(table, 0));
+    assert!(rt; has_links(&table, 0));
     Ok(())
 }
