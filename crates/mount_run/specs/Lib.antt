@@ -1,3 +1,1 @@
--- In reading order: the run of a seed; the statuses.
-pub mod Seeds
 pub mod Outcomes

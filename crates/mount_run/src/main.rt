@@ -9,15 +9,12 @@
 //!                          Refusal
 //! ```
 //!
-//! `top` and `top_mount` are the whole of it over any source and sink, and their contracts carry the headline. What is here
-//! looks at the first word, and explains a status other than 0 on standard error.
+//! `top` and `top_mount` are the whole of it over any source and sink, and their contracts carry the headline: they read words
+//! and script, and `run_commands` carries the command out. What is here besides looks at the first word, and explains a status
+//! other than 0 on standard error.
 #![tactic(auto)]
 
-mod generating;
 mod mains;
-mod mounting;
-mod racks;
-mod running;
 mod tops;
 
 use std::process::ExitCode;

@@ -4,6 +4,7 @@ ghost use Rattle.script_commands.specs.Commands.{command_of, mount_command, with
 
 use crate::tops::{top, top_mount};
 use hub_calls::Rack;
+use run_commands::end_rack;
 use script_commands::{HeadSink, Meaning, meaning_of};
 use std::rt::Env;
 use std::sync::Wait;
@@ -119,7 +120,7 @@ fn carry_out<R: Input + Print + Eprint + AllocGlobal>(rt: &R, words: &[String]) 
     let mut sink = HeadSink::new(StdSink::new(io::writer(rt)));
     let mut rack = Rack::new(rt.alloc());
     let status = top(rt.alloc(), words, &mut source, &mut sink, &mut rack);
-    drop(rack);
+    end_rack(rack);
     explain(rt, status, sink.head())
 }
 
@@ -135,7 +136,7 @@ fn carry_out_mount<R: Input + Print + Eprint + AllocGlobal + Threads + Wait + Cl
     let mut sink = HeadSink::new(StdSink::new(io::writer(rt)));
     let mut rack = Rack::new(rt.alloc());
     let status = top_mount(rt, rt.alloc(), words, &mut source, &mut sink, &mut rack);
-    drop(rack);
+    end_rack(rack);
     explain(rt, status, sink.head())
 }
 

@@ -2,13 +2,13 @@ ghost use Rattle.std.specs.Prelude.{◌≡◌, ◌<◌, ◌≤◌, ◌-◌, ◌^
 ghost use Rattle.std.specs.String.{string_bytes};
 ghost use Rattle.script_commands.specs.Commands.{command_of, without_threads, mount_command};
 ghost use Rattle.script_commands.specs.declared.commands.Command.TheVariants.{Replay};
-ghost use Rattle.mount_run.specs.Outcomes.{empty_rack, Succeeded, IsUnlawful, RunHeldBack, RefusedBy, Refused, RefusedUnwritten, RefusedLine, RefusedLineUnwritten, Unwritten, Checked, CheckedUnwritten, RanBySeed, RanBySeedUnwritten, Judged, JudgedUnwritten, RanOutOfWinds, WindsRanOut};
+ghost use Rattle.run_commands.specs.CarriedOut.{Refused, RefusedUnwritten, WindsRanOut};
+ghost use Rattle.run_commands.specs.Written.{empty_rack};
+ghost use Rattle.mount_run.specs.Outcomes.{Succeeded, IsUnlawful, RunHeldBack, RefusedBy, Unwritten, RanBySeed, RanBySeedUnwritten, RanOutOfWinds};
 
-use crate::generating::generate;
-use crate::mounting::mount_read;
-use crate::running::run_read;
 use hub_calls::Rack;
-use script_commands::{Command, check_read, command_in, read_script, refuse_all, write_verdict};
+use run_commands::{check, generate, mount_read, replay, run_read};
+use script_commands::{Command, command_in, read_script, refuse_all};
 use std::alloc::Global;
 use std::sync::Wait;
 use std::thread::Threads;
@@ -57,43 +57,6 @@ pub fn top<S: Source, K: Sink>(
         Some(Command::Replay) => replay(alloc, source, sink),
         Some(Command::Check) => check(alloc, source, sink),
         Some(Command::Run(seed)) => run(alloc, seed, source, sink, rack),
-    }
-}
-
-// Reads a script with its report, and writes what comes of it. No rack is needed.
-fn replay<S: Source, K: Sink>(alloc: Global, source: &mut S, sink: &mut K) -> u8
-    requires source { S.faults source.old < 2 ^ 64 - 1 }
-    requires sink { K.faults sink.old < 2 ^ 64 - 1 }
-    ensures statuses { (result ≡ 0) ⊎ ((result ≡ 1) ⊎ ((result ≡ 3) ⊎ ((result ≡ 4) ⊎ ((result ≡ 5) ⊎ (result ≡ 6))))) }
-    ensures judged { (result ≡ 0) ⊎ (result ≡ 6) → Judged result (S.left source.old) (K.taken sink.old) (K.taken sink.new) empty_rack }
-    ensures refused { result ≡ 1 → RefusedLine (S.left source.old) (K.taken sink.old) (K.taken sink.new) empty_rack }
-    ensures read_fault { result ≡ 3 → (S.faults source.old < S.faults source.new) × (sink.new ≡ sink.old) }
-    ensures write_fault { result ≡ 4 → K.faults sink.old < K.faults sink.new }
-    ensures short { result ≡ 4 → JudgedUnwritten (S.left source.old) (K.taken sink.old) (K.taken sink.new) empty_rack ⊎ RefusedLineUnwritten (S.left source.old) (K.taken sink.old) (K.taken sink.new) empty_rack }
-    ensures memory { result ≡ 5 → sink.new ≡ sink.old }
-{
-    write_verdict(alloc, source, sink)
-}
-
-// Reads a script, and writes the line of what it has. No rack is needed.
-fn check<S: Source, K: Sink>(alloc: Global, source: &mut S, sink: &mut K) -> u8
-    requires source { S.faults source.old < 2 ^ 64 - 1 }
-    requires sink { K.faults sink.old < 2 ^ 64 - 1 }
-    ensures statuses { (result ≡ 0) ⊎ ((result ≡ 1) ⊎ ((result ≡ 3) ⊎ ((result ≡ 4) ⊎ (result ≡ 5)))) }
-    ensures checked { result ≡ 0 → Checked (S.left source.old) (K.taken sink.old) (K.taken sink.new) empty_rack }
-    ensures refused { result ≡ 1 → Refused (S.left source.old) (K.taken sink.old) (K.taken sink.new) empty_rack }
-    ensures read_fault { result ≡ 3 → (S.faults source.old < S.faults source.new) × (sink.new ≡ sink.old) }
-    ensures write_fault { result ≡ 4 → K.faults sink.old < K.faults sink.new }
-    ensures short { result ≡ 4 → CheckedUnwritten (S.left source.old) (K.taken sink.old) (K.taken sink.new) empty_rack ⊎ RefusedUnwritten (S.left source.old) (K.taken sink.old) (K.taken sink.new) empty_rack }
-    ensures memory { result ≡ 5 → sink.new ≡ sink.old }
-{
-    match read_script(alloc, source) {
-        Ok(read) => {
-            let status = check_read(alloc, &read.script, sink);
-            drop(read);
-            status
-        }
-        Err(not_read) => refuse_all(alloc, not_read, sink),
     }
 }
 

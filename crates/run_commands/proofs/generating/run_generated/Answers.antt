@@ -1,7 +1,7 @@
 use Rattle.std.specs.Prelude.{◌≡◌, IsOk}
-use Rattle.mount_run.specs.Seeds.{IsSeeded}
-use Rattle.mount_run.proofs.Seeding.{starts, seeded, where_made}
-use Rattle.mount_run.proofs.generating.run_generated.Goals as goal
+use Rattle.run_commands.specs.Seeds.{IsSeeded}
+use Rattle.run_commands.proofs.Seeding.{starts, seeded, where_made}
+use Rattle.run_commands.proofs.generating.run_generated.Goals as goal
 
 pub returns-clause-seeded : goal.returns-clause-seeded
 returns-clause-seeded c = where_made c.line_left.result ((c.line_left.new.rack ≡ c.into_parts-script.result.2) × IsOk c.run-ran.result) (IsSeeded c.args.number c.args.script c.args.plans c.line_left.new.rack)

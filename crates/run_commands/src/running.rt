@@ -3,8 +3,8 @@ ghost use Rattle.std.specs.Prelude.{◌≡◌, ◌<◌, ◌-◌, ◌^◌, ◌⊎
 ghost use Rattle.mount_log.specs.Scripts.{IsScript};
 ghost use Rattle.run_judge.specs.Headline.{IsLawfulRun};
 ghost use Rattle.run_judge.specs.Stopped.{IsStopped};
-ghost use Rattle.mount_run.specs.Outcomes.{text_of, IsRunStatus, IsWritten, IsCutShort};
-ghost use Rattle.mount_run.specs.Seeds.{IsSeeded};
+ghost use Rattle.run_commands.specs.Written.{text_of, IsRunStatus, IsWritten, IsCutShort};
+ghost use Rattle.run_commands.specs.Seeds.{IsSeeded};
 
 use crate::racks::{put_left, stopped};
 use fop_types::Seq;

@@ -2,7 +2,7 @@
 ghost use Rattle.std.specs.Prelude.{◌≡◌, ◌<◌, ◌-◌, ◌^◌};
 ghost use Rattle.mount_log.specs.Scripts.{IsScript};
 ghost use Rattle.run_judge.specs.Stopped.{IsStopped};
-ghost use Rattle.mount_run.specs.Outcomes.{IsRunStatus, IsWritten, IsCutShort};
+ghost use Rattle.run_commands.specs.Written.{IsRunStatus, IsWritten, IsCutShort};
 
 use crate::running::report_left;
 use hub_calls::Rack;

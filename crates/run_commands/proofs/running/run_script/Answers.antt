@@ -1,7 +1,7 @@
 use Rattle.std.specs.Prelude.{◌≡◌, IsOk}
-use Rattle.mount_run.specs.Seeds.{IsSeeded}
-use Rattle.mount_run.proofs.Seeding.{starts, seeded, where_made}
-use Rattle.mount_run.proofs.running.run_script.Goals as goal
+use Rattle.run_commands.specs.Seeds.{IsSeeded}
+use Rattle.run_commands.proofs.Seeding.{starts, seeded, where_made}
+use Rattle.run_commands.proofs.running.run_script.Goals as goal
 
 pub returns-clause-seeded : goal.returns-clause-seeded
 returns-clause-seeded c = where_made c.report_left.result ((c.report_left.new.rack ≡ c.into_parts-script.result.2) × IsOk c.run-ran.result) (IsSeeded c.args.seed c.args.script c.args.plans c.report_left.new.rack)

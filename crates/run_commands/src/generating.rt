@@ -4,8 +4,9 @@ ghost use Rattle.mount_log.specs.Scripts.{IsScript};
 ghost use Rattle.run_report.specs.Summaries.{summary_text};
 ghost use Rattle.run_judge.specs.Headline.{IsLawfulRun};
 ghost use Rattle.run_judge.specs.Stopped.{IsStopped};
-ghost use Rattle.mount_run.specs.Outcomes.{empty_rack, IsRunStatus, IsSummedUp, IsSummedUpShort, Generated, GeneratedUnwritten, WindsRanOut};
-ghost use Rattle.mount_run.specs.Seeds.{IsSeeded};
+ghost use Rattle.run_commands.specs.CarriedOut.{Generated, GeneratedUnwritten, WindsRanOut};
+ghost use Rattle.run_commands.specs.Written.{empty_rack, IsRunStatus, IsSummedUp, IsSummedUpShort};
+ghost use Rattle.run_commands.specs.Seeds.{IsSeeded};
 
 use crate::racks::{put_left, stopped};
 use fop_types::Seq;

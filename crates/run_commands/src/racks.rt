@@ -1,4 +1,4 @@
-//! What a run left, and the rack that it goes into.
+//! What a run left, the rack that it goes into, and the end of a rack.
 ghost use Rattle.std.specs.Prelude.{◌≡◌, None, Ok, Err, IfOk, OnErr, IfSome, IfNone, IsErrOf};
 ghost use Rattle.run_judge.specs.Stopped.{IsStopped};
 
@@ -8,6 +8,11 @@ use script_lang::Script;
 use std::alloc::{AllocError, Global};
 use std::mem;
 use xlator_law::Stop;
+
+/// Ends a rack, with its bricks and its log.
+pub fn end_rack(rack: Rack) {
+    drop(rack)
+}
 
 /// What a run left goes into the rack where a text was made of it, and ends else.
 pub fn put_left(
