@@ -1,6 +1,7 @@
 //! The cases of the program as one table: words and a script, and the status and the bytes that must come.
 use crate::tops::{top, top_mount};
 use hub_calls::Rack;
+use run_commands::end_rack;
 use std::alloc::{AllocError, Global};
 use std::process::Abort;
 use std::sync::Wait;
@@ -812,6 +813,7 @@ fn end_as_they_must(rt: &impl Abort, alloc: Global, rows: &[Row]) -> Result<(), 
         let mut sink = MemSink::new(alloc, 100000, Vec::new(alloc))?;
         let mut rack = Rack::new(alloc);
         let status = top(alloc, words.as_slice(), &mut source, &mut sink, &mut rack);
+        end_rack(rack);
         assert!(rt; status == row.status, "status of {}", row.name);
         assert!(rt; sink.bytes() == row.written, "text of {}", row.name);
     }
@@ -836,6 +838,7 @@ fn end_by_threads(
             &mut sink,
             &mut rack,
         );
+        end_rack(rack);
         assert!(rt; status == row.status, "status of {}", row.name);
         assert!(rt; sink.bytes() == row.written, "text of {}", row.name);
     }
@@ -921,6 +924,7 @@ fn faults_of_the_ends_give_their_status(rt: HostRuntime) -> Result<(), Fail> {
         let mut sink = MemSink::new(alloc, end.room, Vec::from_slice(alloc, end.sink)?)?;
         let mut rack = Rack::new(alloc);
         let status = top(alloc, words.as_slice(), &mut source, &mut sink, &mut rack);
+        end_rack(rack);
         assert_eq!(rt; status, end.status);
         assert!(rt; sink.bytes() == end.written);
     }
