@@ -10,7 +10,7 @@
 //! Of a run that stopped before its script's end [`has_stopped`] says whether it needed a wind where none was left.
 //!
 //! It knows no hub and no graph, and trusts neither: whoever has run the script, in one thread or by several, hands in what is
-//! left. The definitions of the headline are here; `mount_run` writes the text and gives the status.
+//! left. The definitions of the headline are here; `run_commands` writes the text and gives the status.
 #![tactic(auto)]
 
 mod audits;
