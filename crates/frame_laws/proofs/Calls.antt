@@ -1,5 +1,5 @@
 -- What is under a frame is of its graph and call.
-use Rattle.std.proofs.Common.{◌≡◌, sym, ap, subst, ◌∙◌}
+use Rattle.std.proofs.Common.{◌≡◌, sym, subst, ◌∙◌}
 use Rattle.std.specs.Prelude.{ℕ, Option, Some, None, IfSome, IsSomeAnd}
 use Rattle.xlator_law.specs.declared.winds.WindNo.{WindNo}
 use Rattle.frame_stack.specs.declared.frame.Frame.{Frame}

@@ -3,7 +3,7 @@
 use Rattle.std.proofs.Common.{◌≡◌, refl, sym, ap, subst, ◌∙◌, arith, inl, inr}
 use Rattle.std.proofs.lemmas.Bool.{eqb-true, ne_eqb}
 use Rattle.std.specs.List.{list_any}
-use Rattle.std.specs.Prelude.{ℕ, zero, suc, ◌⊎◌, ◌≤◌, ◌<◌, ◌+◌, ◌*◌, ◌==◌, ◌||◌, Bool, true, false, List, [], ◌∷◌, Option, Some, None, is_some, IsSome, count_by}
+use Rattle.std.specs.Prelude.{ℕ, zero, suc, ◌⊎◌, ◌≤◌, ◌+◌, ◌*◌, ◌==◌, ◌||◌, Bool, true, false, List, [], ◌∷◌, Option, Some, None, is_some, IsSome, count_by}
 use Rattle.xlator_law.specs.Law.{Promise, IsNone, IsSomeSlot}
 use Rattle.xlator_law.specs.declared.winds.WindNo.{WindNo}
 use Rattle.frame_stack.specs.declared.frame.Frame.{Frame}

@@ -3,7 +3,7 @@ use Rattle.std.proofs.Common.{◌≡◌, refl, sym, ap, subst, ◌∙◌, arith,
 use Rattle.std.proofs.lemmas.Bool.{cases_eq}
 use Rattle.std.proofs.lemmas.List.{get_or-set_other}
 use Rattle.std.proofs.lemmas.Option.{same_Some, slice_get_within}
-use Rattle.std.specs.Prelude.{ℕ, ◌⊎◌, ◌≢◌, ◌≤◌, ◌<◌, ◌+◌, ◌*◌, List, [], Option, Some, None, IfSome, IsSomeAnd}
+use Rattle.std.specs.Prelude.{ℕ, ◌⊎◌, ◌≢◌, ◌≤◌, ◌<◌, List, Option, Some, None, IfSome, IsSomeAnd}
 use Rattle.xlator_law.specs.declared.winds.WindNo.{WindNo}
 use Rattle.xlator_law.specs.declared.winds.Place.{Place}
 use Rattle.frame_stack.specs.declared.frame.Frame.{Frame}

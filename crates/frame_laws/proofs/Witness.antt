@@ -1,7 +1,7 @@
 -- A board at rest: its one frame has one open wind, which was sent.
 use Rattle.std.proofs.Common.{◌≡◌, refl, sym, ap, subst, ◌∙◌, arith, inl, inr}
 use Rattle.std.proofs.lemmas.Bool.{cases_eq, ne_eqb}
-use Rattle.std.specs.Prelude.{ℕ, zero, suc, ◌⊎◌, ◌≢◌, ◌≤◌, ◌<◌, ◌+◌, ◌*◌, ◌==◌, ◌||◌, ◌&&◌, Bool, true, false, List, [], ◌∷◌, Option, Some, None, is_some, count_by}
+use Rattle.std.specs.Prelude.{ℕ, zero, suc, ◌⊎◌, ◌≢◌, ◌+◌, ◌*◌, ◌==◌, ◌||◌, ◌&&◌, Bool, true, false, List, [], ◌∷◌, Option, Some, None, is_some, count_by}
 use Rattle.xlator_law.specs.Law.{Promise}
 use Rattle.xlator_law.specs.declared.winds.Place.{Place}
 use Rattle.xlator_law.specs.declared.winds.WindNo.{WindNo}
