@@ -1,0 +1,4 @@
+pub mod Calls
+pub mod Rising
+pub mod Resting
+pub mod Witness
