@@ -238,9 +238,9 @@ event_feeds script (event.Arrive brick) log lines log_after lines_after are h = 
 event_feeds script (event.Serve brick) log lines log_after lines_after are h =
     subst (λ (l : Log). AreFed l lines_after) (sym h.1) (subst (λ (ls : LinesState). AreFed log ls) (sym h.0.after) (serving_feeds brick log lines are h.0.input h.0.next))
 event_feeds script (event.Run graph task) log lines log_after lines_after are h = nothing_arrives (logged.Run graph task) log lines log_after lines_after (λ brick. refl) are h
-event_feeds script (event.Act action) log lines log_after lines_after are h = nothing_arrives (logged.Act action) log lines log_after lines_after (λ brick. refl) are h
+event_feeds script (event.Act action) log lines log_after lines_after are h = nothing_arrives (logged.Act action) log lines log_after lines_after (λ brick. refl) are h.does
 event_feeds script (event.Arm at p count action) log lines log_after lines_after are h =
-    nothing_arrives (logged.Arm at p count action) log lines log_after lines_after (λ brick. refl) are h
+    nothing_arrives (logged.Arm at p count action) log lines log_after lines_after (λ brick. refl) are h.does
 
 chain_feeds : (script : Script) (es : List Event) (log : Log) (lines : LinesState) (log_after : Log) (lines_after : LinesState) → AreFed log lines
     → HappenInTurn script es log lines log_after lines_after → AreFed log_after lines_after

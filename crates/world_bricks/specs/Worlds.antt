@@ -1,16 +1,20 @@
 -- What contracts see of a world: its script with the plans, the log, the agenda and the ready tasks, which decide what is due in the
 -- hub, the bricks with their lines, and why it has stopped; and what each event makes of log, lines and agenda. Ours.
-use Rattle.std.specs.Prelude.{◌≡◌, ℕ, Bool, true, false, ◌&&◌, List, [], ◌∷◌, length, is_some, Option, None, Some}
+use Rattle.std.specs.Prelude.{◌≡◌, ℕ, ◌+◌, Bool, true, false, ◌&&◌, List, [], ◌∷◌, length, is_some, Option, None, Some}
 use Rattle.graph_build.specs.declared.plans.Plan.{Plan}
 use Rattle.script_lang.specs.declared.scripts.Script.{Script}
 use Rattle.xlator_law.specs.declared.winds.Stop.{Stop}
 use Rattle.mount_log.specs.declared.logs.HubEvent.{HubEvent}
 use Rattle.mount_log.specs.declared.logs.HubEvent.TheVariants as logged
 use Rattle.mount_log.specs.declared.logs.Log.{Log}
+use Rattle.mount_log.specs.Connects.{control_input}
+use Rattle.mount_log.specs.Logs.{with_event}
 use Rattle.hub_tables.specs.Arming.{is_armable}
 use Rattle.hub_tables.specs.Agendas.{AgendaState, with_submission, with_output, with_action, with_arm}
 use Rattle.hub_calls.specs.Dues.{is_idle, may_run, may_submit}
-use Rattle.hub_calls.specs.Hubs.{AddsEvent, AddsSubmission, is_of_brick, ActsWhere, ClosesWith, is_due_output}
+use Rattle.script_lang.specs.declared.scripts.Action.{Action}
+use Rattle.fop_types.specs.declared.messages.Proc.{Proc}
+use Rattle.hub_calls.specs.Hubs.{AddsEvent, AddsInput, AddsSubmission, is_of_brick, ActsWhere, ClosesWith, is_due_output}
 use Rattle.world_bricks.specs.Lines.{LinesState, with_sent, next_input, may_serve, with_served, next_output, with_arrival}
 use Rattle.world_bricks.specs.declared.events.Event.{Event}
 use Rattle.world_bricks.specs.declared.events.Event.TheVariants as event
@@ -49,14 +53,24 @@ pub record Serves (brick : ℕ) (lines lines_after : LinesState) : Type 0 where
   pub there : may_serve lines brick ≡ true
   pub after : lines_after ≡ with_served lines brick input
 
+-- an action is carried out: where it sends its brick an input, the log has this more, and nothing else but the event
+pub record Acts (a : Action) (log : Log) (lines : LinesState) (log_after : Log) (lines_after : LinesState) : Type 0 where
+  pub does : HubDoes (logged.Act a) log lines log_after lines_after
+  pub input : AddsInput (length log.events + 1) (control_input a) (with_event log (logged.Act a)) log_after
+
+-- an action is armed: the log has the event more, and nothing else
+pub record Arms (brick : ℕ) (p : Proc) (count : ℕ) (a : Action) (log : Log) (lines : LinesState) (log_after : Log) (lines_after : LinesState) : Type 0 where
+  pub does : HubDoes (logged.Arm brick p count a) log lines log_after lines_after
+  pub alone : log_after ≡ with_event log (logged.Arm brick p count a)
+
 -- what an event makes of the log and of the bricks with their lines
 abbrev pub Happens : Script → Event → Log → LinesState → Log → LinesState → Type 0
 Happens script (event.Submit session) log lines log_after lines_after = Submits script session log lines log_after lines_after
 Happens script (event.Arrive brick) log lines log_after lines_after = Arrives brick log lines log_after lines_after
 Happens script (event.Serve brick) log lines log_after lines_after = Serves brick lines lines_after × (log_after ≡ log)
 Happens script (event.Run graph task) log lines log_after lines_after = HubDoes (logged.Run graph task) log lines log_after lines_after
-Happens script (event.Act action) log lines log_after lines_after = HubDoes (logged.Act action) log lines log_after lines_after
-Happens script (event.Arm brick p count action) log lines log_after lines_after = HubDoes (logged.Arm brick p count action) log lines log_after lines_after
+Happens script (event.Act action) log lines log_after lines_after = Acts action log lines log_after lines_after
+Happens script (event.Arm brick p count action) log lines log_after lines_after = Arms brick p count action log lines log_after lines_after
 
 -- the agenda with which an event begins, by the next output of its brick, and where these tasks are ready
 abbrev pub with_next : Option (List ℕ) → AgendaState → AgendaState

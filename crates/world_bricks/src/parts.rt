@@ -6,7 +6,7 @@ ghost use Rattle.hub_tables.specs.Agendas.{with_submission, with_action, with_ar
 ghost use Rattle.hub_calls.specs.Dues.{is_idle, may_run, may_submit};
 ghost use Rattle.hub_calls.specs.Hubs.{is_of_brick, ActsWhere, ClosesWith};
 ghost use Rattle.world_bricks.specs.Lines.{with_sent, may_serve, next_output};
-ghost use Rattle.world_bricks.specs.Worlds.{HubDoes, Submits, Arrives, Serves, Happens, HappensWhere, KeepsAgenda, MovesAgenda, with_next};
+ghost use Rattle.world_bricks.specs.Worlds.{HubDoes, Submits, Arrives, Serves, Acts, Arms, Happens, HappensWhere, KeepsAgenda, MovesAgenda, with_next};
 
 use crate::events::Event;
 use crate::lines::Lines;
@@ -79,7 +79,7 @@ impl Parts {
 
     fn act(&mut self, alloc: Global, action: Action) -> Result<bool, Stop>
         ensures same { (self.new.hub.script ≡ self.old.hub.script) × (self.new.hub.plans ≡ self.old.hub.plans) }
-        ensures happens { IfOk result (λ did. did ≡ true → HubDoes (logged.Act action) self.old.hub.log self.old.lines self.new.hub.log self.new.lines) }
+        ensures happens { IfOk result (λ did. did ≡ true → Acts action self.old.hub.log self.old.lines self.new.hub.log self.new.lines) }
         ensures unchanged { IfOk result (λ did. did ≡ false → self.new ≡ self.old) }
         ensures agenda { IfOk result (λ did. did ≡ true → ClosesWith self.old.hub.script self.old.hub.log self.new.hub.log self.new.hub.tasks (with_action self.old.hub.agenda action (is_idle self.old.hub.tasks)) self.new.hub.agenda) }
         ensures did { IfOk result (λ did. ActsWhere action (length self.old.hub.script.bricks) self.old.hub.agenda.internal did) }
@@ -101,7 +101,7 @@ impl Parts {
         action: Action,
     ) -> Result<bool, Stop>
         ensures same { (self.new.hub.script ≡ self.old.hub.script) × (self.new.hub.plans ≡ self.old.hub.plans) }
-        ensures happens { IfOk result (λ did. did ≡ true → HubDoes (logged.Arm brick before count action) self.old.hub.log self.old.lines self.new.hub.log self.new.lines) }
+        ensures happens { IfOk result (λ did. did ≡ true → Arms brick before count action self.old.hub.log self.old.lines self.new.hub.log self.new.lines) }
         ensures unchanged { IfOk result (λ did. did ≡ false → self.new ≡ self.old) }
         ensures agenda { IfOk result (λ did. did ≡ true → ClosesWith self.old.hub.script self.old.hub.log self.new.hub.log self.new.hub.tasks (with_arm self.old.hub.agenda brick before count action) self.new.hub.agenda) }
         ensures armable { IfOk result (λ did. did ≡ (is_armable brick action && is_of_brick (length self.old.hub.script.bricks) action)) }
