@@ -1,5 +1,5 @@
 -- An action that sends its brick an input sends just that in its event.
-use Rattle.std.proofs.Common.{◌≡◌, ℕ, ◌+◌, ◌++◌, Bool, true, false, is_some, List, [], ◌∷◌, Option, Some, None, length, refl, sym, ap, ◌∙◌, append-nil}
+use Rattle.std.proofs.Common.{◌≡◌, ℕ, ◌+◌, Bool, true, false, is_some, List, Option, Some, None, length, refl, sym, ap, ◌∙◌, append-nil}
 use Rattle.fop_types.specs.declared.messages.Input.{Input}
 use Rattle.fop_types.specs.declared.messages.Input.TheVariants as input
 use Rattle.fop_types.specs.declared.messages.Proc.{Proc}
@@ -13,8 +13,6 @@ use Rattle.mount_log.specs.Procedures.{rank_in}
 use Rattle.mount_log.specs.declared.logs.HubEvent.{HubEvent}
 use Rattle.mount_log.specs.declared.logs.HubEvent.TheVariants as logged
 use Rattle.mount_log.specs.declared.logs.Log.{Log}
-use Rattle.mount_log.specs.declared.logs.SentLine.{SentLine}
-use Rattle.hub_tables.specs.Agendas.{lines_before}
 use Rattle.hub_tables.specs.PhaseControls.{ControlsState}
 use Rattle.hub_calls.specs.EventNumbers.{numbered, going_out, written_lines}
 use Rattle.hub_calls.specs.Hubs.{ActsWhere, AddsInput, is_of_brick}

@@ -1,7 +1,7 @@
 -- What a call adds to the log.
 use Rattle.std.proofs.Common.{◌≡◌, refl, sym, ap, subst, ◌∙◌, append-nil, arith}
 use Rattle.std.proofs.lemmas.List.{length_push}
-use Rattle.std.specs.Prelude.{ℕ, ◌+◌, List, [], ◌∷◌, ◌++◌, length, slice_get, Option, Some, option_to_list}
+use Rattle.std.specs.Prelude.{ℕ, ◌+◌, List, [], ◌∷◌, ◌++◌, length, slice_get, Option, Some, option_to_list, Result, Err, IfErr}
 use Rattle.xlator_law.specs.declared.winds.Stop.{Stop}
 use Rattle.xlator_law.specs.declared.winds.Stop.TheVariants as stopped
 use Rattle.mount_log.specs.declared.logs.HubEvent.{HubEvent}
@@ -74,6 +74,11 @@ nothing_cut log = record {
 pub after_cut : (s : Stop) (lines old new : Log) → IsCutOff s lines old new → IsAfterStop s old new
 after_cut stopped.Mem lines old new same = same
 after_cut stopped.Winds lines old new cut = record { lines = numbered (length old.events + 1) lines; numbered = numbered_are (length old.events + 1) lines; cut = cut }
+
+-- an event for which no wind was lacking has left the log as it was
+pub log_stays : {T : Type 0} (stop : Stop) (done : Result T Stop) (lines old now new : Log) → IsCutOff stop lines now new → (stop ≡ stopped.Winds → done ≡ Err stopped.Winds) → IfErr done (λ s. s ≡ stopped.Mem) → now ≡ old → new ≡ old
+log_stays stopped.Mem done lines old now new same winds memory is = same ∙ is
+log_stays stopped.Winds done lines old now new cut winds memory is = let no : ◌≡◌ {A = Stop} stopped.Winds stopped.Mem = subst (λ d. IfErr d (λ (s : Stop). s ≡ stopped.Mem)) (winds refl) memory in absurd cc
 
 pub after_same : (s : Stop) (log : Log) → IsAfterStop s log log
 after_same stopped.Mem log = refl

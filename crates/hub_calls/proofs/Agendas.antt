@@ -9,7 +9,7 @@ use Rattle.mount_log.specs.declared.logs.Log.{Log}
 use Rattle.mount_log.specs.declared.logs.ReplyLine.{ReplyLine}
 use Rattle.mount_log.specs.declared.logs.SentLine.{SentLine}
 use Rattle.mount_log.specs.declared.places.LineAt.{LineAt}
-use Rattle.mount_log.specs.Lines.{queue_of, places_from, TakesLine}
+use Rattle.mount_log.specs.Lines.{places_from, TakesLine}
 use Rattle.mount_log.specs.Logs.{empty_log, is_submit, with_lines}
 use Rattle.mount_log.specs.Submissions.{submits_of}
 use Rattle.hub_tables.specs.Agendas.{AgendaState, new_agenda, with_phase, with_sends, outgoing, moved_on, next_agenda}
@@ -19,7 +19,7 @@ use Rattle.hub_tables.proofs.Nexts.{moved_on_so, with_phase_so, next_agenda_so}
 use Rattle.hub_calls.specs.Dues.{is_idle}
 use Rattle.hub_calls.specs.Hubs.{AddsEvent, ClosesWith, GoesOut, new_replies, new_sent, is_answered_in, next_lines, agenda_after, agenda_before}
 use Rattle.hub_calls.specs.Plans.{PlannedScript, AreLeft, IsNext}
-use Rattle.hub_calls.proofs.Planning.{get_first, left_now, still_left, left_submitted}
+use Rattle.hub_calls.proofs.Planning.{get_first, still_left, left_submitted}
 
 -- ---- the lines that an event has added
 

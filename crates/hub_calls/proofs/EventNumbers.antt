@@ -147,7 +147,7 @@ sent_of_event c lines sent is n are = record {
   each = record { entries = are.each.entries; copies = are.each.copies; skips = are.each.skips };
 }
 
--- what goes out stands for what was sent among the lines, which have their number
+-- the lines, which have their number, with what goes out for what was sent
 pub lines_out : (c : ControlsState) (number n : ℕ) (old lines after : Log) → number ≡ n → lines ≡ numbered number old → after.sent ≡ outgoing c lines.sent → after ≡ record lines { sent = after.sent } → after ≡ going_out c (numbered n old)
 unfolding going_out
 lines_out c number n old lines after is are sent same =

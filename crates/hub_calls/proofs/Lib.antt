@@ -1,7 +1,9 @@
 pub mod Additions
+pub mod Connections
 pub mod ActionInputs
 pub mod Dues
 pub mod Finding
+pub mod Noting
 pub mod Planning
 pub mod Agendas
 pub mod EventNumbers

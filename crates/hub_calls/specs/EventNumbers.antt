@@ -60,7 +60,7 @@ abbrev pub written_lines : ControlsState → Log → Log → HubEvent → Log
 written_lines controls log lines e = record (going_out controls (numbered (length log.events + 1) lines)) { events = e ∷ [] }
 
 -- the log after an event was cut that had made these lines: it has their winds more, with the number of the event, where the hub
--- stops for want of a wind, and is as it was where memory has run out
+-- stops as no wind is left, and is as it was where memory has run out
 abbrev pub IsCutOff : Stop → Log → Log → Log → Type 0
 IsCutOff stopped.Mem lines old new = new ≡ old
 IsCutOff stopped.Winds lines old new = new ≡ with_cut old (numbered (length old.events + 1) lines)

@@ -153,7 +153,7 @@ pub record HasCut (old new : Log) : Type 0 where
   pub numbered : AreOfEvent (length old.events + 1) lines
   pub cut : new ≡ with_cut old lines
 
--- the log is as it was, but for the winds of an event that was cut for want of one
+-- the log is as it was, but for the winds of an event that was cut as none was left
 abbrev pub IsAfterStop : Stop → Log → Log → Type 0
 IsAfterStop stopped.Mem old new = new ≡ old
 IsAfterStop stopped.Winds old new = HasCut old new

@@ -1,5 +1,5 @@
 //! Moves of actions.
-ghost use Rattle.std.specs.Prelude.{ℕ, ◌≡◌, ◌∷◌, [], true, is_some, IsSome, OnOk, length, slice_get};
+ghost use Rattle.std.specs.Prelude.{ℕ, ◌≡◌, ◌∷◌, [], true, is_some, IsSome, OnOk, IfErr, length, slice_get};
 ghost use Rattle.mount_log.specs.Connects.{control_input};
 ghost use Rattle.hub_calls.specs.Hubs.{AddsInput, is_of_brick as of_brick};
 ghost use Rattle.hub_calls.specs.Live.{HasNoGraphs, volfiles_in};
@@ -55,7 +55,8 @@ impl Parts {
         on: &Planned,
         action: Action,
     ) -> Result<(), Stop>
-        ensures { OnOk result ((many : ℕ) → of_brick many action ≡ true → AddsInput 0 (control_input action) self.old.turn.lines self.new.turn.lines) }
+        ensures input { OnOk result ((many : ℕ) → of_brick many action ≡ true → AddsInput 0 (control_input action) self.old.turn.lines self.new.turn.lines) }
+        ensures stops { is_some (control_input action) ≡ true → IfErr result (λ stop. stop ≡ Stop.Mem) }
     {
         match action {
             Action::Down(brick, serve) => {

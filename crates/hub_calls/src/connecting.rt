@@ -1,5 +1,11 @@
 //! Moves of connections: they are opened, and they end with their winds.
-ghost use Rattle.std.specs.Prelude.{◌≡◌};
+ghost use Rattle.std.specs.Prelude.{ℕ, ◌≡◌, ◌==◌, true, false, None, is_some, OnOk};
+ghost use Rattle.fop_types.specs.declared.messages.Input.TheVariants as sent;
+ghost use Rattle.graph_nodes.specs.Mounted.{has};
+ghost use Rattle.graph_nodes.specs.Seen.{changed_at, connection_in, connects, next_in};
+ghost use Rattle.mount_log.specs.Logs.{sends};
+ghost use Rattle.wire_xdr.specs.WireText.{input_text};
+ghost use Rattle.hub_calls.specs.Live.{OnlyDoneGo};
 
 use crate::parts::Parts;
 use crate::planned::Planned;
@@ -7,12 +13,16 @@ use std::alloc::{AllocError, Global};
 use xlator_law::Stop;
 
 impl Parts {
-    /// A graph opens its next connection to a brick that it uses. After number 4,294,967,295 it opens none.
+    /// A graph opens its next connection to a brick that it uses, and the brick is sent a Connect. After number 4,294,967,295
+    /// it opens none.
     ///
     /// # Errors
     /// Out of memory.
     pub(crate) fn connect(&mut self, alloc: Global, graph: u32, brick: u8) -> Result<(), AllocError>
-        ensures { self.new.graphs.live ≡ self.old.graphs.live }
+        ensures live { self.new.graphs.live ≡ self.old.graphs.live }
+        ensures graphs { self.new.graphs.nodes ≡ record (self.old.graphs.nodes) { graphs = changed_at (connects brick) graph self.old.graphs.nodes.graphs } }
+        ensures sends { is_some (next_in self.old.graphs.nodes.graphs graph brick) ≡ true → OnOk result (self.new.turn.lines ≡ sends self.old.turn.lines 0 brick (input_text (sent.Connect graph 1))) }
+        ensures none { is_some (next_in self.old.graphs.nodes.graphs graph brick) ≡ false → self.new.turn ≡ self.old.turn }
     {
         if self.graphs.nodes.connect(graph, brick).is_some() {
             self.turn.send_connect(alloc, brick, graph)?;
@@ -40,7 +50,11 @@ impl Parts {
     ///
     /// # Errors
     /// As for `Hub::submit`.
-    pub(crate) fn lose(&mut self, alloc: Global, graph: u32, brick: u8) -> Result<(), Stop> {
+    pub(crate) fn lose(&mut self, alloc: Global, graph: u32, brick: u8) -> Result<(), Stop>
+        ensures ended { OnOk result (connection_in self.new.graphs.nodes.graphs graph brick ≡ None) }
+        ensures sends { is_some (connection_in self.old.graphs.nodes.graphs graph brick) ≡ true → OnOk result (self.new.turn.lines.sent ≡ (sends self.old.turn.lines 0 brick (input_text (sent.Disconnect graph))).sent) }
+        ensures none { is_some (connection_in self.old.graphs.nodes.graphs graph brick) ≡ false → OnOk result (self.new ≡ self.old) }
+    {
         if self.graphs.nodes.connection(graph, brick).is_none() {
             return Ok(());
         }
@@ -104,7 +118,9 @@ impl Parts {
     }
 
     // A graph's bricks are sent a Disconnect.
-    fn disconnect_all(&mut self, alloc: Global, on: &Planned, graph: u32) -> Result<(), Stop> {
+    fn disconnect_all(&mut self, alloc: Global, on: &Planned, graph: u32) -> Result<(), Stop>
+        ensures { (self.new.calls ≡ self.old.calls) × (self.new.graphs ≡ self.old.graphs) }
+    {
         for brick in 0..on.bricks() {
             if self.graphs.live.uses(graph, brick) {
                 self.turn.send_disconnect(alloc, brick, graph)?;
@@ -115,7 +131,12 @@ impl Parts {
 
     // An older graph without frames and without calls is done with: its bricks are sent a Disconnect, and it is live no
     // more.
-    fn disconnect(&mut self, alloc: Global, on: &Planned, graph: u32) -> Result<(), Stop> {
+    #[tactic(auto, using(crate::proofs::Connections::others_stay))]
+    fn disconnect(&mut self, alloc: Global, on: &Planned, graph: u32) -> Result<(), Stop>
+        ensures calls { OnOk result (self.new.calls ≡ self.old.calls) }
+        ensures newest { OnOk result (self.new.graphs.live.newest ≡ self.old.graphs.live.newest) }
+        ensures others { OnOk result ((other : ℕ) → (graph == other) ≡ false → has self.new.graphs.nodes.numbers other ≡ has self.old.graphs.nodes.numbers other) }
+    {
         if !self.graphs.nodes.remove(graph) {
             return Ok(());
         }
@@ -128,7 +149,10 @@ impl Parts {
     ///
     /// # Errors
     /// As for `Hub::submit`.
-    pub(crate) fn disconnect_drained(&mut self, alloc: Global, on: &Planned) -> Result<(), Stop> {
+    #[tactic(auto, using(crate::proofs::Connections::none_has_gone, crate::proofs::Connections::one_more_goes))]
+    pub(crate) fn disconnect_drained(&mut self, alloc: Global, on: &Planned) -> Result<(), Stop>
+        ensures { OnOk result (OnlyDoneGo self.old.calls self.old.graphs.live.newest self.old.graphs.nodes.numbers self.new.graphs.nodes.numbers) }
+    {
         let mut from = 0;
         for _ in 0..self.graphs.live.len() {
             let Some(graph) = self.graphs.live.first_from(from) else {

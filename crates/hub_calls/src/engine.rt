@@ -1,10 +1,10 @@
 //! What an event moves, with what decides what is due; and how an event is closed.
-ghost use Rattle.std.specs.Prelude.{ℕ, ◌≡◌, ◌==◌, ◌+◌, ◌∷◌, [], not, length, slice_get, IsSome, IsOk, OnOk, OnErr, IfErr};
+ghost use Rattle.std.specs.Prelude.{ℕ, ◌≡◌, ◌==◌, ◌+◌, ◌∷◌, [], not, length, slice_get, IsSome, IsOk, IsErr, IsErrOf, OnOk, OnErr, IfErr};
 ghost use Rattle.mount_log.specs.Logs.{with_lines};
 ghost use Rattle.hub_tables.specs.Agendas.{new_agenda, with_phase, with_sends, outgoing, moved_on, next_agenda};
 ghost use Rattle.hub_tables.specs.Sessions.{first_line};
 ghost use Rattle.hub_calls.specs.Dues.{is_idle, ready_in};
-ghost use Rattle.hub_calls.specs.EventNumbers.{AreOfEvent, numbered, going_out, written_lines};
+ghost use Rattle.hub_calls.specs.EventNumbers.{AreOfEvent, IsCutOff, numbered, going_out, written_lines};
 ghost use Rattle.hub_calls.specs.Live.{HasNoGraphs, volfiles_in};
 ghost use Rattle.hub_calls.specs.Hubs.{AddsEvent, GoesOut, IsAfterStop, new_replies, new_sent, is_answered_in};
 
@@ -143,7 +143,7 @@ impl Engine {
     }
 
     /// Closes an event: it is finished where it was begun, and written to the log with its lines. After `Winds` the log has
-    /// the winds of the event that was cut.
+    /// the winds of the event that was cut: just those that it had, where it has stopped before.
     ///
     /// # Errors
     /// As for `Hub::submit`.
@@ -159,6 +159,8 @@ impl Engine {
         ensures agenda { OnOk result (self.new.agenda ≡ next_agenda (first_line on.now.left) on.now.script.phases (is_idle (ready_in on.now.plans self.new.parts.graphs.nodes.tasks)) (new_replies log.old log.new) (new_sent log.old log.new) (is_answered_in log.old log.new) self.old.agenda) }
         ensures out { OnOk result (GoesOut self.old.agenda.controls (new_sent log.old log.new)) }
         ensures stops { IfErr result (λ stop. IsAfterStop stop log.old log.new) }
+        ensures written { IsErr done → IfErr result (λ stop. IsCutOff stop self.old.parts.turn.lines log.old log.new) }
+        ensures winds { IsErr done → IfErr result (λ stop. stop ≡ Stop.Winds → IsErrOf done Stop.Winds) }
         ensures done { OnOk result (IsOk done) }
     {
         let finished = match done {
@@ -186,6 +188,8 @@ impl Engine {
         ensures agenda { OnOk result (self.new.agenda ≡ next_agenda (first_line on.now.left) on.now.script.phases (is_idle (ready_in on.now.plans self.new.parts.graphs.nodes.tasks)) (new_replies log.old log.new) (new_sent log.old log.new) (is_answered_in log.old log.new) self.old.agenda) }
         ensures out { OnOk result (GoesOut self.old.agenda.controls (new_sent log.old log.new)) }
         ensures stops { IfErr result (λ stop. IsAfterStop stop log.old log.new) }
+        ensures written { IfErr result (λ stop. IsCutOff stop self.old.parts.turn.lines log.old log.new) }
+        ensures winds { IfErr result (λ stop. stop ≡ Stop.Winds → IsErrOf done Stop.Winds) }
         ensures done { OnOk result (IsOk done) }
     {
         match done {

@@ -1,5 +1,5 @@
 //! The events of a hub.
-ghost use Rattle.std.specs.Prelude.{◌≡◌, ◌+◌, ◌&&◌, true, false, None, Some, length, OnOk, IfOk, IfErr};
+ghost use Rattle.std.specs.Prelude.{◌≡◌, ◌+◌, ◌&&◌, true, false, None, Some, is_some, length, OnOk, OnErr, IfOk, IfErr};
 ghost use Rattle.hub_tables.specs.Agendas.{with_submission, with_output, with_action, with_arm};
 ghost use Rattle.hub_tables.specs.Arming.{is_armable};
 ghost use Rattle.hub_calls.specs.Dues.{is_idle, may_run, may_submit};
@@ -216,11 +216,12 @@ impl Hub {
     /// has the same action. It is false, with nothing changed, exactly where the action is not possible: its brick or
     /// volfile is not in the script, a fault is one of unlock or has the number 0, a heal or a switch finds an internal
     /// call without an answer, or a switch finds a plan that does not follow, or 4,294,967,294 graphs that were made. Of a
-    /// switch the contract says only that no internal call is under way. For a Down, an Up and a fault just their input is sent.
+    /// switch the contract says only that no internal call is under way. For a Down, an Up and a fault just their input is sent,
+    /// and where they run out of memory the log is as it was: none of them needs a wind.
     ///
     /// # Errors
     /// As for [`Hub::submit`].
-    #[tactic(auto, using(crate::proofs::Additions::after_same, crate::proofs::ActionInputs::act_sends, crate::proofs::ActionInputs::no_input))]
+    #[tactic(auto, using(crate::proofs::Additions::after_same, crate::proofs::ActionInputs::act_sends, crate::proofs::ActionInputs::no_input, crate::proofs::Additions::log_stays))]
     pub fn act(&mut self, alloc: Global, action: Action) -> Result<bool, Stop>
         ensures same { (self.new.script ≡ self.old.script) × (self.new.plans ≡ self.old.plans) }
         ensures unchanged { IfOk result (λ did. did ≡ false → self.new ≡ self.old) }
@@ -228,6 +229,7 @@ impl Hub {
         ensures input { IfOk result (λ did. did ≡ true → AddsInput (length self.old.log.events + 1) (control_input action) (with_event self.old.log (logged.Act action)) self.new.log) }
         ensures agenda { IfOk result (λ did. did ≡ true → ClosesWith self.old.script self.old.log self.new.log self.new.tasks (with_action self.old.agenda action (is_idle self.old.tasks)) self.new.agenda) }
         ensures cut { IfErr result (λ stop. IsAfterStop stop self.old.log self.new.log) }
+        ensures kept { is_some (control_input action) ≡ true → OnErr result (self.new.log ≡ self.old.log) }
         ensures did { IfOk result (λ did. ActsWhere action (length self.old.script.bricks) self.old.agenda.internal did) }
         ensures spent { StaysStopped self.old.stop self.old self.new result }
         ensures goes { OnOk result (self.new.stop ≡ None) }
@@ -250,12 +252,13 @@ impl Hub {
     }
 
     /// Arms an action for a request that is sent to a brick in this phase: it is carried out directly before. Nothing is sent for the
-    /// arming itself, which adds its event alone to the log. It is false, with nothing changed, exactly where the action is no Down and no fault of that brick, the script has no such
-    /// brick, or the fault is one of unlock or has the number 0.
+    /// arming itself, which adds its event alone to the log; where it stops the log is as it was. It is false, with nothing changed,
+    /// exactly where the action is no Down and no fault of that brick, the script has no such brick, or the fault is one of unlock or
+    /// has the number 0.
     ///
     /// # Errors
     /// As for [`Hub::submit`].
-    #[tactic(auto, using(crate::proofs::Additions::after_same))]
+    #[tactic(auto, using(crate::proofs::Additions::after_same, crate::proofs::Additions::log_stays))]
     pub fn arm(
         &mut self,
         alloc: Global,
@@ -270,6 +273,7 @@ impl Hub {
         ensures only { IfOk result (λ did. did ≡ true → self.new.log ≡ with_event self.old.log (logged.Arm brick before count action)) }
         ensures agenda { IfOk result (λ did. did ≡ true → ClosesWith self.old.script self.old.log self.new.log self.new.tasks (with_arm self.old.agenda brick before count action) self.new.agenda) }
         ensures cut { IfErr result (λ stop. IsAfterStop stop self.old.log self.new.log) }
+        ensures kept { OnErr result (self.new.log ≡ self.old.log) }
         ensures armable { IfOk result (λ did. did ≡ (is_armable brick action && of_brick (length self.old.script.bricks) action)) }
         ensures spent { StaysStopped self.old.stop self.old self.new result }
         ensures goes { OnOk result (self.new.stop ≡ None) }
@@ -290,6 +294,7 @@ impl Hub {
     fn armed(&mut self, brick: u8, before: Proc, count: u32, action: Action) -> Result<(), Stop>
         ensures same { (self.new.script ≡ self.old.script) × (self.new.plans ≡ self.old.plans) × (self.new.log ≡ self.old.log) × (self.new.stop ≡ self.old.stop) }
         ensures lines { self.new.lines ≡ self.old.lines }
+        ensures stops { IfErr result (λ stop. stop ≡ Stop.Mem) }
         ensures agenda { OnOk result (self.new.agenda ≡ with_arm self.old.agenda brick before count action) }
     {
         match self.engine.agenda.arm(brick, before, count, action) {

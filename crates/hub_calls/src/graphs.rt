@@ -1,5 +1,5 @@
 //! The graphs that are live.
-ghost use Rattle.std.specs.Prelude.{◌≡◌, ◌+◌, ◌∷◌, [], OnOk};
+ghost use Rattle.std.specs.Prelude.{◌≡◌, ◌∷◌, [], OnOk};
 ghost use Rattle.std.specs.BTreeMap.{insert_entry};
 ghost use Rattle.std.specs.Ordering.{nat_cmp};
 ghost use Rattle.graph_nodes.specs.Plans.{IsPlan};
@@ -50,7 +50,9 @@ impl LiveGraphs {
     }
 
     /// A graph is live no more.
-    pub(crate) fn remove(&mut self, number: u32) {
+    pub(crate) fn remove(&mut self, number: u32)
+        ensures { self.new.newest ≡ self.old.newest }
+    {
         self.graphs.remove(&number);
     }
 

@@ -1,5 +1,5 @@
-ghost use Rattle.std.specs.Prelude.{◌≡◌, Some, None, [], ◌∷◌, IsOk, OnOk, IfOk, IfErr};
-ghost use Rattle.hub_calls.specs.EventNumbers.{AreOfEvent, HaveEvents, written_lines};
+ghost use Rattle.std.specs.Prelude.{◌≡◌, Some, None, [], ◌∷◌, IsOk, IsErr, IsErrOf, OnOk, IfOk, IfErr};
+ghost use Rattle.hub_calls.specs.EventNumbers.{AreOfEvent, HaveEvents, IsCutOff, written_lines};
 ghost use Rattle.hub_calls.specs.Hubs.{AddsEvent, ClosesWith, IsAfterStop, agenda_before};
 ghost use Rattle.mount_log.specs.Logs.{is_submit, with_lines};
 ghost use Rattle.mount_log.specs.Scripts.{IsScript};
@@ -114,6 +114,8 @@ impl Hub {
         ensures event { OnOk result (AddsEvent self.old.log self.new.log event) }
         ensures agenda { OnOk result (ClosesWith self.old.script self.old.log self.new.log self.new.tasks self.old.agenda self.new.agenda) }
         ensures cut { IfErr result (λ stop. IsAfterStop stop self.old.log self.new.log) }
+        ensures written { IsErr done → IfErr result (λ stop. IsCutOff stop self.old.lines self.old.log self.new.log) }
+        ensures winds { IsErr done → IfErr result (λ stop. stop ≡ Stop.Winds → IsErrOf done Stop.Winds) }
         ensures goes { OnOk result (self.new.stop ≡ None) }
         ensures stops { IfErr result (λ s. self.new.stop ≡ Some s) }
         ensures done { OnOk result (IsOk done) }
@@ -140,6 +142,8 @@ impl Hub {
         ensures event { OnOk result (AddsEvent self.old.log self.new.log event) }
         ensures agenda { OnOk result (ClosesWith self.old.script self.old.log self.new.log self.new.tasks self.old.agenda self.new.agenda) }
         ensures cut { IfErr result (λ stop. IsAfterStop stop self.old.log self.new.log) }
+        ensures written { IfErr result (λ stop. IsCutOff stop self.old.lines self.old.log self.new.log) }
+        ensures winds { IfErr result (λ stop. stop ≡ Stop.Winds → IsErrOf done Stop.Winds) }
         ensures goes { OnOk result (self.new.stop ≡ None) }
         ensures stops { IfErr result (λ s. self.new.stop ≡ Some s) }
         ensures done { OnOk result (IsOk done) }

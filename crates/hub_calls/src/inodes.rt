@@ -33,7 +33,9 @@ impl Parts {
     ///
     /// # Errors
     /// Out of memory.
-    pub(crate) fn link(&mut self, alloc: Global, object: Object) -> Result<(), AllocError> {
+    pub(crate) fn link(&mut self, alloc: Global, object: Object) -> Result<(), AllocError>
+        ensures { self.new ≡ record self.old { graphs = self.new.graphs } }
+    {
         match self.graphs.nodes.inodes().get(object.gfid) {
             Some(inode) => self.link_again(alloc, object, inode),
             None => self
@@ -45,6 +47,7 @@ impl Parts {
 
     fn link_again(&mut self, alloc: Global, object: Object, inode: Inode) -> Result<(), AllocError>
         requires { inode_at self.old.graphs.nodes.inodes object.gfid ≡ Some inode }
+        ensures { self.new ≡ record self.old { graphs = self.new.graphs } }
     {
         if inode.kind != object.kind {
             return Ok(());

@@ -1,4 +1,7 @@
 //! Moves of answers: a fop is answered, and its call goes on or is replied to.
+ghost use Rattle.std.specs.Prelude.{◌≡◌, ◌+◌, ◌-◌, ◌^◌, min, length, IfSome, OnOk};
+ghost use Rattle.hub_tables.specs.OpenCalls.{call_at, with_reply as with_reply_at, without_call};
+ghost use Rattle.mount_log.specs.Logs.{with_reply};
 
 use crate::holding::hold_next;
 use crate::numbering::UNNUMBERED;
@@ -38,7 +41,9 @@ fn is_within(fds: &FdTable, session: u8, to: FdMove) -> bool {
 impl Parts {
     // A descriptor is opened, moved or closed as its call is answered; while it is open, its file's inode is in use. An
     // offset beyond the greatest length of a file is said to be out of memory: no graph reads or writes so far.
-    fn fd_moved(&mut self, alloc: Global, session: u8, to: FdMove) -> Result<(), AllocError> {
+    fn fd_moved(&mut self, alloc: Global, session: u8, to: FdMove) -> Result<(), AllocError>
+        ensures { self.new ≡ record self.old { fds = self.new.fds; graphs = self.new.graphs } }
+    {
         if !is_within(&self.fds, session, to) {
             return Err(AllocError);
         }
@@ -47,7 +52,9 @@ impl Parts {
         self.link_opened(alloc, to)
     }
 
-    fn unlink_closed(&mut self, session: u8, to: FdMove) {
+    fn unlink_closed(&mut self, session: u8, to: FdMove)
+        ensures { self.new ≡ record self.old { graphs = self.new.graphs } }
+    {
         match to {
             FdMove::Closes { fd } => {
                 if let Some(found) = self.fds.get(session, fd) {
@@ -58,7 +65,9 @@ impl Parts {
         }
     }
 
-    fn link_opened(&mut self, alloc: Global, to: FdMove) -> Result<(), AllocError> {
+    fn link_opened(&mut self, alloc: Global, to: FdMove) -> Result<(), AllocError>
+        ensures { self.new ≡ record self.old { graphs = self.new.graphs } }
+    {
         match to {
             FdMove::Opens { gfid, set, .. } => self.link(
                 alloc,
@@ -209,8 +218,10 @@ impl Parts {
         Ok(())
     }
 
-    // A call has its reply. It says whether it was the last of its graph.
-    fn finish(&mut self, alloc: Global, call: u32, reply: CallReply) -> Result<bool, Stop> {
+    // A call has its reply, the next one of the log. It says whether it was the last of its graph.
+    fn finish(&mut self, alloc: Global, call: u32, reply: CallReply) -> Result<bool, Stop>
+        ensures { IfSome (call_at self.old.calls call) (λ state. OnOk result (self.new.calls ≡ with_reply_at (without_call self.old.calls call) call state.graph (min (self.old.turn.replies + length self.old.turn.lines.replies) (2 ^ 64 - 1)))) }
+    {
         let Some(state) = self.calls.take(call) else {
             drop(reply);
             return Ok(false);
@@ -229,7 +240,10 @@ impl Parts {
         call: u32,
         state: CallState,
         reply: CallReply,
-    ) -> Result<(), AllocError> {
+    ) -> Result<(), AllocError>
+        ensures calls { self.new.calls ≡ self.old.calls }
+        ensures line { OnOk result (self.new.turn.lines ≡ with_reply self.old.turn.lines (record { event = 0; call = call; session = state.session; line = state.line; places = state.places; answer = reply.answer })) }
+    {
         let CallReply { answer, fd } = reply;
         let session = state.session;
         let line = ReplyLine {

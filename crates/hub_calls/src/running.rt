@@ -1,7 +1,11 @@
 //! Moves of a graph: a fop enters it, a hold is granted, a reply is taken, a connection ends. What the graph gives is
 //! written down and left to be taken.
-ghost use Rattle.std.specs.Prelude.{◌≡◌, true, false, IsErr, IsOk, OnOk};
+ghost use Rattle.std.specs.Prelude.{◌≡◌, true, false, IsErr, IsOk, IfOk, OnOk};
 ghost use Rattle.fop_types.specs.Bounds.{IsRep};
+ghost use Rattle.graph_items.specs.Clients.{ended_at};
+ghost use Rattle.graph_nodes.specs.Among.{runs_task};
+ghost use Rattle.graph_nodes.specs.Seen.{Works};
+ghost use Rattle.hub_calls.specs.Noted.{IsNoted, noted_by};
 
 use crate::parts::Parts;
 use fop_types::{BrickRep, Fop};
@@ -39,7 +43,8 @@ impl Parts {
         graph: u32,
         moved: Result<Option<Moved>, Stop>,
     ) -> Result<(), Stop>
-        ensures { OnOk result (IsOk moved) }
+        ensures moved { OnOk result (IsOk moved) }
+        ensures noted { IfOk moved (λ given. OnOk result (self.new ≡ record self.old { turn = noted_by graph given self.old.turn })) }
     {
         match moved {
             Ok(moved) => {
@@ -73,8 +78,10 @@ impl Parts {
     ///
     /// # Errors
     /// As for `Hub::submit`.
+    #[tactic(auto, using(crate::proofs::Noting::is_noted))]
     pub(crate) fn run_task(&mut self, alloc: Global, graph: u32, task: u32) -> Result<(), Stop>
-        ensures { OnOk result (self.old.graphs.nodes.spent ≡ false) }
+        ensures unspent { OnOk result (self.old.graphs.nodes.spent ≡ false) }
+        ensures noted { OnOk result (IsNoted graph (runs_task task) self.old.graphs.nodes self.old.turn self.new) }
     {
         let moved = self.graphs.nodes.run_task(alloc, graph, task);
         self.ran(alloc, graph, moved)
@@ -111,7 +118,10 @@ impl Parts {
     ///
     /// # Errors
     /// As for `Hub::submit`.
-    pub(crate) fn bail(&mut self, alloc: Global, graph: u32, brick: u8) -> Result<(), Stop> {
+    pub(crate) fn bail(&mut self, alloc: Global, graph: u32, brick: u8) -> Result<(), Stop>
+        ensures graphs { OnOk result (Works (λ cs. ended_at cs brick) graph self.old.graphs.nodes.graphs self.new.graphs.nodes.graphs) }
+        ensures sent { OnOk result (self.new.turn.lines.sent ≡ self.old.turn.lines.sent) }
+    {
         match self.graphs.nodes.bail(alloc, graph, brick) {
             Ok(Some((_, moved))) => {
                 self.turn.note(graph, moved)?;

@@ -48,7 +48,9 @@ impl Turn {
         alloc: Global,
         brick: u8,
         graph: u32,
-    ) -> Result<(), AllocError> {
+    ) -> Result<(), AllocError>
+        ensures { OnOk result (self.new.lines ≡ sends self.old.lines 0 brick (input_text (sent.Connect graph 1))) }
+    {
         self.send_input(alloc, brick, Input::Connect { graph, version: 1 })
     }
 
@@ -61,7 +63,9 @@ impl Turn {
         alloc: Global,
         brick: u8,
         graph: u32,
-    ) -> Result<(), AllocError> {
+    ) -> Result<(), AllocError>
+        ensures { OnOk result (self.new.lines ≡ sends self.old.lines 0 brick (input_text (sent.Disconnect graph))) }
+    {
         self.send_input(alloc, brick, Input::Disconnect { graph })
     }
 

@@ -1,7 +1,8 @@
 //! The event under way: its lines, and what is still to be done in it.
-ghost use Rattle.std.specs.Prelude.{◌≡◌, ◌+◌, ◌∷◌, [], length, OnOk, OnErr};
-ghost use Rattle.mount_log.specs.Logs.{empty_log, with_lines, with_cut};
+ghost use Rattle.std.specs.Prelude.{◌≡◌, ◌+◌, ◌-◌, ◌^◌, ◌∷◌, [], ◌++◌, map, min, length, OnOk, OnErr};
+ghost use Rattle.mount_log.specs.Logs.{empty_log, with_answered, with_cut, with_lines, with_winds};
 ghost use Rattle.hub_calls.specs.EventNumbers.{numbered, IsCutOff};
+ghost use Rattle.hub_calls.specs.Noted.{answer_item, noted, noted_by};
 
 use crate::numbering::{
     UNNUMBERED, next_number, number_all, number_each, number_replies, number_sent, number_winds,
@@ -59,7 +60,8 @@ impl Turn {
 
     /// Begins an event behind those of the log. It has no lines.
     pub(crate) fn open(&mut self, alloc: Global, log: &Log)
-        ensures { self.new.lines ≡ empty_log }
+        ensures lines { self.new.lines ≡ empty_log }
+        ensures behind { self.new ≡ record self.old { lines = self.new.lines; replies = length log.now.replies; entries = length log.now.history } }
     {
         drop(mem::replace(&mut self.lines, Log::new(alloc)));
         self.replies = log.replies.len();
@@ -67,7 +69,9 @@ impl Turn {
     }
 
     /// The place in the log of the next reply.
-    pub(crate) fn reply_place(&self) -> usize {
+    pub(crate) fn reply_place(&self) -> usize
+        ensures { result ≡ min (self.now.replies + length self.now.lines.replies) (2 ^ 64 - 1) }
+    {
         self.replies.saturating_add(self.lines.replies.len())
     }
 
@@ -167,7 +171,10 @@ impl Turn {
         &mut self,
         graph: u32,
         winds: &[(WindNo, u32, bool)],
-    ) -> Result<(), AllocError> {
+    ) -> Result<(), AllocError>
+        ensures winds { OnOk result (self.new ≡ record self.old { lines = with_winds self.old.lines 0 graph winds.now }) }
+        ensures sent { self.new.lines.sent ≡ self.old.lines.sent }
+    {
         for line in winds {
             let (wind, call, opened) = *line;
             self.lines.winds.push(WindLine {
@@ -185,19 +192,27 @@ impl Turn {
     ///
     /// # Errors
     /// Out of memory.
-    pub(crate) fn note_answered(&mut self) -> Result<(), AllocError> {
+    pub(crate) fn note_answered(&mut self) -> Result<(), AllocError>
+        ensures { OnOk result (self.new ≡ record self.old { lines = with_answered self.old.lines 0 }) }
+    {
         self.lines.answered.push(UNNUMBERED)?;
         Ok(())
     }
 
-    fn note_copies(&mut self, copies: Seq<CopyRecord>) -> Result<(), AllocError> {
+    fn note_copies(&mut self, copies: Seq<CopyRecord>) -> Result<(), AllocError>
+        ensures copies { OnOk result (self.new ≡ record self.old { lines = record (self.old.lines) { copies = self.old.lines.copies ++ copies } }) }
+        ensures sent { self.new.lines.sent ≡ self.old.lines.sent }
+    {
         for copy in copies.into_vec() {
             self.lines.copies.push(copy)?;
         }
         Ok(())
     }
 
-    fn note_skips(&mut self, skips: &[(Cell, SkipCause)]) -> Result<(), AllocError> {
+    fn note_skips(&mut self, skips: &[(Cell, SkipCause)]) -> Result<(), AllocError>
+        ensures skips { OnOk result (self.new ≡ record self.old { lines = record (self.old.lines) { skips = self.old.lines.skips ++ skips.now } }) }
+        ensures sent { self.new.lines.sent ≡ self.old.lines.sent }
+    {
         for skip in skips {
             self.lines.skips.push(*skip)?;
         }
@@ -208,7 +223,10 @@ impl Turn {
     ///
     /// # Errors
     /// Out of memory.
-    pub(crate) fn note(&mut self, graph: u32, moved: Moved) -> Result<(), AllocError> {
+    pub(crate) fn note(&mut self, graph: u32, moved: Moved) -> Result<(), AllocError>
+        ensures noted { OnOk result (self.new ≡ noted graph moved self.old) }
+        ensures sent { self.new.lines.sent ≡ self.old.lines.sent }
+    {
         let Moved {
             holds,
             sends,
@@ -232,7 +250,10 @@ impl Turn {
     }
 
     // The answers of fops are left to be taken in order, behind what the graph gave with them.
-    fn note_answers(&mut self, answers: Seq<(u32, FopAnswer, u32)>) -> Result<(), AllocError> {
+    fn note_answers(&mut self, answers: Seq<(u32, FopAnswer, u32)>) -> Result<(), AllocError>
+        ensures items { OnOk result (self.new ≡ record self.old { todo = self.old.todo ++ map answer_item answers }) }
+        ensures lines { self.new.lines ≡ self.old.lines }
+    {
         for answered in answers.into_vec() {
             let (call, answer, place) = answered;
             self.todo.push(Todo::Answer(call, answer, place))?;
@@ -244,11 +265,9 @@ impl Turn {
     ///
     /// # Errors
     /// Out of memory.
-    pub(crate) fn note_moved(
-        &mut self,
-        graph: u32,
-        moved: Option<Moved>,
-    ) -> Result<(), AllocError> {
+    pub(crate) fn note_moved(&mut self, graph: u32, moved: Option<Moved>) -> Result<(), AllocError>
+        ensures { OnOk result (self.new ≡ noted_by graph moved self.old) }
+    {
         match moved {
             Some(moved) => self.note(graph, moved),
             None => Ok(()),

@@ -134,7 +134,7 @@ impl Parts {
 
     // The entries that the ledger has made in this event.
     fn note_entries(&mut self) -> Result<(), AllocError>
-        ensures { OnOk result (self.new.turn.lines.history ≡ self.old.turn.lines.history ++ drop self.old.turn.entries self.old.graphs.nodes.history) }
+        ensures { OnOk result (self.new ≡ record self.old { turn = record (self.old.turn) { lines = record (self.old.turn.lines) { history = self.old.turn.lines.history ++ drop self.old.turn.entries self.old.graphs.nodes.history } } }) }
     {
         push_behind(
             &mut self.turn.lines.history,

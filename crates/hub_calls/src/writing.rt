@@ -17,7 +17,7 @@ pub struct Growing<T> {
 }
 
 impl<T> Model for Growing<T> {
-    ghost use Rattle.std.specs.Prelude.{◌≡◌, ◌+◌, ◌≤◌, true, length, vec_len, vec_capacity};
+    ghost use Rattle.std.specs.Prelude.{◌≡◌, ◌+◌, ◌≤◌, true, vec_len, vec_capacity};
     ghost use Rattle.hub_calls.specs.Growing.{GrowingList};
 
     ghost Value = { GrowingList T };
