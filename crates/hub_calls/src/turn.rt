@@ -48,7 +48,9 @@ pub struct Turn {
 
 impl Turn {
     /// The turn before any event. It takes no memory.
-    pub(crate) fn new(alloc: Global) -> Turn {
+    pub(crate) fn new(alloc: Global) -> Turn
+        ensures { result.lines ≡ empty_log }
+    {
         Turn {
             replies: 0,
             entries: 0,
