@@ -45,6 +45,12 @@ module _ {X : Type 0} where
   pub all_next : (P : X → Type 0) (xs : List X) (i : ℕ) (d : X) → i < length xs → P (get_or xs i d) → AllByRecursion P (take i xs) → AllByRecursion P (take (i + 1) xs)
   all_next P xs i d lt p all = subst (AllByRecursion P) (sym (take_more xs i d lt)) (all_push P (take i xs) (get_or xs i d) all p)
 
+  -- an item that is read has what all have
+  pub all_read : (P : X → Type 0) (xs : List X) (i : ℕ) (d : X) → i < length xs → AllByRecursion P xs → P (get_or xs i d)
+  all_read P [] i d lt all = absurd (omega (arith, lt))
+  all_read P (y ∷ xs) zero d lt all = all.0
+  all_read P (y ∷ xs) (suc i) d lt all = all_read P xs i d (omega (arith, lt)) all.1
+
 pub all_mapped : {X Y : Type 0} (f : X → Y) (Q : X → Type 0) (P : Y → Type 0) → ((x : X) → Q x → P (f x)) → (xs : List X) → AllByRecursion Q xs → AllByRecursion P (map f xs)
 all_mapped f Q P gives [] all = tt
 all_mapped f Q P gives (x ∷ xs) all = (gives x all.0, all_mapped f Q P gives xs all.1)

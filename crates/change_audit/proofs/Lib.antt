@@ -2,6 +2,7 @@ pub mod Items
 pub mod Opening
 pub mod Reading
 pub mod Texts
+pub mod Requests
 pub mod Bearing
 pub mod Splits
 pub mod Graphs

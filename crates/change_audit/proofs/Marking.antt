@@ -10,6 +10,7 @@ use Rattle.mount_log.specs.declared.logs.Log.{Log}
 use Rattle.mount_log.specs.declared.logs.ReplyLine.{ReplyLine}
 use Rattle.change_audit.specs.Acknowledged.{mark_or_none, mark_of, IsMarkBy, IsMarkedBy, IsMarked, AreMarked, AreMarkedTo, KeepMarks, IsNoEarlier, AreUnmarked, IsAnsweredWell, AreOfReplies, MarksOnly, MarksReply, HasCallFrom}
 use Rattle.change_audit.specs.Borne.{IsAcknowledged}
+use Rattle.change_audit.specs.Entries.{AreNotMarked, NoneIsDue}
 use Rattle.change_audit.proofs.Items.{each_more, item_is}
 
 -- ---- one mark more
@@ -111,3 +112,16 @@ of_replies_next replies i reply before after lt is only so_far call number there
 
 pub call_beyond : (replies : List ReplyLine) (i bound : ℕ) (reply : ReplyLine) (marks : List (Option ℕ)) → i < length replies → reply ≡ get_or replies i reply → length marks ≡ bound → length marks ≤ reply.call → HasCallFrom replies bound
 call_beyond replies i bound reply marks lt is long le = record { place = i; reply = reply; there = there_is replies i reply lt is; beyond = omega (arith, long, le) }
+
+pub call_from : (replies : List ReplyLine) (bound least : ℕ) → least ≤ bound → HasCallFrom replies bound → HasCallFrom replies least
+call_from replies bound least le has = let beyond = has.beyond in record { place = has.place; reply = has.reply; there = has.there; beyond = omega (arith, le, beyond) }
+
+no_mark : (mark : Option ℕ) → ((number : ℕ) → mark ≡ Some number → ⊥) → mark ≡ None
+no_mark None none = refl
+no_mark (Some number) none = absurd (none number refl)
+
+-- where no entry is due, none has a marked call
+pub not_marked : (log : Log) (marks : List (Option ℕ)) → AreOfReplies log.replies marks → NoneIsDue log → AreNotMarked log.history marks
+not_marked log marks own none k entry there = no_mark (mark_of marks entry.call) (λ number marked.
+    let well = own entry.call number marked in
+    none.none k number entry there (record { place = well.place; reply = well.reply; there = well.there; call_is = well.call_is; well = well.well; event_is = well.event_is }))

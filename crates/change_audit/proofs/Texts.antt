@@ -1,6 +1,6 @@
 -- The texts of requests, and requests that were answered.
-use Rattle.std.proofs.Common.{◌≡◌, refl, sym, ap, subst, ◌∙◌, append_assoc, length-append}
-use Rattle.std.specs.Prelude.{ℕ, ◌<◌, ◌+◌, true, List, ◌++◌, Some, length, drop, slice_get}
+use Rattle.std.proofs.Common.{◌≡◌, refl, sym, ap, subst, ◌∙◌, append_assoc, length-append, arith}
+use Rattle.std.specs.Prelude.{ℕ, ◌<◌, ◌≤◌, ◌+◌, true, List, ◌++◌, Some, length, drop, slice_get}
 use Rattle.fop_types.specs.declared.flat.FlatOp.{FlatOp}
 use Rattle.fop_types.specs.declared.messages.BrickRep.TheVariants.{Done}
 use Rattle.fop_types.specs.declared.messages.BrickReq.{BrickReq}
@@ -32,9 +32,15 @@ use Rattle.change_audit.proofs.Items.{drop_front}
 front_size : (wind : ℕ) → length (unit 0 ++ hyper wind) ≡ 12
 front_size wind = simp (length-append, unit_size) refl
 
-text_behind : (wind graph : ℕ) (req : BrickReq) → drop 12 (input_text (Request wind graph req)) ≡ text_of graph req
+pub text_behind : (wind graph : ℕ) (req : BrickReq) → drop 12 (input_text (Request wind graph req)) ≡ text_of graph req
 text_behind wind graph req =
     ap (drop 12) (sym (append_assoc (unit 0) (hyper wind) (text_of graph req))) ∙ drop_front (unit 0 ++ hyper wind) (text_of graph req) 12 (front_size wind)
+
+pub text_long : (wind graph : ℕ) (req : BrickReq) → 12 ≤ length (input_text (Request wind graph req))
+text_long wind graph req =
+    let whole : length (input_text (Request wind graph req)) ≡ length ((unit 0 ++ hyper wind) ++ text_of graph req) = ap length (sym (append_assoc (unit 0) (hyper wind) (text_of graph req))) in
+    let sum = length-append (unit 0 ++ hyper wind) (text_of graph req) in let front = front_size wind in
+    omega (arith, whole, sum, front)
 
 pub has_text : (wind : ℕ) (text bytes : List ℕ) → drop 12 bytes ≡ text → IsOnWind wind bytes → HasText wind text bytes
 has_text wind text bytes same on graph req is =

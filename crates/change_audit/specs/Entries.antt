@@ -1,12 +1,12 @@
 -- What is found of one entry of the history.
-use Rattle.std.specs.Prelude.{◌≡◌, ℕ, List, Option, None, Some, get_or, slice_get}
+use Rattle.std.specs.Prelude.{◌≡◌, ℕ, List, Option, None, Some, get_or, length, slice_get}
 use Rattle.fop_types.specs.declared.flat.FlatOp.{FlatOp}
 use Rattle.fop_types.specs.declared.history.Entry.{Entry}
 use Rattle.graph_build.specs.declared.plans.Plan.{Plan}
 use Rattle.script_lang.specs.declared.scripts.Script.{Script}
 use Rattle.brick_machine.specs.Journal.{Journal}
 use Rattle.mount_log.specs.declared.logs.Log.{Log}
-use Rattle.change_audit.specs.Acknowledged.{AreMarked}
+use Rattle.change_audit.specs.Acknowledged.{AreMarked, mark_of, HasCallFrom}
 use Rattle.change_audit.specs.Borne.{IsBorne, IsAcknowledged}
 use Rattle.change_audit.specs.Claims.{claim_of}
 use Rattle.change_audit.specs.CallGraphs.{AreGraphsOf}
@@ -30,3 +30,13 @@ IsClaimedInTime script plans log bricks ops claims k call operation from = (numb
 abbrev pub IsEntryClaimed : Script → List Plan → Log → List Journal → List FlatOp → List (Option ℕ) → List (ℕ × ℕ) → ℕ → Entry → Type 0
 IsEntryClaimed script plans log bricks ops from claims k entry =
     (operation : FlatOp) → slice_get ops k ≡ Some operation → IsClaimedInTime script plans log bricks ops claims k entry.call operation (get_or from k None)
+
+-- no entry's call is marked
+abbrev pub AreNotMarked : List Entry → List (Option ℕ) → Type 0
+AreNotMarked history marks = (k : ℕ) (entry : Entry) → slice_get history k ≡ Some entry → mark_of marks entry.call ≡ None
+
+-- no entry's call was answered well; and no reply is to a call with a number as great as that of the events, of which each
+-- call's submission is one, and the reply another
+pub record NoneIsDue (log : Log) : Type 0 where
+  pub none : (k number : ℕ) (entry : Entry) → slice_get log.history k ≡ Some entry → IsAcknowledged log entry.call number → ⊥
+  pub calls : HasCallFrom log.replies (length log.events) → ⊥

@@ -17,7 +17,8 @@ use Rattle.fop_types.specs.declared.messages.OutKind.TheVariants.{Reply}
 use Rattle.fop_types.specs.declared.messages.Output.{Output}
 use Rattle.fop_types.specs.declared.store_ops.StoreOp.{StoreOp}
 use Rattle.wire_xdr.specs.MessageText.{req_text}
-use Rattle.wire_xdr.specs.WireText.{input_text, output_text}
+use Rattle.fop_types.specs.Bounds.{IsHyper}
+use Rattle.wire_xdr.specs.WireText.{input_text, output_text, IsInput}
 use Rattle.wire_xdr.specs.Xdr.{unit}
 use Rattle.brick_machine.specs.Journal.{Journal}
 use Rattle.mount_log.specs.declared.logs.HubEvent.TheVariants.{Arrive}
@@ -147,3 +148,17 @@ pub record IsPosted (log : Log) (bricks : List Journal) (brick : ℕ) (at : Serv
   pub done : IsDoneIn log bricks brick wind graph at.event (Post change cells mask) Nothing
   pub counted : at.taken ≡ done.place + 1
   pub of_call : IsOpenedSince log.winds call wind since
+
+-- so where this says that its wind was opened, and the request has an encoding
+pub record IsServedThere (log : Log) (bricks : List Journal) (brick : ℕ) (at : Served) (call graph : ℕ) (req : BrickReq) : Type 0 where
+  pub served : IsServedAs log bricks brick at call graph req
+  pub legal : IsInput (Request served.wind graph req)
+  pub counted : IsHyper at.taken
+  pub opened : IsOpeningAt log.winds at.opening call served.wind
+
+-- so for a post
+pub record IsPostedThere (log : Log) (bricks : List Journal) (brick : ℕ) (at : Served) (call graph change since : ℕ) : Type 0 where
+  pub posted : IsPosted log bricks brick at call graph change since
+  pub legal : IsInput (Request posted.wind graph (Post change posted.cells posted.mask))
+  pub counted : IsHyper at.taken
+  pub opened : IsOpeningSince log.winds at.opening call posted.wind since

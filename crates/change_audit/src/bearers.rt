@@ -1,7 +1,9 @@
 //! Whether the bricks of a set bear a change, where they are said to.
-ghost use Rattle.std.specs.Prelude.{◌≡◌, ◌==◌, ◌≤◌, ◌↔◌, IsTrue, true, length, map, drop, Contains, IfOk};
+ghost use Rattle.std.specs.Prelude.{◌≡◌, ◌==◌, ◌≤◌, ◌↔◌, ℕ, List, IsTrue, true, length, map, drop, Contains, IfOk, IfSome, IfNone};
 ghost use Rattle.std.specs.List.{AllByRecursion, IsDistinct};
-ghost use Rattle.change_audit.specs.Bearing.{brick_of, RisesFrom, IsMaking, IsMakingIn, IsInOrder, IsSaidBorne, IsSaidBearer, HasBearers};
+ghost use Rattle.fop_types.specs.declared.messages.Input.{Input as Made};
+ghost use Rattle.wire_xdr.specs.WireText.{input_text, IsInput};
+ghost use Rattle.change_audit.specs.Bearing.{brick_of, RisesFrom, IsMaking, IsMakingIn, IsInOrder, IsSaidBorne, IsSaidBearer, HasBearers, IsBorneThere, IsBearerThere, IsFirstOp, AreBearersThere};
 
 use crate::answers::Bearer;
 use crate::journals::{input_at, whole_input};
@@ -40,7 +42,8 @@ fn is_borne_by(
     text: &[u8],
     bearer: &Bearer,
 ) -> Result<bool, AllocError>
-    ensures { IfOk result (λ yes. yes ≡ true → IsSaidBorne log.now bricks.now call graph change number text.now bearer.now.brick) }
+    ensures sound { IfOk result (λ yes. yes ≡ true → IsSaidBorne log.now bricks.now call graph change number text.now bearer.now.brick) }
+    ensures complete { IfOk result (λ yes. IsBorneThere log.now bricks.now call graph change number text.now bearer.now → yes ≡ true) }
 {
     if !is_in_order(bearer, number) {
         return Ok(false);
@@ -64,7 +67,8 @@ fn is_bearer(
     text: &[u8],
     bearer: &Bearer,
 ) -> Result<bool, AllocError>
-    ensures { IfOk result (λ yes. yes ≡ true → IsSaidBearer log.now bricks.now plan.now call graph change number text.now bearer.now) }
+    ensures sound { IfOk result (λ yes. yes ≡ true → IsSaidBearer log.now bricks.now plan.now call graph change number text.now bearer.now) }
+    ensures complete { IfOk result (λ yes. IsBearerThere log.now bricks.now plan.now call graph change number text.now bearer.now → yes ≡ true) }
 {
     if !has_member(plan, bearer.brick) {
         return Ok(false);
@@ -87,7 +91,8 @@ fn are_bearers(
     text: &[u8],
     bearers: &[Bearer],
 ) -> Result<bool, AllocError>
-    ensures { IfOk result (λ yes. yes ≡ true → AllByRecursion (IsSaidBearer log.now bricks.now plan.now call graph change number text.now) bearers.now) }
+    ensures sound { IfOk result (λ yes. yes ≡ true → AllByRecursion (IsSaidBearer log.now bricks.now plan.now call graph change number text.now) bearers.now) }
+    ensures complete { IfOk result (λ yes. AllByRecursion (IsBearerThere log.now bricks.now plan.now call graph change number text.now) bearers.now → yes ≡ true) }
 {
     for bearer in bearers {
         if !is_bearer(
@@ -127,14 +132,18 @@ fn are_enough(plan: &SetPlan, bearers: &[Bearer]) -> bool
 }
 
 // The bytes of the op of the first bearer.
-fn first_op<'a>(bricks: &'a [Brick], bearers: &[Bearer]) -> Option<&'a [u8]> {
+fn first_op<'a>(bricks: &'a [Brick], bearers: &[Bearer]) -> Option<&'a [u8]>
+    ensures found { IfSome result (λ bytes. IsFirstOp bricks.now bearers.now bytes.now) }
+    ensures none { IfNone result ((bytes : List ℕ) → IsFirstOp bricks.now bearers.now bytes → ⊥) }
+{
     let first = bearers.first()?;
     input_at(bricks, first.brick, first.op.taken)
 }
 
 // Whether an input is the op of a change in a graph that makes the operation.
 fn is_made_by(input: &Input, graph: usize, change: u64, operation: &FlatOp) -> bool
-    ensures { result ≡ true → IsMakingIn graph change operation.now input.now }
+    ensures sound { result ≡ true → IsMakingIn graph change operation.now input.now }
+    ensures complete { IsMakingIn graph change operation.now input.now → result ≡ true }
 {
     match op_asked(input, graph, change) {
         Some(op) => makes(op, operation),
@@ -150,7 +159,8 @@ fn is_making(
     change: u64,
     operation: &FlatOp,
 ) -> Result<bool, AllocError>
-    ensures { IfOk result (λ yes. yes ≡ true → IsMaking graph change operation.now (drop 12 bytes.now)) }
+    ensures sound { IfOk result (λ yes. yes ≡ true → IsMaking graph change operation.now (drop 12 bytes.now)) }
+    ensures complete { IfOk result (λ yes. (x : Made) → IsInput x → bytes.now ≡ input_text x → IsMakingIn graph change operation.now x → yes ≡ true) }
 {
     match whole_input(alloc, bytes)? {
         Some(input) => {
@@ -179,7 +189,8 @@ pub(crate) fn has_bearers(
     operation: &FlatOp,
     bearers: &[Bearer],
 ) -> Result<bool, AllocError>
-    ensures { IfOk result (λ yes. yes ≡ true → HasBearers log.now bricks.now plan.now call graph change number operation.now) }
+    ensures sound { IfOk result (λ yes. yes ≡ true → HasBearers log.now bricks.now plan.now call graph change number operation.now) }
+    ensures complete { IfOk result (λ yes. AreBearersThere log.now bricks.now plan.now call graph change number operation.now bearers.now → yes ≡ true) }
 {
     if !are_apart(bearers) {
         return Ok(false);

@@ -1,10 +1,13 @@
 //! The audit.
-ghost use Rattle.std.specs.Prelude.{◌≡◌, true, None, Some, get_or, slice_get, IfOk, IfSome};
+ghost use Rattle.std.specs.Prelude.{◌≡◌, ◌<◌, ◌≤◌, ◌-◌, true, length, None, Some, get_or, slice_get, IfOk, IfSome};
 ghost use Rattle.fop_types.specs.declared.history.Entry.{Entry as Made};
+ghost use Rattle.change_audit.specs.Acknowledged.{mark_of as marked_as};
 ghost use Rattle.change_audit.specs.Borne.{IsBorne, AreBorne};
-ghost use Rattle.change_audit.specs.CallGraphs.{AreGraphsOf};
+ghost use Rattle.mount_log.specs.Causes.{plan_of_volfile};
+ghost use Rattle.change_audit.specs.CallGraphs.{AreGraphsOf, set_in_plan};
+ghost use Rattle.change_audit.specs.declared.answers.Bearer.{Bearer as Claimed};
 ghost use Rattle.change_audit.specs.Claims.{KeepClaims};
-ghost use Rattle.change_audit.specs.Entries.{AreNotesOf, IsClaimed, IsClaimedInTime, IsEntryClaimed};
+ghost use Rattle.change_audit.specs.Entries.{AreNotesOf, IsClaimed, IsClaimedInTime, IsEntryClaimed, AreNotMarked, NoneIsDue};
 
 use crate::acknowledged::mark_of;
 use crate::bearers::has_bearers;
@@ -22,7 +25,9 @@ use script_lang::Script;
 use std::alloc::{AllocError, Global};
 
 // The number of the set that the first of the bearers is in.
-fn set_of(plans: &[Plan], graphs: &CallGraphs, graph: usize, change: &Candidate) -> Option<u8> {
+fn set_of(plans: &[Plan], graphs: &CallGraphs, graph: usize, change: &Candidate) -> Option<u8>
+    ensures { (first : Claimed) → slice_get change.now.bearers 0 ≡ Some first → 1 ≤ graph → result ≡ set_in_plan (plan_of_volfile plans.now (slice_get graphs.now.volfiles (graph - 1))) first.brick }
+{
     let first = change.bearers.as_slice().first()?;
     set_with(plans, graphs, graph, first.brick)
 }
@@ -164,6 +169,7 @@ fn take_due(
 ) -> Result<bool, AllocError>
     requires { AreNotesOf script.now log.now notes.now }
     ensures claimed { IfOk result (λ yes. yes ≡ true → IsClaimedInTime script.now plans.now log.now bricks.now ops.now claims.new k call operation.now from) }
+    ensures not_due { IfOk result (λ yes. marked_as notes.now.marks call ≡ None → yes ≡ true) }
     ensures keeps { IfOk result (λ yes. KeepClaims claims.old claims.new) }
 {
     let Some(number) = mark_of(notes.marks.as_slice(), call) else {
@@ -200,6 +206,7 @@ fn take_entry(
 ) -> Result<bool, AllocError>
     requires { AreNotesOf script.now log.now notes.now }
     ensures claimed { IfOk result (λ yes. yes ≡ true → (entry : Made) → slice_get log.now.history k ≡ Some entry → IsEntryClaimed script.now plans.now log.now bricks.now ops.now from.now claims.new k entry) }
+    ensures not_due { IfOk result (λ yes. AreNotMarked log.now.history notes.now.marks → k < length log.now.history → k < length ops.now → yes ≡ true) }
     ensures keeps { IfOk result (λ yes. KeepClaims claims.old claims.new) }
 {
     let Some(entry) = entry_at(log, k) else {
@@ -228,7 +235,8 @@ fn are_borne(
     notes: &Notes,
 ) -> Result<bool, AllocError>
     requires { AreNotesOf script.now log.now notes.now }
-    ensures { IfOk result (λ yes. yes ≡ true → AreBorne script.now plans.now log.now bricks.now ops.now from.now) }
+    ensures sound { IfOk result (λ yes. yes ≡ true → AreBorne script.now plans.now log.now bricks.now ops.now from.now) }
+    ensures not_due { IfOk result (λ yes. AreNotMarked log.now.history notes.now.marks → length log.now.history ≤ length ops.now → yes ≡ true) }
 {
     let mut claims = Claims::new(alloc);
     for k in 0..log.history.len() {
@@ -267,7 +275,8 @@ pub fn changes_are_borne(
     ops: &[FlatOp],
     from: &[Option<u8>],
 ) -> Result<bool, AllocError>
-    ensures { IfOk result (λ yes. yes ≡ true → AreBorne script.now plans.now log.now bricks.now ops.now from.now) }
+    ensures sound { IfOk result (λ yes. yes ≡ true → AreBorne script.now plans.now log.now bricks.now ops.now from.now) }
+    ensures not_due { IfOk result (λ yes. NoneIsDue log.now → length log.now.history ≤ length ops.now → yes ≡ true) }
 {
     match notes_of(alloc, script, log, bricks, ops)? {
         Some(notes) => {

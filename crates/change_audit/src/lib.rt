@@ -18,7 +18,9 @@
 //! Bearers (`finding`) and replacements (`copy_finding`) are found by one pass each over what arrived, without a contract. What
 //! was found is then checked where it is (`bearers`, `copy_requests`), each change is taken for one entry and each replacement
 //! for one copy (`claims`), and an audit's `true` rests on that alone: true says that each acknowledged change was on the bricks
-//! by its call's reply, by a change of its own, or that each copy was made, by a replacement of its own; false says nothing. With
+//! by its call's reply, by a change of its own, or that each copy was made, by a replacement of its own; false says no more than
+//! that there was something to find: where no entry's call was answered well, or the log has no copy or no skip, the answer is
+//! true. What is checked at a place says no only where it is not so there, for requests and answers that have an encoding. With
 //! n events, winds, entries and copies an audit takes time of the order n log n, and of the bytes that are decoded.
 //!
 //! What `read_audit` looks up as these audits do is here, in the modules that are public.

@@ -1,6 +1,6 @@
 //! What is known of a run before its history is gone through.
-ghost use Rattle.std.specs.Prelude.{◌≡◌, IfOk, IfSome};
-ghost use Rattle.change_audit.specs.Acknowledged.{AreMarked, AreOfReplies};
+ghost use Rattle.std.specs.Prelude.{◌≡◌, length, IfOk, IfSome, IfNone};
+ghost use Rattle.change_audit.specs.Acknowledged.{AreMarked, AreOfReplies, HasCallFrom};
 ghost use Rattle.change_audit.specs.Entries.{AreNotesOf};
 
 use crate::acknowledged::answered_well;
@@ -107,6 +107,7 @@ pub(crate) fn notes_of(
 ) -> Result<Option<Notes>, AllocError>
     ensures notes { IfOk result (λ found. IfSome found (λ notes. AreNotesOf script.now log.now notes)) }
     ensures own { IfOk result (λ found. IfSome found (λ notes. AreOfReplies log.now.replies notes.marks)) }
+    ensures none { IfOk result (λ found. IfNone found (HasCallFrom log.now.replies (length log.now.events))) }
 {
     let bound = log.events.len().saturating_add(1);
     match answered_well(alloc, log.replies.as_slice(), bound)? {

@@ -1,8 +1,13 @@
 //! Ops and posts that a brick has answered Done.
-ghost use Rattle.std.specs.Prelude.{◌≡◌, ◌↔◌, ◌<◌, ◌≤◌, ℕ, IsTrue, true, length, drop, IfOk, IfSome, IfNone};
+ghost use Rattle.std.specs.Prelude.{◌≡◌, ◌↔◌, ◌<◌, ◌≤◌, ℕ, IsTrue, true, Some, length, drop, IfOk, IfSome, IfNone};
+ghost use Rattle.fop_types.specs.declared.messages.BrickReq.{BrickReq as Asked};
+ghost use Rattle.fop_types.specs.declared.messages.BrickReq.TheVariants.{Post};
+ghost use Rattle.fop_types.specs.declared.messages.Input.TheVariants.{Request};
+ghost use Rattle.wire_xdr.specs.WireText.{input_text, IsInput};
 ghost use Rattle.fop_types.specs.declared.store_ops.StoreOp.{StoreOp as Op};
 ghost use Rattle.change_audit.specs.Answered.{IsWindFor, IsOpenedSince};
 ghost use Rattle.change_audit.specs.Served.{IsRequestOn, IsOnWind, IsOpeningAt, IsOpeningSince, IsOpOf, IsOpIn, IsPostOf, IsPostIn, IsPostOn, HasText, IsServed, IsPosted};
+ghost use Rattle.change_audit.specs.Served.{text_of, IsServedThere, IsPostedThere};
 
 use crate::answers::{Bearer, Served, is_answered};
 use crate::journals::{input_at, whole_input};
@@ -40,7 +45,8 @@ fn wind_of(input: &Input) -> Option<u64>
 
 // The wind of bytes that are a request.
 fn wind_in(alloc: Global, bytes: &[u8]) -> Result<Option<u64>, AllocError>
-    ensures { IfOk result (λ found. IfSome found (λ wind. IsOnWind wind bytes.now)) }
+    ensures found { IfOk result (λ found. IfSome found (λ wind. IsOnWind wind bytes.now)) }
+    ensures complete { IfOk result (λ found. (wind graph : ℕ) (req : Asked) → IsInput (Request wind graph req) → bytes.now ≡ input_text (Request wind graph req) → found ≡ Some wind) }
 {
     match whole_input(alloc, bytes)? {
         Some(input) => {
@@ -64,7 +70,8 @@ fn has_text(bytes: &[u8], text: &[u8]) -> bool
 
 // The wind of bytes that are a request of this text.
 fn wind_before(alloc: Global, bytes: &[u8], text: &[u8]) -> Result<Option<u64>, AllocError>
-    ensures { IfOk result (λ found. IfSome found (λ wind. HasText wind text.now bytes.now)) }
+    ensures found { IfOk result (λ found. IfSome found (λ wind. HasText wind text.now bytes.now)) }
+    ensures complete { IfOk result (λ found. (wind graph : ℕ) (req : Asked) → IsInput (Request wind graph req) → text.now ≡ text_of graph req → bytes.now ≡ input_text (Request wind graph req) → found ≡ Some wind) }
 {
     if !has_text(bytes, text) {
         return Ok(None);
@@ -93,7 +100,8 @@ pub(crate) fn is_served(
     call: u32,
     text: &[u8],
 ) -> Result<bool, AllocError>
-    ensures { IfOk result (λ yes. yes ≡ true → IsServed log.now bricks.now bearer.brick bearer.op call text.now) }
+    ensures sound { IfOk result (λ yes. yes ≡ true → IsServed log.now bricks.now bearer.brick bearer.op call text.now) }
+    ensures complete { IfOk result (λ yes. (graph : ℕ) (req : Asked) → text.now ≡ text_of graph req → IsServedThere log.now bricks.now bearer.brick bearer.op call graph req → yes ≡ true) }
 {
     let Some(bytes) = input_at(bricks, bearer.brick, bearer.op.taken) else {
         return Ok(false);
@@ -122,7 +130,8 @@ fn op_of(req: &BrickReq, change: u64) -> Option<&StoreOp>
 
 /// The store op of an input that is the op of a change in a graph.
 pub(crate) fn op_asked(input: &Input, graph: usize, change: u64) -> Option<&StoreOp>
-    ensures { IfSome result (λ o. IsOpIn graph change o.now input.now) }
+    ensures found { IfSome result (λ o. IsOpIn graph change o.now input.now) }
+    ensures none { IfNone result ((o : Op) → IsOpIn graph change o input.now → ⊥) }
 {
     match input {
         Input::Request { graph: of, req, .. } => {
@@ -174,7 +183,8 @@ fn post_in(
     graph: usize,
     change: u64,
 ) -> Result<Option<u64>, AllocError>
-    ensures { IfOk result (λ found. IfSome found (λ wind. IsPostOn wind graph change bytes.now)) }
+    ensures found { IfOk result (λ found. IfSome found (λ wind. IsPostOn wind graph change bytes.now)) }
+    ensures complete { IfOk result (λ found. (wind : ℕ) (post : IsPostOn wind graph change bytes.now) → IsInput (Request wind graph (Post change post.cells post.mask)) → found ≡ Some wind) }
 {
     match whole_input(alloc, bytes)? {
         Some(input) => {
@@ -208,7 +218,8 @@ pub(crate) fn is_posted(
     graph: usize,
     change: u64,
 ) -> Result<bool, AllocError>
-    ensures { IfOk result (λ yes. yes ≡ true → IsPosted log.now bricks.now bearer.brick bearer.post call graph change bearer.op.event) }
+    ensures sound { IfOk result (λ yes. yes ≡ true → IsPosted log.now bricks.now bearer.brick bearer.post call graph change bearer.op.event) }
+    ensures complete { IfOk result (λ yes. IsPostedThere log.now bricks.now bearer.brick bearer.post call graph change bearer.op.event → yes ≡ true) }
 {
     let Some(bytes) = input_at(bricks, bearer.brick, bearer.post.taken) else {
         return Ok(false);

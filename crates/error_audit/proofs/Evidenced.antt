@@ -15,9 +15,11 @@ use Rattle.mount_log.specs.declared.logs.Log.{Log}
 use Rattle.mount_log.specs.declared.logs.ReplyLine.{ReplyLine}
 use Rattle.mount_log.specs.CallGraphs.{call_at, IsCallAt}
 use Rattle.error_audit.specs.Evidence.{HaveNumbers}
+use Rattle.error_audit.specs.Finding.{span_at}
 use Rattle.error_audit.specs.IoCauses.{AreTables, IsPlain}
 use Rattle.error_audit.specs.Opened.{openings_of, openings_to}
 use Rattle.mount_log.specs.declared.call_graphs.CallAt.{CallAt}
+use Rattle.error_audit.specs.declared.losses.Span.{Span}
 use Rattle.error_audit.specs.declared.tables.Tables.{Tables}
 use Rattle.mount_log.proofs.Callings.{call_is}
 use Rattle.error_audit.proofs.Different.{all_at}
@@ -52,3 +54,11 @@ module _ (script : Script) (plans : List Plan) (log : Log) where
 
   pub all_caused : AllByRecursion (λ (r : ReplyLine). IsCaused script plans log r r.answer) log.replies → AreCaused script plans log
   all_caused all k reply is = all_at (λ (r : ReplyLine). IsCaused script plans log r r.answer) log.replies k reply all is
+
+-- ---- the graph and the submission of a call
+
+abbrev span_made : ℕ → ℕ → Span
+span_made graph since = record { graph = graph; since = since }
+
+pub same_span : (graph since : ℕ) (at : CallAt) → graph ≡ at.graph → since ≡ at.event → ◌≡◌ {A = Option Span} (Some (record { graph = graph; since = since })) (Some (span_at at))
+same_span graph since at graph_is since_is = ap (λ (s : Span). Some s) (ap (λ (g : ℕ). span_made g since) graph_is ∙ ap (λ (e : ℕ). span_made at.graph e) since_is)

@@ -24,7 +24,7 @@ granted log call until from cells asked brick at wind rows output le lock same c
 }
 
 module _ {A B : Type 0} (R : A → B → Type 0) where
-  zip_push : (xs : List A) (ys : List B) (x : A) (y : B) → AllZip R xs ys → R x y → AllZip R (xs ++ x ∷ []) (ys ++ y ∷ [])
+  pub zip_push : (xs : List A) (ys : List B) (x : A) (y : B) → AllZip R xs ys → R x y → AllZip R (xs ++ x ∷ []) (ys ++ y ∷ [])
   zip_push [] [] x y all own = (own, record {})
   zip_push [] (z ∷ ys) x y all own = absurd all
   zip_push (w ∷ xs) [] x y all own = absurd all

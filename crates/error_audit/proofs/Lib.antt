@@ -6,3 +6,5 @@ pub mod Evidenced
 pub mod Locking
 pub mod Granting
 pub mod Sourcing
+pub mod Searching
+pub mod Unreached

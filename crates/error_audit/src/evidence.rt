@@ -1,4 +1,6 @@
-//! Finds where the evidence of I/O errors is in a log. Nothing is promised of it: what it finds is tested elsewhere.
+//! Finds where the evidence of I/O errors is in a log, by clues to it. What it finds is tested elsewhere.
+ghost use Rattle.std.specs.Prelude.{◌≡◌, None, map};
+ghost use Rattle.error_audit.specs.code.Searches.{replies_to, ends_at, marks_at, is_of, is_later, is_last_so_far, last_end, is_to, last_with, closed_until, moment_behind, loss_of, out_of};
 
 use crate::brick_replies::ReplyAt;
 use crate::connections::Opening;
@@ -35,7 +37,9 @@ impl Clues {
     }
 
     /// The replies to a call that were found.
-    pub fn of(&self, call: u32) -> &[Found] {
+    pub fn of(&self, call: u32) -> &[Found]
+        ensures { result.now ≡ replies_to (map (λ l. l.items) self.now.replies.items) call }
+    {
         match self.replies.get(call as usize) {
             Some(found) => found.as_slice(),
             None => &[],
@@ -43,7 +47,9 @@ impl Clues {
     }
 
     /// The places at which a change of these cells may have been marked, by the first of them.
-    pub fn marks_of(&self, cells: &[Cell]) -> &[usize] {
+    pub fn marks_of(&self, cells: &[Cell]) -> &[usize]
+        ensures { result.now ≡ marks_at (λ l. l.items) self.now.marks.entries cells.now }
+    {
         let Some(cell) = cells.first() else {
             return &[];
         };
@@ -53,38 +59,72 @@ impl Clues {
         }
     }
 
-    // The last end of a graph's connections to a brick up to an event.
-    fn last_end(&self, graph: u32, brick: u8, until: u64) -> Option<End> {
-        let ends = self.ends.get(brick as usize)?;
-        let mut last = None;
-        for end in ends {
-            if is_later(*end, last) && end.event <= until && is_of(*end, graph) {
-                last = Some(*end);
-            }
+    // The ends of a brick's connections.
+    fn ends_of(&self, brick: u8) -> &[End]
+        ensures { result.now ≡ ends_at (map (λ l. l.items) self.now.ends.items) brick }
+    {
+        match self.ends.get(brick as usize) {
+            Some(ends) => ends.as_slice(),
+            None => &[],
         }
-        last
     }
 }
 
-fn is_of(end: End, graph: u32) -> bool {
+// ---- the ends of connections
+
+fn is_of(end: End, graph: u32) -> bool
+    ensures { result ≡ is_of end.by graph }
+{
     match end.by {
         Some(sent) => sent.graph == graph,
         None => true,
     }
 }
 
-fn is_later(end: End, last: Option<End>) -> bool {
+fn is_later(end: End, last: Option<End>) -> bool
+    ensures { result ≡ is_later end last }
+{
     match last {
         Some(last) => end.event >= last.event,
         None => true,
     }
 }
 
+// Whether an end is one of a graph up to an event, and no earlier than the last one so far.
+fn is_last_so_far(end: End, last: Option<End>, graph: u32, until: u64) -> bool
+    ensures { result ≡ is_last_so_far end last graph until }
+{
+    is_later(end, last) && (end.event <= until && is_of(end, graph))
+}
+
+// The last of some ends that is one of a graph, up to an event.
+fn last_end(ends: &[End], graph: u32, until: u64) -> Option<End>
+    ensures { result ≡ last_end ends.now graph until None }
+{
+    let mut last = None;
+    for end in ends {
+        if is_last_so_far(*end, last, graph, until) {
+            last = Some(*end);
+        }
+    }
+    last
+}
+
+// ---- moments
+
+fn is_to(opening: &Opening, graph: u32, brick: u8) -> bool
+    ensures { result ≡ is_to opening.now graph brick }
+{
+    opening.brick == brick && opening.graph == graph
+}
+
 // The last event up to which a connection with this number is the last one of a graph to a brick.
-fn last_with(openings: &[Opening], graph: u32, brick: u8, number: u32, until: u64) -> u64 {
+fn last_with(openings: &[Opening], graph: u32, brick: u8, number: u32, until: u64) -> u64
+    ensures { result ≡ last_with openings.now graph brick number until 0 }
+{
     let mut count = 0u32;
     for opening in openings {
-        if opening.brick != brick || opening.graph != graph {
+        if !is_to(opening, graph, brick) {
             continue;
         }
         if count == number {
@@ -96,13 +136,25 @@ fn last_with(openings: &[Opening], graph: u32, brick: u8, number: u32, until: u6
 }
 
 // The last event before a further connection was opened behind an end.
-fn closed_until(openings: &[Opening], graph: u32, brick: u8, end: u64, until: u64) -> u64 {
+fn closed_until(openings: &[Opening], graph: u32, brick: u8, end: u64, until: u64) -> u64
+    ensures { result ≡ closed_until openings.now graph brick end until }
+{
     for opening in openings {
-        if opening.brick == brick && opening.graph == graph && opening.event > end {
+        if is_to(opening, graph, brick) && opening.event > end {
             return until.min(opening.event - 1);
         }
     }
     until
+}
+
+// The last moment, up to the one at which a brick was found to be out, before a further connection was opened behind an end.
+fn moment_behind(openings: &[Opening], graph: u32, brick: u8, found: u64, end: Option<End>) -> u64
+    ensures { result ≡ moment_behind openings.now graph brick found end }
+{
+    match end {
+        Some(end) => closed_until(openings, graph, brick, end.event, found),
+        None => found,
+    }
 }
 
 /// How a brick was lost to a graph up to an event, with this number of its last connection.
@@ -112,19 +164,20 @@ pub fn find_loss(
     span: Span,
     until: u64,
     pair: &(u8, u32),
-) -> Loss {
+) -> Loss
+    ensures { result ≡ loss_of openings.now (ends_at (map (λ l. l.items) clues.now.ends.items) pair.now.0) span.graph pair.now.0 pair.now.1 until }
+{
     let found = last_with(openings, span.graph, pair.0, pair.1, until);
-    let end = clues.last_end(span.graph, pair.0, found);
-    let moment = match end {
-        Some(end) => closed_until(openings, span.graph, pair.0, end.event, found),
-        None => found,
-    };
+    let end = last_end(clues.ends_of(pair.0), span.graph, found);
+    let moment = moment_behind(openings, span.graph, pair.0, found, end);
     Loss { moment, found, end }
 }
 
 /// How a brick was lost to a graph up to an event, by the last moment at which it was without a connection.
-pub fn find_out(openings: &[Opening], clues: &Clues, span: Span, until: u64, brick: u8) -> Loss {
-    match clues.last_end(span.graph, brick, until) {
+pub fn find_out(openings: &[Opening], clues: &Clues, span: Span, until: u64, brick: u8) -> Loss
+    ensures { result ≡ out_of openings.now (ends_at (map (λ l. l.items) clues.now.ends.items) brick) span.graph brick until }
+{
+    match last_end(clues.ends_of(brick), span.graph, until) {
         Some(end) => {
             let moment = closed_until(openings, span.graph, brick, end.event, until);
             Loss {

@@ -1,6 +1,6 @@
 //! What the bricks of a set showed in the last lock phase of a call, and which of them were out.
 ghost use Rattle.std.specs.Prelude.{◌≡◌, ◌↔◌, List, IsTrue, true, Some, None, map, IfOk, IfSome, IsSome};
-ghost use Rattle.std.specs.List.{AllZip};
+ghost use Rattle.std.specs.List.{AllByRecursion, AllZip};
 ghost use Rattle.fop_types.specs.declared.contents.Row.{Row as Shown};
 ghost use Rattle.fop_types.specs.declared.messages.BrickRep.TheVariants as rep;
 ghost use Rattle.fop_types.specs.declared.messages.DoneArm.TheVariants as done;
@@ -9,6 +9,8 @@ ghost use Rattle.mount_log.specs.Connections.{graph_of_call};
 ghost use Rattle.mount_log.specs.Submissions.{submitted_at};
 ghost use Rattle.error_audit.specs.Evidence.{HaveNumbers};
 ghost use Rattle.error_audit.specs.AtPlaces.{HasFaultAmong};
+ghost use Rattle.error_audit.specs.Finding.{WasLost, IsFoundOut, IsFoundGranted, IsFoundShown};
+ghost use Rattle.error_audit.specs.code.Searches.{named, has_row_of};
 ghost use Rattle.error_audit.specs.Showing.{AreRowsOf, HaveRows, IsOneMore, AreRowsAt, HaveRowsAt, IsGrantedAt, IsGrantAmong};
 
 use crate::brick_replies::{ReplyAt, arrived, is_faulted, is_wind_of};
@@ -165,7 +167,9 @@ fn has_failed(
 }
 
 // The number as it is named, 0 where it has no name.
-fn number_of(count: usize) -> u32 {
+fn number_of(count: usize) -> u32
+    ensures { result ≡ named count }
+{
     if count <= 4294967295 { count as u32 } else { 0 }
 }
 
@@ -181,7 +185,8 @@ fn was_lost(
     requires numbers { HaveNumbers log.now span.graph (map (λ l. l.items) tables.now.openings.items) }
     requires graph { span.graph ≡ graph_of_call log.now reply.now.call }
     requires since { span.since ≡ submitted_at log.now reply.now.call }
-    ensures { IfOk result (λ yes. yes ≡ true → IsOut log.now plan.now reply.now.call reply.now.event brick) }
+    ensures sound { IfOk result (λ yes. yes ≡ true → IsOut log.now plan.now reply.now.call reply.now.event brick) }
+    ensures exact { IfOk result (λ yes. IsTrue yes ↔ WasLost log.now tables.now plan.now span reply.now.event brick) }
 {
     let openings = openings_at(tables.openings.as_slice(), brick);
     let loss = find_out(openings, &tables.clues, span, reply.event, brick);
@@ -203,7 +208,8 @@ fn is_out(
     requires numbers { HaveNumbers log.now span.graph (map (λ l. l.items) tables.now.openings.items) }
     requires graph { span.graph ≡ graph_of_call log.now reply.now.call }
     requires since { span.since ≡ submitted_at log.now reply.now.call }
-    ensures { IfOk result (λ yes. yes ≡ true → IsOut log.now plan.now reply.now.call reply.now.event brick) }
+    ensures sound { IfOk result (λ yes. yes ≡ true → IsOut log.now plan.now reply.now.call reply.now.event brick) }
+    ensures exact { IfOk result (λ yes. IsTrue yes ↔ IsFoundOut log.now tables.now plan.now span reply.now.call reply.now.event brick) }
 {
     if was_lost(alloc, log, tables, plan, reply, span, brick)? {
         return Ok(true);
@@ -224,7 +230,8 @@ fn push_rows(
     brick: u8,
     shown: &mut Vec<Option<Seq<Row>>>,
 ) -> Result<bool, AllocError>
-    ensures { IfOk result (λ yes. yes ≡ true → IsOneMore (HasShown log.now plan.now reply.now.call reply.now.event phase.now.from phase.now.cells brick) shown.old.items shown.new.items) }
+    ensures sound { IfOk result (λ yes. yes ≡ true → IsOneMore (HasShown log.now plan.now reply.now.call reply.now.event phase.now.from phase.now.cells brick) shown.old.items shown.new.items) }
+    ensures complete { IfOk result (λ yes. IsFoundGranted log.now tables.now reply.now.call reply.now.event phase.now.from phase.now.cells brick → yes ≡ true) }
 {
     let lock = last_lock(tables.locks.as_slice(), reply.call, brick);
     let found = tables.clues.of(reply.call);
@@ -251,7 +258,8 @@ fn push_out(
     requires numbers { HaveNumbers log.now span.graph (map (λ l. l.items) tables.now.openings.items) }
     requires graph { span.graph ≡ graph_of_call log.now reply.now.call }
     requires since { span.since ≡ submitted_at log.now reply.now.call }
-    ensures { IfOk result (λ yes. yes ≡ true → IsOneMore (HasShown log.now plan.now reply.now.call reply.now.event phase.now.from phase.now.cells brick) shown.old.items shown.new.items) }
+    ensures sound { IfOk result (λ yes. yes ≡ true → IsOneMore (HasShown log.now plan.now reply.now.call reply.now.event phase.now.from phase.now.cells brick) shown.old.items shown.new.items) }
+    ensures complete { IfOk result (λ yes. IsFoundOut log.now tables.now plan.now span reply.now.call reply.now.event brick → yes ≡ true) }
 {
     let _ = phase;
     if !is_out(alloc, log, tables, plan, reply, span, brick)? {
@@ -276,7 +284,8 @@ fn push_shown(
     requires numbers { HaveNumbers log.now span.graph (map (λ l. l.items) tables.now.openings.items) }
     requires graph { span.graph ≡ graph_of_call log.now reply.now.call }
     requires since { span.since ≡ submitted_at log.now reply.now.call }
-    ensures { IfOk result (λ yes. yes ≡ true → IsOneMore (HasShown log.now plan.now reply.now.call reply.now.event phase.now.from phase.now.cells brick) shown.old.items shown.new.items) }
+    ensures sound { IfOk result (λ yes. yes ≡ true → IsOneMore (HasShown log.now plan.now reply.now.call reply.now.event phase.now.from phase.now.cells brick) shown.old.items shown.new.items) }
+    ensures complete { IfOk result (λ yes. IsFoundShown log.now tables.now plan.now span reply.now.call reply.now.event phase.now.from phase.now.cells rows.now brick → yes ≡ true) }
 {
     if has_row_of(rows, brick) {
         let yes = push_rows(alloc, log, tables, plan, reply, phase, brick, shown)?;
@@ -287,7 +296,9 @@ fn push_shown(
 }
 
 // Whether a row is a brick's.
-fn has_row_of(rows: &[SplitRow], brick: u8) -> bool {
+fn has_row_of(rows: &[SplitRow], brick: u8) -> bool
+    ensures { result ≡ has_row_of rows.now brick }
+{
     for row in rows {
         if row.brick == brick {
             return true;
@@ -314,7 +325,8 @@ pub fn shown_in(
     requires numbers { HaveNumbers log.now span.graph (map (λ l. l.items) tables.now.openings.items) }
     requires graph { span.graph ≡ graph_of_call log.now reply.now.call }
     requires since { span.since ≡ submitted_at log.now reply.now.call }
-    ensures { IfOk result (λ found. IfSome found (λ shown. AllZip (HasShown log.now plan.now reply.now.call reply.now.event phase.now.from phase.now.cells) plan.now.bricks shown.items)) }
+    ensures sound { IfOk result (λ found. IfSome found (λ shown. AllZip (HasShown log.now plan.now reply.now.call reply.now.event phase.now.from phase.now.cells) plan.now.bricks shown.items)) }
+    ensures complete { IfOk result (λ found. AllByRecursion (IsFoundShown log.now tables.now plan.now span reply.now.call reply.now.event phase.now.from phase.now.cells rows.now) plan.now.bricks → IsSome found) }
 {
     let mut shown = Vec::new(alloc);
     for brick in plan.bricks.as_slice() {

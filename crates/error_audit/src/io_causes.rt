@@ -1,6 +1,9 @@
 //! Whether each I/O error has its cause.
-ghost use Rattle.std.specs.Prelude.{◌≡◌, ◌≢◌, ◌<◌, ◌≤◌, ◌^◌, ◌↔◌, [], IsTrue, true, map, option_copied, IfOk, IfSome};
+ghost use Rattle.std.specs.Prelude.{◌≡◌, ◌≢◌, ◌<◌, ◌≤◌, ◌^◌, ◌↔◌, [], IsTrue, true, Some, map, option_copied, IfOk, IfSome};
 ghost use Rattle.std.specs.List.{AllByRecursion};
+ghost use Rattle.fop_types.specs.declared.jobs.SetPlan.{SetPlan as Bricks};
+ghost use Rattle.mount_log.specs.declared.call_graphs.CallAt.{CallAt as Called};
+ghost use Rattle.mount_log.specs.CallGraphs.{call_at};
 ghost use Rattle.mount_log.specs.Causes.{IsLost, IsFaulted, IsQuorumLost, IsFault, set_of_call, set_named, HasEvidence, HasCause, IsCaused, AreCaused};
 ghost use Rattle.mount_log.specs.Connections.{graph_of_call};
 ghost use Rattle.mount_log.specs.Submissions.{submitted_at};
@@ -8,6 +11,8 @@ ghost use Rattle.error_audit.specs.AtPlaces.{IsFaultAmong};
 ghost use Rattle.error_audit.specs.Evidence.{HaveNumbers};
 ghost use Rattle.error_audit.specs.IoCauses.{AreTables, IsPlain};
 ghost use Rattle.error_audit.specs.LockTable.{HaveLocks};
+ghost use Rattle.error_audit.specs.Finding.{IsPairLost, AreQuorumLost, AreFaults, IsFound, HasFound, IsReplyFound, span_at};
+ghost use Rattle.error_audit.specs.Never.{IsKnown};
 
 use crate::brick_replies::is_faulted;
 use crate::connections::openings_at;
@@ -38,7 +43,8 @@ fn is_pair_lost(
     requires numbers { HaveNumbers log.now span.graph (map (λ l. l.items) tables.now.openings.items) }
     requires graph { span.graph ≡ graph_of_call log.now reply.now.call }
     requires since { span.since ≡ submitted_at log.now reply.now.call }
-    ensures { IfOk result (λ yes. yes ≡ true → IsLost log.now plan.now reply.now.call reply.now.event pair.now) }
+    ensures sound { IfOk result (λ yes. yes ≡ true → IsLost log.now plan.now reply.now.call reply.now.event pair.now) }
+    ensures exact { IfOk result (λ yes. IsTrue yes ↔ IsPairLost log.now tables.now plan.now span reply.now.event pair.now) }
 {
     let openings = openings_at(tables.openings.as_slice(), pair.0);
     let loss = find_loss(openings, &tables.clues, span, reply.event, pair);
@@ -58,7 +64,8 @@ fn are_lost(
     requires numbers { HaveNumbers log.now span.graph (map (λ l. l.items) tables.now.openings.items) }
     requires graph { span.graph ≡ graph_of_call log.now reply.now.call }
     requires since { span.since ≡ submitted_at log.now reply.now.call }
-    ensures { IfOk result (λ yes. yes ≡ true → AllByRecursion (IsLost log.now plan.now reply.now.call reply.now.event) lost.now) }
+    ensures sound { IfOk result (λ yes. yes ≡ true → AllByRecursion (IsLost log.now plan.now reply.now.call reply.now.event) lost.now) }
+    ensures exact { IfOk result (λ yes. IsTrue yes ↔ AllByRecursion (IsPairLost log.now tables.now plan.now span reply.now.event) lost.now) }
 {
     for pair in lost {
         if !is_pair_lost(alloc, log, tables, plan, reply, span, pair)? {
@@ -80,7 +87,8 @@ fn is_quorum_lost(
     requires numbers { HaveNumbers log.now span.graph (map (λ l. l.items) tables.now.openings.items) }
     requires graph { span.graph ≡ graph_of_call log.now reply.now.call }
     requires since { span.since ≡ submitted_at log.now reply.now.call }
-    ensures { IfOk result (λ yes. yes ≡ true → IsQuorumLost log.now plan.now reply.now.call reply.now.event lost.now) }
+    ensures sound { IfOk result (λ yes. yes ≡ true → IsQuorumLost log.now plan.now reply.now.call reply.now.event lost.now) }
+    ensures exact { IfOk result (λ yes. IsTrue yes ↔ AreQuorumLost log.now tables.now plan.now span reply.now.event lost.now) }
 {
     if !are_rising(lost) || !has_enough(alloc, plan, &[], lost)? {
         return Ok(false);
@@ -151,7 +159,8 @@ fn is_fault(
     requires numbers { HaveNumbers log.now span.graph (map (λ l. l.items) tables.now.openings.items) }
     requires graph { span.graph ≡ graph_of_call log.now reply.now.call }
     requires since { span.since ≡ submitted_at log.now reply.now.call }
-    ensures { IfOk result (λ yes. yes ≡ true → IsFault log.now plan.now reply.now.call reply.now.event faults.now lost.now) }
+    ensures sound { IfOk result (λ yes. yes ≡ true → IsFault log.now plan.now reply.now.call reply.now.event faults.now lost.now) }
+    ensures exact { IfOk result (λ yes. IsTrue yes ↔ AreFaults log.now tables.now plan.now span reply.now.call reply.now.event faults.now lost.now) }
 {
     if !is_some(faults) || !are_rising(faults) || !are_rising(lost) {
         return Ok(false);
@@ -191,7 +200,8 @@ fn has_evidence(
     requires locks { HaveLocks log.now (map (λ l. l.items) tables.now.locks.items) }
     requires graph { span.graph ≡ graph_of_call log.now reply.now.call }
     requires since { span.since ≡ submitted_at log.now reply.now.call }
-    ensures { IfOk result (λ yes. yes ≡ true → HasEvidence log.now plan.now reply.now.call reply.now.event error.now) }
+    ensures sound { IfOk result (λ yes. yes ≡ true → HasEvidence log.now plan.now reply.now.call reply.now.event error.now) }
+    ensures complete { IfOk result (λ yes. IsFound log.now tables.now plan.now span reply.now.call reply.now.event error.now → yes ≡ true) }
 {
     match error {
         IoError::Quorum { lost, .. } => {
@@ -232,6 +242,7 @@ fn span_of(script: &Script, log: &Log, tables: &Tables, reply: &ReplyLine) -> Op
     ensures since { IfSome result (λ span. span.since ≡ submitted_at log.now reply.now.call) }
     ensures from_one { IfSome result (λ span. 1 ≤ span.graph) }
     ensures numbers { IfSome result (λ span. HaveNumbers log.now span.graph (map (λ l. l.items) tables.now.openings.items)) }
+    ensures complete { (at : Called) → call_at tables.now.calls.items reply.now.call ≡ Some at → at.graph < 2 ^ 32 → result ≡ Some (span_at at) }
 {
     let _ = script;
     let _ = log;
@@ -284,7 +295,8 @@ fn has_cause_in(
     requires since { span.since ≡ submitted_at log.now reply.now.call }
     requires from_one { 1 ≤ span.graph }
     requires numbers { HaveNumbers log.now span.graph (map (λ l. l.items) tables.now.openings.items) }
-    ensures { IfOk result (λ yes. yes ≡ true → HasCause script.now plans.now log.now reply.now error.now) }
+    ensures sound { IfOk result (λ yes. yes ≡ true → HasCause script.now plans.now log.now reply.now error.now) }
+    ensures complete { IfOk result (λ yes. (plan : Bricks) → set_of_call script.now plans.now log.now reply.now.call (set_named error.now) ≡ Some plan → IsFound log.now tables.now plan span reply.now.call reply.now.event error.now → yes ≡ true) }
 {
     let Some(plan) = plan_of(script, plans, log, tables, reply, span, set_named(error)) else {
         return Ok(false);
@@ -303,7 +315,8 @@ fn has_cause(
     error: &IoError,
 ) -> Result<bool, AllocError>
     requires { AreTables script.now log.now tables.now }
-    ensures { IfOk result (λ yes. yes ≡ true → HasCause script.now plans.now log.now reply.now error.now) }
+    ensures sound { IfOk result (λ yes. yes ≡ true → HasCause script.now plans.now log.now reply.now error.now) }
+    ensures complete { IfOk result (λ yes. HasFound script.now plans.now log.now tables.now reply.now error.now → yes ≡ true) }
 {
     let Some(span) = span_of(script, log, tables, reply) else {
         return Ok(false);
@@ -321,7 +334,8 @@ fn is_caused(
     reply: &ReplyLine,
 ) -> Result<bool, AllocError>
     requires { AreTables script.now log.now tables.now }
-    ensures { IfOk result (λ yes. yes ≡ true → IsCaused script.now plans.now log.now reply.now reply.now.answer) }
+    ensures sound { IfOk result (λ yes. yes ≡ true → IsCaused script.now plans.now log.now reply.now reply.now.answer) }
+    ensures complete { IfOk result (λ yes. IsReplyFound script.now plans.now log.now tables.now reply.now reply.now.answer → yes ≡ true) }
 {
     match &reply.answer {
         Answer::Io(error) => {
@@ -341,7 +355,8 @@ fn are_caused(
     replies: &[ReplyLine],
 ) -> Result<bool, AllocError>
     requires { AreTables script.now log.now tables.now }
-    ensures { IfOk result (λ yes. yes ≡ true → AllByRecursion (λ reply. IsCaused script.now plans.now log.now reply reply.answer) replies.now) }
+    ensures sound { IfOk result (λ yes. yes ≡ true → AllByRecursion (λ reply. IsCaused script.now plans.now log.now reply reply.answer) replies.now) }
+    ensures complete { IfOk result (λ yes. AllByRecursion (λ reply. IsReplyFound script.now plans.now log.now tables.now reply reply.answer) replies.now → yes ≡ true) }
 {
     for reply in replies {
         if !is_caused(alloc, script, plans, log, tables, reply)? {
@@ -390,7 +405,8 @@ fn all_caused(
     tables: &Tables,
 ) -> Result<bool, AllocError>
     requires { AreTables script.now log.now tables.now }
-    ensures { IfOk result (λ yes. yes ≡ true → AreCaused script.now plans.now log.now) }
+    ensures sound { IfOk result (λ yes. yes ≡ true → AreCaused script.now plans.now log.now) }
+    ensures complete { IfOk result (λ yes. AllByRecursion (λ reply. IsReplyFound script.now plans.now log.now tables.now reply reply.answer) log.now.replies → yes ≡ true) }
 {
     let replies = log.replies.as_slice();
     let yes = are_caused(alloc, script, plans, log, tables, replies)?;
@@ -409,7 +425,9 @@ pub fn io_errors_are_caused(
     plans: &[Plan],
     log: &Log,
 ) -> Result<bool, AllocError>
-    ensures { IfOk result (λ yes. yes ≡ true → AreCaused script.now plans.now log.now) }
+    ensures sound { IfOk result (λ yes. yes ≡ true → AreCaused script.now plans.now log.now) }
+    ensures plain { IfOk result (λ yes. AllByRecursion (λ reply. IsPlain reply.answer) log.now.replies → yes ≡ true) }
+    ensures never { IfOk result (λ yes. AllByRecursion (λ reply. IsKnown script.now plans.now log.now reply reply.answer) log.now.replies → yes ≡ true) }
 {
     if have_none(script, plans, log) {
         return Ok(true);

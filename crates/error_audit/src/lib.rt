@@ -8,10 +8,11 @@
 //!   split    in the call's last lock phase a quorum of bricks showed rows by which there is no source
 //! ```
 //!
-//! Evidence is searched for without a contract (`clue_notes`, `evidence`, `split_clues`). What was found is then checked where
-//! it is, and the audit's `true` rests on that alone. It goes through the log a fixed number of times. As each audit of
-//! `log_audit`, it knows nothing of how the log came about: true says that its definition holds of the log; false alone says
-//! nothing.
+//! Clues to the evidence are noted without a contract (`clue_notes`, `wanted_winds`). Where they lead (`evidence`,
+//! `split_clues`) is then checked, and the audit's `true` rests on that alone. It goes through the log a fixed number of times. As
+//! each audit of `log_audit`, it knows nothing of how the log came about: true says that its definition holds of the log; false
+//! says that where the clues lead there is no evidence. Where no reply is an I/O error, or each names bricks to which the call's
+//! graph had opened no connection, the answer is true.
 #![tactic(auto)]
 
 mod brick_replies;

@@ -1,13 +1,14 @@
 //! Whether a call was answered by the rows of its last lock phase, where they leave no source.
 ghost use Rattle.std.specs.Prelude.{◌≡◌, ◌≤◌, ◌↔◌, IsTrue, true, is_some, length, map, IfOk};
 ghost use Rattle.std.specs.List.{AllZip, count_by};
-ghost use Rattle.mount_log.specs.Causes.{HasShown, IsSplit};
+ghost use Rattle.mount_log.specs.Causes.{HasShown, HasNoSource, IsSplit, all_rows};
 ghost use Rattle.mount_log.specs.Connections.{graph_of_call};
 ghost use Rattle.mount_log.specs.Locks.{IsLastPhase};
 ghost use Rattle.mount_log.specs.Submissions.{submitted_at};
 ghost use Rattle.error_audit.specs.Evidence.{HaveNumbers};
 ghost use Rattle.error_audit.specs.LockTable.{HaveLocks};
-ghost use Rattle.error_audit.specs.Showing.{IsSized};
+ghost use Rattle.error_audit.specs.Finding.{marks_in, IsAnswered, IsSplitIn, IsSplitFound};
+ghost use Rattle.error_audit.specs.Showing.{IsSized, AreMarks};
 
 use crate::grants::{LockPhase, shown_in};
 use crate::lock_phases::is_last_phase;
@@ -42,7 +43,8 @@ fn is_answered_at(
     requires shown { AllZip (HasShown log.now plan.now reply.now.call reply.now.event phase.now.from phase.now.cells) plan.now.bricks shown.now }
     requires sized { IsSized (length plan.now.bricks) plan.now.q }
     requires quorum { plan.now.q ≤ count_by is_some shown.now }
-    ensures { IfOk result (λ yes. yes ≡ true → IsSplit log.now plan.now reply.now.call reply.now.event rows.now) }
+    ensures sound { IfOk result (λ yes. yes ≡ true → IsSplit log.now plan.now reply.now.call reply.now.event rows.now) }
+    ensures complete { IfOk result (λ yes. rows.now ≡ all_rows plan.now.bricks shown.now phase.now.cells places.now → HasNoSource log.now plan.now phase.now.from phase.now.cells shown.now places.now → AreMarks log.now plan.now phase.now.from phase.now.cells (marks_in tables.now phase.now.cells) → yes ≡ true) }
 {
     let _ = reply;
     let cells = phase.cells.as_slice();
@@ -67,7 +69,8 @@ fn is_answered(
 ) -> Result<bool, AllocError>
     requires phase { IsLastPhase log.now plan.now reply.now.call phase.now.from }
     requires shown { AllZip (HasShown log.now plan.now reply.now.call reply.now.event phase.now.from phase.now.cells) plan.now.bricks shown.now }
-    ensures { IfOk result (λ yes. yes ≡ true → IsSplit log.now plan.now reply.now.call reply.now.event rows.now) }
+    ensures sound { IfOk result (λ yes. yes ≡ true → IsSplit log.now plan.now reply.now.call reply.now.event rows.now) }
+    ensures complete { IfOk result (λ yes. IsSized (length plan.now.bricks) plan.now.q → AreMarks log.now plan.now phase.now.from phase.now.cells (marks_in tables.now phase.now.cells) → IsAnswered log.now plan.now phase.now rows.now shown.now → yes ≡ true) }
 {
     if !is_sized(plan) || !are_quorum(plan, shown) {
         return Ok(false);
@@ -103,7 +106,8 @@ fn is_split_in(
     requires locks { HaveLocks log.now (map (λ l. l.items) tables.now.locks.items) }
     requires graph { span.graph ≡ graph_of_call log.now reply.now.call }
     requires since { span.since ≡ submitted_at log.now reply.now.call }
-    ensures { IfOk result (λ yes. yes ≡ true → IsSplit log.now plan.now reply.now.call reply.now.event rows.now) }
+    ensures sound { IfOk result (λ yes. yes ≡ true → IsSplit log.now plan.now reply.now.call reply.now.event rows.now) }
+    ensures complete { IfOk result (λ yes. IsSplitIn log.now tables.now plan.now span reply.now.call reply.now.event phase.now rows.now → yes ≡ true) }
 {
     if !is_last_phase(log, plan, tables.locks.as_slice(), reply.call, phase.from) {
         return Ok(false);
@@ -145,7 +149,8 @@ pub fn is_split(
     requires locks { HaveLocks log.now (map (λ l. l.items) tables.now.locks.items) }
     requires graph { span.graph ≡ graph_of_call log.now reply.now.call }
     requires since { span.since ≡ submitted_at log.now reply.now.call }
-    ensures { IfOk result (λ yes. yes ≡ true → IsSplit log.now plan.now reply.now.call reply.now.event rows.now) }
+    ensures sound { IfOk result (λ yes. yes ≡ true → IsSplit log.now plan.now reply.now.call reply.now.event rows.now) }
+    ensures complete { IfOk result (λ yes. IsSplitFound log.now tables.now plan.now span reply.now.call reply.now.event rows.now → yes ≡ true) }
 {
     let found = find_phase(alloc, log, tables.locks.as_slice(), reply.call, rows)?;
     match found {

@@ -1,0 +1,2 @@
+-- The functions of the code, one for one.
+pub mod Searches
