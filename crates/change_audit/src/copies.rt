@@ -1,5 +1,5 @@
 //! The audit of copies.
-ghost use Rattle.std.specs.Prelude.{◌≡◌, ◌≢◌, true, length, Contains, Some, option_copied, slice_get, IfOk, IfSome};
+ghost use Rattle.std.specs.Prelude.{◌≡◌, ◌≢◌, [], true, length, Contains, Some, option_copied, slice_get, IfOk, IfSome};
 ghost use Rattle.fop_types.specs.declared.copy_jobs.CopyRecord.{CopyRecord as Copied};
 ghost use Rattle.change_audit.specs.CallGraphs.{AreGraphsOf};
 ghost use Rattle.change_audit.specs.Claims.{KeepClaims};
@@ -24,6 +24,7 @@ use std::alloc::{AllocError, Global};
 fn has_sink(plan: &SetPlan, copy: &CopyRecord) -> bool
     ensures sink { result ≡ true → Contains plan.now.bricks copy.now.sink }
     ensures differ { result ≡ true → copy.now.source ≢ copy.now.sink }
+    ensures complete { Contains plan.now.bricks copy.now.sink → copy.now.source ≢ copy.now.sink → result ≡ true }
 {
     copy.source != copy.sink && has_member(plan, copy.sink)
 }
@@ -148,6 +149,7 @@ fn take_copy(
 fn are_numbered(log: &Log) -> bool
     ensures copied { result ≡ true → length log.now.copied ≡ length log.now.copies }
     ensures skipped { result ≡ true → length log.now.skipped ≡ length log.now.skips }
+    ensures complete { length log.now.copied ≡ length log.now.copies → length log.now.skipped ≡ length log.now.skips → result ≡ true }
 {
     log.copied.len() == log.copies.len() && log.skipped.len() == log.skips.len()
 }
@@ -165,7 +167,8 @@ fn each_is_made(
     requires graphs { AreGraphsOf script.now log.now graphs.now }
     requires copied { length log.now.copied ≡ length log.now.copies }
     requires skipped { length log.now.skipped ≡ length log.now.skips }
-    ensures { IfOk result (λ yes. yes ≡ true → CopiesAreMade script.now plans.now log.now bricks.now) }
+    ensures sound { IfOk result (λ yes. yes ≡ true → CopiesAreMade script.now plans.now log.now bricks.now) }
+    ensures none { IfOk result (λ yes. log.now.copies ≡ [] → yes ≡ true) }
 {
     let mut claims = Claims::new(alloc);
     for k in 0..log.copies.len() {
@@ -197,7 +200,8 @@ fn are_all_made(
     requires graphs { AreGraphsOf script.now log.now graphs.now }
     requires copied { length log.now.copied ≡ length log.now.copies }
     requires skipped { length log.now.skipped ≡ length log.now.skips }
-    ensures { IfOk result (λ yes. yes ≡ true → CopiesAreMade script.now plans.now log.now bricks.now) }
+    ensures sound { IfOk result (λ yes. yes ≡ true → CopiesAreMade script.now plans.now log.now bricks.now) }
+    ensures none { IfOk result (λ yes. log.now.copies ≡ [] → yes ≡ true) }
 {
     let mut found = find_replacements(alloc, log, bricks)?;
     let yes = each_is_made(alloc, script, plans, log, bricks, graphs, &mut found);
@@ -219,7 +223,8 @@ pub fn copies_are_made(
     log: &Log,
     bricks: &[Brick],
 ) -> Result<bool, AllocError>
-    ensures { IfOk result (λ yes. yes ≡ true → CopiesAreMade script.now plans.now log.now bricks.now) }
+    ensures sound { IfOk result (λ yes. yes ≡ true → CopiesAreMade script.now plans.now log.now bricks.now) }
+    ensures none { IfOk result (λ yes. log.now.copies ≡ [] → length log.now.copied ≡ length log.now.copies → length log.now.skipped ≡ length log.now.skips → yes ≡ true) }
 {
     if !are_numbered(log) {
         return Ok(false);

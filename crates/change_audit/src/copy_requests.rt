@@ -1,5 +1,5 @@
 //! The fetch and the replacement of a copy, in journals, and what arrived as their answers.
-ghost use Rattle.std.specs.Prelude.{◌≡◌, true, IfOk, IfSome};
+ghost use Rattle.std.specs.Prelude.{◌≡◌, ◌↔◌, IsTrue, true, IfOk, IfSome};
 ghost use Rattle.fop_types.specs.declared.messages.BrickRep.TheVariants.{Done};
 ghost use Rattle.fop_types.specs.declared.messages.BrickReq.TheVariants.{Fetch};
 ghost use Rattle.fop_types.specs.declared.messages.DoneArm.TheVariants.{Content as Shown};
@@ -90,13 +90,13 @@ fn asked_replacement(
 
 /// Whether two cells are the same.
 pub fn is_cell(cell: &Cell, other: &Cell) -> bool
-    ensures { result ≡ true → cell.now ≡ other.now }
+    ensures { IsTrue result ↔ (cell.now ≡ other.now) }
 {
     *cell == *other
 }
 
 fn is_fetch_of(req: &BrickReq, of: &Cell) -> bool
-    ensures { result ≡ true → req.now ≡ Fetch 0 of.now }
+    ensures { IsTrue result ↔ (req.now ≡ Fetch 0 of.now) }
 {
     match req {
         BrickReq::Fetch { fd, cell } => *fd == 0 && is_cell(cell, of),
@@ -105,7 +105,7 @@ fn is_fetch_of(req: &BrickReq, of: &Cell) -> bool
 }
 
 fn is_fetch_on(input: &Input, on: u64, at: u32, of: &Cell) -> bool
-    ensures { result ≡ true → input.now ≡ Request on at (Fetch 0 of.now) }
+    ensures { IsTrue result ↔ (input.now ≡ Request on at (Fetch 0 of.now)) }
 {
     match input {
         Input::Request { wind, graph, req } => {
@@ -205,7 +205,7 @@ fn is_reply(
     wind: u64,
     by: &Replacement,
 ) -> Result<bool, AllocError>
-    ensures { IfOk result (λ yes. yes ≡ true → bytes.now ≡ output_text (record { taken = taken; kind = Reply wind (Done (Shown by.now.content by.now.last)) })) }
+    ensures { IfOk result (λ yes. IsTrue yes ↔ (bytes.now ≡ output_text (record { taken = taken; kind = Reply wind (Done (Shown by.now.content by.now.last)) }))) }
 {
     let expected = copy_bytes(alloc, taken, wind, &by.content, by.last)?;
     let yes = bytes == expected.as_slice();

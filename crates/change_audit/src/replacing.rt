@@ -1,8 +1,9 @@
 //! The replacement by which a copy was made.
-ghost use Rattle.std.specs.Prelude.{◌≡◌, ◌+◌, ◌<◌, true, IfOk, IfSome};
+ghost use Rattle.std.specs.Prelude.{◌≡◌, ◌+◌, ◌^◌, ◌<◌, ◌↔◌, IsTrue, true, IfOk, IfSome};
 ghost use Rattle.change_audit.specs.Answered.{IsOpenedIn};
 ghost use Rattle.change_audit.specs.Copied.{IsReplaced};
 ghost use Rattle.change_audit.specs.Copying.{IsConfirmed, IsOfCopy, HasFetch, IsReplacementOf};
+ghost use Rattle.change_audit.specs.Served.{IsOpeningIn};
 
 use crate::copy_finding::Found;
 use crate::copy_requests::{Replacement, confirmed, fetched, is_cell};
@@ -20,7 +21,7 @@ pub struct MadeOn {
 }
 
 fn is_of(by: &Replacement, copy: &CopyRecord) -> bool
-    ensures { result ≡ true → IsOfCopy copy.now by.now }
+    ensures { IsTrue result ↔ IsOfCopy copy.now by.now }
 {
     by.last == copy.last && is_cell(&by.cell, &copy.cell)
 }
@@ -44,7 +45,8 @@ fn has_fetch(
 
 // Whether the wind of a replacement was opened in the event in which the answer to its fetch arrived.
 fn is_in_turn(log: &Log, at: Found, wind: u64) -> bool
-    ensures { result ≡ true → IsOpenedIn log.now.winds at.call wind (at.fetched + 1) }
+    ensures sound { result ≡ true → IsOpenedIn log.now.winds at.call wind (at.fetched + 1) }
+    ensures exact { at.fetched + 1 < 2 ^ 64 → IsTrue result ↔ IsOpeningIn log.now.winds at.opening at.call wind (at.fetched + 1) }
 {
     if at.fetched >= usize::MAX {
         return false;
