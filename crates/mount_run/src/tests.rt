@@ -806,6 +806,12 @@ fn words(alloc: Global, words: &[&'static str]) -> Result<Vec<String>, AllocErro
     Ok(all)
 }
 
+// This status and these bytes are the row's.
+fn end_as_written(rt: &impl Abort, row: &Row, status: u8, written: &[u8]) {
+    assert!(rt; status == row.status, "status of {}", row.name);
+    assert!(rt; written == row.written, "text of {}", row.name);
+}
+
 fn end_as_they_must(rt: &impl Abort, alloc: Global, rows: &[Row]) -> Result<(), Fail> {
     for row in rows {
         let words = words(alloc, row.words)?;
@@ -814,8 +820,7 @@ fn end_as_they_must(rt: &impl Abort, alloc: Global, rows: &[Row]) -> Result<(), 
         let mut rack = Rack::new(alloc);
         let status = top(alloc, words.as_slice(), &mut source, &mut sink, &mut rack);
         end_rack(rack);
-        assert!(rt; status == row.status, "status of {}", row.name);
-        assert!(rt; sink.bytes() == row.written, "text of {}", row.name);
+        end_as_written(rt, row, status, sink.bytes());
     }
     Ok(())
 }
@@ -839,27 +844,51 @@ fn end_by_threads(
             &mut rack,
         );
         end_rack(rack);
-        assert!(rt; status == row.status, "status of {}", row.name);
-        assert!(rt; sink.bytes() == row.written, "text of {}", row.name);
+        end_as_written(rt, row, status, sink.bytes());
     }
     Ok(())
 }
 
 #[test]
-fn rows_end_as_they_must(rt: HostRuntime) -> Result<(), Fail> {
+fn calls_end_as_they_must(rt: HostRuntime) -> Result<(), Fail> {
     let alloc = rt.alloc();
-    for rows in [
-        CALLS.as_slice(),
-        ERRORS.as_slice(),
-        LIMITS.as_slice(),
-        REPLICAS.as_slice(),
-        LOSSES.as_slice(),
-        SETS.as_slice(),
-        CHECKED.as_slice(),
-    ] {
-        end_as_they_must(&rt, alloc, rows)?;
-    }
-    Ok(())
+    end_as_they_must(&rt, alloc, &CALLS)
+}
+
+#[test]
+fn errors_end_as_they_must(rt: HostRuntime) -> Result<(), Fail> {
+    let alloc = rt.alloc();
+    end_as_they_must(&rt, alloc, &ERRORS)
+}
+
+#[test]
+fn limits_end_as_they_must(rt: HostRuntime) -> Result<(), Fail> {
+    let alloc = rt.alloc();
+    end_as_they_must(&rt, alloc, &LIMITS)
+}
+
+#[test]
+fn replicas_end_as_they_must(rt: HostRuntime) -> Result<(), Fail> {
+    let alloc = rt.alloc();
+    end_as_they_must(&rt, alloc, &REPLICAS)
+}
+
+#[test]
+fn losses_end_as_they_must(rt: HostRuntime) -> Result<(), Fail> {
+    let alloc = rt.alloc();
+    end_as_they_must(&rt, alloc, &LOSSES)
+}
+
+#[test]
+fn sets_end_as_they_must(rt: HostRuntime) -> Result<(), Fail> {
+    let alloc = rt.alloc();
+    end_as_they_must(&rt, alloc, &SETS)
+}
+
+#[test]
+fn checks_end_as_they_must(rt: HostRuntime) -> Result<(), Fail> {
+    let alloc = rt.alloc();
+    end_as_they_must(&rt, alloc, &CHECKED)
 }
 
 #[test]

@@ -4,7 +4,7 @@ ghost use Rattle.script_commands.specs.Commands.{command_of, without_threads, mo
 ghost use Rattle.script_commands.specs.declared.commands.Command.TheVariants.{Replay};
 ghost use Rattle.run_commands.specs.CarriedOut.{Refused, RefusedUnwritten, WindsRanOut};
 ghost use Rattle.run_commands.specs.Written.{empty_rack};
-ghost use Rattle.mount_run.specs.Outcomes.{Succeeded, IsUnlawful, RunHeldBack, RefusedBy, Unwritten, RanBySeed, RanBySeedUnwritten, RanOutOfWinds};
+ghost use Rattle.mount_run.specs.Outcomes.{Succeeded, IsUnlawful, RunHeldBack, RefusedBy, Unwritten, Ran, RanUnwritten, RanBySeed, RanBySeedUnwritten, RanOutOfWinds};
 
 use hub_calls::Rack;
 use run_commands::{check, generate, mount_read, replay, run_read};
@@ -117,6 +117,32 @@ pub fn top_mount<R: Threads + Wait + Clock + Sync, S: Source, K: Sink>(
     let Some(Command::Mount(workers)) = command_in(words) else {
         return 2;
     };
+    mount(rt, alloc, workers, source, sink, rack)
+}
+
+// Reads a script, runs it by threads, and writes its report.
+fn mount<R: Threads + Wait + Clock + Sync, S: Source, K: Sink>(
+    rt: &R,
+    alloc: Global,
+    workers: u8,
+    source: &mut S,
+    sink: &mut K,
+    rack: &mut Rack,
+) -> u8
+    requires source { S.faults source.old < 2 ^ 64 - 1 }
+    requires sink { K.faults sink.old < 2 ^ 64 - 1 }
+    requires rack { rack.old ≡ empty_rack }
+    ensures statuses { result ≤ 7 }
+    ensures no_usage { result ≡ 2 → ⊥ }
+    ensures ran { result ≡ 0 → Ran (S.left source.old) (K.taken sink.old) (K.taken sink.new) rack.new }
+    ensures refused { result ≡ 1 → Refused (S.left source.old) (K.taken sink.old) (K.taken sink.new) rack.new }
+    ensures read_fault { result ≡ 3 → (S.faults source.old < S.faults source.new) × (sink.new ≡ sink.old) × (rack.new ≡ empty_rack) }
+    ensures write_fault { result ≡ 4 → K.faults sink.old < K.faults sink.new }
+    ensures short { result ≡ 4 → RanUnwritten (S.left source.old) (K.taken sink.old) (K.taken sink.new) rack.new ⊎ RefusedUnwritten (S.left source.old) (K.taken sink.old) (K.taken sink.new) rack.new }
+    ensures memory { result ≡ 5 → (sink.new ≡ sink.old) × (rack.new ≡ empty_rack) }
+    ensures unlawful { result ≡ 6 → (sink.new ≡ sink.old) × RunHeldBack (S.left source.old) (K.taken sink.old) (K.taken sink.new) rack.new }
+    ensures winds { result ≡ 7 → (sink.new ≡ sink.old) × WindsRanOut (S.left source.old) rack.new }
+{
     match read_script(alloc, source) {
         Ok(read) => mount_read(rt, alloc, read, workers, sink, rack),
         Err(not_read) => refuse_all(alloc, not_read, sink),
