@@ -9,8 +9,8 @@
 //!                          Refusal
 //! ```
 //!
-//! `top` and `top_mount` are the whole of it over any source and sink, and their contracts carry the headline: they read words
-//! and script, and `run_commands` carries the command out. What is here besides looks at the first word, and explains a status
+//! `top` and `top_mount` are the whole of it over any source and sink, and their contracts carry the headline: they read the
+//! words and, of a run, the script, and `run_commands` carries the command out. What is here besides looks at the first word, and explains a status
 //! other than 0 on standard error.
 #![tactic(auto)]
 
