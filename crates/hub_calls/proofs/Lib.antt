@@ -5,7 +5,6 @@ pub mod Dues
 pub mod Finding
 pub mod Noting
 pub mod Planning
-pub mod Rising
 pub mod Agendas
 pub mod EventNumbers
 pub mod Rewriting

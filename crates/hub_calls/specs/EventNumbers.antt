@@ -51,10 +51,6 @@ pub record AreOfEvent (number : ℕ) (lines : Log) : Type 0 where
   pub skipped : All (λ (n : ℕ). n ≡ number) lines.skipped
   pub each : HaveEvents lines
 
--- the log with further lines of what was sent, and nothing else more
-abbrev pub AddsSends : Log → Log → Type 0
-AddsSends old new = new ≡ record old { sent = new.sent }
-
 -- these lines, where what goes out for what was sent is sent; these are the controls with which their event has begun
 unfoldable pub going_out : ControlsState → Log → Log
 going_out controls lines = record lines { sent = outgoing controls lines.sent }

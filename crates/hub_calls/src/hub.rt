@@ -1,9 +1,8 @@
 ghost use Rattle.std.specs.Prelude.{◌≡◌, Some, None, [], ◌∷◌, IsOk, IsErr, IsErrOf, OnOk, IfOk, IfErr};
-ghost use Rattle.hub_calls.specs.EventNumbers.{AddsSends, AreOfEvent, HaveEvents, IsCutOff, written_lines};
+ghost use Rattle.hub_calls.specs.EventNumbers.{AreOfEvent, HaveEvents, IsCutOff, written_lines};
 ghost use Rattle.hub_calls.specs.Hubs.{AddsEvent, ClosesWith, IsAfterStop, agenda_before};
-ghost use Rattle.mount_log.specs.Logs.{empty_log, is_submit, with_lines};
+ghost use Rattle.mount_log.specs.Logs.{is_submit, with_lines};
 ghost use Rattle.mount_log.specs.Scripts.{IsScript};
-ghost use Rattle.mount_log.specs.Ties.{NumbersRise};
 
 use crate::engine::Engine;
 use crate::planned::Planned;
@@ -71,8 +70,6 @@ impl Hub {
         ensures first { IfOk result (λ h. h.graphs ≡ (1, script.start) ∷ []) }
         ensures events { IfOk result (λ h. h.log.events ≡ []) }
         ensures numbered { IfOk result (λ h. AreOfEvent 0 h.log) }
-        ensures alone { IfOk result (λ h. AddsSends empty_log h.log) }
-        ensures rise { IfOk result (λ h. NumbersRise h.log) }
         ensures agenda { IfOk result (λ h. h.agenda ≡ agenda_before script h.log h.tasks) }
     {
         let planned = Planned::new(alloc, script, plans)?;

@@ -1,7 +1,5 @@
 //! What events move.
-ghost use Rattle.std.specs.Prelude.{◌≡◌};
 ghost use Rattle.hub_calls.specs.Live.{HasNoGraphs};
-ghost use Rattle.mount_log.specs.Logs.{empty_log};
 
 use crate::graphs::Graphs;
 use crate::planned::Planned;
@@ -29,8 +27,7 @@ pub struct Parts {
 impl Parts {
     /// The parts before anything has happened: no graph is made. They take no memory.
     pub(crate) fn new(alloc: Global, on: &Planned) -> Parts
-        ensures graphs { HasNoGraphs result.graphs.live }
-        ensures lines { result.turn.lines ≡ empty_log }
+        ensures { HasNoGraphs result.graphs.live }
     {
         Parts {
             creations: on.creations(),

@@ -48,9 +48,7 @@ pub struct Turn {
 
 impl Turn {
     /// The turn before any event. It takes no memory.
-    pub(crate) fn new(alloc: Global) -> Turn
-        ensures { result.lines ≡ empty_log }
-    {
+    pub(crate) fn new(alloc: Global) -> Turn {
         Turn {
             replies: 0,
             entries: 0,

@@ -1,7 +1,6 @@
 pub mod Chosen
 pub mod Queues
 pub mod Picked
-pub mod Rising
 pub mod Running
 pub mod Chains
 pub mod Places

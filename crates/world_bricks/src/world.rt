@@ -1,7 +1,6 @@
 ghost use Rattle.std.specs.Prelude.{◌≡◌, [], None, Some, true, false, length, min, OnOk, IfOk, IfErr};
 ghost use Rattle.hub_calls.specs.Hubs.{StaysStopped};
 ghost use Rattle.mount_log.specs.Scripts.{IsScript};
-ghost use Rattle.mount_log.specs.Ties.{NumbersRise};
 ghost use Rattle.hub_tables.specs.Agendas.{plain_due};
 ghost use Rattle.hub_tables.specs.PlanBricks.{has_queues};
 ghost use Rattle.hub_tables.specs.SmallSets.{numbers, numbers_where};
@@ -67,7 +66,6 @@ impl World {
         ensures start { IfOk result (λ w. w ≡ record { script = script; plans = plans; log = w.log; agenda = w.agenda; tasks = w.tasks; lines = with_sent (new_lines script plans (length script.bricks)) w.log.sent; stop = None }) }
         ensures events { IfOk result (λ w. w.log.events ≡ []) }
         ensures agenda { IfOk result (λ w. w.agenda ≡ agenda_before script w.log w.tasks) }
-        ensures rise { IfOk result (λ w. NumbersRise w.log) }
     {
         let hub = Hub::new(alloc, script, plans)?;
         match Lines::new(alloc, hub.script(), hub.plans(), hub.log().sent.as_slice()) {
@@ -166,7 +164,6 @@ impl World {
         ensures same { (self.new.script ≡ self.old.script) × (self.new.plans ≡ self.old.plans) }
         ensures reached { OnOk result (IsReached self.old.script self.old.log self.old.lines self.new.log self.new.lines) }
         ensures run { OnOk result (IsRunOf seed self.old self.new) }
-        ensures rise { OnOk result (NumbersRise self.old.log → NumbersRise self.new.log) }
         ensures spent { StaysStopped self.old.stop self.old self.new result }
         ensures goes { OnOk result (self.new.stop ≡ None) }
         ensures stops { IfErr result (λ s. self.new.stop ≡ Some s) }
@@ -178,13 +175,12 @@ impl World {
     }
 
     // Runs the events of a seed's schedule where nothing has stopped.
-    #[tactic(auto, using(crate::proofs::Rising::reached_rises, crate::proofs::Running::begins, crate::proofs::Running::nothing_left, crate::proofs::Running::in_vain, crate::proofs::Running::all_happened))]
+    #[tactic(auto, using(crate::proofs::Running::begins, crate::proofs::Running::nothing_left, crate::proofs::Running::in_vain, crate::proofs::Running::all_happened))]
     fn run_on(&mut self, alloc: Global, seed: u64) -> Result<(), Stop>
         requires { self.old.stop ≡ None }
         ensures same { (self.new.script ≡ self.old.script) × (self.new.plans ≡ self.old.plans) }
         ensures reached { OnOk result (IsReached self.old.script self.old.log self.old.lines self.new.log self.new.lines) }
         ensures run { OnOk result (IsRunOf seed self.old self.new) }
-        ensures rise { OnOk result (NumbersRise self.old.log → NumbersRise self.new.log) }
         ensures goes { OnOk result (self.new.stop ≡ None) }
         ensures stops { IfErr result (λ s. self.new.stop ≡ Some s) }
     {

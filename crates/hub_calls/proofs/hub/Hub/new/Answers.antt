@@ -11,7 +11,6 @@ use Rattle.hub_calls.specs.Hubs.{new_sent}
 use Rattle.hub_calls.proofs.Agendas.{begun_agenda}
 use Rattle.hub_calls.proofs.EventNumbers.{none_of_event}
 use Rattle.hub_calls.proofs.Planning.{start_planned}
-use Rattle.hub_calls.proofs.Rising.{numbers_before}
 use Rattle.hub_calls.proofs.hub.Hub.new.Goals as goal
 
 pub returns-in-Ok-clause-agenda : goal.returns-in-Ok-clause-agenda
@@ -30,10 +29,3 @@ returns-in-Ok-clause-first c =
 
 pub returns-in-Ok-clause-numbered : goal.returns-in-Ok-clause-numbered
 returns-in-Ok-clause-numbered c = c.in-Ok.ensures.numbered (subst (λ (l : Log). AreOfEvent 0 l) (sym c.new-log.ensures) (none_of_event 0))
-
-pub returns-in-Ok-clause-alone : goal.returns-in-Ok-clause-alone
-returns-in-Ok-clause-alone c = c.in-Ok.ensures.alone c.new-engine.ensures.lines c.new-log.ensures
-
-pub returns-in-Ok-clause-rise : goal.returns-in-Ok-clause-rise
-returns-in-Ok-clause-rise c =
-    numbers_before c.begin.new.log (c.in-Ok.ensures.alone c.new-engine.ensures.lines c.new-log.ensures) (c.in-Ok.ensures.numbered (subst (λ (l : Log). AreOfEvent 0 l) (sym c.new-log.ensures) (none_of_event 0)))
