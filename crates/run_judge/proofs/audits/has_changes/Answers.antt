@@ -10,5 +10,5 @@ returns c = λ yes. record {
   files = c.requires.files;
   from = c.in-Some.from;
   names = subst (λ (f : Option (List (Option ℕ))). IfSome f (λ sets. EntriesRestOnNames c.args.script.now c.args.plans.now c.args.log.now c.args.bricks.now c.args.ops.now sets)) c.in-Some.is c.in_ok-taken.ensures;
-  borne = subst (λ (l : List (Option ℕ)). AreBorne c.args.script.now c.args.plans.now c.args.log.now c.args.bricks.now c.args.ops.now l) c.as_slice-sets.ensures (c.in_ok-yes.ensures yes);
+  borne = subst (λ (l : List (Option ℕ)). AreBorne c.args.script.now c.args.plans.now c.args.log.now c.args.bricks.now c.args.ops.now l) c.as_slice-sets.ensures (c.in_ok-yes.ensures.sound yes);
 }
